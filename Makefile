@@ -66,17 +66,18 @@ TESTING = $(PYTEST) --quiet --numprocesses=$(PYTEST_PROCESSES) "--program=$(PROG
 # What `make coverage` runs, and how many percent of the companions' lines that is at least.
 COVERED := tests/companion_cases
 LEAST_COVERED := 97
-# The arguments of tools/plant_faults, tools/mutants and tools/fresh_machine.
+# The arguments of tools/plant_faults, tools/mutants, tools/fresh_machine and tools/releases.
 PLANTED :=
 MUTANTS :=
 MACHINE :=
+RELEASES :=
 # For how long `make fuzz` makes requests, and what part of the faults `make faults` tries: one in SHARE.
 SECONDS ?= 3600
 SHARE ?= 1
 
 .DELETE_ON_ERROR:
 .PHONY: all demo packages check mutants test planted coverage fuzz faults bench install uninstall portable dist package lint \
-	fresh-machine clean FORCE
+	fresh-machine releases clean FORCE
 
 all: $(PROGRAM)
 
@@ -144,7 +145,7 @@ coverage: all
 	@/usr/bin/python3 -m coverage combine --quiet --rcfile=tests/lines_run.ini
 	@/usr/bin/python3 -m coverage report --rcfile=tests/lines_run.ini --fail-under=$(LEAST_COVERED)
 
-# Random requests; what differs is kept in tests/fixtures/fuzz.
+# Random requests.
 fuzz: all
 	$(TESTING) -m fuzz --runs=100000000 --seconds=$(SECONDS) --timeout=0 --seed=$(shell date +%s)
 
@@ -214,6 +215,10 @@ lint:
 # Types the README's commands on a Debian that has nothing else, as root; MACHINE is its suite, and before it --kept.
 fresh-machine:
 	tools/fresh_machine $(MACHINE)
+
+# Compares with the Ansible of other releases of Debian, as root; RELEASES are their names, and by default all.
+releases: all
+	PYTEST_PROCESSES=$(PYTEST_PROCESSES) tools/releases "$(PROGRAM)" $(RELEASES)
 
 clean:
 	rm -rf bin .hypothesis crates/*/out

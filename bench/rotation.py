@@ -3,7 +3,7 @@
 
 Usage: rotation.py PROGRAM [--vaults N] [--runs N] [--quick]
 
-The vaults are of 1 KiB, and are made anew before each run.
+The vaults are of 1 KiB, and are made anew before each run. No two are equal, since equal ones are decrypted once.
 """
 
 import sys
@@ -26,8 +26,9 @@ class Vaults:
 
     def __init__(self, folder: Path, program: Path, count: int) -> None:
         self.folder = folder
-        self.vault = seal(PASSWORDS["old"], bytes(1024))
-        self.paths = [folder / f"{number}.yml" for number in range(count)]
+        salts = [number.to_bytes(32, "big") for number in range(count)]
+        vaults = [seal(PASSWORDS["old"], bytes(1024), salt=salt) for salt in salts]
+        self.vaults = {folder / f"{number}.yml": vault for number, vault in enumerate(vaults)}
         for name, password in PASSWORDS.items():
             (folder / name).write_bytes(password)
         (folder / "ansible-vault").symlink_to(program.resolve())
@@ -35,12 +36,15 @@ class Vaults:
         self.secrets = [f"--vault-password-file={folder}/old", f"--new-vault-password-file={folder}/new"]
 
     def make(self) -> None:
-        for path in self.paths:
-            path.write_bytes(self.vault)
+        for path, vault in self.vaults.items():
+            path.write_bytes(vault)
+
+    def are_changed(self) -> bool:
+        return all(path.read_bytes() != vault for path, vault in self.vaults.items())
 
     def task(self, *words: str) -> Task:
-        command = [*words, *self.secrets, *map(str, self.paths)]
-        return Task(command, b"", lambda _: self.vault not in {path.read_bytes() for path in self.paths}, self.make)
+        command = [*words, *self.secrets, *map(str, self.vaults)]
+        return Task(command, b"", lambda _: self.are_changed(), self.make)
 
 
 def main() -> None:

@@ -10,7 +10,7 @@ import shutil
 import pytest
 
 import shells
-from lib.option_sets import OF_ANSIBLE, companion_options, page_sets
+from lib.option_sets import OF_ANSIBLE, companion_options, companion_values, page_sets
 from lib.paths import COMPANIONS
 from model.options import OPTIONS
 from shells import SHELLS, needs_shell, typed_in_bash
@@ -23,21 +23,11 @@ OFFERED = {
     "encr": {"encrypt", "encrypt_string"},
     "view on": {"one.pass", "one.yml"},
     "encrypt folder/": {"folder/inner.yml"},
-    "rekey --vault-password-file one.p": {"one.pass"},
-    "decrypt --output tw": {"two.yml"},
-    "encrypt --salt-file one.y": {"one.yml"},
-    "rekey --new-vault-password-file one.p": {"one.pass"},
-    "view --vault-id one.p": {"one.pass"},
-    "encrypt_string --vault-password-file one.p": {"one.pass"},
     "view -- on": {"one.pass", "one.yml"},
     "encrypt -- -": {"-dash.yml"},
     "decrypt --vault-password-file one.pass -- folder/": {"folder/inner.yml"},
     "view --vault-id dev@one.p": {"dev@one.pass"},
-    "rekey --new-vault-id dev@one.p": {"dev@one.pass"},
-    "encrypt_string on": set(),
     "encrypt_string -- on": set(),
-    "encrypt --salt on": set(),
-    "encrypt --encrypt-vault-id on": set(),
 }
 
 
@@ -66,21 +56,13 @@ def test_program(shell: str, folder: pathlib.Path, words: str, wanted: set[str])
     assert SHELLS[shell](f"ansible-vault {words}", folder) == replacing(shell, wanted)
 
 
-@pytest.fixture
-def spaced(tmp_path: pathlib.Path, monkeypatch: pytest.MonkeyPatch) -> None:
+def test_checkout_with_a_space(shell: str, folder: pathlib.Path, monkeypatch: pytest.MonkeyPatch) -> None:
     """The completions, and what asks the shells, lie below a path with a space."""
     for name in ("HERE", "COMPLETIONS"):
-        copy = tmp_path / "a checkout" / name.lower()
+        copy = folder / "a checkout" / name.lower()
         shutil.copytree(getattr(shells, name), copy)
         monkeypatch.setattr(shells, name, copy)
-
-
-def test_checkout_with_a_space(shell: str, folder: pathlib.Path, spaced: None) -> None:
     assert SHELLS[shell]("ansible-vault view on", folder) == {"one.pass", "one.yml"}
-
-
-def test_typed_with_a_space(folder: pathlib.Path, spaced: None) -> None:
-    assert typed_in_bash("encrypt_s", folder) == ["encrypt_string"]
 
 
 # The same for the companions.
@@ -89,33 +71,21 @@ OFFERED_BY_COMPANIONS = {
     "ansible-vault-edit on": {"one.pass", "one.yml"},
     "ansible-vault-rotate folder/": {"folder/inner.yml"},
     "ansible-vault-rotate one.yml tw": {"two.yml"},
-    "ansible-vault-check --vault-id one.p": {"one.pass"},
-    "ansible-vault-check one.yml tw": {"two.yml"},
-    "ansible-vault-rotate --new-vault-password-file one.p": {"one.pass"},
-    "ansible-vault-textconv --vault-password-file one.p": {"one.pass"},
     "ansible-vault-edit one.yml tw": {"two.yml"},
     "ansible-vault-rotate --new-vault-id dev@one.p": {"dev@one.pass"},
-    "ansible-vault-edit --encrypt-vault-id on": set(),
-    "ansible-vault-rotate --jobs on": set(),
     "ansible-vault-hook on": {"one.pass", "one.yml"},
     "ansible-vault-hook --install --vault-id dev@one.p": {"dev@one.pass"},
-    "ansible-vault-hook --since on": set(),
-    "ansible-vault-check --label on": set(),
     "ansible-vault-check one.yml -- -": {"-dash.yml"},
     "ansible-vault-edit -- on": {"one.pass", "one.yml"},
     "ansible-vault-merge one.yml two.yml folder/": {"folder/inner.yml"},
-    "ansible-vault-check --vault-pass-file one.p": {"one.pass"},
     "ansible-vault-check --ask-vault-pass tw": {"two.yml"},
     "ansible-vault-with ": {*WITH_COMMANDS},
     "ansible-vault-with --vault-id one.pass encr": {"encrypt", "encrypt_string"},
-    "ansible-vault-with --vault-id one.p": {"one.pass"},
     "ansible-vault-with --vault-password-file one.pass view on": {"one.pass", "one.yml"},
     "ansible-vault-with -J encrypt one.yml tw": {"two.yml"},
     "ansible-vault-with decrypt --output tw": {"two.yml"},
     "ansible-vault-with rekey --new-vault-password-file one.p": {"one.pass"},
     "ansible-vault-with edit on": {"one.pass", "one.yml"},
-    "ansible-vault-with edit one.yml tw": {"two.yml"},
-    "ansible-vault-with view one.yml tw": {"two.yml"},
     "ansible-vault-with encrypt_string on": set(),
     "ansible-vault-with encrypt --encrypt-vault-id on": set(),
     "ansible-vault-with view -- one.yml -": {"-dash.yml"},
@@ -135,6 +105,19 @@ def options_of(name: str) -> set[str]:
 @pytest.mark.parametrize("name", COMPANIONS)
 def test_options_of_companions(shell: str, folder: pathlib.Path, name: str) -> None:
     assert offered_options(shell, name, folder) == sorted(options_of(name))
+
+
+# What an option's value is called in the help of a companion, if it is a file.
+FILES_IN_HELP = {"FILE", "[LABEL@]FILE"}
+
+
+@pytest.mark.parametrize("name", COMPANIONS)
+def test_values_of_companions(shell: str, folder: pathlib.Path, name: str) -> None:
+    """Files are offered for an option's value if that is a file."""
+    values = companion_values(name)
+    assert len(values) > 2
+    found = {option: SHELLS[shell](f"{name} {option} one.p", folder) for option in values}
+    assert found == {option: {"one.pass"} if value in FILES_IN_HELP else set() for option, value in values.items()}
 
 
 @pytest.mark.parametrize("line, wanted", OFFERED_BY_COMPANIONS.items(), ids=OFFERED_BY_COMPANIONS)
@@ -221,21 +204,15 @@ def test_home(
 # What is typed before a tab in bash, and the arguments that the command gets.
 TYPED = {
     "rek": ["rekey"],
-    "view one.p": ["view", "one.pass"],
     "view with": ["view", "with a space.pass"],
-    "view --vault-password-file=one.p": ["view", "--vault-password-file=one.pass"],
     "view --vault-password-file with": ["view", "--vault-password-file", "with a space.pass"],
     "view --vault-id dev@one.p": ["view", "--vault-id", "dev@one.pass"],
     "rekey --new-vault-id=dev@one.p": ["rekey", "--new-vault-id=dev@one.pass"],
-    "view --vault-id dev@fol": ["view", "--vault-id", "dev@folder/"],
     "view --vault-id dev@with": ["view", "--vault-id", "dev@with a space.pass"],
     r"view --vault-id dev@with\ a": ["view", "--vault-id", "dev@with a space.pass"],
-    "view --vault-id 'dev@with a": ["view", "--vault-id", "dev@with a space.pass"],
-    "view -- -": ["view", "--", "-dash.yml"],
     "rekey --new-vault-id=dev@with": ["rekey", "--new-vault-id=dev@with a space.pass"],
     "view --vault-id dev@~/one.p": ["view", "--vault-id", "dev@HOME/one.pass"],
     "view --vault-id=~/with": ["view", "--vault-id=HOME/with a space.pass"],
-    "view --vault-id ~/one.p": ["view", "--vault-id", "HOME/one.pass"],
 }
 
 

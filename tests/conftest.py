@@ -16,9 +16,8 @@ from typing import Any
 
 import pytest
 import pytest_timeout
-from pytest_subtests import SubTestReport
 
-from cases import Cases
+from lib.cases import Cases
 from lib.locales import use_plain_locale
 from lib.needs import OF_ANOTHER_BUILD, TAKES_MOUNTS, TAKES_ROOT, is_confined
 from lib.paths import ROOT
@@ -28,10 +27,11 @@ PROGRAM = ROOT / "bin" / "ansible-vault"
 OUTCOMES = "outcomes"
 # How many tests of each part have to be run with --floors, the others by their markers; and how much they have to make
 # of what they record. Rows that are no tests of their own are counted as one kind.
-FLOORS = {OUTCOMES: 2600, "fuzz": 6, "faults": 44, "allocations": 40, "valgrind": 45, "newcomer": 16}
+FLOORS = {OUTCOMES: 2000, "fuzz": 4, "faults": 44, "allocations": 40, "valgrind": 65, "newcomer": 16}
 ROWS = "subtests"
+Report = pytest.TestReport | pytest.CollectReport
 HAS_FAILED = pytest.StashKey[bool]()
-LEAST = {ROWS: 4500, "random requests": 200, "refused calls": 700, "signals": 36, "refused allocations": 1200}
+LEAST = {ROWS: 1400, "random requests": 200, "refused calls": 700, "signals": 36, "refused allocations": 1200}
 
 
 def seed_of_commit() -> int:
@@ -67,6 +67,8 @@ def pytest_sessionstart(session: pytest.Session) -> None:
     # The companions, too, are run by the Python that runs the tests.
     if os.path.realpath(shutil.which("python3") or "") != os.path.realpath(sys.executable):
         os.environ["PATH"] = os.pathsep.join([os.path.dirname(sys.executable), os.environ["PATH"]])
+    if not session.config.pluginmanager.has_plugin("subtests"):
+        pytest.exit("pytest before 9 needs its plugin pytest-subtests", pytest.ExitCode.USAGE_ERROR)
     program = session.config.getoption("--program")
     if not program.is_file():
         pytest.exit(f"there is no {program}; `make` builds bin/ansible-vault", pytest.ExitCode.USAGE_ERROR)
@@ -88,6 +90,11 @@ def missing_tool(raised: pytest.ExceptionInfo[BaseException] | None) -> str | No
     return name if is_command and "/" not in name and not shutil.which(name) else None
 
 
+def reason_of(skipped: Report) -> str:
+    assert isinstance(skipped.longrepr, tuple)
+    return skipped.longrepr[2].removeprefix("Skipped: ")
+
+
 def may_be_left_out(reason: str) -> bool:
     """Even where all is required."""
     if reason == TAKES_ROOT:
@@ -95,15 +102,26 @@ def may_be_left_out(reason: str) -> bool:
     return is_confined() if reason == TAKES_MOUNTS else reason.startswith(OF_ANOTHER_BUILD)
 
 
+def leave_out(report: Report, raised: pytest.ExceptionInfo[BaseException] | None, config: pytest.Config) -> None:
+    """What a missing tool prevents is skipped, and fails if all is required."""
+    if tool := missing_tool(raised):
+        report.outcome, report.longrepr = "skipped", (report.nodeid, 0, f"Skipped: without {tool}")
+    if report.skipped and config.getoption("--require-all") and not may_be_left_out(reason_of(report)):
+        reason = f"{reason_of(report)}: it is skipped, and --require-all is set"
+        report.outcome, report.longrepr = "failed", reason
+
+
+@pytest.hookimpl(hookwrapper=True)
+def pytest_make_collect_report(collector: pytest.Collector) -> Generator[None, Any, None]:
+    """Many modules make their vaults with openssl while they are read."""
+    report = (yield).get_result()
+    leave_out(report, report.call.excinfo, collector.config)
+
+
 @pytest.hookimpl(hookwrapper=True)
 def pytest_runtest_makereport(item: pytest.Function, call: pytest.CallInfo[None]) -> Generator[None, Any, None]:
     report = (yield).get_result()
-    if tool := missing_tool(call.excinfo):
-        report.outcome, report.longrepr = "skipped", (str(item.path), None, f"Skipped: without {tool}")
-    if report.skipped and item.config.getoption("--require-all"):
-        reason = report.longrepr[2].removeprefix("Skipped: ")
-        if not may_be_left_out(reason):
-            report.outcome, report.longrepr = "failed", f"{reason}: it is skipped, and --require-all is set"
+    leave_out(report, call.excinfo, item.config)
     if report.failed:
         item.stash[HAS_FAILED] = True
         if "tmp_path" in item.funcargs:
@@ -114,7 +132,7 @@ def pytest_runtest_makereport(item: pytest.Function, call: pytest.CallInfo[None]
 def pytest_exception_interact(node: pytest.Item | pytest.Collector, report: pytest.TestReport) -> None:
     """A test goes on behind a row that fails, and so does its time limit, which pytest-timeout cancels here."""
     settings = pytest_timeout.get_env_settings(node.config)
-    if isinstance(report, SubTestReport) and settings.timeout:
+    if hasattr(report, "context") and settings.timeout:
         node.ihook.pytest_timeout_set_timer(item=node, settings=settings)
 
 
@@ -129,16 +147,17 @@ def ends_of_tests(config: pytest.Config) -> list[Any]:
     return [each for each in reports if each.when == "call" or not each.passed]
 
 
-def part_of(report: pytest.TestReport | pytest.CollectReport) -> str:
+def part_of(report: Report) -> str:
     """What could not be collected has no markers."""
     return next((part for part in FLOORS if part in getattr(report, "keywords", ())), OUTCOMES)
 
 
 def too_few(config: pytest.Config) -> list[str]:
-    """A line for each floor that is not reached."""
-    if not config.getoption("--floors"):
-        return []
+    """A line for each floor that is not reached. A run that leaves out what it could not run has none."""
     ends = ends_of_tests(config)
+    is_partial = any(each.skipped and not may_be_left_out(reason_of(each)) for each in ends)
+    if is_partial or not config.getoption("--floors"):
+        return []
     made = Counter(f"{part_of(each)} tests" for each in ends if not each.skipped)
     made.update({what: amount for what, (amount, _) in amounts(ends).items()})
     made[ROWS] = len(reports_of(config, "subtests passed"))
@@ -169,7 +188,7 @@ def pytest_terminal_summary(terminalreporter: Any, config: pytest.Config) -> Non
     ends, failures, say = ends_of_tests(config), too_few(config), terminalreporter.write_line
     for each in ends:
         if each.skipped:
-            say(f"skipped: {each.nodeid}: {each.longrepr[2].removeprefix('Skipped: ')}")
+            say(f"skipped: {each.nodeid}: {reason_of(each)}")
     say(f"seed: {config.getoption('--seed')}")
     for what, (made, asked) in amounts(ends).items():
         say(f"{what}: {made} of {asked}")

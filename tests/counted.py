@@ -16,8 +16,8 @@ from typing import Any, NamedTuple, TypeVar
 
 import pytest
 
-from cases import Cases, by_file
-from cases.samples import COMMANDS, sample_of
+from lib.cases import Cases, by_file
+from lib.samples import COMMANDS, sample_of
 from lib.counts import LIBRARY, PARTS, REST, TOTAL, Allocations, Done, built_by, count_allocations, count_instructions
 from lib.counts import imported_modules, part_of, parts_of
 from lib.needs import OF_ANOTHER_BUILD, needs

@@ -1,11 +1,17 @@
-"""Compares the faults and limits of docs/formats.md, and the messages and exit statuses of the manual page, with the
-code, and the example on each crate's first page with the test that runs it.
+"""Compares what the documents say with the code: faults, limits, messages, exit statuses, figures, options, paths, and
+the example on each crate's first page with the test that runs it.
 """
 
 import re
+import subprocess
+from operator import attrgetter
+from pathlib import Path
 
-from lib.option_sets import sections
-from lib.paths import PAGE, ROOT
+import pytest
+
+from lib.needs import needs
+from lib.option_sets import OF_ANSIBLE, companion_help, companion_options, companion_page, described_options, sections
+from lib.paths import COMPANIONS, PAGE, README, ROOT, version
 
 FORMATS = (ROOT / "docs" / "formats.md").read_text()
 CRATES = ROOT / "crates"
@@ -103,8 +109,13 @@ def code_codes() -> set[int]:
 
 def test_exit_statuses() -> None:
     """The parser's own status is among those of the code."""
-    codes = re.findall(r"^\.It (\d)$", sections(PAGE.read_text())["EXIT STATUS"], re.MULTILINE)
-    assert [int(code) for code in codes] == sorted(code_codes()), "the manual page has the code's exit statuses"
+    texts = dict(re.findall(r"^\.It (\d)\n(.+)$", sections(PAGE.read_text())["EXIT STATUS"], re.MULTILINE))
+    assert [int(code) for code in texts] == sorted(code_codes()), "the manual page has the code's exit statuses"
+    # Each fault of its own status ends with what could not be done, or what was missing.
+    ends = {(status, text.split()[-1]) for faults, status in code_faults().values() for text in faults if status > 1}
+    assert ends == {(3, "opened"), (3, "read"), (3, "written"), (4, "memory")}
+    others = [(status, end) for status, end in ends for code in (3, 4) if (end in texts[str(code)]) != (code == status)]
+    assert others == [], "and says of each what its faults say"
 
 
 def unspaced(code: str) -> str:
@@ -126,3 +137,93 @@ def test_examples() -> None:
             examples[page.parent.parent.name] = unspaced(example[1].replace("//! ", ""))
     assert examples == tested
     assert len(examples) > 6, "there are examples"
+
+
+PAGES = sorted(PAGE.parent.glob("*.1"))
+DOCUMENTS = [README, ROOT / "CONTRIBUTING.md", *sorted((ROOT / "docs").glob("*.md")), *PAGES]
+# The options of other programs, which the documents name too.
+OF_GIT = {"--cached", "--clean", "--filter", "--global", "--merge", "--no-edit", "--no-verify", "--textconv"}
+OF_OTHERS = {"--anew", "--list-axioms", "--sample", "--strict", "--test", "--unshallow", "--vault-pass", "--wait"}
+# Of newer releases of Ansible's tool than 2.14.
+OF_NEWER = {"--skip-tty-check"}
+# Stands for any option.
+ANY_OPTION = "--option"
+
+
+def options_named(text: str) -> set[str]:
+    return set(re.findall(r"(?<![\w\\-])--[a-z][\w-]+", re.sub(r"\bFl -", " --", text)))
+
+
+@pytest.mark.parametrize("document", DOCUMENTS, ids=attrgetter("name"))
+def test_options(document: Path) -> None:
+    """Each that a document names is one of the program, of a companion, of Ansible's tool or of others."""
+    of_companions = (each for name in COMPANIONS for each in companion_options(name))
+    ours = described_options().union(*OF_ANSIBLE.values(), *of_companions)
+    assert len(ours) > 30
+    assert options_named(document.read_text()) - ours - OF_GIT - OF_OTHERS - OF_NEWER - {ANY_OPTION} == set()
+
+
+def test_options_are_named() -> None:
+    assert len(set().union(*(options_named(document.read_text()) for document in DOCUMENTS))) > 40
+
+
+def defaults_in(text: str) -> set[str]:
+    return {each.strip() for each in re.findall(r"by default,? ([\w ]+)", " ".join(text.split()))}
+
+
+def test_defaults() -> None:
+    """What the help of a companion says of a default, its page says, too."""
+    said = {(name, each) for name in COMPANIONS for each in defaults_in(companion_help(name))}
+    in_pages = {(name, each) for name in COMPANIONS for each in defaults_in("".join(companion_page(name).values()))}
+    assert len(said) > 0 and said <= in_pages
+
+
+def constant(path: str, name: str) -> int:
+    [found] = re.findall(rf"^(?:pub )?const {name}: \w+ = ([\d_]+);$", (CRATES / path).read_text(), re.MULTILINE)
+    return int(found)
+
+
+def least_glibc(program: str) -> str:
+    """The newest version of the C library of which the program takes a call."""
+    needs("nm")
+    listed = subprocess.run(["nm", "--dynamic", "--with-symbol-versions", program], capture_output=True, text=True)
+    found = re.findall(r"@GLIBC_(\d+)\.(\d+)", listed.stdout)
+    major, minor = max((int(major), int(minor)) for major, minor in found)
+    return f"{major}.{minor}"
+
+
+def test_figures(program: str) -> None:
+    """Each stands in a document, and is that of the code, wherever it stands."""
+    longest = code_limits()["PLAINTEXT_LIMIT"] >> 20
+    figures = {
+        r"\*\*Status:\*\* ([\d.]+)\. ": version(),
+        r"glibc (\d+\.\d+)": least_glibc(program),
+        r"([\d,]+) rounds of PBKDF2": f"{constant('vault_kdf/src/keys.rt', 'ROUNDS'):,}",
+        r"(\d+) MiB(?! of address space)": str(longest),
+    }
+    text = "\n".join(document.read_text() for document in DOCUMENTS if document.name != "speed.md")
+    assert {pattern: {*re.findall(pattern, text)} for pattern in figures} == {each: {figures[each]} for each in figures}
+
+
+def test_speed() -> None:
+    """The README's part of the time is that of docs/speed.md."""
+    parts = {"a tenth": 10, "a fifteenth": 15, "a twentieth": 20, "a thirtieth": 30}
+    [part] = re.findall(r"about (an? \w+) of its CPU time on small ones", README.read_text())
+    speed = (ROOT / "docs" / "speed.md").read_text()
+    [measured] = re.findall(r"^\| `view`, 1 KiB \|.*\| ([\d.]+) \([^|]*\) \|$", speed, re.MULTILINE)
+    assert parts[part] == min(parts.values(), key=lambda each: abs(each - float(measured)))
+
+
+def texts_in_zsh(text: str) -> set[tuple[str, str]]:
+    """Options with what is said of them, of which several in braces share one text."""
+    found = re.findall(r"(--[\w-]+|\{-[^}]*\})=?'?=?\[([^\]]*)\]", text)
+    return {(name, said) for names, said in found for name in re.findall(r"--([a-z][\w-]+)", names.replace("{", "{--"))}
+
+
+def test_texts_of_completions() -> None:
+    """fish and zsh say the same of an option."""
+    fish, zsh = ((ROOT / "completions" / f"ansible-vault.{shell}").read_text() for shell in ("fish", "zsh"))
+    commands = re.findall(r"^ *complete .* -l ([\w-]+) .*-d '([^']*)'", fish.replace("\\\n", ""), re.MULTILINE)
+    in_fish = {(name, text[:1].lower() + text[1:]) for name, text in commands}
+    assert len(in_fish) > 20
+    assert in_fish == texts_in_zsh(zsh)

@@ -16,9 +16,12 @@ ROOT_ONLY = "import os; os.geteuid = lambda: {user}; import pytest; import lib.n
 MOUNTS_ONLY = """import conftest, pytest, lib.needs
     conftest.is_confined = lambda: {}; pytest.skip(lib.needs.TAKES_MOUNTS)"""
 NO_TOOL = "import subprocess; subprocess.run(['no-such-tool'])"
+READING = f"pass\n{NO_TOOL}"
 NO_FILE = "open('no-such-file')"
 THREAD = "import threading; thread = threading.Thread(target=lambda: 1 / 0); thread.start(); thread.join()"
 ROWS = "for row in range(3):\n        with subtests.test(): assert row != 1"
+LEFT_OUT = f"""def test_left_out():
+    {NO_TOOL}"""
 ENDLESS = """import time
     for row in range(3):
         with subtests.test(): time.sleep(600 if row else 0); assert row"""
@@ -39,9 +42,13 @@ SAMPLES = {
     "it could mount": (MOUNTS_ONLY.format(False), ["--require-all"], 1, "0 passed, 1 failed, 0 skipped"),
     "a tool is missing": (NO_TOOL, [], 0, "0 passed, 0 failed, 1 skipped"),
     "a tool is missing, and all is required": (NO_TOOL, ["--require-all"], 1, "0 passed, 1 failed, 0 skipped"),
+    "a tool is missing while it is read": (READING, [], 5, "0 passed, 0 failed, 1 skipped"),
+    "it is missing then, and all is required": (READING, ["--require-all"], 2, "0 passed, 1 failed, 0 skipped"),
+    "two processes lack it": (READING, ["--numprocesses=2"], 5, "0 passed, 0 failed, 1 skipped"),
     "a file is missing": (NO_FILE, [], 1, "0 passed, 1 failed, 0 skipped"),
     "too few": ("pass", ["--floors"], 1, "1 passed, 11 failed, 0 skipped"),
     "too few in two processes": ("pass", ["--floors", "--numprocesses=2"], 1, "1 passed, 11 failed, 0 skipped"),
+    "too few, and something is left out": (f"pass\n{LEFT_OUT}", ["--floors"], 0, "1 passed, 0 failed, 1 skipped"),
     "it cannot be collected": ("pass\nimport no_such", ["--floors"], 1, "0 passed, 12 failed, 0 skipped"),
     "no test of that name": ("pass", ["-k", "another"], 5, "0 passed, 0 failed, 0 skipped"),
 }
@@ -66,7 +73,7 @@ def test_ending(program: str, tmp_path: Path, body: str, options: list[str], sta
     done = run_sample(tmp_path, program, body, options)
     found = re.findall(r"^(\d+ passed, .*)$", done.stdout, re.MULTILINE)
     assert (done.returncode, found[0]) == (status, counts), done.stdout
-    assert done.stdout.count("\nskipped: tests/sample.py::test_it: ") == counts.endswith(" 1 skipped"), "and why"
+    assert done.stdout.count("\nskipped: tests/sample.py") == counts.endswith(" 1 skipped"), "and why"
     kept = {*re.findall(r"^kept in (.*)$", done.stdout, re.MULTILINE)}
     has_failed = status == 1 and "--floors" not in options
     assert [Path(each).is_dir() for each in kept] == [True] * has_failed, "a folder is kept where it fails"

@@ -11,9 +11,9 @@ from typing import NamedTuple
 
 import pytest
 
-from cases import Cases
-from cases.samples import Sample, sample_of
-from cases.texts import stored_mistakes
+from lib.cases import Cases
+from lib.samples import Sample, sample_of
+from lib.texts import stored_mistakes
 from lib.allocations import LIBRARY, run_refusing
 from lib.needs import needs
 from lib.preloaded import build_library

@@ -10,7 +10,7 @@ from collections.abc import Callable
 
 import pytest
 
-from cases import Cases
+from lib.cases import Cases
 from fault_injection import Scenario, Target
 from fault_injection.refused_calls import refused_calls
 from fault_injection.scenarios import long_scenarios, refused_scenarios, small_and_large

@@ -6,54 +6,14 @@
 
 import os
 import pathlib
-import re
 import subprocess
 import sys
 import tempfile
 from collections.abc import Iterator
-from typing import NamedTuple
 
 from lib.installed import run_make
 from lib.paths import COMPANIONS, README
-
-SECTION = "\n## Five minutes\n"
-
-
-class Step(NamedTuple):
-    """A command as the README has it, in one line or several, and what it prints; dots stand for any text."""
-
-    command: str
-    wanted: str
-
-    def is_met_by(self, printed: str) -> bool:
-        pattern = ".*".join(re.escape(part) for part in self.wanted.split("..."))
-        return re.fullmatch(pattern, printed.strip("\n"), re.DOTALL) is not None
-
-
-def sections(document: str) -> tuple[str, str]:
-    """The session, and all the rest."""
-    before, _, rest = document.partition(SECTION)
-    session, heading, after = rest.partition("\n## ")
-    return session, before + "\n\n" + heading + after
-
-
-def commands(document: str) -> list[str]:
-    """Those outside of the session, without their comments. Steps of the session that are shown there, too, are left
-    out; behind a prompt stands a command, and else each line is one."""
-    session, rest = sections(document)
-    found: list[str] = []
-    for block in re.findall(r"(?<=\n\n)(?: {4}.*\n)+", rest):
-        lines = [re.sub(r"\s+#.*", "", line.strip()) for line in block.splitlines()]
-        found += [line.removeprefix("$ ") for line in lines if line.startswith("$ ")] or lines
-    shown = {step.command for step in steps(document)}
-    return [command for command in found if command not in shown]
-
-
-def steps(document: str) -> list[Step]:
-    session, _ = sections(document)
-    lines = [line[4:] for line in session.splitlines() if line.startswith("    ")]
-    _, *parts = re.split(r"^\$ ((?:.*\\\n)*.*)$", "\n".join(lines), flags=re.MULTILINE)
-    return [Step(command, printed.strip("\n")) for command, printed in zip(parts[::2], parts[1::2])]
+from lib.readme import Step, steps
 
 
 def session(program: str, top: pathlib.Path) -> Iterator[tuple[Step, str]]:
@@ -76,6 +36,11 @@ def test_five_minutes(program: str, tmp_path: pathlib.Path) -> None:
     assert len(steps(README.read_text())) > 0, "the README has a first session"
     others = [(step, printed) for step, printed in session(program, tmp_path) if not step.is_met_by(printed)]
     assert others == [], others
+
+
+def test_steps_are_compared_whole() -> None:
+    printed = ("one\ntwo\nfour\n", "one\n2\nfour\nfive", "0\none\n2\nfour")
+    assert [Step("x", "one\n...\nfour").is_met_by(text) for text in printed] == [True, False, False]
 
 
 def test_demo(program: str) -> None:

@@ -1,33 +1,23 @@
-"""Runs the built program under limits and on devices that fail midway.
+"""Runs the built program under limits of memory.
 
 Under each limit of address space a run ends with its whole output, or with `out of memory` and none; 20 MiB
-are enough for each. Its resident memory grows with its input, whether that is a file or a pipe. If a write
-fails after some bytes, the output is a prefix.
+are enough for each. Its resident memory grows with its input, whether that is a file or a pipe.
 """
 
-import itertools
 import resource
 import subprocess
-from pathlib import Path
-from typing import Any
 
 import pytest
-from pytest_subtests import SubTests
 
-from cases import TEXT, Cases, answer_of, by_file
-from cases.samples import OF_FILE, SALT_WORDS, Sample, each_command, sample_of
 from lib import resident
-from lib.limits import SECONDS
-from lib.mounts import tmpfs
-from lib.needs import needs_mounts
+from lib.cases import TEXT, Cases, answer_of, run_captured
+from lib.samples import Sample, each_command, sample_of
+from lib.subtests import SubTests
 from model.faults import Fault
-from model.vaults import PLAINTEXT_LIMIT, seal
+from model.vaults import PLAINTEXT_LIMIT
 
 KIB = 1 << 10
 MIB = 1 << 20
-# A file that opens and cannot be read.
-UNREADABLE = "/proc/self/mem"
-FILE_SYSTEM_SIZE = 64 * KIB
 # The address space in which every run ends well.
 ENOUGH = 20 * MIB
 # The peak resident memory of a run, in MiB, by the size of its plaintext.
@@ -36,22 +26,14 @@ RESIDENT = {KIB: 3, MIB: 5, PLAINTEXT_LIMIT: 20}
 STEPS = 20
 
 
-def run_with(
-    program: str, words: list[str], limit: int, amount: int, **streams: Any
-) -> subprocess.CompletedProcess[bytes]:
-    """Runs with a resource limit. SIGXFSZ stays ignored, as in Python, so that a write past the limit of file size
-    fails instead of ending the program."""
+def in_memory(program: str, sample: Sample, amount: int) -> subprocess.CompletedProcess[bytes]:
+    """A run with so much address space."""
 
     def restrict() -> None:
         resource.setrlimit(resource.RLIMIT_CORE, (0, 0))
-        resource.setrlimit(limit, (amount, amount))
+        resource.setrlimit(resource.RLIMIT_AS, (amount, amount))
 
-    return subprocess.run([program, *words], preexec_fn=restrict, restore_signals=False, timeout=SECONDS, **streams)
-
-
-def in_memory(program: str, sample: Sample, amount: int) -> subprocess.CompletedProcess[bytes]:
-    streams = {"stdout": subprocess.PIPE, "stderr": subprocess.PIPE, "input": sample.stdin}
-    return run_with(program, sample.words, resource.RLIMIT_AS, amount, **streams)
+    return run_captured([program, *sample.words], sample.stdin, preexec_fn=restrict)
 
 
 @pytest.fixture(scope="module")
@@ -87,7 +69,8 @@ def test_memory(cases: Cases, subtests: SubTests, size: int, command: str, least
         with subtests.test(f"resident memory, {name}"):
             done = resident.run([cases.program, *sample.words], sample.stdin, path)
             assert (done.status, done.output) == (0, sample.output)
-            assert 0 < done.resident <= RESIDENT[size] * KIB, f"{done.resident} KiB"
+            most = RESIDENT[size] * KIB
+            assert most // 2 < done.resident <= most, f"{done.resident} KiB"
 
 
 @pytest.mark.parametrize("amount, fault", ((16 * MIB, Fault.MEMORY), (ENOUGH, Fault.SECRET_NOT_OPENED)))
@@ -96,71 +79,3 @@ def test_reserved_first(cases: Cases, amount: int, fault: Fault) -> None:
     missing = Sample(["view", "--vault-password-file", cases.path()], b"", b"")
     done = in_memory(cases.program, missing, amount)
     assert (done.returncode, done.stderr) == (fault.status, fault.line)
-
-
-@each_command
-def test_limited_files(cases: Cases, subtests: SubTests, command: str) -> None:
-    """A file that takes that many bytes, as standard output and by name, where SIGXFSZ is ignored: `faults`
-    shows how the signal ends a run."""
-    sample, path = sample_of(cases, command, TEXT * 20), Path(cases.path())
-    length, ways = len(sample.output), {"standard output": list[str]()}
-    if command != "view":
-        ways["by name"] = ["--output", str(path)]
-    for amount, (way, to_output) in itertools.product((0, 1, 2, 100, length - 1, length, length + 1), ways.items()):
-        with subtests.test(f"{amount} bytes, {way}"), path.open("wb") as file:
-            streams = {"stdout": subprocess.DEVNULL if to_output else file, "stderr": subprocess.PIPE}
-            words = [*sample.words, *to_output]
-            done = run_with(cases.program, words, resource.RLIMIT_FSIZE, amount, input=sample.stdin, **streams)
-            wanted = (0, b"") if amount >= length else (Fault.NOT_WRITTEN.status, Fault.NOT_WRITTEN.line)
-            assert (done.returncode, done.stderr, path.read_bytes()) == (*wanted, sample.output[:amount])
-
-
-@each_command
-def test_full_file_system(cases: Cases, subtests: SubTests, command: str) -> None:
-    """A small file system in memory, where the tests may mount one."""
-    folder, sample = Path(cases.path()), sample_of(cases, command, TEXT * FILE_SYSTEM_SIZE)
-    with tmpfs(folder, FILE_SYSTEM_SIZE) as is_mounted:
-        needs_mounts(is_mounted)
-        path = folder / "file"
-        with subtests.test("standard output"), path.open("wb") as out:
-            cases.run_streams(sample.words, 3, Fault.NOT_WRITTEN.line, input=sample.stdin, stdout=out)
-            assert sample.output.startswith(path.read_bytes()), "a prefix"
-        path.unlink()
-        if command != "view":
-            cases.refused([*sample.words, "--output", str(path)], Fault.NOT_WRITTEN, sample.stdin)
-            assert sample.output.startswith(path.read_bytes()), "a prefix"
-
-
-@each_command
-def test_failing_reads(cases: Cases, subtests: SubTests, command: str) -> None:
-    """Files that open and fail when they are read."""
-    sample = sample_of(cases, command)
-    roles = [("a password file", [*sample.words, *by_file(UNREADABLE)], Fault.SECRET_NOT_READ)]
-    salted = [word for word in sample.words if word not in SALT_WORDS]
-    if salted != sample.words:
-        roles.append(("a salt file", [*salted, "--salt-file", UNREADABLE], Fault.SALT_NOT_READ))
-    if command in OF_FILE:
-        out = [] if command == "view" else ["--output", "-"]
-        roles.append(("FILE", [*sample.words, UNREADABLE, *out], Fault.INPUT_NOT_READ))
-    for role, words, fault in roles:
-        with subtests.test(role):
-            cases.refused(words, fault, sample.stdin)
-    with subtests.test("standard input"), open(UNREADABLE, "rb", buffering=0) as stdin:
-        cases.run_streams(sample.words, 3, Fault.INPUT_NOT_READ.line, stdin=stdin)
-
-
-def test_long_words(cases: Cases, subtests: SubTests) -> None:
-    """Paths and labels of the greatest length that the system passes on, and many of them."""
-    longest, vault = "p" * (128 * KIB - 1), seal(b"right", TEXT)
-    refused = [
-        ("a path", by_file(longest), Fault.SECRET_NOT_OPENED),
-        ("a label", ["--vault-id", f"{longest[:-2]}@x"], Fault.BAD_LABEL),
-        ("many paths", by_file("x" * 100) * 5_000, Fault.TOO_MANY_SECRETS),
-    ]
-    for name, options, fault in refused:
-        with subtests.test(name):
-            cases.refuses(options, vault, fault)
-    with subtests.test("a command"):
-        cases.usage_error([longest], b"unrecognized subcommand")
-    with subtests.test("an option"):
-        cases.usage_error(["view", f"--{longest[:-2]}"], b"unexpected argument")

@@ -55,12 +55,16 @@ def test_found_by_fish(prefix: pathlib.Path) -> None:
     assert "--dry-run" in offered, "fish finds that of a companion"
 
 
-def test_found_by_zsh() -> None:
+# Where zsh searches, and the function that it calls for a command with what is installed.
+ZSH = "print -l $fpath; fpath=($0 $fpath); autoload -Uz compinit; compinit -u -D; print -l $_comps[(I)ansible-vault*]"
+
+
+def test_found_by_zsh(prefix: pathlib.Path) -> None:
     """zsh searches the folders below /usr and /usr/local; what is installed below another prefix it does not find."""
     needs("zsh")
-    folders = printed("zsh", "-f", "-c", "print -l $fpath").split()
-    wanted = {"/usr/local/share/zsh/site-functions", "/usr/share/zsh/vendor-completions"}
-    assert wanted <= {*folders}, "zsh looks where its completion is put"
+    shown = printed("zsh", "-f", "-c", ZSH, str(prefix / "share/zsh/site-functions")).split()
+    folders = {"/usr/local/share/zsh/site-functions", "/usr/share/zsh/vendor-completions"}
+    assert folders | NAMES <= {*shown}, "zsh looks where its completion is put, which is for each command"
 
 
 def test_found_by_bash_completion(prefix: pathlib.Path) -> None:
@@ -74,10 +78,11 @@ def test_found_by_bash_completion(prefix: pathlib.Path) -> None:
     assert "_ansible_vault_companion" in loaded, "bash-completion finds that of a companion"
 
 
-def test_install(tmp_path: pathlib.Path, make: Make) -> None:
-    words = [f"DESTDIR={tmp_path}", "PREFIX=/opt/vault"]
+@pytest.mark.parametrize("destination, path", [("", "opt/vault"), ("a folder", "opt/two words")])
+def test_install(tmp_path: pathlib.Path, make: Make, destination: str, path: str) -> None:
+    words = [f"DESTDIR={tmp_path / destination}", f"PREFIX=/{path}"]
     assert make("install", *words).returncode == 0, "make install ends well"
-    prefix = tmp_path / "opt" / "vault"
+    prefix = tmp_path / destination / path
     assert files_below(prefix) == LOCAL_FILES, "make install puts the files below the prefix"
     check_program(prefix / "bin" / "ansible-vault", "the installed program")
     dead = dead_links(prefix / "share/doc/ansible-vault")
@@ -178,16 +183,6 @@ def test_link_to_a_folder(tmp_path: pathlib.Path, make: Make) -> None:
     done = make("install", "DESTDIR=", f"PREFIX={tmp_path / 'linked'}", "REPLACE=yes")
     assert (done.returncode, path.is_symlink()) == (0, False), "a link to a folder is replaced"
     assert files_below(folder) == set(), "and the folder stays"
-
-
-def test_spaces(tmp_path: pathlib.Path, make: Make) -> None:
-    words = [f"DESTDIR={tmp_path}/a folder", "PREFIX=/opt/two words"]
-    prefix = tmp_path / "a folder/opt/two words"
-    assert make("install", *words).returncode == 0, "make install below a path with spaces"
-    assert files_below(prefix) == LOCAL_FILES, "puts the files there"
-    check_program(prefix / "bin/ansible-vault", "the program below a path with spaces")
-    assert make("uninstall", *words).returncode == 0, "make uninstall below a path with spaces"
-    assert files_below(tmp_path) == set(), "leaves no file"
 
 
 # Stands for a tool that ends, and so the script that runs it, at the call of this number.

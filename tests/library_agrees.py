@@ -1,47 +1,32 @@
-"""Compares the programs in docs/library.md with the files that they are from, whose tests run them, its table of
-calls with the crates, the table of the crates with crates.txt, and the paths that docs/architecture.md and
-CONTRIBUTING.md name with the files.
+"""Compares docs/library.md with the programs that it shows or names, whose tests run them, its table of calls with the
+crates, the table of the crates with crates.txt, and the paths that pages name with the files.
 """
 
 import re
+from collections.abc import Iterator
 from pathlib import Path
 
 import pytest
 
-from lib.contracts import crates
+from contracts import crates
+from documents import LIBRARY, PROGRAMS
 from lib.paths import ROOT
 
-DOCUMENT = ROOT / "docs" / "library.md"
-SOURCES = "crates/vault_program_tests/src/library"
-# Where a program is from, and the program.
-LISTING = re.compile(r"(?<=\bFrom `)crates/\S+/(\w+\.rt)`:\n\n```rust\n(?:.*\n)*?```$", re.MULTILINE)
 # A row of the table: the job, the calls, their crate.
 ROW = re.compile(r"^\| [^|]+ \| ([^|]*`[^|]*) \| `(vault_\w+)` \|$", re.MULTILINE)
 CRATE_LINE = re.compile(r"^(\w+):(.*)$", re.MULTILINE)
 
 
-def listing(found: re.Match[str]) -> str:
-    path = f"{SOURCES}/{found[1]}"
-    return f"{path}`:\n\n```rust\n{(ROOT / path).read_text()}```"
-
-
-def written(document: str) -> str:
-    """The document with the programs as they are."""
-    return LISTING.sub(listing, document)
-
-
 def test_programs() -> None:
-    """Each program is shown or named, and those shown are as they are."""
-    document = DOCUMENT.read_text()
-    assert document == written(document), "tools/write_documents changes nothing in docs/library.md"
-    programs = {file.name for file in (ROOT / SOURCES).glob("*.rt")} - {"tests.rt"}
-    named = set(re.findall(r"\b(\w+\.rt)`", document))
-    assert programs - named == set(), "the programs that docs/library.md does not name"
+    """Each program is shown or named."""
+    programs = {file.name for file in (ROOT / PROGRAMS).glob("*.rt")} - {"tests.rt"}
+    assert len(programs) > 2
+    assert programs - {*re.findall(r"\b(\w+\.rt)`", LIBRARY.read_text())} == set()
 
 
 def test_calls() -> None:
     """Each call of the table is one that its crate offers."""
-    rows = ROW.findall(DOCUMENT.read_text())
+    rows = ROW.findall(LIBRARY.read_text())
     assert len(rows) > 10, "there is a table of calls"
     named = {(crate, call) for calls, crate in rows for call in re.findall(r"`(\w+)[\w:]*`", calls)}
     offered = {crate: (ROOT / "crates" / crate / "src" / "lib.rt").read_text() for crate, _ in named}
@@ -56,7 +41,7 @@ def test_calls() -> None:
 def test_crate_lines() -> None:
     """The lines to be copied are those of crates.txt."""
     ours = dict(CRATE_LINE.findall((ROOT / "crates.txt").read_text()))
-    shown = dict(re.findall(r"^    (vault_\w+):(.*)$", DOCUMENT.read_text(), re.MULTILINE))
+    shown = dict(re.findall(r"^    (vault_\w+):(.*)$", LIBRARY.read_text(), re.MULTILINE))
     assert len(shown) > 3, "lines are shown"
     assert shown == {crate: ours.get(crate) for crate in shown}
     needed = {name for needed in shown.values() for name in needed.split() if name.startswith("vault_")}
@@ -71,14 +56,33 @@ def test_crates() -> None:
     assert sorted(listed) == sorted(crates()), "docs/architecture.md lists every crate"
 
 
-@pytest.mark.parametrize("name", ["docs/architecture.md", "CONTRIBUTING.md"])
-def test_paths(name: str) -> None:
-    """Each path of a file is one of the crate that is named last before it, or of the repository."""
-    crate, missing = "", []
-    for word in re.findall(r"`([\w/.-]+)`", (ROOT / name).read_text()):
-        if word.startswith("vault_") and "/" not in word:
-            crate = word
-        elif "/" in word and re.search(r"\.(rt|antt|py|md|1)$", word):
-            places = (ROOT / word, ROOT / "crates" / crate / word)
-            missing += [] if any(map(Path.is_file, places)) else [(crate, word)]
+PAGES = [*ROOT.glob("*.md"), ROOT / "tests" / "README.md", *sorted(ROOT.glob("docs/*.md")), *sorted(ROOT.glob("man/*"))]
+PAGES += [ROOT / "debian" / "control", ROOT / "debian" / "README.source"]
+# A path in quotes, and one of a folder at the top without them; the second may have this before it.
+BEFORE = r"(?:/usr/share/doc/ansible-vault/|(?<![\w/.~$*`-]))"
+PATH = re.compile(rf"`([\w/.-]+)`|{BEFORE}((?:debian|docs|man|tests|tools)/[\w/.-]*\w)")
+# What stands for several.
+SEVERAL = re.compile(r"\b(FILE|NAME|CRATE)\b")
+
+
+def paths_in(page: Path) -> Iterator[tuple[str, str]]:
+    """Each path of ours that a page names, with the crate that it names last before it."""
+    crate = ""
+    for quoted, word in PATH.findall(page.read_text()):
+        if quoted.startswith("vault_") and "/" not in quoted:
+            crate = quoted
+        elif word and not SEVERAL.search(word) or "/" in quoted and re.search(r"\.(rt|antt|py|md|1)$", quoted):
+            yield crate, word or quoted
+
+
+@pytest.mark.parametrize("page", PAGES, ids=lambda page: str(page.relative_to(ROOT)))
+def test_paths(page: Path) -> None:
+    """Each is one of the crate, of another that it begins with, of the page's folder or of the repository."""
+    folders = (ROOT, page.parent, ROOT / "crates")
+    named = {(crate, word): (*folders, ROOT / "crates" / crate) for crate, word in paths_in(page)}
+    missing = [each for each, places in named.items() if not any((place / each[1]).exists() for place in places)]
     assert missing == [], missing
+
+
+def test_paths_are_named() -> None:
+    assert sum(len([*paths_in(page)]) for page in PAGES) > 150

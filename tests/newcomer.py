@@ -3,36 +3,19 @@ nothing is copied into the clone, which these tests use one after the other. The
 """
 
 import os
-import subprocess
 from pathlib import Path
 
 import pytest
 
-from first_page import commands, steps
+from lib.clone import PROVING, cloned, git, typed
 from lib.installed import PREFIX_FILES, files_below
-from lib.needs import needs, needs_checkout
-from lib.paths import README, ROOT
+from lib.paths import README
+from lib.readme import commands, steps
 
-pytestmark = pytest.mark.newcomer
+pytestmark = [pytest.mark.newcomer, pytest.mark.timeout(PROVING)]
 
 # What the README says and no test types, since these tests are a part of it.
 GATE = ".ci/run"
-
-
-def git(*words: str, at: Path = ROOT) -> str:
-    identity = ["-c", "user.name=nobody", "-c", "user.email=nobody@example.org"]
-    return subprocess.run(["git", *identity, *words], cwd=at, check=True, capture_output=True, text=True).stdout.strip()
-
-
-def cloned(tmp_path_factory: pytest.TempPathFactory) -> Path:
-    """It has what git tracks here, with the changes to it that are not committed yet."""
-    needs("git", "rt")
-    needs_checkout()
-    folder = tmp_path_factory.mktemp("newcomer") / "ansible-vault"
-    state = git("stash", "create") or git("rev-parse", "HEAD")
-    git("clone", "--quiet", "--no-checkout", str(ROOT), str(folder))
-    git("checkout", "--quiet", "--detach", state, at=folder)
-    return folder
 
 
 @pytest.fixture(scope="module")
@@ -43,23 +26,6 @@ def clone(tmp_path_factory: pytest.TempPathFactory) -> Path:
 @pytest.fixture(scope="module")
 def prefix(clone: Path) -> Path:
     return clone.with_name("prefix")
-
-
-def typed(command: str, folder: Path, **variables: str) -> str:
-    """What a command prints in a shell that knows nothing of these tests; it has to end well."""
-    ours = ("MAKE", "PYTEST_", "REQUIRE_")
-    kept = {name: value for name, value in os.environ.items() if not name.startswith(ours)}
-    done = subprocess.run(
-        ["bash", "-O", "expand_aliases", "-c", command],
-        cwd=folder,
-        env=kept | variables,
-        stdin=subprocess.DEVNULL,
-        stdout=subprocess.PIPE,
-        stderr=subprocess.STDOUT,
-        text=True,
-    )
-    assert done.returncode == 0, f"{command}\n{done.stdout}"
-    return done.stdout
 
 
 def test_readme(clone: Path, prefix: Path) -> None:

@@ -1,6 +1,6 @@
-"""Compares the table of options in the code with the definitions, the manual page, the completions of each
-shell, the model, the stored texts and the program's own help, and says what is missing in each of them; and the
-options of each companion in its page and its help. `mandoc` and `groff` check the pages.
+"""Compares the table of options in the code with the manual page, the completions of each shell, the model and the
+program's own help, and says what is missing in each of them; and the options of each companion in its page and its
+help. `mandoc` and `groff` check the pages.
 """
 
 import json
@@ -16,17 +16,10 @@ import pytest
 from lib.needs import needs
 from lib.option_sets import OF_ANSIBLE, companion_options, companion_page, companion_statuses, described_options
 from lib.option_sets import help_commands, help_of, help_options, help_text, options_in, page_sets, sections, spellings
-from lib.option_table import Entry, code_in, constants_in, entries, helps_of, literals_in, named_in, table_options
+from lib.option_table import Entry, helps_of, table_options
 from lib.paths import COMPANIONS, PAGE, ROOT, version
 from model.options import COMMON, FLAGS, OPTIONS
 from shells import SHELLS, needs_shell
-
-# What the help of an option has to say, wherever the option stands.
-REQUIRED = {"--vault-password-file": "default", "--salt-file": "/dev/urandom by default", "--salt": "used twice"}
-
-# What describes each option and what reads it: the definitions and the code.
-SPECS = ["CommandLine.antt", "Options.antt"]
-CODE = [("command_line.rt", "arguments.rt"), ("options.rt", "settling.rt")]
 
 # The tools that check a page and render it.
 CHECKERS = {
@@ -43,9 +36,12 @@ EXPECTED = (
     "operating system explicitly specified",
 )
 PAGES = sorted(PAGE.parent.glob("*.1"))
-# The sections of a companion's page, and others that may follow them.
+# The sections of a companion's page, in their order, and those that not every page has.
 SECTIONS = ["NAME", "SYNOPSIS", "DESCRIPTION", "OPTIONS", "ENVIRONMENT", "FILES", "EXIT STATUS", "EXAMPLES", "SEE ALSO"]
-FURTHER = ["CAVEATS", "SECURITY CONSIDERATIONS"]
+SECTIONS += ["CAVEATS", "SECURITY CONSIDERATIONS"]
+FURTHER = {"ENVIRONMENT", "FILES", "CAVEATS", "SECURITY CONSIDERATIONS"}
+# The page that describes what the companions share: the options for secrets, and Ansible's settings.
+SHARED = "ansible-vault-with"
 
 
 def long(options: Iterable[str]) -> set[str]:
@@ -67,49 +63,21 @@ def test_completions(shell: str) -> None:
     assert missing == set(), "and each of the table"
 
 
-@pytest.fixture(scope="module")
-def names() -> set[str]:
-    """What the table has."""
-    names = {entry.name for entry in entries()}
-    assert len(names) > 10, names
-    return names
-
-
-@pytest.mark.parametrize("files", CODE, ids=" and ".join)
-def test_code(names: set[str], files: tuple[str, ...]) -> None:
-    used = {entry.name for entry in entries() if entry.constant in constants_in(files)}
-    assert names - used == set(), "they use each name of the table"
-    assert literals_in(code_in(files)) & names == set(), "they have no name of their own"
-
-
-@pytest.mark.parametrize("specs", SPECS)
-def test_definitions(names: set[str], specs: str) -> None:
-    assert names - named_in(specs) == set(), "they name each entry of the table"
-
-
 def page_values(text: str, name: str) -> set[str]:
     """What the page calls the value of an option, wherever it names the option beside its value."""
     return set(re.findall(rf"^\.(?:It|Op|Oc)?.*\bFl -{name}(?= |$)(?: Ar (\S+))?", text, re.MULTILINE))
 
 
 def test_table() -> None:
-    """The page, the model and the stored texts have what the table has."""
+    """The page and the model have what the table has."""
     table = {entry.option for entry in table_options()}
+    assert len(table) > 10
     assert COMMON.union(*OPTIONS.values()) == table, "the model knows the table's options"
     assert sorted(FLAGS) == [entry.option for entry in table_options() if not entry.value_name], "and its flags"
     assert long(described_options()) - {"--help", "--version"} == table, "the page describes the table's options"
     items = "\n".join(re.findall(r"^\.It Fl .*$", PAGE.read_text(), re.MULTILINE)).replace(" , ", "\n.It ")
     values = {entry.constant: page_values(items, entry.name) for entry in table_options()}
     assert values == {entry.constant: {entry.value_name.lower()} for entry in table_options()}, "and their values"
-    texts = "".join(path.read_text() for path in sorted((ROOT / "tests" / "texts").glob("*.help.txt")))
-    said = {entry.constant: helps_in(texts, entry) for entry in entries()}
-    assert said == {entry.constant: helps_of(entry.name) for entry in entries()}, "the stored texts have the helps"
-
-
-def helps_in(texts: str, entry: Entry) -> set[str]:
-    value = f" <{entry.value_name}>" if entry.value_name else ""
-    start = re.escape(f"{entry.option}{value}" if entry.is_option else f"[{entry.name}]")
-    return set(re.findall(rf"^ .*(?<![\w-]){start}  +(.*)$", texts, re.MULTILINE))
 
 
 # The end of a command line, by the value's name of an option, and the files that are offered.
@@ -144,8 +112,6 @@ def test_help(program: str, command: str | None) -> None:
     text = help_text(program, command)
     found = help_options(text)
     assert found == page_sets()[command], "it has the options of the page"
-    silent = [option for option in REQUIRED.keys() & found if REQUIRED[option] not in help_of(text, option)]
-    assert silent == [], "and says of them what it has to"
     takes_file = "[FILE]" in text
     assert ("FILE" in text) == takes_file, "and names FILE if the command takes one"
     if "--output" in found:
@@ -153,7 +119,6 @@ def test_help(program: str, command: str | None) -> None:
         assert needed == takes_file, "and says that FILE requires --output"
     others = [entry.option for entry in table_options() if entry.option in found and not is_helped(entry, text)]
     assert others == [], "and of each what the table has"
-    assert "envelope" not in text, "and needs no word that it does not explain"
 
 
 def is_helped(entry: Entry, text: str) -> bool:
@@ -179,14 +144,22 @@ def in_order(sets: list[set[str]]) -> list[list[str]]:
     return sorted(sorted(each) for each in sets)
 
 
+def referred(text: str) -> list[set[str]]:
+    """The options that a page says are described by the shared page: those that it names behind its own."""
+    _, _, after = text.rpartition(".El\n")
+    named = options_in(after) if f"Xr {SHARED} 1" in after else set()
+    return [each for each in spellings(companion_page(SHARED)["OPTIONS"]) if each & named]
+
+
 @pytest.mark.parametrize("name", COMPANIONS)
 def test_companion(name: str) -> None:
     """The page of a companion beside its help."""
     page = companion_page(name)
-    titles = [title for title in page if title not in FURTHER]
-    assert titles == SECTIONS, "its page has the sections of every companion's"
-    described, in_help = spellings(page["OPTIONS"]), companion_options(name)
-    assert in_order(described) == in_order(in_help), "its page describes the options of its help"
+    titles = [title for title in SECTIONS if title in page or title not in FURTHER]
+    assert [*page] == titles, "its page has the sections of every companion's"
+    own, in_help = spellings(page["OPTIONS"]), companion_options(name)
+    described = own + referred(page["OPTIONS"])
+    assert in_order(described) == in_order(in_help), "its page describes the options of its help, or says where"
     named = options_in(page["SYNOPSIS"])
     assert [each for each in described if not each & named] == [], "the synopsis names each option"
     assert sorted(named - set(flat(described))) == [], "and no other"
@@ -195,8 +168,10 @@ def test_companion(name: str) -> None:
     # The hook puts them into settings, and reads none.
     takes_secrets = "--vault-id" in flat(in_help) and name != "ansible-vault-hook"
     settings = {"ANSIBLE_VAULT_IDENTITY_LIST", "ANSIBLE_VAULT_PASSWORD_FILE", "ANSIBLE_CONFIG"}
-    variables = set(re.findall(r"\bEv (\w+)", page["ENVIRONMENT"]))
-    assert settings & variables == (settings if takes_secrets else set()), "its page names the settings"
+    variables = set(re.findall(r"\bEv (\w+)", page.get("ENVIRONMENT", "")))
+    assert settings & variables == (settings if name == SHARED else set()), "one page describes the settings"
+    says_where = f"Xr {SHARED} 1" in page["OPTIONS"] and "settings" in page["OPTIONS"]
+    assert says_where == (takes_secrets and name != SHARED), "and the page of who reads them refers to it"
 
 
 def test_variables() -> None:
@@ -204,7 +179,8 @@ def test_variables() -> None:
     code = "".join(path.read_text() for path in (ROOT / "companions").rglob("ansible*") if path.is_file())
     code += "".join(path.read_text() for path in (ROOT / "companions").rglob("*.py"))
     read = set(re.findall(r'environ(?:\.get\(|\[)"([A-Z_]+)"', code) + re.findall(r'"(ANSIBLE_[A-Z_]+)", "', code))
-    named = set().union(*(re.findall(r"\bEv ([A-Z_]+)", companion_page(name)["ENVIRONMENT"]) for name in COMPANIONS))
+    pages = [companion_page(name).get("ENVIRONMENT", "") for name in COMPANIONS]
+    named = set().union(*(re.findall(r"\bEv ([A-Z_]+)", page) for page in pages))
     assert len(read) > 5, ("variables are read", sorted(read))
     assert sorted(read - named) == [], "each is named"
 

@@ -10,6 +10,7 @@ import subprocess
 
 import pytest
 
+from ansible_vault_companions import OLDEST
 from lib.installed import FILES, NAMES, VERSION, check_program, files_below, printed, run_make
 from lib.needs import needs, needs_root
 from lib.package_root import Root, later, stand_in
@@ -48,7 +49,8 @@ def test_contents(package: pathlib.Path, tmp_path: pathlib.Path) -> None:
     """What the package holds and says of itself."""
     assert field(package, "Version") == VERSION, "the package has the program's version"
     assert "libc6" in field(package, "Depends"), "the package depends on the C library"
-    assert "python3" in field(package, "Depends"), "and on Python, for the companions"
+    python = f"python3 (>= {'.'.join(map(str, OLDEST))})"
+    assert python in field(package, "Depends"), "and on the oldest Python that runs the companions"
     assert "python3-yaml" in field(package, "Recommends"), "it recommends PyYAML, for blocks in YAML"
     assert field(package, "Conflicts") + field(package, "Breaks") == "", "the package takes no other away"
     folder = tmp_path / "package"
@@ -102,7 +104,18 @@ def test_made_again(copy: pathlib.Path, package: pathlib.Path) -> None:
     assert (copy / "bin" / package.name).read_bytes() == package.read_bytes()
 
 
-@pytest.mark.parametrize("command", ["make -s package", "debian/rules override_dh_auto_install"])
+def test_program_of_another_machine(copy: pathlib.Path, program: str) -> None:
+    """The rules pack the program that is there, even if it is older than its sources, and build none."""
+    (copy / "bin/processor").unlink()
+    os.utime(copy / "bin/ansible-vault", (0, 0))
+    variables = {name: value for name, value in os.environ.items() if name not in ("MAKEFLAGS", "CPU")}
+    done = subprocess.run(["debian/rules", "override_dh_auto_install"], cwd=copy, env=variables, capture_output=True)
+    assert done.returncode == 0, done.stderr
+    packed = copy / "debian/ansible-vault/usr/bin/ansible-vault"
+    assert packed.read_bytes() == pathlib.Path(program).read_bytes()
+
+
+@pytest.mark.parametrize("command", ["make -s package", "make -s dist", "debian/rules override_dh_auto_install"])
 def test_newer_processor(copy: pathlib.Path, command: str) -> None:
     """A package is for all processors: none is made of a program that was built for a newer one."""
     (copy / "bin/processor").write_text("x86-64-v3\n")
@@ -195,6 +208,15 @@ def test_behind_theirs(beside: Beside) -> None:
     beside.check_theirs("purged", "# later\n")
     assert beside.root.dpkg("-s", "ansible-vault").returncode == 1, "purged: unknown to dpkg"
     beside.do("removal of Ansible", "-P", "ansible-core")
+
+
+def test_upgrade_of_one_that_diverts_nothing(beside: Beside) -> None:
+    """As our first version, which had none of the files of Ansible's package."""
+    older = stand_in(beside.folder, "ansible-vault", "0.1", {"usr/share/old": "old\n"})
+    beside.do("an older version", "-i", str(older))
+    beside.do("Ansible", "-i", beside.theirs("2.14"))
+    beside.do("our package", "-i", str(beside.package))
+    beside.check_both("upgraded")
 
 
 def test_failed_unpacking(beside: Beside) -> None:

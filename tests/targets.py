@@ -7,11 +7,11 @@ from pathlib import Path
 
 import pytest
 
-from first_page import commands
+from lib.clone import PROVING, cloned, typed
 from lib.paths import README, ROOT, version
-from newcomer import cloned, typed
+from lib.readme import commands
 
-pytestmark = pytest.mark.newcomer
+pytestmark = [pytest.mark.newcomer, pytest.mark.timeout(PROVING)]
 
 # Each target that has another way to be run here, and which: the gate itself, or a prerequisite of another target.
 RUN_BY_OTHERS = {
@@ -21,6 +21,7 @@ RUN_BY_OTHERS = {
     "packages": "check",
     "portable": "package",
     "fresh-machine": "nothing: it takes an hour, and is run before a release",
+    "releases": "nothing: it takes root and the network, and is run before a release",
 }
 PHONY = re.compile(r"^\.PHONY: ((?:.*\\\n)*.*)$", re.MULTILINE)
 # Commands that show that a target works, and what each leaves or prints.

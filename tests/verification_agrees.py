@@ -1,38 +1,19 @@
 """Compares docs/verification.md and docs/verification-reference.md with the code: each call, clause, definition, test
-and sign that they name, and what `tools/write_documents` takes from the code: the lists of files and of names of the
-kit, the code that is printed, and where each call stands.
+and sign that they name; and what `tools/write_documents` writes into the documents.
 """
 
-import difflib
 import re
 from collections.abc import Callable, Iterable, Iterator
 from functools import cache
+from operator import attrgetter
 from pathlib import Path
 
 import pytest
 
-from lib.contracts import CRATES, IMPORT, code, crates, declared_in, needed
+from contracts import CRATES, code, declared_in
+from documents import PAGE, REFERENCE, WRITTEN, definition_files
 from lib.paths import ROOT
 
-PAGE = ROOT / "docs" / "verification.md"
-REFERENCE = ROOT / "docs" / "verification-reference.md"
-
-# The code that is printed, in its order: the theorem, and then all that is trusted; the groups of a pattern, or all.
-PRINTED = [
-    r"^pub fn drive_over\b.*?(?=^\{)",
-    r"^fn words\(.*\Z",
-    r"(^pub fn drive\b.*?\) -> Status\n).*?(^\{.*?^\})",
-    r"^const OWNER_ONLY.*\Z",
-]
-
-BLOCK = re.compile(r"(^```rust\n)(.*?)(^```$)", re.MULTILINE | re.DOTALL)
-# A call or a definition, and where it stands below crates/.
-PLACE = re.compile(r"`([\w:]+)` at `([\w/]+\.(?:rt|antt)):(\d+)`")
-# What is to be read of code: contracts up to the body, or to the empty line after a method of a trait, ghost lines and
-# constants.
-CONTRACTS = re.compile(
-    r"^ *(?:pub(?:\(\w+\))? )?(?:fn .*?(?=^ *\{|;\n\n)|ghost (?!use).*?;\n|const .*?;\n)", re.MULTILINE | re.DOTALL
-)
 # A row of a table of claims: the calls with their clauses and the definitions, and the tests.
 CLAIM = re.compile(r"^\| [^|]* \| ([^|]*) ?\| ([^|]*) ?\|$", re.MULTILINE)
 CONTRACT = re.compile(r"^`([\w:]+)`(?:: ((?:`\w+`(?:, )?)+))?$")
@@ -41,85 +22,7 @@ TEST = re.compile(r"`(tests/[\w/.]+|vault_\w+)`(?:: ((?:`\w+`(?:, )?)+))?")
 CODE = re.compile(r"`([^`]+)`")
 
 
-def length(file: Path) -> int:
-    return len(file.read_text().splitlines())
-
-
-def to_read(file: Path) -> int:
-    """How many lines are to be read: of code the contracts, of definitions everything."""
-    if file.suffix == ".antt":
-        return length(file)
-    return sum(len(part.splitlines()) for part in CONTRACTS.findall(file.read_text()))
-
-
-def listed(files: list[Path]) -> str:
-    """The files with their lengths, by crate."""
-    rows = []
-    for crate in crates():
-        mine = [file for file in files if file.is_relative_to(CRATES / crate)]
-        rows += [f"    {crate}"] if mine else []
-        rows += [f"{length(file):>10} {file.relative_to(CRATES / crate)}" for file in mine]
-    return "\n".join([*rows, f"{sum(map(length, files)):>10} lines in all\n"])
-
-
-def names_of_kit(files: list[Path]) -> str:
-    """The names that definitions take from the kit, by the file that defines them."""
-    names: dict[str, set[str]] = {}
-    for file in files:
-        for crate, module, some, _ in IMPORT.findall(file.read_text() if file.suffix == ".antt" else ""):
-            if crate not in crates() and not module.startswith("declared"):
-                found = {name for name in some.split(", ") if name[0].isalpha() and "◌" not in name}
-                names.setdefault(f"{crate}/specs/{module.replace('.', '/')}", set()).update(found)
-    rows = (f"    {place}: {', '.join(sorted(found, key=str.lower))}" for place, found in sorted(names.items()))
-    return "\n".join(rows) + "\n"
-
-
-def printed(pattern: str) -> str:
-    """The code of a pattern in the one file that has it, without comments, ghost lines and empty lines."""
-    (found,) = (found for text in code().values() if (found := re.search(pattern, text, re.MULTILINE | re.DOTALL)))
-    lines = ("".join(found.groups()) or found[0]).splitlines()
-    return "".join(f"{line}\n" for line in lines if line.strip() and not re.match(r" *(//|ghost )", line))
-
-
-def place(found: re.Match[str]) -> str:
-    """A place with its line, and its file if only one other has the name."""
-    name, path = found[1].split("::")[-1], found[2]
-    files = [*code(), *(str(file.relative_to(CRATES)) for file in sum(needed(), []) if file.suffix == ".antt")]
-    having = [file for file in files if name in declared_in(file)]
-    if path not in having and len(having) == 1:
-        path = having[0]
-    line = declared_in(path).get(name, 0) if (CRATES / path).is_file() else 0
-    return f"`{found[1]}` at `{path}:{line}`"
-
-
-def with_block(page: str, heading: str, block: str) -> str:
-    """The page with the indented lines below a heading replaced."""
-    section = re.compile(rf"(^### {heading}\n(?:(?!    ).*\n)*?)(?:    .*\n)+", re.MULTILINE)
-    return section.sub(lambda found: found[1] + block, page)
-
-
-def written(page: str) -> str:
-    """A page with what it takes from the code."""
-    theorem, others = needed()
-    page = with_block(page, "For `drive_over`", listed(theorem))
-    page = with_block(page, "For the other contracts", listed(others))
-    page = with_block(page, "Names from the kit", names_of_kit(theorem + others))
-    blocks = [printed(pattern) for pattern in PRINTED]
-    trusted = sum(block.count("\n") for block in blocks[1:])
-    left = iter(blocks)
-    page = BLOCK.sub(lambda found: f"{found[1]}{next(left)}{found[3]}", page)
-    page = re.sub(r"\d+(?= lines of code)", str(trusted), page)
-    page = re.sub(r"\d+(?= lines to read)", str(sum(map(to_read, theorem))), page)
-    return PLACE.sub(place, page)
-
-
 # Each of these functions finds what is wrong in a page.
-
-
-def unwritten(page: str) -> list[str]:
-    """What tools/write_documents changes, and places that are not found."""
-    changes = difflib.unified_diff(page.splitlines(True), written(page).splitlines(True), n=0)
-    return [*changes, *re.findall(r"\S+:0`", page)]
 
 
 @cache
@@ -158,10 +61,19 @@ def unproved(page: str) -> Iterator[str]:
 def undefined(page: str) -> Iterator[str]:
     """Definitions that are not in the one listed file of the name."""
     for names, place in DEFINITIONS.findall(page):
-        files = [str(file.relative_to(CRATES)) for file in sum(needed(), []) if str(file).endswith(f"/{place}")]
+        files = [str(file.relative_to(CRATES)) for file in definition_files() if str(file).endswith(f"/{place}")]
         yield from [] if len(files) == 1 else [f"listed files of the name {place}: {files}"]
         declared = set().union(*map(declared_in, files))
         yield from (f"{place} does not define {name}" for name in CODE.findall(names) if name not in declared)
+
+
+def unexplained(page: str) -> Iterator[str]:
+    """Signs beyond ASCII in a listed definition that the reference does not explain."""
+    explained = set("".join(CODE.findall(page)))
+    for file in definition_files():
+        lines = [line for line in file.read_text().splitlines() if not line.lstrip().startswith("--")]
+        signs = {sign for sign in "".join(lines) if not sign.isascii()}
+        yield from (f"{file.name}: {sign}" for sign in signs - explained)
 
 
 # The axioms of the C library and of the system, where a log is about the program.
@@ -170,24 +82,12 @@ AXIOMS = re.compile(
 )
 
 
-def wrong_axioms(page: str) -> Iterator[str]:
-    """The numbers of axioms are those of the logs of builds that are there, and add up."""
-    [(total, library, system)] = re.findall(r"`axioms=(\d+)`[^,]*, (\d+) of the C library and (\d+) of", page)
-    yield from [] if int(library) + int(system) == int(total) else ["the axioms do not add up"]
-    for log in (ROOT / "bin").glob("*.log"):
-        text = log.read_text()
-        found = {*AXIOMS.findall(text)}
-        yield from [f"{log.name}: axioms that are not found"] if "=out/ansible_vault.o," in text and not found else []
-        yield from (f"{log.name}: {pair}" for pair in found - {(library, system)})
-
-
-def unexplained(page: str) -> Iterator[str]:
-    """Signs beyond ASCII in a listed definition that the reference does not explain."""
-    explained = set("".join(CODE.findall(page)))
-    for file in (file for file in sum(needed(), []) if file.suffix == ".antt"):
-        lines = [line for line in file.read_text().splitlines() if not line.lstrip().startswith("--")]
-        signs = {sign for sign in "".join(lines) if not sign.isascii()}
-        yield from (f"{file.name}: {sign}" for sign in signs - explained)
+def test_axioms() -> None:
+    """Their numbers add up, and are those of the last builds; a build whose proof was kept does not log them."""
+    found = {pair for log in (ROOT / "bin").glob("*.log") for pair in AXIOMS.findall(log.read_text())}
+    numbers = r"`axioms=(\d+)`[^,]*, (\d+) of the C library and (\d+) of"
+    [(total, library, system)] = re.findall(numbers, PAGE.read_text())
+    assert found <= {(library, system)} and int(total) == int(library) + int(system)
 
 
 def heading_links(text: str) -> set[str]:
@@ -206,23 +106,43 @@ def dead_links(page: str, folder: Path = PAGE.parent) -> Iterator[str]:
 
 
 CHECKS = [
-    *((PAGE, check) for check in (unwritten, unproved, undefined, wrong_axioms)),
-    *((REFERENCE, check) for check in (unwritten, unproved, undefined, unexplained)),
+    *((PAGE, check) for check in (unproved, undefined)),
+    *((REFERENCE, check) for check in (unproved, undefined, unexplained)),
 ]
 # Changes that each break a page for a check: what is found, and what takes its place once.
 BROKEN = [
-    (PAGE, unwritten, r"`load` at `(\w+)/src", r"`load` at `\1/sources"),
-    (PAGE, unwritten, r"^fn open_directory", "fn open_folder"),
     (PAGE, unproved, r"`Sink::begin`: `takes`", "`Sink::begin`: `took`"),
     (PAGE, unproved, r"`refused_leaves_outputs`", "`refused_leaves_nothing`"),
     (PAGE, unproved, r"`tests/faults.py`", "`tests/no_faults.py`"),
     (PAGE, undefined, r"`opened_paths` \(", "`opened_from` ("),
     (PAGE, dead_links, r"\(security.md\)", "(secure.md)"),
-    (PAGE, wrong_axioms, r"\d+ of the C library", "30 of the C library"),
-    (REFERENCE, unwritten, r"^ +\d+ specs/OpenedPaths.antt\n", ""),
-    (REFERENCE, unproved, r"`ctr_apply`", "`ctr_applied`"),
     (REFERENCE, unexplained, r", `A ⊎ B`", ""),
 ]
+
+
+@pytest.mark.parametrize("page", WRITTEN, ids=attrgetter("stem"))
+def test_written(page: Path) -> None:
+    """tools/write_documents changes nothing, and finds each name in one file."""
+    assert page.read_text() == WRITTEN[page](page.read_text())
+    assert "in `none.rt`" not in page.read_text()
+
+
+# What is written anew where it is changed, and what it is changed to once.
+CHANGED = [
+    (PAGE, r"^password_of file =", "password_of bytes ="),
+    (PAGE, r"\d+ lines of code", "12 lines of code"),
+    (PAGE, r"[\d,]+ lines of proofs", "20,000 lines of proofs"),
+    (REFERENCE, r"`load` in `(\w+)/src", r"`load` in `\1/sources"),
+    (REFERENCE, r"^fn open_directory", "fn open_folder"),
+    (REFERENCE, r"^ +\d+ specs/OpenedPaths.antt\n", ""),
+]
+
+
+@pytest.mark.parametrize("page, old, new", CHANGED)
+def test_written_anew(page: Path, old: str, new: str) -> None:
+    text = page.read_text()
+    changed = re.sub(old, new, text, count=1, flags=re.MULTILINE)
+    assert changed != text == WRITTEN[page](changed)
 
 
 def name_of(value: object) -> str | None:

@@ -11,11 +11,11 @@ from collections.abc import Callable
 from itertools import groupby
 
 import pytest
-from pytest_subtests import SubTests
 
-from cases import Cases
+from lib.cases import Cases
 from lib.needs import needs
 from lib.package_root import libraries
+from lib.subtests import SubTests
 from model.vaults import ENVELOPE_LIMIT
 from watched import STDERR, STDIN, STDOUT, Run, Watched, opened_by, watch
 from watched.runs import GROUPS, Files

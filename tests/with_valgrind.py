@@ -3,7 +3,9 @@ model's answer. They are random requests, but for refusals that take a long inpu
 """
 
 import shlex
+import subprocess
 import tempfile
+from pathlib import Path
 
 import pytest
 
@@ -23,6 +25,7 @@ REQUESTS = 4_000
 WORDS, BYTES = 14, 1 << 14
 # Valgrind brings an allocator of its own, which is refused nothing; `failed_allocations` refuses memory without it.
 WITHOUT_A_RUN = {Fault.MEMORY}
+READS_BESIDE = b"#include <stdlib.h>\nint main(void) { volatile char *room = malloc(1); return room[1]; }\n"
 
 
 def is_small(case: Case, answered: Answer) -> bool:
@@ -87,6 +90,13 @@ def requests() -> dict[str, Case]:
 def test_memcheck(program: str, requests: dict[str, Case], name: str) -> None:
     case = requests[name]
     assert memcheck(program, case) == [], shlex.join(case.words)
+
+
+def test_errors_are_seen(tmp_path: Path) -> None:
+    needs("valgrind", "cc")
+    path = str(tmp_path / "reads_beside")
+    subprocess.run(["cc", "-x", "c", "-O0", "-o", path, "-"], input=READS_BESIDE, check=True)
+    assert any("Invalid read" in line for line in memcheck(path, Case([], {}, b"")))
 
 
 def test_each_answer_has_a_run(requests: dict[str, Case]) -> None:

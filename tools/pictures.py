@@ -11,16 +11,19 @@ from pathlib import Path
 ROOT = Path(__file__).resolve().parent.parent
 SHARED = ROOT / "companions" / "ansible_vault_companions"
 PROVED, TESTED, TRUSTED = "#dff3e3", "#dbeafe", "#fff1d6"
+# What is proved but for a part.
+MOSTLY_PROVED = f"{PROVED};0.9:{TRUSTED}"
+COLOURS = {"ansible_vault": TRUSTED, "vault_cli": MOSTLY_PROVED, "vault_files": MOSTLY_PROVED}
 ABOUT = {
     "ansible_vault": "the program: arguments, streams, exit status",
-    "vault_cli": "whole runs, over any files and streams",
-    "vault_request": "options, and what they ask for",
+    "vault_cli": "whole runs; drive is trusted",
+    "vault_request": "the command line and its request",
     "vault_core": "encrypts, decrypts, rekeys",
-    "vault_files": "files, on a disk or in memory",
-    "vault_fault": "faults, rule for labels",
+    "vault_files": "files; six system calls are trusted",
+    "vault_fault": "faults, the rule for labels",
     "vault_aes": "AES, counter mode, padding",
-    "vault_kdf": "the keys, on sha2",
-    "vault_text": "envelopes, labels, salts, YAML blocks, on hex",
+    "vault_kdf": "the keys of a vault",
+    "vault_text": "envelopes, labels, salts, YAML blocks",
 }
 STYLE = """
     bgcolor="white"; pad=0.2; nodesep=0.25; ranksep=0.45; fontname="Helvetica,Arial,sans-serif"; fontsize=11;
@@ -68,6 +71,10 @@ def node(name: str, text: str, colour: str) -> str:
     return f'    "{name}" [fillcolor="{colour}", label=<<b>{name}</b>{lines}>];'
 
 
+def program_node(name: str) -> str:
+    return f'    "{name}" [style=filled, fillcolor="{TESTED}", label=<<b>{name}</b>>];'
+
+
 def drawn(title: str, nodes: Iterable[str], uses: Uses) -> str:
     """The picture. What a user reaches through another gets no arrow."""
     edges = (f'    "{user}" -> "{name}";' for user in uses for name in sorted(uses[user]))
@@ -78,14 +85,13 @@ def drawn(title: str, nodes: Iterable[str], uses: Uses) -> str:
 
 def main() -> None:
     uses = crates()
-    colours = {crate: TRUSTED if crate == "ansible_vault" else PROVED for crate in uses}
-    nodes = [node(crate, ABOUT[crate], colours[crate]) for crate in uses]
+    nodes = [node(crate, ABOUT[crate], COLOURS.get(crate, PROVED)) for crate in uses]
     title = "An arrow leads to what is used. Green: proved. Yellow: trusted."
     (ROOT / "docs" / "crates.svg").write_text(drawn(title, nodes, uses))
     links = companions()
     named = {path.name: about(path) for path in packages()}
-    nodes = [node(name, named.get(name, ""), TESTED if name in named else "white") for name in links]
-    title = "An arrow leads to what is used. Blue: packages, which are tested. White: programs."
+    nodes = [node(name, named[name], TESTED) if name in named else program_node(name) for name in links]
+    title = "An arrow leads to what is used. Square: programs. Round: packages. Blue: tested, not proved."
     (ROOT / "docs" / "companions.svg").write_text(drawn(title, nodes, links))
 
 

@@ -13,13 +13,12 @@ from pathlib import Path
 from typing import Any, NamedTuple
 
 import pytest
-from pytest_subtests import SubTests
 
-from cases import TEXT, Cases, answer_of, by_file
-from cases.samples import Sample, each_command, each_to_output, sample_of
+from lib.cases import TEXT, Cases, answer_of, by_file
+from lib.samples import Sample, each_command, each_to_output, sample_of
 from lib.limits import SECONDS
-from lib.mounts import PAGE, tmpfs
-from lib.needs import needs, needs_mounts
+from lib.needs import needs
+from lib.subtests import SubTests
 from model.compared import contents
 from model.faults import Fault
 
@@ -182,15 +181,9 @@ def limited() -> None:
 def check_write_fault(cases: Cases, command: str, closed: set[int], path: str, **others: Any) -> None:
     """A run whose output's write fails: the file holds a prefix, and nothing else changes."""
     sample, left = run_sample(cases, Setting(command, closed, path, True), text=TEXT * 400, **others)
-    found = left.changed.pop(path, None) or (Path(path).read_bytes() if Path(path).is_file() else b"")
+    found = left.changed.pop(path, None) or b""
     assert left == failed(Fault.NOT_WRITTEN, closed)
     assert sample.output.startswith(found) and found != sample.output, f"a prefix: got {found!r:.300}"
-
-
-@each_closing
-@each_to_output
-def test_full_device(cases: Cases, command: str, closed: set[int]) -> None:
-    check_write_fault(cases, command, closed, cases.device("full"))
 
 
 @each_closing
@@ -207,18 +200,6 @@ def test_full_standard_output(cases: Cases, command: str, closed: set[int]) -> N
     with open("/dev/full", "wb") as full:
         _, left = run_sample(cases, Setting(command, closed, None, True), stdout=full)
     assert left == failed(Fault.NOT_WRITTEN, closed)
-
-
-@each_to_output
-def test_full_file_system(cases: Cases, subtests: SubTests, command: str) -> None:
-    folder = Path(cases.path())
-    with tmpfs(folder, PAGE) as is_mounted:
-        needs_mounts(is_mounted)
-        for closed in COMBINATIONS:
-            with subtests.test(closings(closed)):
-                (folder / NEW_FILE).unlink(missing_ok=True)
-                check_write_fault(cases, command, closed, str(folder / NEW_FILE))
-                assert (folder / NEW_FILE).exists()
 
 
 @each_to_output

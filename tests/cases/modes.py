@@ -2,33 +2,20 @@
 
 import os
 import socket
-import stat
 import subprocess
 from pathlib import Path
 
 import pytest
-from pytest_subtests import SubTests
 
-from cases import NOBODY, Cases, answer_of, by_file, run_captured
-from cases.samples import Sample, each_to_output, sample_of
-from lib.file_events import IN_ATTRIB, IN_CLOSE_WRITE, IN_MODIFY, FileEvents
+from lib.cases import NOBODY, OLD, Cases, answer_of, mode, run_captured
 from lib.needs import needs_root
 from lib.processes import open_to_read, read_to_end
+from lib.samples import Sample, each_to_output, sample_of, wanted_mode
+from lib.subtests import SubTests
 from model.faults import Fault
-from model.vaults import MAGIC
 
-OLD = b"what stood here before\n" * 1_000
-UMASKS = ("000", "022", "077")
 OLD_MODES = (0o600, 0o640, 0o644, 0o666, 0o755)
-
-
-def mode(path: str) -> str:
-    return oct(stat.S_IMODE(os.stat(path).st_mode))
-
-
-def wanted_mode(sample: Sample, old: int) -> str:
-    """That of an existing file: plaintext is for its owner alone."""
-    return oct(0o600 if sample.command == "decrypt" else old)
+each_umask = pytest.mark.parametrize("umask", ("000", "022", "077"))
 
 
 def under(cases: Cases, umask: str, sample: Sample, path: str) -> subprocess.CompletedProcess[bytes]:
@@ -42,7 +29,7 @@ def check_written(cases: Cases, umask: str, sample: Sample, path: str, wanted: s
     assert (Path(path).read_bytes(), mode(path)) == (sample.output, wanted)
 
 
-@pytest.mark.parametrize("umask", UMASKS)
+@each_umask
 @each_to_output
 def test_new_files(cases: Cases, subtests: SubTests, command: str, umask: str) -> None:
     sample = sample_of(cases, command)
@@ -61,51 +48,37 @@ def test_masked_new_file(cases: Cases, command: str) -> None:
     check_written(cases, "277", sample, cases.path(), wanted)
 
 
-@pytest.mark.parametrize("old", OLD_MODES, ids=oct)
-@pytest.mark.parametrize("umask", UMASKS)
+@each_umask
 @each_to_output
-def test_old_files(cases: Cases, command: str, umask: str, old: int) -> None:
+def test_old_files(cases: Cases, subtests: SubTests, command: str, umask: str) -> None:
+    """By name, by a link, which stays, and by one of two names, which both stay."""
     sample = sample_of(cases, command)
-    check_written(cases, umask, sample, cases.file(OLD, old), wanted_mode(sample, old))
-
-
-@pytest.mark.parametrize("umask", UMASKS)
-@each_to_output
-def test_links(cases: Cases, command: str, umask: str) -> None:
-    """A link is followed, and stays; what it names gets the mode."""
-    sample = sample_of(cases, command)
-    target, link = cases.file(OLD, 0o644), cases.path()
+    for old in OLD_MODES:
+        with subtests.test(oct(old)):
+            check_written(cases, umask, sample, cases.file(OLD, old), wanted_mode(sample, old))
+    target, link, twin = cases.file(OLD, 0o644), cases.path(), cases.path()
     os.symlink(target, link)
-    check_written(cases, umask, sample, link, wanted_mode(sample, 0o644))
-    assert os.readlink(link) == target, "the link stays"
+    os.link(target, twin)
+    for path in (link, twin):
+        check_written(cases, umask, sample, path, wanted_mode(sample, 0o644))
+    assert (os.readlink(link), os.stat(twin).st_nlink) == (target, 2)
 
 
-@pytest.mark.parametrize("umask", UMASKS)
 @each_to_output
-def test_hard_links(cases: Cases, command: str, umask: str) -> None:
-    sample, twin = sample_of(cases, command), cases.path()
-    os.link(cases.file(OLD, 0o644), twin)
-    check_written(cases, umask, sample, twin, wanted_mode(sample, 0o644))
-    assert os.stat(twin).st_nlink == 2, "both names stay"
-
-
-@pytest.mark.parametrize("umask", UMASKS)
-@each_to_output
-def test_devices(cases: Cases, command: str, umask: str) -> None:
+def test_devices(cases: Cases, command: str) -> None:
     path = cases.device("null")
-    done = under(cases, umask, sample_of(cases, command), path)
+    done = under(cases, "022", sample_of(cases, command), path)
     assert (*answer_of(done), mode(path)) == (0, b"", b"", oct(0o666))
 
 
-@pytest.mark.parametrize("umask", UMASKS)
 @each_to_output
-def test_pipes(cases: Cases, command: str, umask: str) -> None:
+def test_pipes(cases: Cases, command: str) -> None:
     sample = sample_of(cases, command)
     path = cases.path()
     os.mkfifo(path)
     os.chmod(path, 0o644)
     reader = open_to_read(path)
-    done = under(cases, umask, sample, path)
+    done = under(cases, "022", sample, path)
     output = read_to_end(reader)
     assert (done.returncode, output, done.stderr, mode(path)) == (0, sample.output, b"", oct(0o644))
 
@@ -120,30 +93,6 @@ def test_sockets(cases: Cases, command: str) -> None:
         os.chmod(path, 0o644)
         cases.refused([*sample.words, "--output", path], Fault.NOT_WRITTEN, sample.stdin)
     assert mode(path) == oct(0o644)
-
-
-@each_to_output
-def test_order(cases: Cases, command: str) -> None:
-    """The file is made private, and only then truncated and written."""
-    sample = sample_of(cases, command)
-    path = cases.file(OLD, 0o644)
-    events = FileEvents(path)
-    cases.run([*sample.words, "--output", path], sample.stdin)
-    restricting = [IN_ATTRIB] if command == "decrypt" else []
-    assert events.read() == [*restricting, IN_MODIFY, IN_CLOSE_WRITE], "what happened to the file"
-
-
-@pytest.mark.parametrize("is_input", (True, False), ids=["input", "password"])
-@each_to_output
-def test_refused(cases: Cases, command: str, is_input: bool) -> None:
-    """A refusal of the input, or of a password, changes no mode."""
-    sample = sample_of(cases, command)
-    path, other = cases.file(OLD, 0o644), cases.file(b"")
-    bad_input = b"no vault\n" if command in ("decrypt", "rekey") else MAGIC
-    words, stdin = ([], bad_input) if is_input else (by_file(other), sample.stdin)
-    done = cases.done([*sample.words, *words, "--output", path], stdin)
-    assert (done.returncode, done.stdout) == (1, b"")
-    assert (Path(path).read_bytes(), mode(path)) == (OLD, oct(0o644)), "the file"
 
 
 @each_to_output

@@ -5,8 +5,8 @@ import subprocess
 
 import pytest
 
-from cases import Cases
-from cases.texts import MISTAKES, PROGRAM, Mistake, help_path, mistakes_path, stored_mistakes
+from lib.cases import Cases
+from lib.texts import MISTAKES, PROGRAM, Mistake, help_path, mistakes_path, stored_mistakes
 from lib.limits import SECONDS
 from lib.paths import version
 from lib.processes import started

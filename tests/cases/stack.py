@@ -11,14 +11,15 @@ from typing import NamedTuple
 
 import pytest
 
-from cases import TEXT, Cases, by_file
-from cases.samples import Sample, each_command, sample_of
+from lib.cases import TEXT, Cases, answer_of, by_file
+from lib.samples import Sample, each_command, sample_of
 from lib.limits import SECONDS
 
 KIB = 1 << 10
 PAGE = resource.getpagesize()
-# Every run ends well in this much, whatever its arguments and environment variables here.
-ENOUGH = 512 * KIB
+# What a run needs besides its arguments and environment variables, and much more than every run here needs.
+STACK, ENOUGH = 64 * KIB, 512 * KIB
+POINTER = 8
 # What is tried below the least stack in which a run ends well: every page of so much.
 BELOW = 100 * KIB
 ABOVE = 64 * KIB
@@ -36,6 +37,12 @@ class Run(NamedTuple):
     path: Path
     before: bytes
     after: bytes
+
+    @property
+    def besides(self) -> int:
+        """What its arguments and environment variables take of the stack."""
+        texts = [*self.words, *(f"{name}={value}" for name, value in self.environment.items())]
+        return sum(len(text) + 1 + POINTER for text in texts)
 
     def outcome(self, program: str, stack: int) -> str:
         """Whether the run ended well, or by a signal with the file as it was; or what it left."""
@@ -100,7 +107,7 @@ def with_long_words(run: Run, name: str, right: str) -> Run:
 
 def check_each_stack(cases: Cases, run: Run) -> None:
     least = run.least(cases.program)
-    assert PAGE < least < ENOUGH, f"the least stack: {least // KIB} KiB"
+    assert PAGE < least <= STACK + run.besides, f"the least stack: {least // KIB} KiB"
     stacks = (*range(max(PAGE, least - BELOW), least, PAGE), *range(least, ENOUGH, ABOVE))
     found = {f"{stack // KIB} KiB": run.outcome(cases.program, stack) for stack in stacks}
     assert {stack: outcome for stack, outcome in found.items() if outcome not in ("whole", "untouched")} == {}
@@ -117,6 +124,13 @@ def test_small_stacks(cases: Cases, environment: int, command: str) -> None:
 def test_small_stacks_with_long_words(cases: Cases, command: str) -> None:
     run = in_place(cases, sample_of(cases, command), 0)
     check_each_stack(cases, with_long_words(run, command, cases.file(b"right\n")))
+
+
+@pytest.mark.parametrize("words, status", ((["rekey", "--help"], 0), (["view", "--loud"], 2), ([], 2)))
+def test_texts(cases: Cases, words: list[str], status: int) -> None:
+    limits = (STACK, resource.RLIM_INFINITY)
+    done = cases.done(words, env={}, preexec_fn=lambda: resource.setrlimit(resource.RLIMIT_STACK, limits))
+    assert (status, *answer_of(cases.done(words))[1:]) == answer_of(done)
 
 
 def test_small_stacks_with_long_string(cases: Cases) -> None:

@@ -7,9 +7,12 @@ by `model.vaults`, so no result depends on the program itself.
 import compileall
 import hmac
 import os
+import re
 import shutil
 import stat
 import subprocess
+import time
+from collections.abc import Callable, Iterable
 from pathlib import Path
 
 from lib.limits import SECONDS
@@ -27,6 +30,19 @@ NOBODY = 65_534
 TEXT = b"db_password: correct horse\n"
 # Passwords by the names of their files.
 PASSWORDS = {name: f"the password {name}".encode() for name in ("old", "new", "dev", "dev2", "prod", "prod2")}
+# What an editor makes of the text, and how; and the companion that runs it, which stands below a shell.
+CHANGED = TEXT.replace(b"correct", b"wrong")
+CHANGE = 'sed -i s/correct/wrong/ "$1"'
+ABOVE_EDITOR = "$(cut -d ' ' -f 4 /proc/$PPID/stat)"
+# The digits of an envelope, and a block.
+DIGITS = re.compile(rb"(?m)^( *)[0-9a-fA-F]{20,}(?=\r?$)")
+FOUND = re.compile(rb"(?m)^ *\$ANSIBLE_VAULT;1.*(?:\n *[0-9a-fA-F]+\r?$)+")
+SUMMARY = "{} rotated, {} under the new secret already, {} of other labels{}, {} failed"
+ENCRYPTED = re.compile(r"; what you saved is encrypted in (.+)\n")
+# Notes what a run of the program can be seen to be.
+NOTE = "{ tr '\\0' '\\n' < /proc/$$/cmdline; tr '\\0' '\\n' < /proc/$$/environ; } >> ../seen; ulimit -c >> ../cores"
+# The first line of an envelope, with the password that decrypts it and the plaintext, or other content as it is.
+Described = tuple[bytes, tuple[str, bytes] | None]
 # Names that a shell, an option or a line of text would break.
 AWKWARD = [
     "with a space.yml",
@@ -163,6 +179,20 @@ class Place:
         return self.run(*words)
 
 
+def run_changed(place: Place, companion: str, change: str, words: list[str], **variables: str) -> Done:
+    """Runs a companion after this text of Python, which may change `files` and `replacing` of the package."""
+    text = f"""
+import os, runpy, signal, sys
+sys.argv = sys.argv[1:]
+sys.path[0] = os.path.dirname(os.path.realpath(sys.argv[0]))
+from ansible_vault_companions.files import reading, replacing
+{change}
+runpy.run_path(sys.argv[0], run_name="__main__")
+"""
+    script = place.script(text, "changed", "/usr/bin/env -S python3 -ISB")
+    return place.run(script, str(place.tools / companion), *words, **variables)
+
+
 def copy_tools(program: str, folder: Path) -> None:
     """Copies of the companions, compiled, and of the program, which everybody may read wherever the repository is."""
     shutil.copytree(COMPANIONS, folder / "companions")
@@ -198,3 +228,65 @@ def ended(what: str, done: Done, status: int, *parts: str) -> None:
 def silent(what: str, done: Done) -> None:
     """It ends well and prints nothing."""
     assert (done.returncode, done.stdout, done.stderr) == (0, "", ""), what
+
+
+def edit(place: Place, editor: str, *words: str, **variables: str) -> Done:
+    """Edits by a script with this text."""
+    return place.run(EDIT, *words, EDITOR=place.script(editor, "editor"), **variables)
+
+
+def lines_of(envelope: bytes, spaces: int, end: bytes = b"\n") -> bytes:
+    """An indented envelope, without a final newline."""
+    return end.join(b" " * spaces + line for line in envelope.splitlines())
+
+
+def without_digits(data: bytes) -> bytes:
+    return DIGITS.sub(rb"\1digits", data)
+
+
+def texts(data: bytes, password: str) -> list[bytes | None]:
+    """The plaintext of each block."""
+    found = [re.sub(rb"[ \r]", b"", each) for each in FOUND.findall(data)]
+    return [decrypted(password, each + b"\n") for each in found]
+
+
+def summary(changed: int, had_it: int = 0, others: int = 0, named: str = "", failed: int = 0) -> str:
+    return SUMMARY.format(changed, had_it, others, named, failed)
+
+
+def to_new(place: Place) -> list[str]:
+    return [*place.by_file("old"), *place.by_file("new", "new-")]
+
+
+def wait_until(condition: Callable[[], object], what: str) -> None:
+    end = time.monotonic() + SECONDS
+    while not condition():
+        if time.monotonic() > end:
+            raise AssertionError(f"{what} takes too long")
+        time.sleep(0.02)
+
+
+def versions(place: Place, name: str, base: bytes, ours: bytes, other: bytes) -> list[str]:
+    """The arguments of a merge of three versions, of which ours alone stands in the tree."""
+    place.put(f"../versions/base-{name}", base)
+    place.put(f"../versions/theirs-{name}", other)
+    place.put(name, ours)
+    return [f"../versions/base-{name}", name, f"../versions/theirs-{name}", name]
+
+
+def envelope_of(content: bytes) -> bytes | None:
+    """That of a vault, or of a single block."""
+    envelope = b"".join(line.strip() + b"\n" for line in content.splitlines() if b"!vault" not in line)
+    return envelope if envelope.startswith(b"$ANSIBLE_VAULT") else None
+
+
+def described(content: bytes, passwords: Iterable[str] = PASSWORDS) -> Described:
+    """By the first of the passwords that decrypts it."""
+    envelope = envelope_of(content)
+    if envelope is None:
+        return content, None
+    texts = ((name, decrypted(name, envelope)) for name in passwords)
+    return envelope.partition(b"\n")[0], next(((name, text) for name, text in texts if text is not None), None)
+
+
+BODY = lines_of(sealed("old"), 10)

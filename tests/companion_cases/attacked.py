@@ -18,20 +18,19 @@ from hypothesis.stateful import RuleBasedStateMachine, initialize, rule, run_sta
 
 from companion_cases import CHECK, EDIT, ROTATE, WITH, Companions
 from companion_cases.forked import STEP, Forks
-from companion_cases.oracle import DEV, ENVELOPE, NAMES, PROD, Tree
-from companion_cases.oracle import block, envelopes, is_false, is_merged, label_of, make, opened
-from companion_cases.oracle import read_tree, spots, spots_of, values, visible
+from companion_cases.oracle import DEV, ENVELOPE, NAMES, PROD, Tree, block, envelopes, is_false, is_merged, label_of
+from companion_cases.oracle import make, opened, read_tree, spots, spots_of, values, visible
 from companion_cases.stranger import MOVES, Stranger
 from companion_cases.surroundings import ATTRIBUTES, Surroundings
 from lib.needs import needs, needs_pyyaml
 from model.vaults import MAGIC
 
 Done = subprocess.CompletedProcess[str]
-EXAMPLES = 40
+EXAMPLES = 52
 STEPS = 12
 # How often each is done at least.
 LEAST = {
-    **{"examples": 40, "steps": 300, "edit": 60, "rotate": 30, "merge": 25, "merge without a conflict": 15},
+    **{"examples": EXAMPLES, "steps": 300, "edit": 60, "rotate": 30, "merge": 25, "merge without a conflict": 15},
     **{"rebase": 8, "cherry-pick": 8, "rekey": 5, "revert": 5, "check": 5},
     **dict.fromkeys(MOVES, 2),
     **{"replace": 15, "relabel": 8, "copy": 8, "guess": 8},
@@ -228,14 +227,13 @@ class Attack(RuleBasedStateMachine):
         return [".", *["../unpacked"] * data.draw(st.booleans(), "around")]
 
     def rekey(self, data: st.DataObject) -> None:
-        """A vault, by the passwords of the label that it seems to have."""
+        """A vault, for the label that it seems to have."""
         whole = [spot for spot in spots(self.seen) if not spot.key and label_of(spot.envelope)]
         if whole:
             spot = data.draw(st.sampled_from(whole), "what")
             label, was = label_of(spot.envelope), opened(spot.envelope)
             new = next(name for name in NAMES[label] if not was or name != was.name)
-            old = [word for name in NAMES[label] for word in self.place.by_id(label, name)]
-            self.run(WITH, "rekey", *old, *self.place.by_id(label, new, "new-"), spot.file)
+            self.run(WITH, "rekey", *self.around.secrets, *self.place.by_id(label, new, "new-"), spot.file)
             found = opened(self.place.get(spot.file))
             is_due = found == was if is_false(spot.envelope) else found and found.name == new
             assert is_due, ("a rekey", was, found)

@@ -5,12 +5,10 @@ it printed before.
 import re
 from pathlib import Path
 
-from pytest_subtests import SubTests
-
-from companion_cases import CHECK, ROTATE, Place, ended
+from companion_cases import CHECK, ROTATE, Place, ended, summary
 from companion_cases.both import written_by_theirs
-from companion_cases.rotating import summary
 from lib.needs import needs, needs_ansible
+from lib.subtests import SubTests
 
 # The old and the new password of each label.
 LABELS = {"default": ("old", "new"), "dev": ("dev", "dev2"), "prod": ("prod", "prod2")}

@@ -5,16 +5,9 @@ import re
 
 import pytest
 
-from companion_cases import ROTATE, TEXT, TEXTCONV, Companions, Place, block, decrypted, ended, sealed
-from companion_cases.rotating import summary, to_new
+from companion_cases import BODY, ROTATE, TEXT, TEXTCONV, Companions, Place, block, ended, lines_of, sealed, summary
+from companion_cases import texts, to_new, without_digits
 
-
-def lines_of(envelope: bytes, spaces: int, end: bytes = b"\n") -> bytes:
-    """An indented envelope, without a final newline."""
-    return end.join(b" " * spaces + line for line in envelope.splitlines())
-
-
-BODY = lines_of(sealed("old"), 10)
 LABELLED = lines_of(sealed("old", label="default"), 2)
 DEEP = b"".join(b" " * n + b"a:\n" for n in range(30))
 # What stands in a file, and how many blocks of it are rotated.
@@ -47,18 +40,6 @@ FILES = {
         0,
     ),
 }
-DIGITS = re.compile(rb"(?m)^( *)[0-9a-fA-F]{20,}(?=\r?$)")
-FOUND = re.compile(rb"(?m)^ *\$ANSIBLE_VAULT;1.*(?:\n *[0-9a-fA-F]+\r?$)+")
-
-
-def without_digits(data: bytes) -> bytes:
-    return DIGITS.sub(rb"\1digits", data)
-
-
-def texts(data: bytes, password: str) -> list[bytes | None]:
-    """The plaintext of each block."""
-    found = [re.sub(rb"[ \r]", b"", each) for each in FOUND.findall(data)]
-    return [decrypted(password, each + b"\n") for each in found]
 
 
 def test_around(place: Place) -> None:

@@ -2,10 +2,9 @@
 
 from itertools import product
 
-from pytest_subtests import SubTests
-
 from companion_cases import CHECK, COMPANIONS, TEXT, Place, block, ended, sealed
 from lib.paths import version
+from lib.subtests import SubTests
 
 
 def test_labels_and_secrets(place: Place) -> None:

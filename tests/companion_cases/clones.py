@@ -6,9 +6,7 @@ from pathlib import Path
 import pytest
 
 from companion_cases import CHECK, HOOK, MERGE, TEXT, Place, ended, sealed
-from companion_cases.hook import refused, unmarking
-from companion_cases.leaks import WHOLE
-from companion_cases.repository import under_git
+from companion_cases.repository import WHOLE, refused, under_git, unmarking
 from ansible_vault_companions.git import repositories
 
 pytestmark = pytest.mark.usefixtures("git")
@@ -81,7 +79,7 @@ OPERATIONS = {
     "am": "git format-patch -q -1 --output-directory .. theirs && git am -q -3 ../0001*",
     "stash": "git checkout -q base && cp ../unknown2.yml a.yml && git stash -q && git checkout -q ours; git stash pop",
 }
-NOT_MERGED = "is not merged: the merge driver failed, and the file has nothing of theirs"
+NOT_MERGED = "is not merged: the merge driver failed, so the file has only ours"
 
 
 @pytest.mark.parametrize("what", OPERATIONS)
@@ -95,7 +93,7 @@ def test_failed_drivers(place: Place, what: str) -> None:
     done = place.shell(FORK)
     assert done.returncode == 0, done
     done = place.shell(OPERATIONS[what])
-    assert "a.yml: not merged, ours is left as it was" in done.stderr, (what, done)
+    assert "a.yml: not merged, so ours stays as it was" in done.stderr, (what, done)
     check = [CHECK, *place.by_file("old"), *place.by_file("new"), "a.yml"]
     ended(f"{what}: the check", place.run(*check), 1, f"{CHECK}: a.yml: {NOT_MERGED}\n")
     ended(f"{what}: the hook", place.shell(f"git add -A; {HOOK}"), 1, f"{HOOK}: a.yml {NOT_MERGED}\n")

@@ -2,9 +2,8 @@
 
 import pytest
 
-from companion_cases import CHECK, EDIT, HOOK, MERGE, PASSWORDS, Companions, decrypted, ended, sealed, silent
-from companion_cases.blocks import texts
-from companion_cases.editing import edit
+from companion_cases import CHECK, EDIT, HOOK, MERGE, PASSWORDS, Companions, decrypted, edit, ended, sealed, silent
+from companion_cases import texts
 from companion_cases.repository import add_and_commit, under_git
 from model.vaults import SALT, seal, yaml_block
 
@@ -13,7 +12,7 @@ OURS, THEIRS = BASE.replace(b"one: 1", b"one: I"), BASE.replace(b"four: 4", b"fo
 SALTS = [SALT, SALT[::-1], SALT[1:] + b"s"]
 TORN = "has git's conflict markers within an envelope, since it was merged without ansible-vault-merge"
 COMMAND = "git checkout --merge a.yml"
-SET_UP = f"set up the merge driver as `ansible-vault-merge --help` says, and run `{COMMAND}`"
+SET_UP = f"set up the merge driver (see `ansible-vault-merge --help`), and run `{COMMAND}`"
 
 
 def envelopes(*labels: str) -> list[bytes]:
@@ -57,7 +56,7 @@ def test_without_driver(cases: Companions, style: str, what: str, versions: list
     assert (done.returncode, done.stderr) == (1, f"{HOOK}: a.yml {TORN}\n  {SET_UP}\n"), f"{what}: the hook"
     place.run("git", "config", "merge.ansible-vault.driver", f"{MERGE} {' '.join(secrets)} %O %A %B %P")
     done = place.shell(COMMAND)
-    assert done.stderr.count(": 1 conflict, to be resolved with") == conflicts, f"{what}: the driver merges it"
+    assert done.stderr.count(": 1 conflict; resolve with") == conflicts, f"{what}: the driver merges it"
     found = [decrypted("old", place.get("a.yml"))] if what == "a vault" else texts(place.get("a.yml"), "old")
     wanted = [OURS, THEIRS] if conflicts else [OURS.replace(b"four: 4", b"four: IV")]
     assert [text for text in found if text != BASE] == wanted, f"{what}: all that it is made of is whole"
@@ -71,7 +70,8 @@ def test_line_ends_of_a_checkout(cases: Companions, attributes: str) -> None:
     place.put("a.yml", sealed("old").replace(b"\n", b"\r\n"))
     add_and_commit(place)
     marked = "printf '<<<<<<< ours\\nx: 1\\n=======\\nx: 2\\n>>>>>>> theirs\\n' > \"$1\""
-    ended("the edit", edit(place, marked, *place.by_file("old"), "a.yml"), 0, "it still has git's conflict markers")
+    done = edit(place, marked, *place.by_file("old"), "a.yml")
+    ended("the edit", done, 0, "it still has git's conflict markers; edit it again to remove them")
     assert b"\r\n" in place.get("a.yml"), "the ends of lines stay"
     ended("the hook", place.shell(f"git add -A; {HOOK}"), 1, "a.yml has git's conflict markers")
     ended("without markers", edit(place, 'echo "x: 1" > "$1"', *place.by_file("old"), "a.yml"), 0)

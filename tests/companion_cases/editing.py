@@ -4,23 +4,14 @@ import os
 from pathlib import Path
 
 import pytest
-from pytest_subtests import SubTests
 
-from companion_cases import AWKWARD, EDIT, HOOK, NOBODY, TEXT, Companions, Done, Place
-from companion_cases import block, decrypted, ended, sealed, silent
+from companion_cases import AWKWARD, CHANGE, CHANGED, EDIT, HOOK, NOBODY, TEXT, Companions, Place, block, decrypted
+from companion_cases import edit, ended, sealed, silent
 from companion_cases.repository import AUTHOR
 from lib.needs import needs
+from lib.subtests import SubTests
 
-CHANGED = TEXT.replace(b"correct", b"wrong")
-CHANGE = 'sed -i s/correct/wrong/ "$1"'
-# The companion that runs an editor, which stands below a shell.
-ABOVE_EDITOR = "$(cut -d ' ' -f 4 /proc/$PPID/stat)"
 NOT_MADE = ("new.yml", "nothing was changed")
-
-
-def edit(place: Place, editor: str, *words: str, **variables: str) -> Done:
-    """Edits by a script with this text."""
-    return place.run(EDIT, *words, EDITOR=place.script(editor, "editor"), **variables)
 
 
 @pytest.mark.parametrize("label, secrets", (("", "old"), ("prod", "prod")))
@@ -156,7 +147,7 @@ def test_labels(place: Place, subtests: SubTests) -> None:
                 assert envelope.partition(b"\n")[0] == b"$ANSIBLE_VAULT;1.2;AES256;prod", "the label stays"
     place.put("odd.yml", sealed("prod", label="a@b"))
     done = edit(place, CHANGE, *place.by_file("prod"), "odd.yml")
-    ended("a label that no option can name", done, 1, "the label a@b")
+    ended("a label that no option can name", done, 1, "its label a@b")
     assert decrypted("prod", place.get("odd.yml")) == TEXT, "its vault stays"
 
 
@@ -192,9 +183,10 @@ def test_links(place: Place) -> None:
 
 
 def test_names(place: Place, subtests: SubTests) -> None:
+    vault = sealed("old")
     for name in AWKWARD:
         with subtests.test(repr(name)):
-            place.put(name, sealed("old"))
+            place.put(name, vault)
             silent("the edit", edit(place, CHANGE, *place.by_file("old"), "--", name))
             assert decrypted("old", place.get(name)) == CHANGED, "the text"
     assert place.names() == sorted(AWKWARD), "no other file is made"
@@ -221,7 +213,8 @@ def test_conflict_markers(cases: Companions, name: str) -> None:
     """A vault that is saved with git's conflict markers is noted, and the hook refuses it until they are gone."""
     needs("git")
     marked = "printf '<<<<<<< ours\\nx: 1\\n=======\\nx: 2\\n>>>>>>> theirs\\n'"
-    still, refused = "all.yml: it still has git's conflict markers\n", "all.yml has git's conflict markers\n"
+    still = "all.yml: it still has git's conflict markers; edit it again to remove them\n"
+    refused = "all.yml has git's conflict markers\n"
     place = cases.place()
     place.environment.update(AUTHOR)
     old = place.by_file("old")

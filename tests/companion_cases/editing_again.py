@@ -6,13 +6,10 @@ import os
 
 import pytest
 
-from companion_cases import EDIT, NOBODY, TEXT, Companions, Place, block, decrypted, ended, sealed
-from companion_cases.blocks import texts
-from companion_cases.editing import CHANGE, CHANGED, edit
-from companion_cases.keeping import ENCRYPTED
+from companion_cases import CHANGE, CHANGED, EDIT, ENCRYPTED, NOBODY, TEXT, Companions, Place, block, decrypted, edit
+from companion_cases import ended, sealed, texts
 from companion_cases.mistakes import commands
-from companion_cases.prompts import ask
-from companion_cases.terminal import Session
+from companion_cases.terminal import Session, ask
 from lib.needs import needs, needs_pyyaml
 
 AGAIN = "Open the editor again? (yes, no): "
@@ -149,7 +146,7 @@ def test_nothing_to_resume(place: Place) -> None:
         place.put(".ansible-vault-saved-all.yml-abcdefgh", sealed("old", b"theirs"))
         os.chown(place.tree / ".ansible-vault-saved-all.yml-abcdefgh", NOBODY, NOBODY)
     done = edit(place, "touch ../started", *place.by_file("old"), "--resume", "all.yml")
-    ended("no copy", done, 1, "all.yml: no text of an earlier edit is kept")
+    ended("no copy", done, 1, "all.yml: no earlier edit left a copy")
     words = [*place.by_file("old"), "--resume", "--value", "a", "all.yml"]
     ended("no editor", place.run(EDIT, *words), 2, "--resume is for an editor")
     assert not (place.path / "started").exists()

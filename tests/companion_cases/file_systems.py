@@ -7,9 +7,8 @@ import os
 
 import pytest
 
-from companion_cases import EDIT, NOBODY, ROTATE, TEXT, WITH, Done, Place, decrypted, sealed
-from companion_cases.keeping import run_changed
-from companion_cases.rotating import summary, to_new
+from companion_cases import EDIT, NOBODY, ROTATE, TEXT, WITH, Done, Place, decrypted, run_changed, sealed, summary
+from companion_cases import to_new
 from lib.needs import needs
 
 NO_LINKS = ("EPERM", "EOPNOTSUPP", "ENOSYS", "EMLINK")
@@ -77,7 +76,7 @@ os.link = none
     editor = place.script('echo a > "$1"', "editor")
     done = run_changed(place, EDIT, none, [*place.by_file("old"), "new.yml"], EDITOR=editor)
     assert done.returncode == 1
-    assert f"{EDIT}: new.yml: it was created meanwhile; what you saved is encrypted in " in done.stderr
+    assert f"{EDIT}: new.yml: another program created it meanwhile; what you saved is encrypted in " in done.stderr
     assert place.get("new.yml") == b"theirs"
 
 
@@ -117,7 +116,7 @@ replacing.open = opened
         place.put(each, sealed("old"))
     done = [run_changed(place, EDIT, mounts, [*place.by_file("old"), each], EDITOR="true") for each in names]
     [refused, *others] = [(each.returncode, each.stderr) for each in done]
-    assert refused[0] == 1 and "it is itself a mount point, so no other file can take its place" in refused[1]
+    assert refused[0] == 1 and "it is a mount point, so no other file can replace it" in refused[1]
     assert [status for status, _ in others] == [0] * len(others)
 
 

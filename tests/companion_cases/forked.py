@@ -18,7 +18,7 @@ from types import CodeType
 from typing import Any
 
 from companion_cases import PASSWORDS, Place, decrypted
-from companion_cases.oracle import LABEL_OF, SALTS, make
+from companion_cases.oracle import LABEL_OF, SALTS, label_of, make
 from lib.paths import ROOT
 from model.vaults import MAGIC
 
@@ -63,8 +63,11 @@ def answer(words: list[str], data: bytes, number: int) -> tuple[int, bytes, byte
     if words[1] != "encrypt":
         if not data.startswith(MAGIC):
             return 1, b"", b"ERROR! input is not vault encrypted data"
+        old = list(zip(given, names))[: -1 if words[1] == "rekey" else None]
+        if "--require-id-match" in words:
+            old = [(pair, name) for pair, name in old if pair[0] == (label_of(data) or "default")]
         try:
-            tried = [decrypted(name, data) for name in (names[:-1] if words[1] == "rekey" else names)]
+            tried = [decrypted(name, data) for _, name in old]
         except (ValueError, IndexError):
             return 1, b"", b"ERROR! vault is malformed"
         text = next((each for each in tried if each is not None), None)

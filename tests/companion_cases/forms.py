@@ -7,9 +7,8 @@ import pytest
 
 from ansible_vault_companions.files.finding import envelopes
 from ansible_vault_companions.git import damage, leaks
-from companion_cases import CHECK, ROTATE, TEXT, Done, Place, block, decrypted, ended, sealed
-from companion_cases.blocks import BODY, lines_of, texts
-from companion_cases.rotating import summary, to_new
+from companion_cases import BODY, CHECK, ROTATE, TEXT, Done, Place, block, decrypted, ended, lines_of, sealed, summary
+from companion_cases import texts, to_new
 
 LINE = sealed("old").decode().replace("\n", "\\n")
 OF_PROD = sealed("prod", label="prod").decode().replace("\n", "\\n")
@@ -25,14 +24,14 @@ REPORTED = {
     "a folded scalar": (b"a: !vault >\n" + BODY + b"\n", "in a folded scalar"),
     "a byte order mark": (b"\xef\xbb\xbf" + sealed("old"), "after a byte order mark"),
     "an empty line": (b"\n" + sealed("old"), "after empty lines or spaces at the start of the file"),
-    "several empty lines": (b" \r\n\t\n" + sealed("old"), "which is no vault; remove them"),
-    "spaces": (b"  " + sealed("old").replace(b"\n", b"\n  "), "which is no vault; remove them"),
+    "several empty lines": (b" \r\n\t\n" + sealed("old"), "remove them, or it is not a vault"),
+    "spaces": (b"  " + sealed("old").replace(b"\n", b"\n  "), "remove them, or it is not a vault"),
     "single quotes": (b"a: !vault '" + sealed("old").replace(b"\n", b"\n\n  ") + b"'\n", "in quotes or within a line"),
     "a damaged block": (b"a: !vault |\n  $ANSIBLE_VAULT;1.1;AES256\n  not digits\n", "vault payload is malformed"),
     "a block that is cut": (b"a: !vault |\n" + BODY[:-100] + b"\n  x\n", "vault body is not hexadecimal"),
     "a merge": (b"a: !vault |\n" + BODY[:300] + b"\n<<<<<<< ours\n" + BODY[300:] + b"\n", "vault payload is malformed"),
-    "UTF-16": ("\ufeff".encode("utf-16-le") + block("old").decode().encode("utf-16-le"), "write the file in UTF-8"),
-    "UTF-16, big-endian": (block("old").decode().encode("utf-16-be"), "write the file in UTF-8"),
+    "UTF-16": ("\ufeff".encode("utf-16-le") + block("old").decode().encode("utf-16-le"), "save the file as UTF-8"),
+    "UTF-16, big-endian": (block("old").decode().encode("utf-16-be"), "save the file as UTF-8"),
 }
 
 

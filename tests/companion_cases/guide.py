@@ -1,6 +1,6 @@
 """The command lines of the Ansible Vault guide, by Ansible's tool and by the alias for ansible-vault-with.
 
-Each row of a table says what both do. Where they differ, as a row says then, Ansible's tool refuses the line.
+Each row of a table says what both do, or what Ansible's tool does instead, up to which release.
 """
 
 import re
@@ -8,10 +8,10 @@ from typing import NamedTuple
 
 import pytest
 
-from companion_cases import PASSWORDS, TEXT, WITH, Companions, Place, sealed
-from companion_cases.both import for_ansible
-from companion_cases.running import Described, described
+from companion_cases import PASSWORDS, TEXT, WITH, Companions, Described, Place, described, sealed
+from companion_cases.both import for_ansible, line_for_ansible
 from companion_cases.terminal import Session, at_terminal
+from lib.ansible import ansible_release
 from lib.needs import needs, needs_ansible
 
 # Password files of the guide.
@@ -25,6 +25,16 @@ DEV = "--vault-id dev@a_password_file"
 AT_TERMINAL = "--output new.yml < /dev/tty > /dev/tty 2>&1"
 VARIABLE = "Variable name (enter for no name): "
 STRING, SHOWN_STRING = "String to encrypt (hidden): ", "String to encrypt:"
+# No release comes after it.
+NONE = (3, 0)
+
+
+class Instead(NamedTuple):
+    """What releases of Ansible's tool before this one say, and what is typed for them."""
+
+    before: tuple[int, int]
+    says: str
+    typed: list[tuple[str, str]] = []
 
 
 class Row(NamedTuple):
@@ -36,9 +46,19 @@ class Row(NamedTuple):
     password: str = ""
     # Questions, and what is typed: a password by its name, or a text.
     typed: list[tuple[str, str]] = []
-    # What Ansible's tool says to a line that it refuses.
-    refused: str = ""
+    instead: Instead | None = None
+    # What is typed for Ansible's tool if it asks more.
+    typed_there: list[tuple[str, str]] = []
     before: str = ""
+
+    def other(self) -> Instead | None:
+        """What the release that is there does instead."""
+        return self.instead if self.instead and ansible_release() < self.instead.before else None
+
+    def for_ansible(self) -> "Row":
+        other = self.other()
+        typed = other.typed if other else self.typed_there or self.typed
+        return self._replace(line=line_for_ansible(self.line), typed=typed)
 
 
 ROWS = [
@@ -98,30 +118,37 @@ ROWS = [
     Row(
         f"encrypt_string {DEV} 'first' 'second' --output new.yml",
         "writes the blocks to a file",
-        refused="At most one input file may be used with the --output option",
+        instead=Instead(NONE, "At most one input file may be used with the --output option"),
     ),
-    Row(f"encrypt_string {DEV} 'first' --output new.yml", "writes the block to a file"),
+    Row(
+        f"encrypt_string {DEV} 'first' --output new.yml",
+        "writes the block to a file",
+        instead=Instead((2, 14), "!vault |"),
+    ),
     Row(
         f"encrypt_string {DEV} -p 'second' --name two {AT_TERMINAL}",
         "asks for one more string and its name",
         typed=[(VARIABLE, "one"), (STRING, "first")],
+        instead=Instead((2, 14), "!vault |", [(VARIABLE, "one"), ("String to encrypt: ", "first")]),
     ),
     Row(
         f"encrypt_string {DEV} --prompt --show-input 'second' {AT_TERMINAL}",
         "shows what is typed",
         typed=[(VARIABLE, ""), (SHOWN_STRING, "first")],
+        instead=Instead((2, 14), "unrecognized arguments: --show-input"),
     ),
     Row(
-        f"encrypt_string {DEV} --prompt",
+        f"encrypt_string {DEV} --prompt {AT_TERMINAL}",
         "asks for the string and its name",
         typed=[(VARIABLE, "one"), (STRING, "first")],
-        refused="The --prompt option is not supported if also reading input from stdin",
+        instead=Instead((2, 19), "The --prompt option is not supported if also reading input from stdin"),
     ),
     Row(
-        f"encrypt_string {DEV} --prompt --name one",
+        f"encrypt_string {DEV} --prompt --name one {AT_TERMINAL}",
         "asks for the string",
         typed=[(STRING, "first")],
-        refused="The --prompt option is not supported if also reading input from stdin",
+        instead=Instead((2, 19), "The --prompt option is not supported if also reading input from stdin"),
+        typed_there=[(VARIABLE, "one"), (STRING, "first")],
     ),
     Row("encrypt_string --ask-vault-pass 'a' --name b", "asks twice", typed=[(NEW, "new"), (AGAIN, "new")]),
     Row("encrypt --vault-passw a_password_file foo.yml", "takes an abbreviated option"),
@@ -129,7 +156,12 @@ ROWS = [
     Row("view --ask-vault-passw foo.yml", "takes an abbreviated option", "old", [(OLD, "old")]),
     Row("rekey --vault-i ppold --new-vault-p new foo.yml", "takes two of them", "old"),
     Row(f"encrypt_string {DEV} -nname 'a string'", "takes a value without a space"),
-    Row("view --vault-pass ppold foo.yml", "takes --vault-pass", "old", refused="ambiguous option: --vault-pass"),
+    Row(
+        "view --vault-pass ppold foo.yml",
+        "takes --vault-pass",
+        "old",
+        instead=Instead(NONE, "ambiguous option: --vault-pass"),
+    ),
 ]
 
 
@@ -171,9 +203,18 @@ def test_lines(cases: Companions, row: Row) -> None:
     ansible = needs_ansible()
     place = cases.place()
     with for_ansible(place):
-        session = run(place, ansible, row._replace(typed=[]) if row.refused else row)
+        session = run(place, ansible, row.for_ansible())
         theirs = outcome(place, session)
-    if row.refused:
-        assert row.refused in session.stderr, "Ansible's tool refuses it"
+    if other := row.other():
+        assert other.says in session.stdout + session.stderr + session.shown, "Ansible's tool says"
     else:
         assert ours == theirs, f"as Ansible's tool ({session.stderr})"
+
+
+def test_prompt_beside_the_streams(place: Place) -> None:
+    """What is asked is asked at the terminal, even if no standard stream is one."""
+    place.put("a_password_file", PASSWORDS["dev"], 0o600)
+    answers = [(VARIABLE, b"one\n"), (STRING, b"first\n")]
+    session = at_terminal(place, [WITH, "encrypt_string", *DEV.split(), "--prompt"], *answers)
+    found = blocks(session.stdout.strip().encode())
+    assert found == [(b"one: !vault |", (b"$ANSIBLE_VAULT;1.2;AES256;dev", ("dev", b"first")))], session

@@ -3,11 +3,9 @@
 import os
 
 import pytest
-from pytest_subtests import SubTests
-
-from companion_cases import AWKWARD, HOOK, TEXT, WITH, Done, Place, block, ended, sealed, silent
-from companion_cases.editing import CHANGE, edit
-from companion_cases.repository import add_and_commit, commit, under_git
+from companion_cases import AWKWARD, CHANGE, HOOK, TEXT, WITH, Place, block, edit, ended, run_changed, sealed, silent
+from companion_cases.repository import add_and_commit, commit, refused, under_git, unmarking
+from lib.subtests import SubTests
 
 pytestmark = pytest.mark.usefixtures("git")
 
@@ -18,17 +16,6 @@ def with_hook(place: Place) -> None:
     under_git(place, ATTRIBUTES)
     (place.tree / ".git/hooks").mkdir(exist_ok=True)
     (place.tree / ".git/hooks/pre-commit").symlink_to(place.tools / HOOK)
-
-
-def refused(what: str, done: Done, *names: str, why: str = "is not encrypted", hint: str = "") -> None:
-    """Each name with the reason, and with the hint below it."""
-    lines = [line for name in names for line in (f"ansible-vault-hook: {name} {why}", hint) if line]
-    assert (done.returncode, done.stderr.splitlines()) == (1, lines), what
-
-
-def unmarking(name: str) -> str:
-    """The hint for a file that stands beside a vault."""
-    return f"  encrypt it, or unmark it by a last line of .gitattributes: /{name} !diff !ansible-vault"
 
 
 def test_what_is_refused(place: Place, subtests: SubTests) -> None:
@@ -95,22 +82,14 @@ def test_blocks(place: Place) -> None:
     refused("ansible-vault", add_and_commit(place), "secrets/vars.yml")
 
 
-# Runs a companion, and kills it where a new file is to get the name of the old one.
-KILLED = """\
-import os, runpy, sys
-os.replace = lambda *_: os.kill(os.getpid(), 9)
-sys.path.insert(0, os.path.dirname(os.path.realpath(sys.argv[1])))
-sys.argv[:1] = []
-runpy.run_path(sys.argv[0], run_name="__main__")"""
-
-
 def test_leftovers(place: Place) -> None:
     """What companions leave is not committed by `git add -A`."""
     with_hook(place)
     place.put("inner/a.yml", sealed("old"))
     silent("the vault", add_and_commit(place))
-    words = [str(place.tools / WITH), "decrypt", *place.by_file("old"), "inner/a.yml"]
-    assert place.run("python3", "-c", KILLED, *words).returncode == -9
+    # It is killed where a new file is to get the name of the old one.
+    killed, words = "os.replace = lambda *_: os.kill(os.getpid(), 9)", ["decrypt", *place.by_file("old"), "inner/a.yml"]
+    assert run_changed(place, WITH, killed, words).returncode == -9
     ended("an edit", edit(place, f"{CHANGE}; exit 1", *place.by_file("old"), "inner/a.yml"), 1, "is encrypted in")
     names = sorted(name for name in place.files() if "/.ansible-vault-" in name)
     assert sorted(place.get(name) == TEXT for name in names) == [False, True], "one in plaintext, one encrypted"
@@ -132,7 +111,7 @@ def test_leftovers(place: Place) -> None:
 
 def leftover(name: str) -> list[str]:
     return [
-        f"ansible-vault-hook: {name} has the name of a leftover of a companion, which may be plaintext",
+        f"ansible-vault-hook: {name} is what a failed companion left, and may be plaintext",
         f"  look into it, and remove it by `git rm --cached {name}` and `rm {name}`",
         f"  if that is meant, commit with --no-verify, or add to .gitattributes: /{name} -ansible-vault",
     ]

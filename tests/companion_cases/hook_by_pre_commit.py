@@ -7,10 +7,7 @@ from typing import Any
 import pytest
 
 from companion_cases import HOOK, TEXT, Done, Place, block, ended, sealed, silent
-from companion_cases.hook import refused, unmarking
-from companion_cases.hook_moves import GONE
-from companion_cases.leaks import WHOLE, meant
-from companion_cases.repository import add_and_commit, under_git
+from companion_cases.repository import GONE, WHOLE, add_and_commit, meant, refused, under_git, unmarking
 from lib.needs import needs_pyyaml
 from lib.paths import ROOT
 
@@ -84,7 +81,7 @@ def test_all_files(place: Place) -> None:
     for words in (["nowhere.yml"], ["plain.yml", "*.vault.yml"], ["/etc/hostname"]):
         ended("no file of the index", place.run(HOOK, *words), 1, "git ls-files failed", words[-1])
     for option in (["--all"], ["--since", "HEAD"], ["--install"], ["--uninstall"]):
-        ended("an option", place.run(HOOK, *option, "plain.yml"), 2, "FILEs are checked as they are staged")
+        ended("an option", place.run(HOOK, *option, "plain.yml"), 2, "FILE cannot be used with an option")
 
 
 def test_many_files(place: Place) -> None:

@@ -5,25 +5,15 @@ import signal
 import subprocess
 
 import pytest
-from pytest_subtests import SubTests
 
-from companion_cases import HOOK, TEXT, Place, block, ended, sealed, silent
-from companion_cases.hook import refused, unmarking
-from companion_cases.leaks import IN_PART, WHOLE, meant
-from companion_cases.repository import under_git
-from companion_cases.signals import wait_until
+from companion_cases import HOOK, TEXT, Place, block, ended, sealed, silent, wait_until
+from companion_cases.repository import IN_PART, WHOLE, committed, meant, refused, under_git, unmarking
 from lib.limits import SECONDS
+from lib.subtests import SubTests
 
 pytestmark = pytest.mark.usefixtures("git")
 
 ATTRIBUTES = "*.vault.yml diff=ansible-vault\n"
-
-
-def committed(place: Place, name: str, content: bytes) -> str:
-    """The commit that has this, whatever a hook says."""
-    place.put(name, content)
-    place.shell("git add -A && git commit -qm change --no-verify")
-    return place.shell("git rev-parse HEAD").stdout.strip()
 
 
 def test_every_file(place: Place) -> None:
@@ -70,7 +60,7 @@ def test_each_commit(place: Place, subtests: SubTests) -> None:
     for word in ("--since=nowhere", "--since=--all"):
         with subtests.test(word):
             done = place.run(HOOK, word)
-            ended("no commit", done, 1, f"{HOOK}: {word[8:]} is no commit of this clone", "`git fetch`")
+            ended("no commit", done, 1, f"{HOOK}: {word[8:]} is not a commit in this clone", "`git fetch`")
     place.shell("git checkout -q --orphan empty && git commit -qm one")
     done = place.run(HOOK, "--since", first)
     ended("a first commit", done, 1, "a.vault.yml is not encrypted")
@@ -105,7 +95,7 @@ def test_cherry_picks(place: Place) -> None:
     ended("a merge", done, 1, f"{leak[:10]}: vars.yml {WHOLE}")
     done = place.run(HOOK, "--help")
     ended("help", done, 0, "--no-verify", "cherry-pick", "rebase", "fast-forward", "it encrypts and decrypts nothing.")
-    assert "calls ansible-vault" not in done.stdout
+    assert "leaves encryption" not in done.stdout
 
 
 def test_shallow_clones(place: Place, subtests: SubTests) -> None:
@@ -136,12 +126,12 @@ def test_partial_clones(place: Place, subtests: SubTests) -> None:
     for words in ("--all", "--since HEAD"):
         with subtests.test(words):
             done = place.shell(f"cd ../partial && {HOOK} {words}")
-            ended("the hook", done, 1, "this clone is partial", "clone without --filter")
+            ended("the hook", done, 1, "this is a partial clone", "clone again without --filter")
     place.put("../partial/a.yml", TEXT)
     done = place.shell(f"cd ../partial && git add -A && {HOOK}")
     refused("what is staged in it", done, "a.yml", why=WHOLE, hint=meant("a.yml"))
     done = place.shell(f"cd ../partial && git reset -q --soft HEAD~1 && {HOOK}")
-    ended("a content that is missing", done, 1, "this clone is partial", "clone without --filter")
+    ended("a content that is missing", done, 1, "this is a partial clone", "clone again without --filter")
 
 
 @pytest.mark.parametrize("number", [signal.SIGINT, signal.SIGTERM])

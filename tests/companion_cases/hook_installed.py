@@ -4,13 +4,10 @@ import os
 from pathlib import Path
 
 import pytest
-from pytest_subtests import SubTests
-
 from companion_cases import HOOK, MERGE, TEXT, TEXTCONV, Companions, Done, Place, block, ended, sealed, silent
-from companion_cases.hook import refused, unmarking
-from companion_cases.hook_commits import ATTRIBUTES, committed
-from companion_cases.leaks import again
-from companion_cases.repository import add_and_commit, commit, under_git
+from companion_cases.hook_commits import ATTRIBUTES
+from companion_cases.repository import add_and_commit, again, commit, committed, refused, under_git, unmarking
+from lib.subtests import SubTests
 
 pytestmark = pytest.mark.usefixtures("git")
 
@@ -63,7 +60,7 @@ def test_other_hooks(cases: Companions) -> None:
     hook.write_text("#!/bin/sh\nexit 0\n")
     hook.chmod(0o755)
     done = place.run(HOOK, "--install")
-    reported = f"{hook} is there already; add this line to it: {HOOK} || exit 1\n"
+    reported = f"{hook} exists already; add this line to it: {HOOK} || exit 1\n"
     ended("a hook that is there", done, 1, reported)
     assert hook.read_text() == "#!/bin/sh\nexit 0\n", "it stays"
     assert (hook.parent / "pre-merge-commit").is_symlink(), "the other is installed"
@@ -71,7 +68,7 @@ def test_other_hooks(cases: Companions) -> None:
     place.put("a.vault.yml", TEXT)
     refused("the line works", add_and_commit(place), "a.vault.yml")
     done = place.run(HOOK, "--uninstall")
-    ended("it is undone", done, 0, f"{hook}: left, since --install has not made it", "pre-merge-commit: removed")
+    ended("it is undone", done, 0, f"{hook}: left alone, since --install did not make it", "pre-merge-commit: removed")
     assert hook.read_text() == f"#!/bin/sh\n{HOOK} || exit 1\nexit 0\n", "it stays"
     place = cases.place()
     under_git(place, ATTRIBUTES)
@@ -105,7 +102,7 @@ def test_moved_programs(place: Place) -> None:
     (hooks / "pre-commit").unlink()
     (hooks / "pre-commit").symlink_to("/nowhere/else")
     done = place.run(HOOK, "--install")
-    why = f"{hooks}/pre-commit leads to /nowhere/else, which is not there"
+    why = f"{hooks}/pre-commit leads to /nowhere/else, which does not exist"
     ended("the link of somebody else", done, 1, why)
     assert place.run(HOOK, "--uninstall").returncode == 0
     assert os.readlink(hooks / "pre-commit") == "/nowhere/else", "it stays"
@@ -162,18 +159,18 @@ def test_settings_of_others(place: Place) -> None:
     under_git(place, f"*.vault.yml {MARKS}\n")
     place.shell(f"git config {DIFF} 'cat --'")
     done = place.run(HOOK, "--install", *place.by_file("old"))
-    ended("one that was there", done, 1, f"{HOOK}: {DIFF} is `cat --`, and stays so; to change it, unset it", DRIVER)
+    ended("one that was there", done, 1, f"{HOOK}: {DIFF} is already `cat --`; to change it, unset it", DRIVER)
     place.shell(f"git config {DRIVER} mine")
     done = place.run(HOOK, "--install", *place.by_file("old"))
-    ended("one that came", done, 1, f"{HOOK}: {DRIVER} is `mine`, and stays so")
+    ended("one that came", done, 1, f"{HOOK}: {DRIVER} is already `mine`")
     done = place.run(HOOK, "--uninstall")
-    ended("they are left", done, 0, f"{DIFF}: left, since --install has not set it: cat --", f"{DRIVER}: left, since")
+    ended("they are left", done, 0, f"{DIFF}: left alone, since --install did not set it", f"{DRIVER}: left alone")
     assert config(place) == [f"{DIFF}=cat --", f"{DRIVER}=mine"], "both stay"
     settings = place.path / "settings"
     settings.write_text('[diff "ansible-vault"]\ntextconv = theirs\n')
     place.shell(f"git config --unset {DIFF}")
     done = place.run(HOOK, "--install", *place.by_file("old"), GIT_CONFIG_GLOBAL=str(settings))
-    ended("one of the user", done, 1, f"{DIFF} is `theirs`, and stays so")
+    ended("one of the user", done, 1, f"{DIFF} is already `theirs`")
     assert config(place) == [f"{DRIVER}=mine"]
 
 
@@ -186,7 +183,7 @@ def test_secrets_of_a_clone(place: Place, subtests: SubTests) -> None:
     others: list[list[str]] = [[], ["--all"], ["--uninstall"]]
     for words in others:
         with subtests.test(f"{words}"):
-            ended("no --install", place.run(HOOK, *words, *place.by_file("old")), 2, "are for --install alone")
+            ended("no --install", place.run(HOOK, *words, *place.by_file("old")), 2, "only --install takes secrets")
     assert config(place) == [] and not (place.tree / ".git/hooks/pre-commit").exists(), "nothing is done"
 
 

@@ -12,9 +12,7 @@ from hypothesis import strategies as st
 from ansible_vault_companions.git.contents import LINK_MODE
 from ansible_vault_companions.git.links import target
 from companion_cases import TEXT, Place, sealed, silent
-from companion_cases.hook import refused
-from companion_cases.leaks import WHOLE, meant, with_hooks
-from companion_cases.repository import add_and_commit
+from companion_cases.repository import WHOLE, add_and_commit, meant, refused, with_hooks
 
 FILES = ["plain.yml", "..data/plain.yml", ".../..plain", "deep/er/plain.yml", "deep/.x"]
 TO_FOLDERS = {"across": "deep/er", "..data/back": ".."}

@@ -3,19 +3,16 @@
 import os
 
 import pytest
-from pytest_subtests import SubTests
 
-from companion_cases import HOOK, TEXT, Companions, Place, block, sealed, silent
-from companion_cases.hook import refused
-from companion_cases.hook_commits import committed
-from companion_cases.leaks import IN_PART, again, meant, staged, with_hooks
-from companion_cases.repository import add_and_commit
+from companion_cases import HOOK, TEXT, Companions, Done, Place, block, sealed, silent
+from companion_cases.repository import GONE, IN_PART, add_and_commit, again, committed, meant, refused, staged
+from companion_cases.repository import with_hooks
 from companion_cases.without_pyyaml import hide_pyyaml
 from lib.needs import needs_pyyaml
+from lib.subtests import SubTests
 
 pytestmark = pytest.mark.usefixtures("git")
 
-GONE = "is not encrypted, and {} is gone, which was a vault in the parent commit"
 PASSWORD = block("old", name="password")
 
 
@@ -123,6 +120,7 @@ MOVES = {
     "to another folder": ("one/vault.yml", "two/vault.yml"),
     "to another name": ("one/vault.yml", "one/secrets.yml"),
     "to another suffix": ("one/vault.yml", "one/vault.txt"),
+    "to another name and suffix": ("one/vault.yml", "one/plain.txt"),
     "to a longer text": ("one/vault.yml", "one/vars.yml"),
     "into a folder of its name": ("group_vars/all", "group_vars/all/main.yml"),
     "out of its folder": ("group_vars/all/vault.yml", "vault.yml"),
@@ -158,8 +156,11 @@ def test_no_moves(place: Place) -> None:
     place.put("one/vault.yml", sealed("old"))
     silent("at first", again(place, "two/vault.yml", sealed("new")))
     place.shell("git rm -q one/vault.yml")
-    silent("a file of another kind", again(place, "one/README.md", b"# one\n" * 99))
-    silent("which is as long", again(place, "one/NOTES.md", TEXT))
+    place.put("three/NOTES.md", TEXT)
+    length = len(TEXT) // 16 * 16
+    for size in (length - 1, length + 16):
+        place.put(f"one/{size}.md", b"#" * size)
+    silent("a file of another kind, as long in another folder", add_and_commit(place))
     place.put("three/vault.yml", place.get("two/vault.yml"))
     place.shell("git rm -q two/vault.yml")
     silent("a vault that has moved, and plaintext", again(place, "two/secrets.yml", TEXT))
@@ -233,3 +234,30 @@ def test_ranges(place: Place) -> None:
     committed(place, "a.yml", sealed("old"))
     place.shell("git checkout -q branch")
     silent("the other one encrypts", place.run(HOOK, "--since", "@{-1}"))
+
+
+def moved(place: Place, plain: bytes) -> Done:
+    """A commit in which a file of plaintext moves and has this text, and an encrypted value goes elsewhere."""
+    needs_pyyaml()
+    place.put("a.yml", PASSWORD + b"x: 1\n")
+    place.put("b.yml", b"password: plain\n")
+    with_hooks(place)
+    assert add_and_commit(place).returncode == 0
+    place.put("a.yml", b"x: 1\n")
+    os.unlink(place.tree / "b.yml")
+    place.put("c.yml", plain)
+    return add_and_commit(place)
+
+
+@pytest.mark.parametrize("plain", [b"password: plain\n", b"# moved\npassword: 'plain'\ny: 1\n"])
+def test_plaintext_that_was_there(place: Place, plain: bytes) -> None:
+    silent("the commit", moved(place, plain))
+
+
+@pytest.mark.parametrize(
+    "plain", [b"password: other\n", b"password: {y: plain}\n", b"password: plain\n---\npassword: plain\n"]
+)
+def test_plaintext_that_is_new(place: Place, plain: bytes) -> None:
+    done = moved(place, plain)
+    assert done.returncode == 1
+    assert f"{HOOK}: c.yml has " in done.stderr and "in plaintext, encrypted in the parent commit" in done.stderr

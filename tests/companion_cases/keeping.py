@@ -7,13 +7,12 @@ import subprocess
 from pathlib import Path
 
 import pytest
-from pytest_subtests import SubTests
 
-from companion_cases import EDIT, TEXT, Companions, Done, Place, decrypted, ended, sealed, silent
-from companion_cases.editing import ABOVE_EDITOR, CHANGE, CHANGED, edit
+from companion_cases import ABOVE_EDITOR, CHANGE, CHANGED, EDIT, ENCRYPTED, TEXT, Companions, Done, Place, decrypted
+from companion_cases import edit, ended, run_changed, sealed, silent
 from lib.needs import needs_mounts
+from lib.subtests import SubTests
 
-ENCRYPTED = re.compile(r"; what you saved is encrypted in (.+)\n")
 PLAIN = re.compile(r"; what you saved is left in plaintext in (.+)\n\Z")
 
 
@@ -45,14 +44,15 @@ def check_plain(what: str, place: Place, done: Done, why: str, text: bytes) -> N
     shutil.rmtree(path.parent)
 
 
+CHANGED_MEANWHILE = "all.yml: another program changed it meanwhile"
 # What keeps an edit from replacing the vault, with the reason, and what stands in its place then.
 STOPS = {
     "the editor fails": (f"{CHANGE}; exit 3", "the editor failed", sealed("old")),
     "a hard link": (f"{CHANGE}; ln all.yml ../second", "it has 2 names (hard links)", sealed("old")),
-    "another change": (f"{CHANGE}; echo theirs > all.yml", "all.yml: it was changed meanwhile", b"theirs\n"),
-    "another vault": (f"{CHANGE}; echo >> all.yml", "all.yml: it was changed meanwhile", sealed("old") + b"\n"),
+    "another change": (f"{CHANGE}; echo theirs > all.yml", CHANGED_MEANWHILE, b"theirs\n"),
+    "another vault": (f"{CHANGE}; echo >> all.yml", CHANGED_MEANWHILE, sealed("old") + b"\n"),
     "a folder in its place": (f"{CHANGE}; rm all.yml; mkdir all.yml", "Is a directory", None),
-    "it is gone": (f"{CHANGE}; rm all.yml", "all.yml: it was changed meanwhile", None),
+    "it is gone": (f"{CHANGE}; rm all.yml", CHANGED_MEANWHILE, None),
 }
 
 
@@ -70,7 +70,7 @@ def test_made_meanwhile(cases: Companions) -> None:
     """A new vault never takes the place of one that came meanwhile, whenever it came."""
     place = cases.place()
     done = edit(place, 'echo a > "$1"; echo theirs > new.yml', *place.by_file("old"), "new.yml")
-    ended("made while the editor runs", done, 1, "new.yml: it was changed meanwhile", "is encrypted in")
+    ended("made while the editor runs", done, 1, "new.yml: another program changed it meanwhile", "is encrypted in")
     assert place.get("new.yml") == b"theirs\n", "it stays"
     place = cases.place()
     # It comes between the last look at the folder and the end of it.
@@ -85,22 +85,8 @@ def late(path):
 reading.read = late
 """
     done = run_changed(place, EDIT, late, [*place.by_file("old"), "new.yml"], EDITOR=editor)
-    ended("made at the last moment", done, 1, "new.yml: it was created meanwhile", "is encrypted in")
+    ended("made at the last moment", done, 1, "new.yml: another program created it meanwhile", "is encrypted in")
     assert place.get("new.yml") == b"theirs", "it stays"
-
-
-def run_changed(place: Place, companion: str, change: str, words: list[str], **variables: str) -> Done:
-    """Runs a companion whose modules `files` and `replacing` are changed by this text."""
-    text = f"""
-import os, runpy, sys
-sys.argv = sys.argv[1:]
-sys.path[0] = os.path.dirname(os.path.realpath(sys.argv[0]))
-from ansible_vault_companions.files import reading, replacing
-{change}
-runpy.run_path(sys.argv[0], run_name="__main__")
-"""
-    script = place.script(text, "changed", "/usr/bin/env -S python3 -ISB")
-    return place.run(script, str(place.tools / companion), *words, **variables)
 
 
 def test_full_and_read_only_folders(cases: Companions) -> None:
@@ -145,7 +131,7 @@ def test_mounted_vaults(place: Place) -> None:
     words = f"{EDIT} {' '.join(place.by_file('old'))} all.yml"
     place.environment["EDITOR"] = place.script(f"touch ../started; {CHANGE}", "editor")
     done = place.run("unshare", "-m", "sh", "-c", f"mount --bind all.yml all.yml && {words}")
-    ended("a mounted vault", done, 1, "all.yml: it is itself a mount point")
+    ended("a mounted vault", done, 1, "all.yml: it is a mount point")
     assert not (place.path / "started").exists(), "it is seen before the editor starts"
     place.environment["EDITOR"] = place.script(f"{CHANGE}; mount --bind all.yml all.yml", "editor")
     done = place.run("unshare", "-m", "sh", "-c", words)
@@ -171,7 +157,7 @@ def test_saved_vaults(place: Place, saved: bytes) -> None:
     place.put("../typed", saved)
     place.put("../left", left := saved + b"\n")
     done = edit(place, 'cp ../typed "$1"; cp ../left "$1.swp"; exit 3', *place.by_file("old"), "all.yml")
-    ended("the edit", done, 1, "what you saved is itself a vault", "; what you saved is encrypted in ")
+    ended("the edit", done, 1, "you saved a vault", "; what you saved is encrypted in ")
     assert "plaintext" not in done.stderr, "nothing is said of plaintext"
     copies = {place.get(name) for name in place.names() if name.startswith(".ansible-vault-saved-all.yml-")}
     if saved == sealed("dev"):
@@ -185,11 +171,12 @@ def test_saved_vaults(place: Place, saved: bytes) -> None:
 def test_what_the_editor_left(cases: Companions, subtests: SubTests) -> None:
     """If the editor is ended or fails, its own files may hold what was typed and not saved. They are encrypted, too."""
     leave = 'cd "${1%/*}"; printf typed > .all.yml.swp; : > empty; cp all.yml all.yml~; ln -s nowhere ".#all.yml"'
+    signalled = f"kill -TERM {ABOVE_EDITOR}; sleep 9"
     ends = {
         "a failure": (f"{leave}; exit 3", TEXT, "status 3)", "; nothing was changed"),
         "a failure after a change": (f"{leave}; {CHANGE}; exit 3", CHANGED, "status 3)", "; what you saved is "),
-        "a signal": (f"{leave}; kill -TERM {ABOVE_EDITOR}; sleep 9", TEXT, "by signal 15", "; nothing was changed"),
-        "no file": (f'{leave}; rm "$1"; kill -TERM {ABOVE_EDITOR}; sleep 9', TEXT, "by signal 15", "; nothing was"),
+        "a signal": (f"{leave}; {signalled}", TEXT, "signal 15 ended the edit", "; nothing was changed"),
+        "no file": (f'{leave}; rm "$1"; {signalled}', TEXT, "signal 15 ended the edit", "; nothing was changed"),
     }
     for what, (editor, text, why, after) in ends.items():
         with subtests.test(what):
@@ -250,7 +237,8 @@ def test_earlier_copies(place: Place) -> None:
     elsewhere = temporary / f".ansible-vault-saved-{str(place.tree).replace('/', '%')}%all.yml-abcd1234"
     elsewhere.write_bytes(sealed("old"))
     done = edit(place, "true", *place.by_file("old"), "all.yml")
-    lines = [f"an earlier edit is encrypted in {each}" for each in (*copies, elsewhere)]
+    told = "an earlier edit is encrypted in {}; ansible-vault-textconv shows it"
+    lines = [told.format(each) for each in (*copies, elsewhere)]
     found = [line.removeprefix("ansible-vault-edit: all.yml: ") for line in done.stderr.splitlines()]
     assert (done.returncode, found[:-1]) == (0, lines), "they are named"
     place.environment["TMPDIR"] = str(place.tree)
@@ -332,7 +320,7 @@ def test_warnings(place: Place) -> None:
     place.put("all.yml", sealed("old"))
     late = '(sleep 0.1; echo late > "$1") 2> /dev/null > /dev/null &'
     done = edit(place, late, *place.by_file("old"), "all.yml")
-    ended("an editor that returns at once", done, 0, "nothing was changed", "an option to wait")
+    ended("the editor returned at once", done, 0, "nothing was changed", "an option to wait")
     text = " ".join(place.run(EDIT, "--help").stdout.split())
-    parts = ("as `code --wait`", "undo and backup files", "memory may be swapped")
+    parts = ("an option to wait, such as `code --wait`", "undo and backup files", "memory may be swapped")
     assert [part for part in parts if part not in text] == [], "the help says so"

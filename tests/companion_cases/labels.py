@@ -1,4 +1,4 @@
-"""Labels that anybody may have changed: rotate and check trust a secret only with envelopes of its own label."""
+"""Labels that anybody may have changed: rotate, check and the rekeying alias trust a secret only with its own label."""
 
 import re
 from collections import Counter
@@ -9,8 +9,8 @@ import pytest
 from hypothesis import HealthCheck, example, given, seed, settings
 from hypothesis import strategies as any_of
 
-from companion_cases import CHECK, ROTATE, Companions, Place, block, decrypted, sealed
-from companion_cases.running import envelope_of
+from companion_cases import CHECK, ROTATE, TEXT, WITH, Companions, Place, block, decrypted, envelope_of, sealed
+from lib.subtests import SubTests
 
 DEFAULT = "default"
 # The vault around a block within a plaintext: its label, and its password.
@@ -135,7 +135,7 @@ def test_rotate(cases: Companions, pytestconfig: pytest.Config) -> None:
             assert (f"./{name}" in done.stderr) == (label in NEW and not is_rotated), (name, done.stderr)
             seen[serves if label in NEW else None] += 1
         failed = any(f"./{number}.yml" in done.stderr for number in range(len(case.made)))
-        unused = "nothing has the label" in done.stderr
+        unused = "no vault or block has the label" in done.stderr
         assert done.returncode == (1 if failed or unused else 0), done.stderr
 
     with_cases(rotate, pytestconfig.getoption("--seed"))
@@ -167,3 +167,37 @@ def test_check(cases: Companions, pytestconfig: pytest.Config) -> None:
 
     with_cases(check, pytestconfig.getoption("--seed"))
     assert min(seen[True], seen[False], seen[None]) > 5, seen
+
+
+# How ansible-vault-with is given a vault to rekey, and where its answer is.
+REKEYED = {
+    "in place": f"{WITH} rekey {{words}} v && cat v",
+    "to another file": f"{WITH} rekey {{words}} --output out v && cat out",
+    "standard input": f"{WITH} rekey {{words}} --output - < v",
+    "a pipe": f"cat v | {WITH} rekey {{words}} --output out && cat out",
+    "a named pipe": f"{WITH} rekey {{words}} --output out <(cat v) && cat out",
+}
+# The label and the password of a vault, whether both secrets are given, and whether it may be rekeyed.
+LABELLED = {
+    "its own label": ("dev", "dev", True, True),
+    "a label that somebody changed": ("dev", "prod", True, False),
+    "a label of no secret": ("other", "prod", True, False),
+    "no label": ("", "prod", True, True),
+    "any label and a single secret": ("dev", "prod", False, True),
+}
+
+
+@pytest.mark.parametrize("command", REKEYED.values(), ids=REKEYED)
+def test_rekey(place: Place, subtests: SubTests, command: str) -> None:
+    for what, (label, password, are_both_given, is_rekeyed) in LABELLED.items():
+        before = sealed(password, TEXT, label)
+        place.put("v", before)
+        given_secrets = [*place.by_id("prod", "prod"), *(place.by_id("dev", "dev") if are_both_given else [])]
+        words = " ".join([*given_secrets, *place.by_id("dev", "new", "new-")])
+        done = place.shell(f"set -o pipefail; {command.format(words=words)}", "bash")
+        with subtests.test(what):
+            if is_rekeyed:
+                assert (done.returncode, decrypted("new", done.stdout.encode())) == (0, TEXT), done
+            else:
+                assert (done.returncode, done.stdout, place.get("v")) == (1, "", before), done
+                assert "no secret decrypts this vault" in done.stderr, done

@@ -3,10 +3,9 @@
 import re
 
 import pytest
-from pytest_subtests import SubTests
-
-from companion_cases import CHECK, ROTATE, TEXT, TEXTCONV, Companions, Place, block, decrypted, ended, sealed, silent
-from companion_cases.editing import edit
+from companion_cases import CHECK, ROTATE, TEXT, TEXTCONV, Companions, Place, block, decrypted, edit, ended, sealed
+from companion_cases import silent
+from lib.subtests import SubTests
 
 OF_DEV, OF_PROD = b"the word of dev\n", b"the word of prod\n"
 SHOWN = b"a: !vault |\n  the word of dev\nb: !vault |\n  the word of prod\n"

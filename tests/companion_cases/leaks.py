@@ -3,40 +3,14 @@
 import re
 
 import pytest
-from pytest_subtests import SubTests
 
-from companion_cases import AWKWARD, HOOK, TEXT, Companions, Done, Place, block, ended, sealed, silent
-from companion_cases.hook import refused, unmarking
-from companion_cases.repository import add_and_commit, commit, under_git
+from companion_cases import AWKWARD, HOOK, TEXT, Companions, Place, block, ended, sealed, silent
+from companion_cases.repository import IN_PART, WHOLE, add_and_commit, again, commit, meant, refused, staged
+from companion_cases.repository import unmarking, with_hooks
 from ansible_vault_companions.git.damage import TORN, merge_again
+from lib.subtests import SubTests
 
 pytestmark = pytest.mark.usefixtures("git")
-
-WHOLE = "is not a vault, but was one in the parent commit"
-IN_PART = "has {} in plaintext, encrypted in the parent commit"
-
-
-def meant(name: str) -> str:
-    """The hint for plaintext that may be meant."""
-    return f"  if that is meant, commit with --no-verify, or add to .gitattributes: /{name} -ansible-vault"
-
-
-def with_hooks(place: Place, attributes: str = "") -> None:
-    under_git(place, attributes)
-    done = place.shell(f"{HOOK} --install")
-    assert done.returncode == 0, done.stderr
-
-
-def again(place: Place, name: str, content: bytes) -> Done:
-    place.put(name, content)
-    return add_and_commit(place)
-
-
-def staged(place: Place, name: str, content: bytes) -> Done:
-    """What the hook says of this; nothing is committed."""
-    place.put(name, content)
-    place.shell("git add -A")
-    return place.run(HOOK)
 
 
 def test_unmarked_vaults(place: Place, subtests: SubTests) -> None:

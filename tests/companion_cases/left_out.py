@@ -4,9 +4,8 @@ import os
 
 import pytest
 
-from companion_cases import CHECK, ROTATE, TEXT, Companions, Place, block, decrypted, ended, sealed
+from companion_cases import CHECK, ROTATE, TEXT, Companions, Place, block, decrypted, ended, sealed, summary, to_new
 from companion_cases.repository import under_git
-from companion_cases.rotating import summary, to_new
 from companion_cases.trees import found
 from lib.needs import needs
 
@@ -81,4 +80,4 @@ def test_in_no_repository(place: Place) -> None:
     needs("git")
     place.put("a.yml", sealed("old"))
     for words in ([CHECK, *place.by_file("old")], [ROTATE, *to_new(place)]):
-        ended(words[0], place.run(*words, "--tracked", "."), 1, f"{words[0]}: git tracks no file here")
+        ended(words[0], place.run(*words, "--tracked", "."), 1, f"{words[0]}: --tracked needs a git repository")

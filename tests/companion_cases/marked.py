@@ -4,11 +4,11 @@ import os
 import subprocess
 
 import pytest
-from pytest_subtests import SubTests
 
 from companion_cases import CHECK, TEXT, TEXTCONV, Place, block, ended, sealed
 from companion_cases.repository import under_git
 from lib.needs import needs
+from lib.subtests import SubTests
 
 ATTRIBUTES = "*.vault.yml diff=ansible-vault\nsecrets/** ansible-vault\n*.vault.md diff=ansible-vault\n"
 MERGE = b"<<<<<<< HEAD\na: 1\n=======\na: 2\n>>>>>>> branch\n"
@@ -57,7 +57,7 @@ def test_several_repositories(place: Place) -> None:
     assert done.stderr == f"{CHECK}: ./one/a.vault.yml: is not encrypted\n", "one alone marks it"
     place.put("one/.git/config", b"[no config\n")
     done = place.run(CHECK, *place.by_file("old"), ".")
-    ended("git fails", done, 1, "which files are to be encrypted or merged is not checked: git check-attr failed")
+    ended("git fails", done, 1, "cannot check which files have to be encrypted or merged: git check-attr failed")
 
 
 def test_some_labels(place: Place) -> None:
@@ -76,7 +76,7 @@ def test_some_labels(place: Place) -> None:
     counts = "2 decrypted, 1 not, 3 of other labels"
     ended("one that cannot be decrypted", done, 1, "./d.yml: dev: no secret", counts)
     done = place.run(CHECK, *dev, "--label", "prdo", "--label", "prod", "--label", "none", "b.yml")
-    nothing = [f"{CHECK}: nothing has the label {label}" for label in ("none", "prdo")]
+    nothing = [f"{CHECK}: no vault or block has the label {label}" for label in ("none", "prdo")]
     tried = f"(label prod; tried {dev[1]}): name its secret with --vault-id prod@FILE"
     wanted = [f"{CHECK}: b.yml: prod: no secret decrypts this vault {tried}", *nothing]
     assert (done.returncode, done.stderr.splitlines()) == (1, wanted), "labels that nothing has"
@@ -153,5 +153,5 @@ def test_the_repository_of_another_owner(place: Place) -> None:
     under_git(place, ATTRIBUTES)
     place.put("a.yml", sealed("old"))
     done = place.as_nobody(CHECK, *place.by_file("old"), ".")
-    why = f"{CHECK}: which files are to be encrypted or merged is not checked: git check-attr failed\n"
+    why = f"{CHECK}: cannot check which files have to be encrypted or merged: git check-attr failed\n"
     ended("another owner", done, 1, "1 decrypted, 0 not\n", "safe.directory", why)

@@ -7,15 +7,13 @@ import subprocess
 from typing import Iterator
 
 import pytest
-from pytest_subtests import SubTests
 
 from ansible_vault_companions.merging.lines import merged_lines
 from ansible_vault_companions.program import Refused
-from companion_cases import CHECK, MERGE, PASSWORDS, Place, decrypted, ended, silent
-from companion_cases.blocks import texts
-from companion_cases.merging import versions
+from companion_cases import CHECK, MERGE, PASSWORDS, Place, decrypted, ended, silent, texts, versions
 from companion_cases.repository import under_git
 from lib.needs import needs
+from lib.subtests import SubTests
 from model.vaults import SALT, seal, yaml_block
 
 STYLES = [("", b"\n"), ("", b"\r\n"), ("diff3", b"\n"), ("zdiff3", b"\n")]
@@ -79,7 +77,7 @@ def merged(place: Place, sides: list[bytes], conflicts: int) -> bytes:
     name = f"{len(place.files())} with {conflicts}.yml"
     done = place.run(MERGE, *place.by_file("old"), *versions(place, name, *sides))
     count = f"{conflicts} conflict{'s' if conflicts > 1 else ''}"
-    message = f"{MERGE}: {name}: {count}, to be resolved with ansible-vault-edit\n"
+    message = f"{MERGE}: {name}: {count}; resolve with ansible-vault-edit\n"
     wanted = (1, "", message) if conflicts else (0, "", "")
     assert (done.returncode, done.stdout, done.stderr) == wanted, "the status"
     return place.get(name)

@@ -4,16 +4,14 @@ from contextlib import contextmanager
 from typing import Iterator
 
 import pytest
-from pytest_subtests import SubTests
 
-from companion_cases import CHECK, EDIT, HOOK, MERGE, PASSWORDS, TEXT
-from companion_cases import Companions, Done, Place, block, decrypted, ended, sealed, silent
-from companion_cases.blocks import lines_of, texts
+from companion_cases import CHECK, EDIT, HOOK, MERGE, PASSWORDS, TEXT, Companions, Done, Place, block, decrypted, edit
+from companion_cases import ended, lines_of, sealed, silent, texts, versions
 from companion_cases.both import written_by_theirs
-from companion_cases.editing import edit
 from companion_cases.repository import add_and_commit, commit, under_git
 from lib.ansible import ansible_vault
 from lib.needs import needs_pyyaml
+from lib.subtests import SubTests
 from model.vaults import SALT, seal
 
 BASE = b"one: 1\n2: 2\n3: 3\nfour: 4\n"
@@ -34,14 +32,6 @@ def branches(
             place.put(name, content)
         add_and_commit(place)
     return place.shell("git merge --no-edit theirs")
-
-
-def versions(place: Place, name: str, base: bytes, ours: bytes, other: bytes) -> list[str]:
-    """The arguments of a merge of three versions, of which ours alone stands in the tree."""
-    place.put(f"../versions/base-{name}", base)
-    place.put(f"../versions/theirs-{name}", other)
-    place.put(name, ours)
-    return [f"../versions/base-{name}", name, f"../versions/theirs-{name}", name]
 
 
 def test_without_conflict(place: Place) -> None:
@@ -86,7 +76,7 @@ def test_labels(place: Place) -> None:
     words = [*place.by_file("old"), *place.by_id("prod", "prod")]
     ours, other = sealed("old", OURS), sealed("prod", THEIRS, "prod")
     done = branches(place, {"a.yml": sealed("old", BASE)}, {"a.yml": ours}, {"a.yml": other}, *words)
-    why = "a.yml: not merged, ours is left as it was: the labels differ: default in ours, prod in theirs"
+    why = "a.yml: not merged, so ours stays as it was: the labels differ: default in ours, prod in theirs"
     ended("labels", done, 1, why)
     assert place.get("a.yml") == ours, "ours stays"
 
@@ -122,7 +112,7 @@ REFUSED = {
     "ours: no secret decrypts this vault (label dev; ": (sealed("old"), sealed("dev", OURS, "dev"), sealed("old")),
     "base: no secret decrypts this vault (no label; ": (sealed("dev"), sealed("old", OURS), sealed("old", THEIRS)),
     "one side is a vault and the other is not": (sealed("old"), sealed("old", OURS), THEIRS),
-    "both sides have put it under new secrets, and these differ": (sealed("old"), sealed("new"), sealed("prod")),
+    "both sides changed its secret, and the new secrets differ": (sealed("old"), sealed("new"), sealed("prod")),
     "git merge-file cannot merge it; it may be binary": (
         sealed("old"),
         sealed("old", b"a\0\n"),
@@ -132,14 +122,15 @@ REFUSED = {
 }
 
 
+NO_SIDE = "git can merge its lines, but the result has a value"
 # What git would merge by its lines: digits of an envelope within a text, and what is no YAML together.
 WITHIN = [b"text: |\n  a: %s |\n%s\n" % (tag, lines_of(sealed("old", BASE), 4)) for tag in (b"!vault", b"vault")]
 QUOTED = block("old") + b"a: 1\nb: 1\nc: 1\nd: 1\ne: 1\n"
 REFUSED |= {
     why: (text, text.replace(b"AES256\n    3", b"AES256\n    4"), text[:-2] + b"0\n")
-    for why, text in zip(("git can merge its lines, but a value of", "git can merge its lines, but a value"), WITHIN)
+    for why, text in zip((f"{NO_SIDE} that", NO_SIDE), WITHIN)
 } | {
-    "git can merge its lines, but the result would be no YAML (line ": (
+    "git can merge its lines, but the result is not valid YAML (line ": (
         QUOTED,
         QUOTED.replace(b"a: 1", b'a: "1').replace(b"e: 1", b'e: 1"'),
         QUOTED.replace(b"c: 1", b'c: "1"'),
@@ -147,8 +138,8 @@ REFUSED |= {
 }
 
 
-NOT_DONE = f"{MERGE}: a.yml: not merged, ours is left as it was: "
-NEXT = "  put that right and run `git checkout --merge a.yml`, or take what you need from theirs: `git show :3:a.yml`"
+NOT_DONE = f"{MERGE}: a.yml: not merged, so ours stays as it was: "
+NEXT = "  correct that and run `git checkout --merge a.yml`, or take what you need from theirs: `git show :3:a.yml`"
 
 
 def not_merged(what: str, place: Place, secrets: list[str], contents: tuple[bytes, bytes, bytes], why: str) -> None:
@@ -186,7 +177,7 @@ FOREIGN = {
     ),
     "no labels": (
         (sealed("prod", BASE), sealed("prod", OURS), sealed("dev", b"x")),
-        "it is under secrets of two labels: prod in ours, dev in theirs",
+        "secrets with two labels decrypt it: prod in ours, dev in theirs",
     ),
     "a value": (
         (OF_PROD, OUR_PROD, block("dev", b"x", "prod", "k") + b"z: 1\n"),
@@ -268,7 +259,7 @@ def test_what_fails(place: Place, subtests: SubTests) -> None:
     done = place.run(MERGE, "--vault-password-file", "../missing", *words[2:])
     ended("no password file", done, 1, f"{NOT_DONE}../missing: a password file cannot be opened")
     place.wrap_tool('[ "$1" != encrypt ] || echo other > a.yml')
-    ended("changed meanwhile", place.run(MERGE, *words), 1, f"{NOT_DONE}it was changed meanwhile")
+    ended("changed meanwhile", place.run(MERGE, *words), 1, f"{NOT_DONE}another program changed it meanwhile")
     assert place.files() == {"a.yml": b"other\n"}, "what somebody wrote stays"
     place.wrap_tool('[ "$1" != encrypt ] || exit 4')
     versions(place, "a.yml", *changes)
@@ -278,8 +269,12 @@ def test_what_fails(place: Place, subtests: SubTests) -> None:
     assert place.files() == {"a.yml": changes[1]}, "ours stays"
 
 
-NOT_MERGED = "is not merged: the merge driver failed, and the file has nothing of theirs"
+NOT_MERGED = "is not merged: the merge driver failed, so the file has only ours"
 AGAIN = "  `git checkout --merge a.yml` merges it, or says why not; to keep ours, commit with --no-verify"
+
+
+# The status of `git merge` that gives up.
+GIVEN_UP = 2
 
 
 @contextmanager
@@ -290,6 +285,13 @@ def failed_merge(cases: Companions, *words: str, tool: str = "") -> Iterator[Pla
         place.wrap_tool(tool)
     ours, other = {"a.yml": sealed("old", OURS)}, {"a.yml": sealed("new", THEIRS)}
     done = branches(place, {"a.yml": sealed("old", BASE)}, ours, other, *words)
+    if tool and done.returncode == GIVEN_UP:
+        # The driver is killed, and newer versions of git merge nothing then.
+        ended("git gives up", done, GIVEN_UP, "Merge with strategy ort failed")
+        left = place.shell("git status --porcelain && git rev-parse --verify --quiet MERGE_HEAD")
+        assert (left.returncode, left.stdout, place.get("a.yml")) == (1, "", ours["a.yml"]), "no merge is begun"
+        place.wrap_tool("exit 4")
+        done = place.shell("git merge --no-edit theirs")
     ended("the driver fails", done, 1, "Merge conflict in a.yml")
     assert place.get("a.yml") == ours["a.yml"], "ours stays"
     place.run(HOOK, "--install")

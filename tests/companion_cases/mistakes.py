@@ -11,15 +11,13 @@ from collections.abc import Callable
 import pytest
 from hypothesis import example, given, settings
 from hypothesis import strategies as st
-from pytest_subtests import SubTests
 
 from ansible_vault_companions.yaml import inline
-from companion_cases import EDIT, TEXT, Place, block, decrypted, ended, sealed, silent
-from companion_cases.blocks import texts
-from companion_cases.editing import edit
-from companion_cases.prompts import ask
+from companion_cases import EDIT, TEXT, Place, block, decrypted, edit, ended, sealed, silent, texts
+from companion_cases.terminal import ask
 from companion_cases.yaml_values import Generator, composed, decrypt, encrypted, envelope
 from lib.needs import needs, needs_pyyaml
+from lib.subtests import SubTests
 
 # Those that are of text; some are of Windows alone.
 CODECS = sorted(
@@ -70,7 +68,7 @@ def test_saved_in_another(place: Place, codec: str) -> None:
     shown = "secret: !vault |\n  " + TEXT.decode() + "# größe\n"
     place.put("../typed", shown.encode(codec))
     done = edit(place, 'cp ../typed "$1"', *place.by_file("old"), "vars.yml")
-    ended("the edit", done, 1, "vars.yml: it ", "save it in UTF-8")
+    ended("the edit", done, 1, "vars.yml: it ", "save it as UTF-8")
     [copy] = [name for name in place.names() if name != "vars.yml"]
     assert decrypted("old", place.get(copy)) == shown.encode(codec), "the copy"
     assert (place.get("vars.yml"), place.left()) == (before, []), "the file stays, and no plaintext is left"
@@ -166,7 +164,7 @@ def test_asked_at_a_terminal(place: Place) -> None:
     assert "what you saved is encrypted in" in session.stderr, "no: it is kept"
     session = ask(place, *words, answers=[(question, b"\x03")], EDITOR=editor)
     assert (session.returncode, place.get("vars.yml")) == (130, block("old")), "an interrupt ends the question"
-    assert "vars.yml: ended by signal 2; what you saved is encrypted in" in session.stderr, "and it is kept"
+    assert "vars.yml: signal 2 ended the edit; what you saved is encrypted in" in session.stderr, "and it is kept"
     session = ask(place, *words, answers=[(question, b"yes\n")], EDITOR=editor)
     assert (session.returncode, place.get("vars.yml")) == (0, block("old") + b"new: !Vault word\n"), "yes"
 

@@ -9,12 +9,10 @@ import time
 from collections import Counter
 from collections.abc import Callable
 
-from pytest_subtests import SubTests
-
-from companion_cases import EDIT, ROTATE, Companions, Place, block, decrypted, sealed
-from companion_cases.blocks import texts
-from companion_cases.signals import check_whole, runs_of, tree, wait_until
+from companion_cases import EDIT, ROTATE, Companions, Place, block, decrypted, sealed, texts, wait_until
+from companion_cases.signals import check_whole, runs_of, tree
 from lib.limits import SECONDS
+from lib.subtests import SubTests
 
 SEED = 1
 # How many moments of each run.

@@ -1,8 +1,7 @@
 """Blocks within the plaintext of a vault: ansible-vault-rotate and ansible-vault-check look at them, too."""
 
-from companion_cases import CHECK, ROTATE, TEXT, Companions, Place, block, decrypted, ended, sealed
-from companion_cases.blocks import texts, without_digits
-from companion_cases.rotating import summary, to_new
+from companion_cases import CHECK, ROTATE, TEXT, Companions, Place, block, decrypted, ended, sealed, summary, texts
+from companion_cases import to_new, without_digits
 
 INNER = b"first: 1\n" + block("old", name="a") + b"middle: 2\n" + block("dev", label="dev", name="b")
 LINE_OF_B = INNER.splitlines().index(b"b: !vault |") + 2

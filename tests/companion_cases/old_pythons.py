@@ -14,9 +14,9 @@ from companion_cases import COMPANIONS
 ANCIENT = (3, 6)
 NAME = attrgetter("name")
 PROGRAMS = sorted(COMPANIONS.glob("ansible-vault-*"))
-# Runs a program as another Python would.
+# Runs a program as another Python would. Parts of the standard library may know that they are newer.
 AS_OTHER = """\
-import contextlib, runpy, sys
+import concurrent.futures, contextlib, runpy, sys
 if {version} < (3, 7):
     sys.modules["dataclasses"] = None
     del contextlib.nullcontext
@@ -44,10 +44,10 @@ def test_what_it_reads(path: Path) -> None:
 
 @pytest.mark.parametrize("path", PROGRAMS, ids=NAME)
 def test_refused(path: Path) -> None:
-    for version in ((3, 6, 8), (3, 8, 18), (3, 9, 1)):
+    for version in ((3, 6, 8), (3, 7, 17), (3, 8, 20)):
         done = run_as(version, path)
         name = ".".join(map(str, version))
-        line = f"{path.name}: Python 3.10 or newer is needed, and the python3 that is first on PATH is {name} "
+        line = f"{path.name}: Python 3.9 or newer is needed, and the python3 that is first on PATH is {name} "
         assert (done.returncode, done.stdout, done.stderr) == (1, "", f"{line}({sys.executable})\n")
-    done = run_as((3, 10, 0), path)
+    done = run_as((3, 9, 0), path)
     assert (done.returncode, done.stderr, done.stdout.split()[0]) == (0, "", path.name), "the oldest"

@@ -5,9 +5,8 @@ values of encrypt_string. Scripts and client scripts give both of them the passw
 import json
 from pathlib import Path
 
-from companion_cases import ROTATE, WITH, Place, block, ended, sealed, silent
+from companion_cases import ROTATE, WITH, Place, block, edit, ended, sealed, silent
 from companion_cases.both import theirs
-from companion_cases.editing import edit
 from companion_cases.merging import TAKE_THEIRS, branches
 from companion_cases.repository import add_and_commit
 from lib.needs import needs, needs_ansible

@@ -1,13 +1,13 @@
 """Passwords that are typed at a terminal, beside Ansible's own tool."""
 
 import pytest
-from pytest_subtests import SubTests
 
-from companion_cases import CHECK, EDIT, PASSWORDS, ROTATE, TEXT, TEXTCONV, WITH, Place, block, decrypted, ended, sealed
+from companion_cases import CHECK, EDIT, NOTE, PASSWORDS, ROTATE, TEXT, TEXTCONV, WITH, Place, block, decrypted, ended
+from companion_cases import sealed
 from companion_cases.both import ours, theirs_at_terminal
-from companion_cases.secrecy import NOTE
-from companion_cases.terminal import Session, at_terminal
+from companion_cases.terminal import Session, ask
 from lib.needs import needs, needs_ansible
+from lib.subtests import SubTests
 from model.vaults import seal
 
 ASKED = "Vault password: "
@@ -34,10 +34,6 @@ def check_session(what: str, session: Session, *questions: str) -> None:
     """Each question was asked, in its order, and no answer was shown."""
     assert session.shown == "".join(f"{question}\n" for question in questions), f"{what}: what is shown"
     assert session.echoes is True, f"{what}: the terminal echoes again"
-
-
-def ask(place: Place, *words: str, answers: list[tuple[str, bytes]], **variables: str) -> Session:
-    return at_terminal(place, [*words], *answers, **variables)
 
 
 @pytest.mark.parametrize("word", FORMS)
@@ -150,11 +146,11 @@ def test_asked_by_settings(place: Place, subtests: SubTests) -> None:
 def test_what_is_typed(place: Place, subtests: SubTests) -> None:
     """What is no password is refused by the name of the secret, and nothing is changed."""
     refused = {
-        "others": ([(NEW_OF_DEV, b"word\n"), (AGAIN_OF_DEV, b"world\n")], "the passwords that were typed differ"),
-        "nothing": ([(NEW_OF_DEV, b"\n")], "an empty password was typed"),
-        "white space": ([(NEW_OF_DEV, b" \t\n")], "an empty password was typed"),
-        "an end": ([(NEW_OF_DEV, b"\x04")], "nothing was typed"),
-        "no text": ([(NEW_OF_DEV, b"\xff\n")], "what was typed is not valid UTF-8"),
+        "others": ([(NEW_OF_DEV, b"word\n"), (AGAIN_OF_DEV, b"world\n")], "the two passwords differ; try again"),
+        "nothing": ([(NEW_OF_DEV, b"\n")], "you typed an empty password; try again"),
+        "white space": ([(NEW_OF_DEV, b" \t\n")], "you typed an empty password; try again"),
+        "an end": ([(NEW_OF_DEV, b"\x04")], "you typed nothing; try again"),
+        "no text": ([(NEW_OF_DEV, b"\xff\n")], "what you typed is not valid UTF-8; set the terminal to UTF-8"),
     }
     words = [WITH, "encrypt", "--vault-id", "dev@prompt", "a.yml"]
     for what, (answers, part) in refused.items():
@@ -191,14 +187,14 @@ def test_locales(place: Place, locale: str) -> None:
     session = ask(place, *words, answers=[(ASKED, f"{word}\n".encode())], **variables)
     assert (session.returncode, session.stdout, session.stderr) == (0, TEXT.decode(), "")
     session = ask(place, *words, answers=[(ASKED, f"{word}\n".encode("latin-1"))], **variables)
-    wanted = (1, "", f"{WITH}: --ask-vault-password: what was typed is not valid UTF-8\n")
+    wanted = (1, "", f"{WITH}: --ask-vault-password: what you typed is not valid UTF-8; set the terminal to UTF-8\n")
     assert (session.returncode, session.stdout, session.stderr) == wanted
 
 
 def test_no_terminal(place: Place, subtests: SubTests) -> None:
     place.put("a.yml", sealed("dev"))
     away = ["setsid", "--wait"]
-    why = "there is no terminal to ask for the password"
+    why = "there is no terminal to ask for the password; name a password file"
     for words in ([WITH, "view"], [CHECK], [EDIT]):
         for option, given in (("--vault-id=dev@prompt", "dev@prompt"), ("-J", "--ask-vault-password")):
             with subtests.test(f"{words[0]} {option}"):
@@ -209,9 +205,9 @@ def test_no_terminal(place: Place, subtests: SubTests) -> None:
     expected = (0, TEXT.decode(), f"{TEXTCONV}: prompt: {why}\n")
     assert (done.returncode, done.stdout, done.stderr) == expected, "textconv uses the other secret"
     done = ours(place, "view", "a.yml")
-    ended("no secret", done, 1, f"{WITH}: no secret is given: name one by --vault-id", "ansible.cfg")
+    ended("no secret", done, 1, f"{WITH}: no secret is given: name one with --vault-id", "ansible.cfg")
     done = place.run(*away, WITH, "rekey", *place.by_file("dev"), "a.yml")
-    ended("no new secret", done, 1, f"{WITH}: no new secret is given: name one by --new-vault-id")
+    ended("no new secret", done, 1, f"{WITH}: no new secret is given: name one with --new-vault-id")
 
 
 def test_standard_input(place: Place, subtests: SubTests) -> None:

@@ -9,8 +9,8 @@ import itertools
 import os
 import re
 import subprocess
-from collections import Counter
-from collections.abc import Callable
+from collections import Counter, defaultdict
+from collections.abc import Iterator
 from pathlib import Path
 from typing import NamedTuple
 
@@ -38,9 +38,12 @@ ITEM = ""
 HONEST = ["text", "encrypted anew", "rekeyed", "removed", "indented", "added"]
 HOSTILE = ["mislabelled", "relabelled", "copied", "guessed"]
 BLOCK = re.compile(rb"(?m)^((?:\w+:|  -) )!vault \|\n((?: +\S+\n)+)")
-EXAMPLES = 300
+# A value in a plaintext, with its number among equal ones.
+NUMBERED = re.compile(rb"(?m)^(?P<head>(?:\w+:|  -) )(?P<known>.*') (?P<number>\d+)$")
+EXAMPLES = 900
 # How many merges of each kind, and how many changes, are tried at least.
-LEAST = {"merged": 100, "conflicts": 15, "refused": 1, "under a new secret": 1} | dict.fromkeys(HONEST + HOSTILE, 8)
+LEAST = {"merged": 100, "conflicts": 15, "refused": 8, "under a new secret": 4, "equal items": 60}
+LEAST |= dict.fromkeys(HONEST + HOSTILE, 8)
 
 
 class Value(NamedTuple):
@@ -79,25 +82,52 @@ class Merge(NamedTuple):
     theirs: list[Value]
 
     def documents(self) -> list[bytes]:
-        return [document(values, Value.block) for values in self]
+        return [document(values, [value.block() for value in values]) for values in self]
 
 
-def document(values: list[Value], shown: Callable[[Value], bytes]) -> bytes:
-    keyed = [shown(value) for value in values if value.key]
-    items = [shown(value) for value in values if not value.key]
+def document(values: list[Value], shown: list[bytes]) -> bytes:
+    keyed = [text for value, text in zip(values, shown) if value.key]
+    items = [text for value, text in zip(values, shown) if not value.key]
     return b"".join([b"start: 1\n", *keyed, b"list:\n", *items, b"end: 1\n"])
 
 
-def plain(values: list[Value]) -> bytes:
-    """The plaintexts, with a number for each of those that are equal, and a line that keeps two values apart."""
-    equal: Counter[tuple[str, bytes]] = Counter()
+def plain(values: list[Value], numbers: list[int]) -> bytes:
+    """The plaintexts, with the number of each among equal ones, and a line that keeps two values apart."""
+    pairs = zip(values, numbers)
+    parts = [(value.head(), value.known_by(), number, value.key.encode()) for value, number in pairs]
+    return document(values, [b"%s%s %d\n# %s\n" % each for each in parts])
 
-    def shown(value: Value) -> bytes:
-        equal[value.key, value.known_by()] += 1
-        number = equal[value.key, value.known_by()]
-        return value.head() + value.known_by() + b" %d\n# %s\n" % (number, value.key.encode())
 
-    return document(values, shown)
+def numberings(known: list[bytes], envelopes: list[bytes]) -> list[list[int]]:
+    """Which of equal values each may be: in their order, and with the fewest envelopes that came, went or changed."""
+    ways: dict[int, list[list[int]]] = defaultdict(list)
+    places, numbers = range(len(envelopes)), range(len(known))
+    for count in range(min(len(known), len(envelopes)) + 1):
+        for kept in itertools.product(itertools.combinations(places, count), itertools.combinations(numbers, count)):
+            new, pairs = itertools.count(len(known)), dict(zip(*kept))
+            exchanged = sum(envelopes[place] != known[number] for place, number in pairs.items())
+            changes = len(known) + len(envelopes) - 2 * count + exchanged
+            ways[changes].append([pairs[place] if place in pairs else next(new) for place in places])
+    return ways[min(ways)]
+
+
+def numbered(merge: Merge) -> Iterator[list[list[int]]]:
+    """The numbers of all values in each version, in every way: equal ones are told apart by their envelopes alone."""
+    known: dict[tuple[str, bytes], list[bytes]] = {}
+    ways = []
+    for version, values in enumerate(merge):
+        equal: dict[tuple[str, bytes], list[int]] = defaultdict(list)
+        for place, value in enumerate(values):
+            equal[value.key, value.known_by()].append(place)
+        for what, places in equal.items():
+            envelopes = [values[place].envelope() for place in places]
+            found = numberings(known.setdefault(what, envelopes), envelopes)
+            ways.append([(version, dict(zip(places, way))) for way in found])
+    for chosen in itertools.product(*ways):
+        numbers: list[dict[int, int]] = [{}, {}, {}]
+        for version, way in chosen:
+            numbers[version].update(way)
+        yield [[each[place] for place in sorted(each)] for each in numbers]
 
 
 @functools.cache
@@ -145,6 +175,27 @@ def by_git(folder: Path, contents: list[bytes]) -> tuple[bytes, int]:
     return re.sub(rb"(?m)^# .*\n", b"", done.stdout), done.returncode
 
 
+class Wanted(NamedTuple):
+    """What a merge may be: a plaintext, and the blocks that may stand for each of its values."""
+
+    text: bytes
+    conflicts: int
+    blocks: list[set[bytes]]
+
+
+def wanted(folder: Path, merge: Merge, numbers: list[list[int]]) -> Wanted:
+    """What no side, or one alone, has touched is to be there to the byte."""
+    text, conflicts = by_git(folder, [plain(*each) for each in zip(merge, numbers)])
+    pairs = [zip(values, each) for values, each in zip(merge, numbers)]
+    at = [{(value.head(), value.known_by(), number): value.block() for value, number in each} for each in pairs]
+    blocks = []
+    for found in NUMBERED.finditer(text):
+        before, ours, theirs = (each.get((found["head"], found["known"], int(found["number"]))) for each in at)
+        sides = {theirs if before == ours else ours, ours if before == theirs else theirs} if ours and theirs else set()
+        blocks.append(sides or {each for each in (ours, theirs) if each})
+    return Wanted(NUMBERED.sub(rb"\g<head>\g<known>", text), conflicts, blocks)
+
+
 @st.composite
 def random_value(draw: st.DrawFn, key: str) -> Value:
     password = draw(st.sampled_from(["dev", "prod", "prod", "prod2", "old", "new", UNNAMED]))
@@ -181,8 +232,11 @@ def changed(kind: str, value: Value, other: Value, new: Value) -> list[Value]:
 
 @st.composite
 def random_merge(draw: st.DrawFn, counts: Counter[str]) -> Merge:
-    keys = ["a", "b", "c", ITEM, ITEM][draw(st.integers(0, 3)) :][: draw(st.integers(1, 5))]
+    keys = ["a", "b", "c", ITEM, ITEM, ITEM][draw(st.integers(0, 3)) :][: draw(st.integers(1, 6))]
     base = [draw(random_value(key)) for key in keys]
+    if draw(st.booleans()):
+        # The items of the list are equal, and their envelopes may differ.
+        base = [value if value.key else base[keys.index(ITEM)]._replace(salt=value.salt) for value in base]
     sides: list[list[Value]] = []
     for kinds in (HONEST, HONEST + HOSTILE * draw(st.sampled_from([0, 2]))):
         chosen = [draw(st.sampled_from(["", "", "", "text", "rekeyed", *kinds])) for _ in base]
@@ -240,30 +294,6 @@ def check_new(merge: Merge, tool: Model, found: Found) -> None:
     raise AssertionError("a text under a password that it was not under")
 
 
-def check_places(merge: Merge, found: list[Found]) -> None:
-    """What no side, or one alone, has touched is there to the byte."""
-    at = [{value.key: value.block() for value in values} for values in merge]
-    for each in found:
-        before, ours, theirs = (values.get(each.key) for values in at)
-        if each.key and before in (ours, theirs):
-            assert each.block == (theirs if before == ours else ours), "the value of the side that changed it"
-    items = [[value.block() for value in values if not value.key] for values in merge]
-    if items[0] == items[1] == items[2]:
-        assert [each.block for each in found if not each.key] == items[0], "a list that nobody changed"
-
-
-def are_told_apart(merge: Merge) -> bool:
-    """Whether no side has changed some of several equal items: their texts alone do not say which."""
-    items = [[value for value in values if not value.key] for values in merge]
-    several = {text for values in items for text in (each.known_by() for each in values) if _count(values, text) > 1}
-    return all([each.envelope() for each in values if each.known_by() in several] ==
-               [each.envelope() for each in items[0] if each.known_by() in several] for values in items)
-
-
-def _count(values: list[Value], text: bytes) -> int:
-    return sum(each.known_by() == text for each in values)
-
-
 def _has_digits_of(value: Value, before: Value) -> bool:
     return value._replace(key=before.key, label=before.label, indentation=before.indentation) == before
 
@@ -286,7 +316,6 @@ def check_merge(folder: Path, merge: Merge) -> list[str]:
     import yaml
 
     tool = Model()
-    wanted, conflicts = by_git(folder, [plain(values) for values in merge])
     known = {value.envelope(): value for values in merge for value in values}
     before = [value.envelope() for value in merge.base]
     foreign = [each for each in merge.ours + merge.theirs if each.is_mislabelled() and each.envelope() not in before]
@@ -304,14 +333,17 @@ def check_merge(folder: Path, merge: Merge) -> list[str]:
     kinds = ["conflicts" if result.conflicts else "merged", *(["under a new secret"] if new else [])]
     if result.conflicts and could_take_back(merge):
         return kinds
-    if not are_told_apart(merge):
-        return [*kinds, "equal items"]
-    assert in_plaintext(result.content, tool, known) == re.sub(rb"(?m)(?<=') \d+$", b"", wanted), "the merge by git"
-    assert result.conflicts == conflicts
-    if not conflicts:
+    ways = [*numbered(merge)]
+    possible = [wanted(folder, merge, numbers) for numbers in ways]
+    made = (in_plaintext(result.content, tool, known), result.conflicts)
+    fitting = [each.blocks for each in possible if made == (each.text, each.conflicts)]
+    assert fitting, "the merge by git"
+    if not result.conflicts:
         yaml.load(result.content, Loader=yaml.BaseLoader)
-        check_places(merge, [each for each in found if each not in new])
-    return kinds
+        placed = [None if each in new else each.block for each in found]
+        is_right = lambda places: all(block in (None, *place) for block, place in zip(placed, places, strict=True))
+        assert any(map(is_right, fitting)), "the value of the side that changed it"
+    return [*kinds, *(["equal items"] if any(map(any, ways[0])) else [])]
 
 
 def test_of_values(request: pytest.FixtureRequest, tmp_path: Path) -> None:
@@ -329,19 +361,6 @@ def test_of_values(request: pytest.FixtureRequest, tmp_path: Path) -> None:
 
     check()
     assert [(kind, counts[kind], least) for kind, least in LEAST.items() if counts[kind] < least] == []
-
-
-def test_of_equal_items() -> None:
-    """The one that nobody changed keeps its envelope, whatever both sides do to the other."""
-    needs("git")
-    needs_pyyaml()
-    first, second = (Value(ITEM, b"text", "prod", "prod", salt, 4) for salt in (0, 1))
-    for changed_first in (first._replace(text=b"our text", salt=2), first._replace(salt=2), None):
-        ours = [*([changed_first] if changed_first else []), second]
-        merge, tool = Merge([first, second], ours, [first._replace(password="prod2"), second]), Model()
-        for each in (merge, merge._replace(ours=merge.theirs, theirs=merge.ours)):
-            content = texts.merged(tool, tool.opened, *each.documents()).content
-            assert blocks_of(content)[-1].block == second.block()
 
 
 # Vaults by their labels and passwords.

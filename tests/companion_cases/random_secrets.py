@@ -11,16 +11,17 @@ from random import Random
 from typing import NamedTuple
 
 import pytest
-from pytest_subtests import SubTests
 
-from companion_cases import PASSWORDS, TEXT, WITH, Place, sealed
-from companion_cases.running import Described, described
+from companion_cases import PASSWORDS, TEXT, WITH, Described, Place, described, sealed
+from lib.ansible import ansible_release
 from lib.ansible_runs import AnsibleRuns
 from lib.limits import SECONDS
+from lib.subtests import SubTests
 
 SEED = 62
-# How long command lines are compared, in seconds, where their number is not given.
-SHARE = 20
+# How long command lines are compared, in seconds, where their number is not given; and how many at least, of all kinds
+# and of each.
+SHARE, LEAST, LEAST_OF_EACH = 20, 40, 3
 LABELS = ["default", "dev", "prod", "stage"]
 # Names of password files, of which two are not usable, and of scripts.
 FILES = [*PASSWORDS, *PASSWORDS]
@@ -53,6 +54,10 @@ class Named(NamedTuple):
     def is_relative(self) -> bool:
         return self.folder.startswith("..")
 
+    def for_old_releases(self) -> "Named":
+        """For those that know no variables in a path."""
+        return self._replace(folder=self.folder.replace("$HOME", "~"))
+
     def text(self) -> str:
         return f"{self.label}@{self.path()}" if self.label else self.path()
 
@@ -71,6 +76,12 @@ class Settings(NamedTuple):
     def without_relative_paths(self) -> "Settings":
         is_left = self.password_file and not self.password_file.is_relative()
         kept = [each for each in self.identities if not each.is_relative()]
+        return self._replace(identities=kept, password_file=self.password_file if is_left else None)
+
+    def for_old_releases(self) -> "Settings":
+        """What counts for releases that refuse a secret which is not there beside others."""
+        kept = [each.for_old_releases() for each in self.identities if each.is_usable()]
+        is_left = self.password_file and self.password_file._replace(label="default").is_usable()
         return self._replace(identities=kept, password_file=self.password_file if is_left else None)
 
     def values(self) -> dict[str, str]:
@@ -120,6 +131,11 @@ class Case(NamedTuple):
     file: Settings
     vault: bytes
     abbreviate: bool
+
+    def for_old_releases(self) -> "Case":
+        ids, paths = ([each.for_old_releases() for each in secrets] for secrets in (self.line.ids, self.line.paths))
+        variables, file = (settings.for_old_releases() for settings in (self.variables, self.file))
+        return self._replace(line=self.line._replace(ids=ids, paths=paths), variables=variables, file=file)
 
 
 NOTHING = Settings([], None, "", "")
@@ -214,6 +230,7 @@ def what_counts(case: Case) -> Case | None:
         case = case._replace(variables=variables, file=without_folder(case))
     if line.command != "rekey":
         return case
+    case = heeding_label(case)
     label = line.label or case.variables.encrypt or case.file.encrypt
     if not line.new:
         # Here it is asked for; Ansible's tool takes the password file of the settings.
@@ -223,6 +240,15 @@ def what_counts(case: Case) -> Case | None:
     # The new secret of the options counts before the label of the settings.
     variables, file = (settings._replace(encrypt="") for settings in (case.variables, case.file))
     return case._replace(line=line._replace(label=""), variables=variables, file=file)
+
+
+def heeding_label(case: Case) -> Case:
+    """If there are several secrets, only those of its label are tried here, as Ansible's tool does by a setting."""
+    identities = case.variables.identities or case.file.identities
+    password_files = [each for each in (case.variables.password_file or case.file.password_file,) if each]
+    named = [*case.line.ids, *case.line.paths, *identities, *password_files]
+    is_heeded = sum(each.is_usable() for each in named) > 1 and case.vault.startswith(b"$ANSIBLE_VAULT;1.2;")
+    return case._replace(variables=case.variables._replace(match="True")) if is_heeded else case
 
 
 def without_folder(case: Case) -> Settings:
@@ -252,6 +278,8 @@ class Both:
     def outcome(self, case: Case) -> tuple[Outcome, Outcome | None, str]:
         """What ours did, what theirs did if it is to be the same, and the messages."""
         counted = what_counts(case)
+        if counted and ansible_release() < (2, 14):
+            counted = counted.for_old_releases()
         if counted:
             variables = self.prepare(counted, self.other)
             self.ansible.begin(counted.line.words(case.abbreviate), self.other, self.place.environment | variables)
@@ -300,7 +328,7 @@ def test_command_lines(
     random, counts = Random(SEED), {"succeed in both": 0, "refused by both": 0, "refused only here, as documented": 0}
     end = time.monotonic() + SHARE
     both = Both(place, ansible_runs)
-    while sum(counts.values()) < most or not most and time.monotonic() < end:
+    while sum(counts.values()) < (most or LEAST) or not most and time.monotonic() < end:
         case = random_case(random, place.secrets)
         ours, theirs, messages = both.outcome(case)
         if ours != (wanted := theirs or (False, None, {})):
@@ -308,4 +336,5 @@ def test_command_lines(
                 assert ours == wanted, messages
         kind = 2 if theirs is None else 0 if theirs[0] else 1
         counts[[*counts][kind]] += 1
+    assert most or min(counts.values()) >= LEAST_OF_EACH, counts
     print(f"random command lines: {', '.join(f'{count} {what}' for what, count in counts.items())}")

@@ -4,8 +4,7 @@ import os
 
 import pytest
 
-from companion_cases import CHECK, PASSWORDS, ROTATE, Place, sealed
-from companion_cases.rotating import summary
+from companion_cases import CHECK, PASSWORDS, ROTATE, Place, sealed, summary
 
 
 @pytest.mark.parametrize("around", [b"%s", b"%s\n", b"%s\r\n", b"  %s\t\n\n"])

@@ -1,8 +1,11 @@
 """A tree under git."""
 
-from companion_cases import Done, Place
+from companion_cases import HOOK, Done, Place
 
 AUTHOR = {f"GIT_{who}_{what}": "a@b" for who in ("AUTHOR", "COMMITTER") for what in ("NAME", "EMAIL")}
+WHOLE = "is not a vault, but was one in the parent commit"
+IN_PART = "has {} in plaintext, encrypted in the parent commit"
+GONE = "is not encrypted, and {} is gone, which was a vault in the parent commit"
 
 
 def under_git(place: Place, attributes: str) -> None:
@@ -18,3 +21,44 @@ def commit(place: Place, *words: str, folder: str = ".") -> Done:
 def add_and_commit(place: Place) -> Done:
     place.shell("git add -A")
     return commit(place)
+
+
+def refused(what: str, done: Done, *names: str, why: str = "is not encrypted", hint: str = "") -> None:
+    """Each name with the reason, and with the hint below it."""
+    lines = [line for name in names for line in (f"ansible-vault-hook: {name} {why}", hint) if line]
+    assert (done.returncode, done.stderr.splitlines()) == (1, lines), what
+
+
+def unmarking(name: str) -> str:
+    """The hint for a file that stands beside a vault."""
+    return f"  encrypt it, or unmark it by a last line of .gitattributes: /{name} !diff !ansible-vault"
+
+
+def meant(name: str) -> str:
+    """The hint for plaintext that may be meant."""
+    return f"  if that is meant, commit with --no-verify, or add to .gitattributes: /{name} -ansible-vault"
+
+
+def with_hooks(place: Place, attributes: str = "") -> None:
+    under_git(place, attributes)
+    done = place.shell(f"{HOOK} --install")
+    assert done.returncode == 0, done.stderr
+
+
+def again(place: Place, name: str, content: bytes) -> Done:
+    place.put(name, content)
+    return add_and_commit(place)
+
+
+def staged(place: Place, name: str, content: bytes) -> Done:
+    """What the hook says of this; nothing is committed."""
+    place.put(name, content)
+    place.shell("git add -A")
+    return place.run(HOOK)
+
+
+def committed(place: Place, name: str, content: bytes) -> str:
+    """The commit that has this, whatever a hook says."""
+    place.put(name, content)
+    place.shell("git add -A && git commit -qm change --no-verify")
+    return place.shell("git rev-parse HEAD").stdout.strip()

@@ -3,19 +3,8 @@
 import os
 
 import pytest
-from pytest_subtests import SubTests
-
-from companion_cases import NOBODY, ROTATE, TEXT, Companions, Place, block, decrypted, ended, sealed
-
-SUMMARY = "{} rotated, {} under the new secret already, {} of other labels{}, {} failed"
-
-
-def summary(changed: int, had_it: int = 0, others: int = 0, named: str = "", failed: int = 0) -> str:
-    return SUMMARY.format(changed, had_it, others, named, failed)
-
-
-def to_new(place: Place) -> list[str]:
-    return [*place.by_file("old"), *place.by_file("new", "new-")]
+from companion_cases import NOBODY, ROTATE, TEXT, Companions, Place, block, decrypted, ended, sealed, summary, to_new
+from lib.subtests import SubTests
 
 
 def labelled_tree(place: Place) -> None:
@@ -76,7 +65,7 @@ def test_again(place: Place, subtests: SubTests) -> None:
 
 def test_nothing(place: Place) -> None:
     """A new secret whose label nothing has may be a slip."""
-    why = "ansible-vault-rotate: nothing has the label "
+    why = "ansible-vault-rotate: no vault or block has the label "
     ended("an empty tree", place.run(ROTATE, *to_new(place), "."), 1, summary(0), f"{why}default\n")
     place.put("plain.yml", TEXT)
     place.put("empty.yml", b"")
@@ -200,7 +189,7 @@ def test_dry_run(place: Place) -> None:
 
 def test_documents(cases: Companions, subtests: SubTests) -> None:
     """What an old secret decrypts in a document is not rotated, and counted; an example is neither."""
-    left = "it is in a document, so it is not rotated; --skip-documents ignores it\n"
+    left = "it is in a document and was not rotated; to ignore documents, add --skip-documents\n"
     line = sealed("old").decode().replace("\n", "\\n")
     prose = {
         "README.md": (b"An example:\n\n" + block("old"), ":4: "),
@@ -230,7 +219,7 @@ def test_changed_meanwhile(place: Place) -> None:
     place.put("a.yml", block("old"))
     place.wrap_tool('[ "$1" = encrypt ] && echo "b: theirs" >> a.yml')
     done = place.run(ROTATE, *to_new(place), ".")
-    ended("changed meanwhile", done, 1, "./a.yml: it was changed meanwhile", summary(0, failed=1))
+    ended("changed meanwhile", done, 1, "./a.yml: another program changed it meanwhile", summary(0, failed=1))
     assert place.files() == {"a.yml": block("old") + b"b: theirs\n"}, "their change stays"
 
 

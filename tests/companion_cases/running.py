@@ -2,18 +2,17 @@
 
 import os
 import subprocess
-from collections.abc import Iterable
 from contextlib import nullcontext
 
 import pytest
-from pytest_subtests import SubTests
 
-from companion_cases import AWKWARD, EDIT, NOBODY, PASSWORDS, TEXT, WITH
-from companion_cases import Companions, Place, decrypted, ended, sealed, silent
-from companion_cases.both import for_ansible, ours, theirs
+from companion_cases import AWKWARD, EDIT, NOBODY, TEXT, WITH, Companions, Described, Place, decrypted
+from companion_cases import described, ended, sealed, silent
+from companion_cases.both import for_ansible, line_for_ansible, ours, theirs
 from lib.limits import SECONDS
 from lib.needs import needs, needs_ansible
 from lib.option_sets import OF_ANSIBLE, help_options, page_sets
+from lib.subtests import SubTests
 
 # Command lines with a secret, as the tool has them too; and what is read.
 SAME = [
@@ -100,7 +99,7 @@ def test_help(place: Place, command: str) -> None:
     assert f"\nUsage: {WITH} {command} [OPTIONS] {takes}...\n" in done.stdout
     assert f"\n  {takes}...  " in done.stdout and f"{takes} " not in done.stdout, "several are taken"
     assert "required if FILE" not in done.stdout, "it is not needed"
-    in_place = "; FILE by default" in done.stdout and "Files to replace, or " in done.stdout
+    in_place = "; FILE by default" in done.stdout and "Files to replace, or, " in done.stdout
     assert in_place == (command in ("encrypt", "decrypt", "rekey"))
     assert (" one after the other;" in done.stdout) == (command == "view")
 
@@ -177,7 +176,7 @@ def test_links_and_acls(place: Place) -> None:
     os.link(place.tree / "vaults/a.yml", place.tree / "second.yml")
     before = place.files()
     done = place.run(WITH, "decrypt", *place.by_file("old"), "second.yml")
-    ended("two names", done, 1, "second.yml: it has 2 names (hard links), and one alone would change")
+    ended("two names", done, 1, "second.yml: it has 2 names (hard links); replace the others by symbolic links first")
     assert place.files() == before, "both stay"
     (place.tree / "second.yml").unlink()
     needs("setfacl", "getfacl")
@@ -224,7 +223,7 @@ def test_changed_meanwhile(place: Place) -> None:
     # Not before the run that looks at the command line alone.
     place.wrap_tool('case "$*" in *=prompt*) ;; decrypt*) echo other > a.yml ;; esac')
     done = place.run(WITH, "decrypt", *place.by_file("old"), "a.yml")
-    ended("a change", done, 1, f"{WITH}: a.yml: it was changed meanwhile")
+    ended("a change", done, 1, f"{WITH}: a.yml: another program changed it meanwhile")
     assert place.get("a.yml") == b"other\n", "stays"
     assert place.names() == ["a.yml", "new.yml", "plain.yml"], "nothing is left"
 
@@ -354,6 +353,10 @@ def test_editing(place: Place) -> None:
     choice = [*place.by_id("dev", "dev"), *place.by_id("prod", "prod"), "--encrypt-vault-id", "prod"]
     silent("a choice", place.run(WITH, "create", *choice, "b.yml", EDITOR=editor))
     assert decrypted("prod", place.get("b.yml")) == b"more\n", "is made"
+    newer = ["--skip-tty-check", *place.by_id("dev", "dev"), "c.yml"]
+    silent("a word of newer releases", place.run(WITH, "create", *newer, EDITOR=editor))
+    assert decrypted("dev", place.get("c.yml")) == b"more\n", "is made, too"
+    ended("which edit has not", place.run(WITH, "edit", *newer, EDITOR=editor), 2, "arguments: --skip-tty-check")
     done = place.run("setsid", "--wait", WITH, "edit", "a.yml", EDITOR=editor)
     ended("without a secret", done, 1, f"{EDIT}: --ask-vault-password: there is no terminal")
     assert place.get("a.yml") == before["a.yml"], "nothing else is changed"
@@ -385,7 +388,8 @@ def test_habits(cases: Companions) -> None:
         place.put("a.yml", TEXT)
         place.put("b.yml", TEXT * 2)
         for line in HABITS:
-            text = f"shopt -s expand_aliases\nalias ansible-vault={tool}\nansible-vault {line}\n"
+            words = line_for_ansible(line) if tool == ansible else line
+            text = f"shopt -s expand_aliases\nalias ansible-vault={tool}\nansible-vault {words}\n"
             with for_ansible(place) if tool == ansible else nullcontext():
                 done = place.shell(text, "bash")
             assert done.returncode == 0, f"{tool} {line} ({done.stderr})"
@@ -394,27 +398,8 @@ def test_habits(cases: Companions) -> None:
     assert results[WITH] == results[ansible]
 
 
-# The first line of an envelope, with the password that decrypts it and the plaintext, or other content as it is.
-Described = tuple[bytes, tuple[str, bytes] | None]
-
-
 def contents(place: Place) -> dict[str, Described]:
     return {name: described(content) for name, content in place.files().items()}
-
-
-def envelope_of(content: bytes) -> bytes | None:
-    """That of a vault, or of a single block."""
-    envelope = b"".join(line.strip() + b"\n" for line in content.splitlines() if b"!vault" not in line)
-    return envelope if envelope.startswith(b"$ANSIBLE_VAULT") else None
-
-
-def described(content: bytes, passwords: Iterable[str] = PASSWORDS) -> Described:
-    """By the first of the passwords that decrypts it."""
-    envelope = envelope_of(content)
-    if envelope is None:
-        return content, None
-    texts = ((name, decrypted(name, envelope)) for name in passwords)
-    return envelope.partition(b"\n")[0], next(((name, text) for name, text in texts if text is not None), None)
 
 
 def test_ansible_reads_it(place: Place) -> None:

@@ -7,7 +7,7 @@ Each run of the program over something derives one key, so these runs are counte
 import pytest
 
 from companion_cases import CHECK, EDIT, MERGE, ROTATE, TEXT, TEXTCONV, Place, block, decrypted, ended, sealed
-from companion_cases.rotating import summary, to_new
+from companion_cases import summary, to_new
 from lib.needs import needs, needs_pyyaml
 
 # Notes the command where there is anything to derive a key for, which is not so when a secret alone is looked at.

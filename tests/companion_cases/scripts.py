@@ -4,13 +4,12 @@ import os
 from pathlib import Path
 
 import pytest
-from pytest_subtests import SubTests
 
-from companion_cases import CHECK, EDIT, PASSWORDS, ROTATE, TEXT, TEXTCONV, WITH
-from companion_cases import Place, decrypted, ended, sealed, silent
+from companion_cases import CHECK, EDIT, NOTE, PASSWORDS, ROTATE, TEXT, TEXTCONV, WITH, Place, decrypted, ended
+from companion_cases import run_changed, sealed, silent
 from companion_cases.both import ours
-from companion_cases.secrecy import NOTE
 from companion_cases.terminal import at_terminal
+from lib.subtests import SubTests
 
 # Records its arguments, and writes the password.
 RECORDING = 'echo "$0" "$@" > ../started; cat ../secrets/dev'
@@ -32,7 +31,7 @@ STARTS = {
 FAILING = {
     "exit 3": "this script ended with status 3",
     "exit 2": "this script ended with status 2",
-    "kill -9 $$": "this script was ended by signal 9",
+    "kill -9 $$": "signal 9 ended this script",
     "echo": "this script wrote no password",
     "cat ../secrets/dev; exit 1": "this script ended with status 1",
     "printf ' word'": "the password of this script begins or ends with white space",
@@ -96,9 +95,9 @@ def test_clients_that_fail(place: Place, subtests: SubTests) -> None:
     place.put("a.yml", sealed("dev"))
     words = [CHECK, "--vault-id", "dev@../keys-client", "a.yml"]
     messages = {
-        "echo 'no key' >&2; echo of it >&2; exit 2": "this script has no secret of this label: no key of it",
+        "echo 'no key' >&2; echo of it >&2; exit 2": "this script has no secret for this label: no key of it",
         "echo 'no net' >&2; exit 9": "this script ended with status 9: no net",
-        "exit 2": "this script has no secret of this label",
+        "exit 2": "this script has no secret for this label",
         "printf '\\033[2J' >&2; exit 9": "this script ended with status 9: '\\x1b[2J'",
     }
     for text, wanted in messages.items():
@@ -172,23 +171,20 @@ def test_secrecy(place: Place) -> None:
     assert holding == [], "and none is written"
 
 
-# Runs a companion whose waits are not interrupted by a signal: another thread takes it.
+# Its waits are not interrupted by a signal: another thread takes it.
 BESIDE_A_THREAD = """
-import os, runpy, signal, sys, threading
+import threading
 threading.Thread(target=threading.Event().wait, daemon=True).start()
 signal.pthread_sigmask(signal.SIG_BLOCK, [signal.SIGTERM])
-sys.argv = sys.argv[1:]
-sys.path[0] = os.path.dirname(os.path.realpath(sys.argv[0]))
-runpy.run_path(sys.argv[0], run_name="__main__")
 """
 
 
-@pytest.mark.parametrize("words", [[], ["python3", "-c", BESIDE_A_THREAD]], ids=["alone", "beside a thread"])
-def test_signals(place: Place, words: list[str]) -> None:
+@pytest.mark.parametrize("change", ["", BESIDE_A_THREAD], ids=["alone", "beside a thread"])
+def test_signals(place: Place, change: str) -> None:
     """A signal ends the script, too, and the companion as it would have ended it."""
     place.put("a.yml", sealed("dev"))
     place.script("sleep 600 & echo $! > ../sleeping; kill -TERM $PPID; wait")
-    done = place.run(*words, str(place.tools / CHECK), "--vault-password-file", "../script", "a.yml")
+    done = run_changed(place, CHECK, change, ["--vault-password-file", "../script", "a.yml"])
     assert (done.returncode, done.stdout, done.stderr) == (-15, "", ""), "it ends by the signal"
     sleeping = Path("/proc", (place.path / "sleeping").read_text().strip(), "stat")
     state = sleeping.read_text().rpartition(")")[2].split()[0] if sleeping.exists() else "Z"

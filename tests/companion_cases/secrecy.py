@@ -6,16 +6,11 @@ import resource
 import sys
 
 import pytest
-from pytest_subtests import SubTests
 
-from companion_cases import CHECK, EDIT, MERGE, PASSWORDS, ROTATE, TEXT, TEXTCONV, WITH
-from companion_cases import Place, block, decrypted, ended, sealed
-from companion_cases.merging import versions
-from companion_cases.rotating import to_new
+from companion_cases import CHECK, EDIT, MERGE, NOTE, PASSWORDS, ROTATE, TEXT, TEXTCONV, WITH, Place, block, decrypted
+from companion_cases import ended, sealed, to_new, versions
 from lib.needs import needs, needs_tool
-
-# Notes what a run of the program can be seen to be.
-NOTE = "{ tr '\\0' '\\n' < /proc/$$/cmdline; tr '\\0' '\\n' < /proc/$$/environ; } >> ../seen; ulimit -c >> ../cores"
+from lib.subtests import SubTests
 
 
 def test_words_and_environment(place: Place) -> None:
@@ -145,7 +140,7 @@ def test_other_tools(place: Place) -> None:
     theirs = '[ "$1" = --version ] && echo "ansible-vault [core 2.14.18]"; echo run >> ../runs'
     place.script(theirs, "tools/ansible-vault")
     done = place.run(CHECK, *place.by_file("old"), ".")
-    ended("Ansible's tool", done, 1, "is another tool of this name")
+    ended("Ansible's tool", done, 1, "is not the ansible-vault of the companions")
     assert (place.path / "runs").read_text() == "run\n", "is asked its version alone"
     (place.tools / "ansible-vault").unlink()
     folders = os.pathsep.join(["/usr/sbin", str(place.tools)])

@@ -1,12 +1,12 @@
 """Secrets that Ansible's settings name, beside Ansible's own tool."""
 
 import pytest
-from pytest_subtests import SubTests
 
-from companion_cases import CHECK, EDIT, MERGE, ROTATE, TEXT, TEXTCONV, WITH
-from companion_cases import Place, block, decrypted, ended, sealed, silent
+from companion_cases import CHECK, EDIT, MERGE, ROTATE, TEXT, TEXTCONV, WITH, Place, block, decrypted, ended, sealed
+from companion_cases import silent
 from companion_cases.both import ours, theirs
 from lib.needs import needs_ansible
+from lib.subtests import SubTests
 
 OPEN = ("old", "dev", "prod")
 LIST = "[defaults]\nvault_identity_list = {}\n"
@@ -235,7 +235,7 @@ def test_faults(place: Place, subtests: SubTests) -> None:
     ended("a missing password file", done, 1, f"{CHECK}: ../secrets/none: a password file cannot be opened")
     (place.tree / "ansible.cfg").unlink()
     done = place.run(CHECK, ".")
-    parts = ("usage: ansible-vault-check", "no secret is given: name one by --vault-id", "ansible.cfg")
+    parts = ("usage: ansible-vault-check", "no secret is given: name one with --vault-id", "ansible.cfg")
     ended("no secret", done, 2, *parts)
 
 
@@ -272,6 +272,9 @@ def test_missing_secrets(place: Place, subtests: SubTests) -> None:
     named = ["--vault-id", "prod@../secrets/none", *place.by_id("dev", "dev")]
     done = ours(place, "encrypt", *named, "--encrypt-vault-id", "dev", "plain.yml")
     ended("one that an option names", done, 3, "prod@../secrets/none: a password file cannot be opened")
+    asked = {"ANSIBLE_VAULT_IDENTITY_LIST": "prod@prompt, dev@../secrets/dev"}
+    done = place.run("setsid", "--wait", WITH, "encrypt", "plain.yml", **asked)
+    ended("one that nobody can type", done, 1, "prod@prompt: there is no terminal to ask for the password")
     assert place.get("plain.yml") == TEXT, "nothing is encrypted"
 
 
@@ -281,7 +284,7 @@ def test_the_label_to_encrypt_with(place: Place) -> None:
     place.put("a.yml", TEXT)
     done = ours(place, "encrypt", "a.yml")
     ended("two secrets", done, 1, "a.yml: several secrets were given; choose one with --encrypt-vault-id")
-    place.put("ansible.cfg", settings.format("vault_encrypt_identity = prod\n").encode())
+    place.put("ansible.cfg", settings.format("vault_encrypt_identity = 'prod'\n").encode())
     silent("one by the settings", ours(place, "encrypt", "a.yml"))
     assert decrypted("prod", place.get("a.yml")) == TEXT, "it is encrypted"
     assert place.get("a.yml").startswith(b"$ANSIBLE_VAULT;1.2;AES256;prod\n"), "under its label"

@@ -12,21 +12,19 @@ from contextlib import suppress
 from pathlib import Path
 
 import pytest
-from pytest_subtests import SubTests
 
-from companion_cases import CHECK, EDIT, MERGE, PASSWORDS, ROTATE, TEXT, TEXTCONV, WITH
-from companion_cases import Companions, Place, block, decrypted, ended, sealed
-from companion_cases.editing import ABOVE_EDITOR, CHANGE, CHANGED
-from companion_cases.merging import versions
-from companion_cases.rotating import summary, to_new
+from companion_cases import ABOVE_EDITOR, CHANGE, CHANGED, CHECK, EDIT, MERGE, PASSWORDS, ROTATE, TEXT, TEXTCONV, WITH
+from companion_cases import Companions, Place, block, decrypted, ended, run_changed, sealed, summary, to_new, versions
+from companion_cases import wait_until
 from companion_cases.terminal import at_terminal
 from lib.limits import SECONDS
+from lib.subtests import SubTests
 from model.vaults import seal, yaml_block
 
 # The copy of what was saved, and the message that names it.
 COPY = ".ansible-vault-saved-a.yml-"
 TOLD = re.compile(
-    r"a\.yml: ended by signal (\d+);(?: what the editor left .*-before;)? what you saved is encrypted in (.+)\n"
+    r"a\.yml: signal (\d+) ended the edit;(?: what the editor left .*-before;)? what you saved is encrypted in (.+)\n"
 )
 # Signals the companion before the run of the program of this number, which then dies by it or goes on.
 AT_RUN = """
@@ -35,23 +33,30 @@ count=1; mkdir -p ../counted; until mkdir ../counted/$count 2>/dev/null; do coun
 """
 # Calls of the library by which files come and go.
 CALLS = ["os.replace", "os.unlink", "os.fsync", "os.fchmod", "tempfile.mkstemp", "tempfile.mkdtemp", "shutil.rmtree"]
-# Runs a companion that signals itself before and after a call.
+# The companion signals itself before or after a call.
 AT_CALL = """
-import importlib, os, runpy, signal, sys
-module, name = sys.argv[1].split(".")
-module, when, number = importlib.import_module(module), sys.argv[2], int(sys.argv[3])
+import importlib
+module, name = {call!r}.split(".")
+module = importlib.import_module(module)
 call = getattr(module, name)
 def signalling(*words, **options):
-    if when == "before":
-        os.kill(os.getpid(), number)
+    if {when!r} == "before":
+        os.kill(os.getpid(), {number})
     done = call(*words, **options)
-    if when == "after":
-        os.kill(os.getpid(), number)
+    if {when!r} == "after":
+        os.kill(os.getpid(), {number})
     return done
 setattr(module, name, signalling)
-sys.argv = sys.argv[4:]
-sys.path[0] = os.path.dirname(os.path.realpath(sys.argv[0]))
-runpy.run_path(sys.argv[0], run_name="__main__")
+"""
+# A signal comes when a program has been started, and is not yet known to run.
+AT_START = """
+import subprocess
+class Late(subprocess.Popen):
+    def __init__(self, words, **options):
+        super().__init__(words, **options)
+        if words[0] == "sh":
+            os.kill(os.getpid(), signal.SIGTERM)
+subprocess.Popen = Late
 """
 
 
@@ -159,10 +164,10 @@ def test_at_each_call(cases: Companions, subtests: SubTests) -> None:
         place = cases.place()
         tree(place)
         tool, *words = runs_of(place)[companion]
-        script = place.script(AT_CALL, "signalling", "/usr/bin/env -S python3 -ISB")
+        change = AT_CALL.format(call=call, when=when, number=int(signal.Signals[name]))
         what = f"{companion}, {when} {call}"
         with subtests.test(what):
-            done = place.run(script, call, when, str(signal.Signals[name].value), str(place.tools / tool), *words)
+            done = run_changed(place, tool, change, words)
             reached = companion == EDIT or call != "os.unlink"
             assert done.returncode == (-signal.Signals[name] if reached else 0), "the status"
             if companion == EDIT:
@@ -318,14 +323,6 @@ def test_signals_to_all(place: Place, when: str) -> None:
     check_whole(when, place)
 
 
-def wait_until(condition: Callable[[], object], what: str) -> None:
-    end = time.monotonic() + SECONDS
-    while not condition():
-        if time.monotonic() > end:
-            raise AssertionError(f"{what} takes too long")
-        time.sleep(0.02)
-
-
 LEADERS = {"the companion leads the session": (), "a shell does": ("sh", "-c", '"$@"; exit', "sh")}
 
 
@@ -384,22 +381,9 @@ def test_stubborn_programs(place: Place, what: str, pause: float) -> None:
 
 def test_signals_at_the_start(place: Place) -> None:
     """One that comes when a program is started, and is not yet known to run, reaches it all the same."""
-    text = """
-import os, runpy, signal, subprocess, sys
-class Late(subprocess.Popen):
-    def __init__(self, words, **options):
-        super().__init__(words, **options)
-        if words[0] == "sh":
-            os.kill(os.getpid(), signal.SIGTERM)
-subprocess.Popen = Late
-sys.argv = sys.argv[1:]
-sys.path[0] = os.path.dirname(os.path.realpath(sys.argv[0]))
-runpy.run_path(sys.argv[0], run_name="__main__")
-"""
     tree(place)
     place.environment["EDITOR"] = place.script("sleep 5; touch ../survived", "editor")
-    script = place.script(text, "signalling", "/usr/bin/env -S python3 -ISB")
-    done = place.run(script, str(place.tools / EDIT), *place.by_file("old"), "a.yml")
+    done = run_changed(place, EDIT, AT_START, [*place.by_file("old"), "a.yml"])
     assert done.returncode == -signal.SIGTERM, "the status"
     assert not (place.path / "survived").exists(), "the editor is ended"
     check_whole("at the start", place)

@@ -16,10 +16,8 @@ from ansible_vault_companions.program import Refused
 from ansible_vault_companions.yaml.matching import Choice
 from ansible_vault_companions.yaml.nodes import nodes
 from ansible_vault_companions.yaml.typed_paths import typed
-from companion_cases import EDIT, TEXTCONV, Place, block, ended, sealed, silent
-from companion_cases.blocks import texts
-from companion_cases.keeping import ENCRYPTED
-from companion_cases.prompts import ask
+from companion_cases import EDIT, ENCRYPTED, TEXTCONV, Place, block, ended, sealed, silent, texts
+from companion_cases.terminal import ask
 from companion_cases.yaml_values import SECRET, Generator, Hexadecimal, decrypt
 from lib.needs import needs, needs_pyyaml
 
@@ -101,7 +99,7 @@ def test_within_a_vault(place: Place, both: list[str]) -> None:
     for path, why in (("db", "db is a list, a mapping or an alias"), ("y", "there is no value y")):
         status, written, told = shown(place, *both, "--value", path, "vault.yml")
         assert (status, written, why in told) == (1, b"", True), told
-    ended("set", set_to(place, b"x", *both, "--value", "db.password", "vault.yml"), 1, "it is a vault as a whole")
+    ended("set", set_to(place, b"x", *both, "--value", "db.password", "vault.yml"), 1, "the whole file is a vault")
 
 
 def test_below_a_commit(place: Place, both: list[str]) -> None:
@@ -192,7 +190,7 @@ def test_not_lost(place: Place, both: list[str]) -> None:
     words = [*both, "--value", "db_password", "vars.yml"]
     place.wrap_tool('[ "$1" = encrypt ] && echo "# theirs" >> vars.yml')
     done = set_to(place, b"typed", *words)
-    ended("changed meanwhile", done, 1, "it was changed meanwhile; what you saved is encrypted in ")
+    ended("changed meanwhile", done, 1, "another program changed it meanwhile; what you saved is encrypted in ")
     [copy] = ENCRYPTED.findall(done.stderr)
     assert texts(Path(copy).read_bytes(), "dev")[0] == b"typed"
     os.unlink(copy)
@@ -210,13 +208,13 @@ def test_not_lost(place: Place, both: list[str]) -> None:
 def test_given(place: Place, both: list[str]) -> None:
     """What is no value, and a terminal that would show it."""
     words = [*both, "--value", "db_password", "vars.yml"]
-    ended("a vault", set_to(place, sealed("dev"), *words), 1, "is itself a vault")
+    ended("a vault", set_to(place, sealed("dev"), *words), 1, "standard input is a vault")
     ended("two files", set_to(place, b"x", *words, "vars.yml"), 2, "--value takes one VAULT")
     ended("no file", set_to(place, b"x", *words[:-1], "new.yml"), 1, "new.yml: No such file")
     ended("no standard input", place.run("sh", "-c", '"$@" <&-', "sh", EDIT, *words), 1, "Bad file descriptor")
     needs("stty")
     session = ask(place, "sh", "-c", 'exec "$@" < /dev/tty', "sh", EDIT, *words, answers=[])
-    assert (session.returncode, "give it by a pipe" in session.stderr) == (1, True), session
+    assert (session.returncode, "use a pipe or a file" in session.stderr) == (1, True), session
     place.put("vars.yml", b"<<<<<<< ours\n" + FILE + b"=======\n>>>>>>> theirs\n")
     ended("a conflict", set_to(place, b"x", *words), 1, "git's conflict markers")
     assert place.left() == []

@@ -7,8 +7,8 @@ from typing import TypeVar
 
 from hypothesis import strategies as st
 
-from companion_cases.oracle import DEV, LINK, NAMES, PROD, TOKEN, Spot, Tree
-from companion_cases.oracle import block, label_of, make, opened, spots, spots_of, with_label
+from companion_cases.oracle import DEV, LINK, NAMES, PROD, TOKEN, Spot, Tree, block, label_of, make, opened, spots
+from companion_cases.oracle import spots_of, with_label
 
 T = TypeVar("T")
 ATTRIBUTES = [b"*.yml -merge", b"*.yml merge=union", b"*.yml !merge !diff", b"*.yml filter=canary diff=canary"]

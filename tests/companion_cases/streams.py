@@ -4,15 +4,11 @@ import os
 import signal
 import subprocess
 
-from pytest_subtests import SubTests
-
-from companion_cases import CHECK, EDIT, HOOK, MERGE, ROTATE, TEXT, TEXTCONV, WITH
-from companion_cases import Companions, Done, Place, decrypted, ended, sealed, silent
-from companion_cases.editing import CHANGE, CHANGED
-from companion_cases.merging import versions
+from companion_cases import CHANGE, CHANGED, CHECK, EDIT, HOOK, MERGE, ROTATE, TEXT, TEXTCONV, WITH, Companions, Done
+from companion_cases import Place, decrypted, ended, sealed, silent, summary, to_new, versions
 from companion_cases.repository import under_git
-from companion_cases.rotating import summary, to_new
 from lib.needs import needs
+from lib.subtests import SubTests
 
 UNWRITTEN = "standard output cannot be written: {}\n"
 

@@ -87,3 +87,7 @@ def _rest(controller: int) -> bytes:
     while chunk := _chunk(controller):
         shown += chunk
     return shown
+
+
+def ask(place: Place, *words: str, answers: list[tuple[str, bytes]], **variables: str) -> Session:
+    return at_terminal(place, [*words], *answers, **variables)

@@ -4,11 +4,11 @@ import os
 import re
 
 import pytest
-from pytest_subtests import SubTests
 
 from companion_cases import AWKWARD, MERGE, TEXT, TEXTCONV, Place, block, ended, sealed, silent
 from companion_cases.repository import add_and_commit, under_git
 from lib.needs import needs
+from lib.subtests import SubTests
 
 ATTRIBUTES = "*.yml diff=ansible-vault\n* diff=ansible-vault\n"
 

@@ -9,8 +9,7 @@ from hypothesis import strategies as st
 
 from ansible_vault_companions.files import reading, searching
 from ansible_vault_companions.files.envelopes import MAGIC
-from companion_cases import AWKWARD, CHECK, ROTATE, TEXT, Place, block, decrypted, ended, sealed
-from companion_cases.rotating import summary, to_new
+from companion_cases import AWKWARD, CHECK, ROTATE, TEXT, Place, block, decrypted, ended, sealed, summary, to_new
 
 
 def found(place: Place, *paths: str) -> list[str]:
@@ -53,7 +52,7 @@ def test_links(place: Place) -> None:
     shared = str(place.tree / "shared/vault.yml")
     for words, part in (((), "1 rotated, 0 under"), (("--dry-run",), "0 to be rotated, 1 under")):
         done = place.run(ROTATE, *words, *to_new(place), "tree")
-        why = f"tree/chain.yml: it leads to {shared}, outside of what is rotated; to rotate that, name it\n"
+        why = f"tree/chain.yml: it leads to {shared}, outside the paths you named; name that file to rotate it\n"
         ended("a link out of the folder", done, 1, why, part, "1 failed")
         assert place.get("shared/vault.yml") == sealed("old"), "its file stays"
     done = place.run(ROTATE, *to_new(place), "tree", shared)
@@ -137,8 +136,8 @@ def test_what_has_no_end(place: Place) -> None:
     for companion, words in ((CHECK, place.by_file("old")), (ROTATE, to_new(place))):
         done = place.run(companion, *words, ".")
         ended(companion, done, 1, "1 decrypted, 2 not" if companion == CHECK else summary(1, failed=2))
-        searched = "only its first 100,671,488 bytes were searched, as many as a vault can have"
-        unread = "it has more than 100,671,488 bytes, which no vault has, and is not read"
+        searched = "it is longer than any vault, so only its first 100,671,488 bytes were searched"
+        unread = "it has more than 100,671,488 bytes, more than any vault"
         whys = {"image": searched, "long.yml": unread, "pages.yml": searched, "vault.yml": unread}
         assert done.stderr.splitlines() == [f"{companion}: ./{name}: {why}" for name, why in whys.items()]
 

@@ -4,9 +4,8 @@ import re
 
 import pytest
 
-from companion_cases import EDIT, TEXTCONV, Done, Place, block, decrypted, ended, sealed, silent
-from companion_cases.blocks import lines_of, texts
-from companion_cases.editing import edit
+from companion_cases import EDIT, TEXTCONV, Done, Place, block, decrypted, edit, ended, lines_of, sealed, silent
+from companion_cases import texts
 from lib.needs import needs_pyyaml
 
 # Each way in which a text can begin and end.
@@ -44,8 +43,8 @@ REFUSED = {
 MISPLACED = {
     "b: !vault |-\n  x\ny\n": "line 3: it cannot be read as YAML: could not find expected ':'",
     "b: !vault |-\n   x\n  y\n": "line 3: it cannot be read as YAML: did not find expected key",
-    "# b: !vault |-\n#   x\n": "line 1: `!vault` within a comment",
-    "t: |\n  b: !vault |-\n    x\n": "line 2: `!vault` within",
+    "# b: !vault |-\n#   x\n": "line 1: `!vault` is not a tag within a comment",
+    "t: |\n  b: !vault |-\n    x\n": "line 2: `!vault` is not a tag within",
     "b: {c: !vault x}\n": "line 1: c is within brackets",
 }
 COPY = 'cp "$1" ../shown'

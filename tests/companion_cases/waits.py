@@ -12,22 +12,18 @@ from pathlib import Path
 
 import pytest
 
-from companion_cases import CHECK, HOOK, MERGE, ROTATE, TEXT, TEXTCONV, WITH, Place, sealed
-from companion_cases.rotating import to_new
-from companion_cases.signals import merge_of, tree, wait_until
+from companion_cases import CHECK, HOOK, MERGE, ROTATE, TEXT, TEXTCONV, WITH, Place, run_changed, sealed, to_new
+from companion_cases import wait_until
+from companion_cases.signals import merge_of, tree
 from lib.limits import SECONDS
 
-# Runs a companion for which each folder has another one below it, and that signals itself there.
+# Each folder has another one below it, where the companion signals itself.
 ENDLESS_FOLDERS = """
-import os, runpy, signal, sys
 def walk(path, **options):
     while True:
         os.kill(os.getpid(), signal.SIGTERM)
         yield path, [], []
 os.walk = walk
-sys.argv = sys.argv[1:]
-sys.path[0] = os.path.dirname(os.path.realpath(sys.argv[0]))
-runpy.run_path(sys.argv[0], run_name="__main__")
 """
 # What a program does first that runs until it is signalled.
 WAITS = "exec 2> /dev/null; : > ../started; : < ../never"
@@ -65,8 +61,7 @@ def end(process: subprocess.Popen[str], number: int, never: Path | None = None) 
 
 def test_endless_folders(place: Place) -> None:
     for companion, words in ((CHECK, place.by_file("old")), (ROTATE, to_new(place))):
-        script = place.script(ENDLESS_FOLDERS, "endless", "/usr/bin/env -S python3 -ISB")
-        done = place.run(script, str(place.tools / companion), *words, ".")
+        done = run_changed(place, companion, ENDLESS_FOLDERS, [*words, "."])
         assert (done.returncode, done.stdout, done.stderr) == (-signal.SIGTERM, "", ""), companion
 
 

@@ -2,10 +2,8 @@
 
 import shutil
 
-from companion_cases import CHECK, EDIT, MERGE, ROTATE, TEXT, TEXTCONV, WITH
-from companion_cases import Companions, Place, block, decrypted, ended, sealed, silent
-from companion_cases.blocks import texts
-from companion_cases.rotating import summary, to_new
+from companion_cases import CHECK, EDIT, MERGE, ROTATE, TEXT, TEXTCONV, WITH, Companions, Place, block, decrypted
+from companion_cases import ended, sealed, silent, summary, texts, to_new
 from lib.needs import needs
 
 PACKAGE = "python3-yaml"
@@ -45,7 +43,7 @@ def test_blocks(cases: Companions, place: Place) -> None:
     content = block("old", b"one")
     place.put("vars.yml", content)
     place.environment["EDITOR"] = place.script("touch ../started", "editor")
-    ended("edit", place.run(EDIT, *old, "vars.yml"), 1, "vars.yml: to read YAML, ", PACKAGE)
+    ended("edit", place.run(EDIT, *old, "vars.yml"), 1, "vars.yml: PyYAML is missing, ", PACKAGE)
     assert not (place.path / "started").exists(), "no editor is started"
     done = place.run(TEXTCONV, *old, "vars.yml")
     ended("textconv", done, 0, "secret: !vault |\n          one\n", PACKAGE)

@@ -4,27 +4,23 @@ import os
 import re
 
 import pytest
-from pytest_subtests import SubTests
 
-from companion_cases import CHECK, EDIT, MERGE, NOBODY, ROTATE, TEXT, WITH
-from companion_cases import Companions, Place, block, decrypted, ended, sealed, silent
-from companion_cases.editing import CHANGE, edit
-from companion_cases.keeping import run_changed
-from companion_cases.merging import versions
-from companion_cases.rotating import summary, to_new
+from companion_cases import CHANGE, CHECK, EDIT, MERGE, NOBODY, ROTATE, TEXT, WITH, Companions, Place, block
+from companion_cases import decrypted, edit, ended, run_changed, sealed, silent, summary, to_new, versions
 from lib.needs import needs
+from lib.subtests import SubTests
 
 
 def traced(place: Place, companion: str, *words: str) -> list[str]:
     """What was done to the new file and its folder, in its order."""
     trace = place.path / "trace"
-    tracer = ["strace", "-f", "-y", "-o", str(trace), "-e", "trace=write,fsync,rename,link"]
+    tracer = ["strace", "-f", "-y", "-o", str(trace), "-e", "trace=write,fsync,rename,link,linkat"]
     assert place.run(*tracer, str(place.tools / companion), *words).returncode == 0, "the status"
     file = rf"\d+<{re.escape(str(place.tree))}/\.ansible-vault-"
     steps = {
         "written": rf"\d+ +write\({file}",
         "synced": rf"\d+ +fsync\({file}",
-        "named": r'\d+ +(?:rename|link)\("[^"]*/\.ansible-vault-',
+        "named": r'\d+ +(?:rename|link|linkat)\([^"]*"[^"]*/\.ansible-vault-',
         "folder synced": rf"\d+ +fsync\(\d+<{re.escape(str(place.tree))}>",
     }
     lines = trace.read_text(errors="replace").splitlines()

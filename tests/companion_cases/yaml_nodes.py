@@ -110,6 +110,7 @@ except nodes.NoPyYaml as fault:
 def test_where_pyyaml_is(cases: Companions, place: Place) -> None:
     """It is found where the companions start without packages, but never in the current folder; and its package is
     named where it is missing."""
+    needs_pyyaml()
     for name in ("yaml", "sitecustomize", "usercustomize"):
         place.put(f"{name}.py", b"open('../imported', 'w')\n")
         place.put(f"{name}/__init__.py", b"open('../imported', 'w')\n")
@@ -121,4 +122,4 @@ def test_where_pyyaml_is(cases: Companions, place: Place) -> None:
     assert (done.returncode, done.stdout, done.stderr) == (0, "3\n", ""), "it is found"
     assert not (place.path / "imported").exists(), "nothing of the current folder is imported"
     program.write_text("import sys; sys.modules['yaml'] = None\n" + SHOW.format(companions=str(cases.companions)))
-    ended("it is missing", place.run(*words), 0, "PyYAML is needed", "python3-yaml")
+    ended("it is missing", place.run(*words), 0, "PyYAML is missing", "python3-yaml")

@@ -2,7 +2,7 @@
 
 from typing import NamedTuple
 
-from cases import TEXT, Cases, by_file, by_id
+from lib.cases import TEXT, Cases, by_file, by_id
 from fault_injection import OUTPUT, Scenario, Target
 from lib.paths import version
 from model.faults import Fault

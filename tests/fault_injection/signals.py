@@ -9,7 +9,7 @@ from pathlib import Path
 from random import Random
 from typing import Any, NamedTuple
 
-from cases import TEXT, Cases, by_file
+from lib.cases import TEXT, Cases, by_file
 from fault_injection import OLD, OLD_MODE, OUTPUT, SCRATCH, Left, Scenario, files_in
 from lib.limits import SECONDS
 from model.vaults import seal

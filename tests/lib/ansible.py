@@ -1,9 +1,10 @@
-"""Ansible's own tool: the first on PATH whose version says that it is of Ansible's core, or the path in the
-environment variable ANSIBLE_VAULT.
+"""Ansible's own tool: the first on PATH whose version says that it is Ansible's, or the path in the environment
+variable ANSIBLE_VAULT.
 """
 
 import functools
 import os
+import re
 import shutil
 import subprocess
 
@@ -12,23 +13,35 @@ from lib.locales import PLAIN
 
 # The second is its name where this project's package is installed.
 NAMES = ("ansible-vault", "ansible-vault-original")
+# As its version begins. That of 2.10 does not say `core`, but names a file of settings in the second line.
+VERSION = re.compile(r"ansible-vault (?:\[core |(?=.*\n  config file))(\d+)\.(\d+)")
 
 
 @functools.cache
-def is_ansible(path: str) -> bool:
-    """Fails if the tool does: one that is there and does not run is no reason to leave out a test."""
+def release_of(path: str) -> tuple[int, int] | None:
+    """None for another tool. Fails if the tool does: one that is there and does not run is no reason to leave out a
+    test."""
     environment = os.environ | PLAIN
     done = subprocess.run([path, "--version"], capture_output=True, text=True, env=environment, timeout=SECONDS)
     if done.returncode != 0:
         raise RuntimeError(f"{path} --version ends with {done.returncode}: {done.stderr}")
-    return "[core " in done.stdout or "ansible-core" in done.stdout
+    found = VERSION.match(done.stdout)
+    return (int(found[1]), int(found[2])) if found else None
 
 
 def ansible_vault() -> str | None:
     named = os.environ.get("ANSIBLE_VAULT")
-    if named and not is_ansible(named):
+    if named and not release_of(named):
         raise RuntimeError(f"{named} is not of Ansible's core")
     folders = os.environ.get("PATH", "").split(os.pathsep)
     found = [shutil.which(name, path=folder) for folder in folders for name in NAMES]
     paths: list[str | None] = [named] if named else [*found]
-    return next((path for path in paths if path and is_ansible(path)), None)
+    return next((path for path in paths if path and release_of(path)), None)
+
+
+def ansible_release() -> tuple[int, int]:
+    """That of the tool which is found, such as (2, 14)."""
+    path = ansible_vault()
+    release = release_of(path) if path else None
+    assert release, "a test asks for the release of a tool that it has"
+    return release

@@ -1,12 +1,13 @@
 """Runs Ansible's ansible-vault again and again: it is imported once, and each run is a fork.
 
-Run by Ansible's own Python, it reads requests as lines of JSON and writes what became of them. `AnsibleRuns` is the
-other side.
+Run by Ansible's own Python, with the path of the tool, it reads requests as lines of JSON and writes what became of
+them. `AnsibleRuns` is the other side.
 """
 
 import importlib
 import json
 import os
+import runpy
 import subprocess
 import sys
 import tempfile
@@ -29,7 +30,7 @@ class AnsibleRuns:
         """The home is an empty folder, so that no settings are found."""
         interpreter = Path(ansible).resolve().read_bytes().partition(b"\n")[0].decode().removeprefix("#!").split()
         environment = {"HOME": str(home), "PATH": os.environ["PATH"], "LC_ALL": "C.UTF-8"}
-        words = [*interpreter, "-B", __file__]
+        words = [*interpreter, "-B", __file__, ansible]
         self.process = subprocess.Popen(
             words, env=environment, cwd=home, text=True, stdin=subprocess.PIPE, stdout=subprocess.PIPE
         )
@@ -70,16 +71,16 @@ def use_settings(environment: dict[str, str]) -> None:
 
 
 def run(words: list[str], folder: str, environment: dict[str, str], output: int, errors: int) -> int:
-    from ansible.cli.vault import VaultCLI
-
     os.setsid()
     os.chdir(folder)
     for target, source in ((0, os.open(os.devnull, os.O_RDONLY)), (1, output), (2, errors)):
         os.dup2(source, target)
     sys.stdin, sys.stdout = open(0), open(1, "w")
     use_settings(environment)
+    ansible = sys.argv[1]
+    sys.argv[:] = [ansible, *words]
     try:
-        VaultCLI.cli_executor(["ansible-vault", *words])
+        runpy.run_path(ansible, run_name="__main__")
     except SystemExit as end:
         return int(end.code or 0)
     finally:

@@ -73,8 +73,18 @@ def companion_help(name: str) -> str:
 
 def companion_options(name: str) -> list[set[str]]:
     """The spellings of each option that a companion's help describes."""
-    lines = re.findall(r"^  (--?[A-Za-z].*?)(?:  .*)?$", companion_help(name), re.MULTILINE)
+    lines = [line.strip().partition("  ")[0] for line in option_lines(name)]
     return [set(re.findall(r"(?<!\S)--?[A-Za-z][\w-]*", line)) for line in lines]
+
+
+def companion_values(name: str) -> dict[str, str]:
+    """What the help of a companion calls the value of each option that has one."""
+    found = re.findall(r"(?<=[ ,])(--[\w-]+) (\S*[A-Z.]+)(?=,|\n|  )", "\n".join(option_lines(name)) + "\n")
+    return dict(found)
+
+
+def option_lines(name: str) -> list[str]:
+    return re.findall(r"^  --?[A-Za-z].*", companion_help(name), re.MULTILINE)
 
 
 def companion_statuses(name: str) -> set[int]:

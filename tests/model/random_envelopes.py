@@ -131,6 +131,15 @@ def wrong_inside(random: Random, salt: bytes, tag: bytes, ciphertext: bytes, lab
     return serialized(salt, tag, ciphertext, label)
 
 
+def spliced(random: Random, one: bytes, other: bytes) -> bytes:
+    """The beginning of one and the end of another, or lines of one in another order."""
+    first, second = one.splitlines(keepends=True), other.splitlines(keepends=True)
+    if random.random() < 0.5:
+        return b"".join(first[: random.randrange(1, len(first) + 1)] + second[random.randrange(len(second)) :])
+    first.insert(random.randrange(1, len(first) + 1), first.pop(random.randrange(len(first))))
+    return b"".join(first)
+
+
 def badly_padded(random: Random) -> bytes:
     whole = repeated(random, random.choice(SIZES))
     ends = [b"", b"\x00", b"\x11", b"\x02\x03\x03", b"\x01\x02", b"\x10" * 15, b"\x10" * 16, b"\x11" * 17]
@@ -152,6 +161,8 @@ def envelope(random: Random, password: bytes, label: bytes) -> bytes:
     whole = serialized(*pieces, label)
     if kind < 0.8:
         return wrong_header(random, whole)
+    if kind < 0.85:
+        return spliced(random, whole, seal(password, b"another text" * 9, label, random.choice(SALTS)))
     if kind < 0.98:
         return damaged(random, respelled(random, whole))
     return not_at_all(random)

@@ -1,7 +1,5 @@
 """Random requests: the words of a command line, the files that it finds, and its standard input."""
 
-import base64
-import json
 from dataclasses import dataclass
 from pathlib import Path
 from random import Random
@@ -17,6 +15,7 @@ PASSWORDS = {
     "abc and zero": b"abc\x00",
     "at x@y": b"\xff\xfe\x80",
     "umlaut": "\npäß\nwort\t".encode(),
+    "no white space": b"\x1cpw\x1f\xc2\x85\n",
     "64": b"k" * 64 + b"\n",
     "65": b"k" * 65,
     "longest": b"k" * 4_096,
@@ -25,6 +24,7 @@ BAD_PASSWORDS = {
     "empty": b"",
     "blank": b"\t\n\x0b\x0c\r ",
     "script": b"#!/bin/sh\necho pw\n",
+    "start of a script": b"#!",
     "vault": ENVELOPE,
     "start of a vault": b"$ANSIBLE_VAULT",
     "too long": b"k" * 4_097,
@@ -53,37 +53,12 @@ class Case:
     files: dict[str, bytes | None]
     stdin: bytes
 
-    @property
-    def size(self) -> int:
-        return sum(map(len, [self.stdin, *filter(None, self.files.values())]))
-
     def lay_out(self, folder: Path) -> None:
         for path, content in self.files.items():
             if content is None:
                 (folder / path).mkdir()
             else:
                 (folder / path).write_bytes(content)
-
-
-def encoded(content: bytes | None) -> str | None:
-    return None if content is None else base64.b85encode(content).decode()
-
-
-def decoded(text: str | None) -> bytes | None:
-    return None if text is None else base64.b85decode(text)
-
-
-def save(case: Case, path: Path) -> None:
-    files = {name: encoded(content) for name, content in case.files.items()}
-    record = {"words": case.words, "files": files, "stdin": encoded(case.stdin)}
-    path.parent.mkdir(exist_ok=True)
-    path.write_text(json.dumps(record, indent=1) + "\n")
-
-
-def load(path: Path) -> Case:
-    record = json.loads(path.read_text())
-    files = {name: decoded(text) for name, text in record["files"].items()}
-    return Case(record["words"], files, decoded(record["stdin"]) or b"")
 
 
 class Maker:

@@ -3,7 +3,7 @@
 from pathlib import Path
 from typing import Any
 
-from cases import TEXT, Cases, by_file, by_id
+from lib.cases import TEXT, Cases, by_file, by_id
 from model.faults import Fault
 from model.vaults import ENVELOPE_LIMIT, HEADER, PLAINTEXT_LIMIT, SALT, seal, yaml_block
 from watched import Run
@@ -56,21 +56,14 @@ def encrypting(files: Files) -> list[Run]:
     rekeyed = len(seal(b"two", TEXT, b"b"))
     text, file = ["--salt", "s"], ["--salt-file", files.salt]
     with_text = len(seal(b"one", TEXT, salt=b"s"))
-    runs = []
-    for name, to in (("a new file", files.to_new), ("an old file", files.to_old)):
-        runs += [
-            created(
-                f"encrypt to {name}", ["encrypt", *one, files.plain], to(), read(files.one, RANDOM, files.plain), SEALED
-            ),
-            created(
-                f"rekey to {name}", [*rekey, files.vault], to(), read(files.one, files.two, RANDOM, files.vault),
-                rekeyed,
-            ),
-            created(
-                f"a STRING to {name}", ["encrypt_string", *one, TEXT.decode()], to(), read(files.one, RANDOM), BLOCK
-            ),
-        ]
-    return runs + [
+    encrypted = read(files.one, RANDOM, files.plain)
+    read_vault = read(files.one, files.two, RANDOM, files.vault)
+    string = ["encrypt_string", *one, TEXT.decode()]
+    return [
+        created("encrypt to a new file", ["encrypt", *one, files.plain], files.to_new(), encrypted, SEALED),
+        created("encrypt to an old file", ["encrypt", *one, files.plain], files.to_old(), encrypted, SEALED),
+        created("rekey to an old file", [*rekey, files.vault], files.to_old(), read_vault, rekeyed),
+        created("a STRING to a new file", string, files.to_new(), read(files.one, RANDOM), BLOCK),
         created(
             "encrypt with a salt text", ["encrypt", *text, *one, files.plain], files.to_new(),
             read(files.one, files.plain), with_text,
@@ -86,18 +79,11 @@ def encrypting(files: Files) -> list[Run]:
         Run("encrypt from standard input", ["encrypt", *one], read(files.one, RANDOM), None, SEALED, TEXT),
         Run("rekey from standard input", rekey, read(files.one, files.two, RANDOM), None, rekeyed, seal(b"one", TEXT)),
         Run("encrypt_string from standard input", ["encrypt_string", *one], read(files.one, RANDOM), None, BLOCK, TEXT),
-        Run(
-            "a STRING with a salt file", ["encrypt_string", *one, *file, TEXT.decode()], read(files.one, files.salt),
-            None, BLOCK,
-        ),
     ]
 
 
 def decrypting(files: Files) -> list[Run]:
     one, two, read = by_file(files.one), by_file(files.two), files.read
-    many = [files.cases.file(b"%d\n" % number) for number in range(10, 26)]
-    sixteen = [word for path in many for word in by_id(path, "dev")]
-    sizes = dict.fromkeys(many, 3)
     size, empty = len(TEXT), files.cases.file(seal(b"one", b""))
     return [
         created(
@@ -114,7 +100,6 @@ def decrypting(files: Files) -> list[Run]:
         Run("decrypt from standard input", ["decrypt", *one], read(files.one), None, size, seal(b"one", TEXT)),
         Run("view", ["view", *one, files.vault], read(files.one, files.vault), None, size),
         Run("view from standard input", ["view", *one], read(files.one), None, size, seal(b"one", TEXT)),
-        Run("view with sixteen secrets", ["view", *sixteen], sizes, None, size, seal(b"10", TEXT)),
     ]
 
 
@@ -159,17 +144,12 @@ def unread_files(files: Files) -> list[Run]:
     runs = []
     ways: list[tuple[str, list[str]]] = [("FILE", [files.unread]), ("standard input", [])]
     for way, given in ways:
-        many, unknown = Fault.MANY_ENCRYPT_SECRETS, Fault.UNKNOWN_ENCRYPT_ID
-        chosen = [*both, "--encrypt-vault-id", "x"]
+        many = Fault.MANY_ENCRYPT_SECRETS
         runs += [
             Run(f"no secret and {way}", ["encrypt", *to, *given], read(RANDOM, *given), fault=Fault.NO_ENCRYPT_SECRET),
             Run(
                 f"several secrets and {way}", ["encrypt", *both, *to, *given], read(*passwords, RANDOM, *given),
                 fault=many,
-            ),
-            Run(
-                f"an unknown label and {way}", ["encrypt", *chosen, *to, *given], read(*passwords, RANDOM, *given),
-                fault=unknown,
             ),
             Run(
                 f"a short salt and {way}", ["encrypt", *one, *short, *to, *given],
@@ -180,27 +160,13 @@ def unread_files(files: Files) -> list[Run]:
                 fault=Fault.SECRET_EMPTY,
             ),
         ]
-    ways = [("FILE", [files.unread_vault]), ("standard input", [])]
-    for way, given in ways:
-        rekey, fault = ["rekey", *one, *to], Fault.SECRET_EMPTY
-        runs += [
-            Run(
-                f"rekey, a short salt and {way}", [*rekey, *new, *short, *given],
-                read(*passwords, files.short, *given), fault=Fault.SALT_SHORT,
-            ),
-            Run(
-                f"rekey, an empty new password and {way}", [*rekey, "--new-vault-password-file", files.empty, *given],
-                read(files.one, files.empty, RANDOM, *given), fault=fault,
-            ),
-            Run(
-                f"view, an empty password and {way}", ["view", *one, *empty, *given],
-                read(files.one, files.empty, *given), fault=fault,
-            ),
-            Run(
-                f"decrypt, an empty password and {way}", ["decrypt", *empty, *to, *given], read(files.empty, *given),
-                fault=fault,
-            ),
-        ]
+    rekey, given = ["rekey", *one, *new, *to], [files.unread_vault]
+    view, too_short = ["view", *one, *empty, *given], Fault.SALT_SHORT
+    runs += [
+        Run("rekey, a short salt", [*rekey, *short, *given], read(*passwords, files.short, *given), fault=too_short),
+        Run("rekey, a short salt, no FILE", [*rekey, *short], read(*passwords, files.short), fault=too_short),
+        Run("view, an empty password", view, read(files.one, files.empty, *given), fault=Fault.SECRET_EMPTY),
+    ]
     string = ["encrypt_string", *short]
     return runs + [
         Run("encrypt_string, a short salt", [*string, *one], read(files.one, files.short), fault=Fault.SALT_SHORT),
@@ -224,9 +190,6 @@ def long_files(files: Files) -> list[Run]:
         Run(
             "encrypt a FILE that is too long", ["encrypt", *one, "--salt", "s", *to, plain],
             read(files.one) | past_plain, fault=fault,
-        ),
-        Run(
-            "decrypt a FILE that is too long", ["decrypt", *one, *to, vault], read(files.one) | past_vault, fault=fault
         ),
         Run("view a FILE that is too long", ["view", *one, vault], read(files.one) | past_vault, fault=fault),
         Run(

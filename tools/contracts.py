@@ -7,9 +7,7 @@ from collections.abc import Iterator
 from functools import cache
 from pathlib import Path
 
-from lib.paths import ROOT
-
-CRATES = ROOT / "crates"
+CRATES = Path(__file__).resolve().parent.parent / "crates"
 
 # The calls whose contracts are the theorem, and the other calls and types whose contracts the pages name. Of a module
 # `laws` each call counts.
@@ -33,15 +31,14 @@ def code() -> dict[str, str]:
 @cache
 def crates() -> list[str]:
     """The program and its libraries, each before those that it uses."""
-    libraries, _, _ = (ROOT / "crates.txt").read_text().partition("\n# tests")
+    libraries, _, _ = (CRATES.parent / "crates.txt").read_text().partition("\n# tests")
     return re.findall(r"^(\w+):", libraries, re.MULTILINE)[::-1]
 
 
-def declared_in(path: str) -> dict[str, int]:
-    """The lines of the functions and the definitions of a file."""
-    declared = r"(?:fn|abbrev|unfoldable|record|data)(?: pub)? (\w+)"
-    lines = enumerate((CRATES / path).read_text().splitlines(), 1)
-    return {found[1]: number for number, line in lines if (found := re.match(rf"\s*(?:pub\S* )*{declared}", line))}
+def declared_in(path: str) -> set[str]:
+    """The functions and the definitions of a file."""
+    declared = re.compile(r"^\s*(?:pub\S* )*(?:fn|abbrev|unfoldable|record|data)(?: pub)? (\w+)", re.MULTILINE)
+    return set(declared.findall((CRATES / path).read_text()))
 
 
 def file_with(item: str) -> str:

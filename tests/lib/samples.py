@@ -5,7 +5,7 @@ from typing import NamedTuple
 
 import pytest
 
-from cases import TEXT, Cases, by_file, by_id
+from lib.cases import TEXT, Cases, by_file, by_id
 from model.vaults import seal, yaml_block
 
 SALT_TEXT = b"a salt"
@@ -53,3 +53,8 @@ def sample_of(cases: Cases, command: str, text: bytes = TEXT) -> Sample:
 
 def samples(cases: Cases, text: bytes = TEXT) -> list[Sample]:
     return [sample_of(cases, command, text) for command in COMMANDS]
+
+
+def wanted_mode(sample: Sample, old: int) -> str:
+    """That of an existing file: plaintext is for its owner alone."""
+    return oct(0o600 if sample.command == "decrypt" else old)

@@ -1,0 +1,102 @@
+"""What the tests' own helpers have to notice, so that a test which leans on one can fail."""
+
+import runpy
+import subprocess
+from pathlib import Path
+
+import pytest
+
+from companion_cases import ended
+from lib.ansible import ansible_vault
+from lib.paths import ROOT
+from lib.system_calls import calls_in
+from model.compared import differences
+from model.random_requests import Case
+
+# A program that answers one request, and others that differ from it in one thing.
+CASE = Case(["decrypt", "--vault-password-file", "right", "--output", "new"], {"right": b"right\n"}, b"no vault\n")
+DIFFERING = {
+    "another file": '"$PROGRAM" "$@"; status=$?; touch other; exit $status',
+    "a changed file": '"$PROGRAM" "$@"; status=$?; echo >> right; exit $status',
+    "another mode": '"$PROGRAM" "$@"; status=$?; chmod 600 right; exit $status',
+    "another message": '"$PROGRAM" "$@" 2>&1 | tr i I >&2; exit 1',
+    "output besides": 'echo; exec "$PROGRAM" "$@"',
+    "another status": '"$PROGRAM" "$@"; exit 3',
+}
+
+
+def script(folder: Path, name: str, text: str) -> str:
+    path = folder / name
+    path.write_text(f"#!/bin/sh\n{text}\n")
+    path.chmod(0o755)
+    return str(path)
+
+
+@pytest.mark.parametrize("text", DIFFERING.values(), ids=DIFFERING)
+def test_differences(program: str, tmp_path: Path, monkeypatch: pytest.MonkeyPatch, text: str) -> None:
+    monkeypatch.setenv("PROGRAM", program)
+    assert differences(CASE, [script(tmp_path, "same", 'exec "$PROGRAM" "$@"')]) == []
+    assert differences(CASE, [script(tmp_path, "differing", text)]) != []
+
+
+def test_each_line_of_strace_is_a_call() -> None:
+    others = ["7 [00007f] read(0,  <unfinished ...>", "7 --- SIGTERM ---"]
+    log = "\n".join(['7 [00007f] read(0, ""..., 9) = 3', *others, "7 [???] +++ exited with 0 +++"])
+    assert [call.name for call in calls_in(log)] == ["read", *others]
+
+
+def test_each_part_is_looked_for() -> None:
+    done = subprocess.CompletedProcess(["x"], 0, "one", "two")
+    ended("both", done, 0, "one", "two")
+    for parts in (["one", "three"], ["three", "two"]):
+        with pytest.raises(AssertionError):
+            ended("one of two", done, 0, *parts)
+
+
+# How pytest ends with a planted fault, and whether that catches the fault.
+ENDS = {
+    "a test fails": (1, "FAILED tests/a.py::test_b - why\n", True),
+    "no test fails": (0, "1 passed\n", False),
+    "nothing can be collected": (2, "ERROR tests/a.py - why\n", False),
+    "there is no such test": (5, "no tests ran\n", False),
+    "pytest does not start": (1, "No module named pytest\n", False),
+}
+
+
+@pytest.mark.parametrize("status, output, is_caught", ENDS.values(), ids=ENDS)
+def test_planted_faults(program: str, status: int, output: str, is_caught: bool) -> None:
+    tool = runpy.run_path(str(ROOT / "tools" / "plant_faults"))
+    result_of = tool["result_of"]
+    result_of.__globals__["run_tests"] = lambda *_: subprocess.CompletedProcess([], status, output)
+    fault = {"file": "README.md", "old": "# ansible-vault, verified", "new": "# another", "test": "a.py b"}
+    assert result_of(Path(program), fault).is_caught == is_caught
+    assert not result_of(Path(program), fault | {"old": "not there"}).is_caught
+
+
+# As Ansible's tool does in a locale that is not UTF-8, and as it says what it is.
+STRICT = "case $LC_ALL in *UTF-8) ;; *) echo 'the locale encoding has to be UTF-8' >&2; exit 1 ;; esac; "
+THEIRS, OURS = "echo 'ansible-vault [core 2.14.18]'", "echo 'ansible-vault 0.4.0'"
+# The tools on PATH, and which of them is Ansible's; None: none of them.
+FOUND = [
+    ({"ansible-vault": STRICT + THEIRS}, "ansible-vault"),
+    ({"ansible-vault": OURS, "ansible-vault-original": THEIRS}, "ansible-vault-original"),
+    ({"ansible-vault": OURS}, None),
+]
+
+
+@pytest.mark.parametrize("tools, wanted", FOUND)
+def test_ansible_is_found(
+    tmp_path: Path, monkeypatch: pytest.MonkeyPatch, tools: dict[str, str], wanted: str | None
+) -> None:
+    for name, value in {"PATH": str(tmp_path), "LC_ALL": "C", "ANSIBLE_VAULT": ""}.items():
+        monkeypatch.setenv(name, value)
+    paths = {name: script(tmp_path, name, text) for name, text in tools.items()}
+    assert ansible_vault() == (paths[wanted] if wanted else None)
+
+
+@pytest.mark.parametrize("text", ["echo 'no module named ansible' >&2; exit 1", OURS])
+def test_ansible_that_fails(tmp_path: Path, monkeypatch: pytest.MonkeyPatch, text: str) -> None:
+    """It is not taken for missing, nor another tool for it."""
+    monkeypatch.setenv("ANSIBLE_VAULT", script(tmp_path, "ansible-vault", text))
+    with pytest.raises(RuntimeError, match="no module named ansible|not of Ansible's core"):
+        ansible_vault()

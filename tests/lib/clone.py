@@ -1,0 +1,46 @@
+"""A clone of this repository that has nothing else, and what somebody types there."""
+
+import os
+import subprocess
+from pathlib import Path
+
+import pytest
+
+from lib.needs import needs, needs_checkout
+from lib.paths import ROOT
+
+# Seconds. Where `rt` has kept nothing of its own, as after the gate from nothing, the first build proves all anew.
+PROVING = 3600
+
+
+def git(*words: str, at: Path = ROOT) -> str:
+    identity = ["-c", "user.name=nobody", "-c", "user.email=nobody@example.org"]
+    return subprocess.run(["git", *identity, *words], cwd=at, check=True, capture_output=True, text=True).stdout.strip()
+
+
+def cloned(tmp_path_factory: pytest.TempPathFactory) -> Path:
+    """It has what git tracks here, with the changes to it that are not committed yet."""
+    needs("git", "rt")
+    needs_checkout()
+    folder = tmp_path_factory.mktemp("newcomer") / "ansible-vault"
+    state = git("stash", "create") or git("rev-parse", "HEAD")
+    git("clone", "--quiet", "--no-checkout", str(ROOT), str(folder))
+    git("checkout", "--quiet", "--detach", state, at=folder)
+    return folder
+
+
+def typed(command: str, folder: Path, **variables: str) -> str:
+    """What a command prints in a shell that knows nothing of these tests; it has to end well."""
+    ours = ("MAKE", "PYTEST_", "REQUIRE_")
+    kept = {name: value for name, value in os.environ.items() if not name.startswith(ours)}
+    done = subprocess.run(
+        ["bash", "-O", "expand_aliases", "-c", command],
+        cwd=folder,
+        env=kept | variables,
+        stdin=subprocess.DEVNULL,
+        stdout=subprocess.PIPE,
+        stderr=subprocess.STDOUT,
+        text=True,
+    )
+    assert done.returncode == 0, f"{command}\n{done.stdout}"
+    return done.stdout

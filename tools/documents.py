@@ -1,0 +1,137 @@
+"""What the documents take from the code: lists of files, places and code in docs/verification.md and
+docs/verification-reference.md, and the programs in docs/library.md.
+"""
+
+import re
+from pathlib import Path
+
+from contracts import CRATES, IMPORT, code, crates, declared_in, needed
+
+ROOT = CRATES.parent
+PAGE = ROOT / "docs" / "verification.md"
+REFERENCE = ROOT / "docs" / "verification-reference.md"
+LIBRARY = ROOT / "docs" / "library.md"
+
+# The code that is printed, in its order: a small contract with its definition, and the theorem; and in the reference
+# all that is trusted. Of a pattern, its groups or all.
+EXPLAINED = [
+    r"^pub fn password_of\b.*?(?=^\{)",
+    r"^unfoldable pub password_of\b.*?(?=^$)",
+    r"^pub fn drive_over\b.*?(?=^\{)",
+]
+TRUSTED = [
+    r"^fn words\(.*\Z",
+    r"(^pub fn drive\b.*?\) -> Status\n).*?(^\{.*?^\})",
+    r"^const OWNER_ONLY.*\Z",
+]
+
+# What is counted of the program and its libraries.
+SIZES = {"Rust": "src/**/*.rt", "definitions": "specs/**/*.antt", "proofs": "proofs/**/*.antt"}
+BLOCK = re.compile(r"(^```(?:rust|antt)\n)(.*?)(^```$)", re.MULTILINE | re.DOTALL)
+# A call or a definition, and its file below crates/.
+PLACE = re.compile(r"`([\w:]+)` in `(\w+/[\w/]+\.(?:rt|antt))`")
+# What is to be read of code: contracts up to the body, or to the empty line after a method of a trait, ghost lines and
+# constants.
+CONTRACTS = re.compile(
+    r"^ *(?:pub(?:\(\w+\))? )?(?:fn .*?(?=^ *\{|;\n\n)|ghost (?!use).*?;\n|const .*?;\n)", re.MULTILINE | re.DOTALL
+)
+# The programs of docs/library.md, and where one is printed with the file that it is from.
+PROGRAMS = "crates/vault_program_tests/src/library"
+LISTING = re.compile(r"(?<=\bFrom `)crates/\S+/(\w+\.rt)`:\n\n```rust\n(?:.*\n)*?```$", re.MULTILINE)
+
+
+def length(file: Path) -> int:
+    return len(file.read_text().splitlines())
+
+
+def to_read(file: Path) -> int:
+    """How many lines are to be read: of code the contracts, of definitions everything."""
+    if file.suffix == ".antt":
+        return length(file)
+    return sum(len(part.splitlines()) for part in CONTRACTS.findall(file.read_text()))
+
+
+def about(pattern: str) -> str:
+    """How many lines the files of the program and its libraries have, in steps of 500."""
+    lines = sum(length(file) for crate in crates() for file in (CRATES / crate).glob(pattern))
+    return f"{round(lines / 500) * 500:,}"
+
+
+def listed(files: list[Path]) -> str:
+    """The files with their lengths, by crate."""
+    rows = []
+    for crate in crates():
+        mine = [file for file in files if file.is_relative_to(CRATES / crate)]
+        rows += [f"    {crate}"] if mine else []
+        rows += [f"{length(file):>10} {file.relative_to(CRATES / crate)}" for file in mine]
+    return "\n".join([*rows, f"{sum(map(length, files)):>10} lines in all\n"])
+
+
+def names_of_kit(files: list[Path]) -> str:
+    """The names that definitions take from the kit, by the file that defines them."""
+    names: dict[str, set[str]] = {}
+    for file in files:
+        for crate, module, some, _ in IMPORT.findall(file.read_text() if file.suffix == ".antt" else ""):
+            if crate not in crates() and not module.startswith("declared"):
+                found = {name for name in some.split(", ") if name[0].isalpha() and "◌" not in name}
+                names.setdefault(f"{crate}/specs/{module.replace('.', '/')}", set()).update(found)
+    rows = (f"    {place}: {', '.join(sorted(found, key=str.lower))}" for place, found in sorted(names.items()))
+    return "\n".join(rows) + "\n"
+
+
+def definition_files() -> list[Path]:
+    return [file for file in sum(needed(), []) if file.suffix == ".antt"]
+
+
+def printed(pattern: str) -> str:
+    """The code of a pattern in the one file that has it, without comments, ghost lines and empty lines."""
+    texts = [*code().values(), *(file.read_text() for file in definition_files())]
+    (found,) = (found for text in texts if (found := re.search(pattern, text, re.MULTILINE | re.DOTALL)))
+    lines = ("".join(found.groups()) or found[0]).splitlines()
+    return "".join(f"{line}\n" for line in lines if line.strip() and not re.match(r" *(//|ghost )", line))
+
+
+def place(found: re.Match[str]) -> str:
+    """A place; if its file does not have the name, the only other that has it, or none."""
+    name, path = found[1].split("::")[-1], found[2]
+    files = [*code(), *(str(file.relative_to(CRATES)) for file in definition_files())]
+    having = [file for file in files if name in declared_in(file)]
+    if path not in having:
+        path = having[0] if len(having) == 1 else "none.rt"
+    return f"`{found[1]}` in `{path}`"
+
+
+def with_block(page: str, heading: str, block: str) -> str:
+    """The page with the indented lines below a heading replaced."""
+    section = re.compile(rf"(^### {heading}\n(?:(?!    ).*\n)*?)(?:    .*\n)+", re.MULTILINE)
+    return section.sub(lambda found: found[1] + block, page)
+
+
+def written(page: str) -> str:
+    """A page with what it takes from the code."""
+    theorem, others = needed()
+    page = with_block(page, "For `drive_over`", listed(theorem))
+    page = with_block(page, "For the other contracts", listed(others))
+    page = with_block(page, "Names from the kit", names_of_kit(theorem + others))
+    trusted = [printed(pattern) for pattern in TRUSTED]
+    left = iter(map(printed, EXPLAINED) if "\n## The theorem\n" in page else trusted)
+    page = BLOCK.sub(lambda found: f"{found[1]}{next(left)}{found[3]}", page)
+    page = re.sub(r"\d+(?= lines of code)", str(sum(block.count("\n") for block in trusted)), page)
+    page = re.sub(r"\d+(?= lines to read)", str(sum(map(to_read, theorem))), page)
+    for what, pattern in SIZES.items():
+        page = re.sub(rf"[\d,]+(?= lines of {what}\b)", about(pattern), page)
+    return PLACE.sub(place, page)
+
+
+def listing(found: re.Match[str]) -> str:
+    path = f"{PROGRAMS}/{found[1]}"
+    return f"{path}`:\n\n```rust\n{(ROOT / path).read_text()}```"
+
+
+def written_library(page: str) -> str:
+    """docs/library.md with the programs as they are."""
+    return LISTING.sub(listing, page)
+
+
+# How each page is written.
+WRITTEN = {PAGE: written, REFERENCE: written, LIBRARY: written_library}
