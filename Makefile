@@ -203,7 +203,7 @@ dist: portable all
 # so that what debhelper writes does not lie among the sources.
 package: portable all
 	@rm -rf bin/package && mkdir -p bin/package/source
-	@tar --create --exclude=.git --exclude=out --exclude=./bin/package --exclude='*.deb' . \
+	@tar --create --exclude='./.*' --exclude=./bin --exclude=out . bin/ansible-vault bin/processor \
 		| tar --extract --directory=bin/package/source
 	cd bin/package/source && dpkg-buildpackage --build=binary --no-pre-clean --no-sign
 	@mv bin/package/*.deb bin/ && rm -r bin/package

@@ -8,6 +8,7 @@ import pytest
 
 from companion_cases import ended
 from lib.ansible import ansible_vault
+from lib.installed import VERSION
 from lib.paths import ROOT
 from lib.system_calls import calls_in
 from model.compared import differences
@@ -75,7 +76,7 @@ def test_planted_faults(program: str, status: int, output: str, is_caught: bool)
 
 # As Ansible's tool does in a locale that is not UTF-8, and as it says what it is.
 STRICT = "case $LC_ALL in *UTF-8) ;; *) echo 'the locale encoding has to be UTF-8' >&2; exit 1 ;; esac; "
-THEIRS, OURS = "echo 'ansible-vault [core 2.14.18]'", "echo 'ansible-vault 0.4.0'"
+THEIRS, OURS = "echo 'ansible-vault [core 2.14.18]'", f"echo 'ansible-vault {VERSION}'"
 # The tools on PATH, and which of them is Ansible's; None: none of them.
 FOUND = [
     ({"ansible-vault": STRICT + THEIRS}, "ansible-vault"),

@@ -4,7 +4,7 @@ import os
 import sys
 
 # That of ansible-vault, with which they are released.
-VERSION = "0.4.0"
+VERSION = "0.5.0"
 # The oldest Python for which they are written. An older one, from 3.6 on, can read this file and the programs, which
 # import it before anything else of the package, and so have none of the syntax or annotations that it refuses.
 OLDEST = (3, 9)

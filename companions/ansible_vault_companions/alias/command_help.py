@@ -13,18 +13,18 @@ from ansible_vault_companions.tool.tool import Tool
 SEVERAL_FILES = [("[FILE]", "[FILE]...")]
 IN_PLACE = [
     *SEVERAL_FILES,
-    ("The file to read; - or nothing", "Files to replace, or, with --output, the single file to read; - or nothing"),
-    ("- or nothing for standard output. It is required if FILE is given", "- for standard output; FILE by default"),
+    ("The file to read, or -", "Files to replace, or, with --output, the single file to read; -"),
+    ("(default: -); required if FILE is given", "(default: FILE)"),
 ]
 OTHERWISE = {
-    VIEW: [*SEVERAL_FILES, ("The file to read; ", "Files to show, one after the other; ")],
+    VIEW: [*SEVERAL_FILES, ("The file to read, or ", "Files to show, one after the other; ")],
     DECRYPT: IN_PLACE,
     ENCRYPT: IN_PLACE,
     REKEY: IN_PLACE,
     ENCRYPT_STRING: [
         ("[STRING]", "[STRING]..."),
-        ("The text to encrypt; ", "Texts to encrypt, each as a block; "),
-        ("before STRING's block; none by default", "before STRING's block; repeated for several STRINGs"),
+        ("The text to encrypt, or ", "Texts to encrypt, each as a block; "),
+        ("if STRING is given (default: none)", "if STRING is given (default: none); repeat it for several STRINGs"),
     ],
 }
 FOR_ALL = """\

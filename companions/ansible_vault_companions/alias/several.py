@@ -4,7 +4,7 @@ from __future__ import annotations
 
 import os
 from contextlib import suppress
-from typing import BinaryIO, Callable, NamedTuple
+from typing import Callable, NamedTuple
 
 from ansible_vault_companions import program, stopping
 from ansible_vault_companions.alias.run import Run
@@ -115,18 +115,13 @@ def _typed(words: Words) -> list[Text]:
 def _read(words: Words) -> list[Text]:
     if STANDARD_INPUT not in words.arguments and not words.value(STDIN_NAME):
         return []
-    return [Text(_standard_input(), words.value(STDIN_NAME), "standard input")]
+    return [Text(_all_of(0), words.value(STDIN_NAME), "standard input")]
 
 
-def _standard_input() -> bytes:
-    with open(0, "rb", closefd=False) as file:
-        return _all_of(file)
-
-
-def _all_of(file: BinaryIO) -> bytes:
+def _all_of(file: str | int) -> bytes:
     """All that comes, or more than the tool takes; a signal ends the wait for it."""
-    with stopping.interruptible():
-        return file.read(reading.LIMIT + 1)
+    with stopping.interruptible(), open(file, "rb", closefd=file != 0) as opened:
+        return opened.read(reading.LIMIT + 1)
 
 
 def _given(words: Words) -> list[Text]:
@@ -143,13 +138,9 @@ def _given(words: Words) -> list[Text]:
 def _kept_input(words: Words) -> bytes:
     """The input, which becomes standard input if it can be read only once."""
     path = next(iter(words.arguments), STANDARD_INPUT)
-    if path == STANDARD_INPUT:
-        data = _standard_input()
-    elif os.path.isfile(path):
+    if os.path.isfile(path) and path != STANDARD_INPUT:
         return reading.named(path)
-    else:
-        with open(path, "rb") as file:
-            data = _all_of(file)
+    data = _all_of(0 if path == STANDARD_INPUT else path)
     descriptor = os.memfd_create("input")
     with open(descriptor, "wb", closefd=False) as file:
         file.write(data)

@@ -16,7 +16,7 @@ use clap::{ArgMatches, Command, Error};
 use std::alloc::{AllocError, Global};
 use vault_fault::Fault;
 
-const VERSION: &str = "0.4.0";
+const VERSION: &str = "0.5.0";
 
 /// The last line of the program's help: its manual page, and its companions.
 const SEE_ALSO: &str = "See also: ansible-vault(1), \
@@ -70,7 +70,7 @@ fn top<'a>(alloc: Global) -> Result<Command<'a>, AllocError>
 fn encrypt<'a>(alloc: Global) -> Result<Command<'a>, AllocError>
     ensures { IfOk result (λ command. IsCommand command encrypt) }
 {
-    let about = "Reads plaintext and writes an encrypted file";
+    let about = "Encrypts a file";
     with_salt(alloc, "encrypt", about)?
         .arg(option(alloc, table::ENCRYPT_VAULT_ID))?
         .arg(option(alloc, table::OUTPUT))?
@@ -80,7 +80,7 @@ fn encrypt<'a>(alloc: Global) -> Result<Command<'a>, AllocError>
 fn decrypt<'a>(alloc: Global) -> Result<Command<'a>, AllocError>
     ensures { IfOk result (λ command. IsCommand command decrypt) }
 {
-    let about = "Reads an encrypted file and writes its plaintext";
+    let about = "Decrypts a vault";
     with_secrets(alloc, "decrypt", about)?
         .arg(flag(alloc, table::REQUIRE_ID_MATCH))?
         .arg(option(alloc, table::OUTPUT))?
@@ -90,7 +90,7 @@ fn decrypt<'a>(alloc: Global) -> Result<Command<'a>, AllocError>
 fn view<'a>(alloc: Global) -> Result<Command<'a>, AllocError>
     ensures { IfOk result (λ command. IsCommand command view) }
 {
-    let about = "Reads an encrypted file and writes its plaintext to standard output";
+    let about = "Prints the plaintext of a vault";
     with_secrets(alloc, "view", about)?
         .arg(flag(alloc, table::REQUIRE_ID_MATCH))?
         .arg(positional(alloc, table::FILE))
@@ -139,7 +139,7 @@ fn with_new_secret<'a>(alloc: Global) -> Result<Command<'a>, AllocError>
     ensures { IfOk result (λ command. IsCommand command
         (app_with (codes "rekey") (secret_rules ++ salt_rules ++ new_secret_rules))) }
 {
-    let about = "Encrypts an encrypted file again, under a new secret";
+    let about = "Re-encrypts a vault with a new secret";
     with_salt(alloc, "rekey", about)?
         .arg(option(alloc, table::NEW_VAULT_ID))?
         .arg(option(alloc, table::NEW_VAULT_PASSWORD_FILE))
@@ -150,7 +150,7 @@ fn with_name<'a>(alloc: Global) -> Result<Command<'a>, AllocError>
     ensures { IfOk result (λ command. IsCommand command
         (app_with (codes "encrypt_string") (secret_rules ++ salt_rules ++ name_rules))) }
 {
-    let about = "Reads a text and writes it, encrypted, as a block of YAML";
+    let about = "Encrypts a text as a YAML block";
     with_salt(alloc, "encrypt_string", about)?
         .arg(arguments::name(alloc))?
         .arg(option(alloc, table::STDIN_NAME))

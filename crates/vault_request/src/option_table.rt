@@ -14,88 +14,88 @@ pub struct OptionEntry {
 pub const VAULT_ID: OptionEntry = OptionEntry {
     name: "vault-id",
     value_name: "[LABEL@]SOURCE",
-    help: "A password file and, before @, the label of its secret (default: `default`); may be \
-        repeated",
+    help: "A password file, with the label of its secret (default: `default`); may be repeated",
 };
 
 pub const VAULT_PASSWORD_FILE: OptionEntry = OptionEntry {
     name: "vault-password-file",
     value_name: "PATH",
-    help: "A password file for the label `default`; may be repeated",
+    help: "A password file, with the label `default`; may be repeated",
 };
 
 pub const ENCRYPT_VAULT_ID: OptionEntry = OptionEntry {
     name: "encrypt-vault-id",
     value_name: "LABEL",
-    help: "The label of the secret to encrypt with; required if several secrets are given",
+    help: "The label of the secret to encrypt with; required if there are several secrets",
 };
 
 pub const REQUIRE_ID_MATCH: OptionEntry = OptionEntry {
     name: "require-id-match",
     value_name: "",
-    help: "Try only the secrets that have the label of the encrypted file; by default they are \
-        tried first, then all others",
+    help: "Try only secrets that have the vault's label; by default, they are tried first, and \
+        then the others",
 };
 
 pub const NEW_VAULT_ID: OptionEntry = OptionEntry {
     name: "new-vault-id",
     value_name: "[LABEL@]SOURCE",
-    help: "The password file of the new secret and, before @, its label (default: `default`); give \
-        this or --new-vault-password-file",
+    help: "The password file of the new secret, with its label (default: `default`); give this or \
+        --new-vault-password-file",
 };
 
 pub const NEW_VAULT_PASSWORD_FILE: OptionEntry = OptionEntry {
     name: "new-vault-password-file",
     value_name: "PATH",
-    help: "The password file of a new secret for the label `default`; give this or --new-vault-id",
+    help: "The password file of the new secret, with the label `default`; give this or \
+        --new-vault-id",
 };
 
 pub const SALT_FILE: OptionEntry = OptionEntry {
     name: "salt-file",
     value_name: "PATH",
-    help: "The file whose first 32 bytes are the salt; /dev/urandom by default",
+    help: "Take the first 32 bytes of this file as the salt (default: /dev/urandom)",
 };
 
 pub const SALT: OptionEntry = OptionEntry {
     name: "salt",
     value_name: "TEXT",
-    help: "The salt itself, 1 to 64 bytes, instead of a file. A salt used twice with one password \
-        repeats the key stream",
+    help: "Take this text, 1 to 64 bytes, as the salt. Never use one salt twice with the same \
+        password: that repeats the key stream",
 };
 
 pub const NAME: OptionEntry = OptionEntry {
     name: "name",
     value_name: "NAME",
-    help: "The variable's name, written before STRING's block; none by default",
+    help: "The name of the variable, if STRING is given (default: none)",
 };
 
 pub const STDIN_NAME: OptionEntry = OptionEntry {
     name: "stdin-name",
     value_name: "NAME",
-    help: "The variable's name if standard input is read; none by default",
+    help: "The name of the variable, if standard input is read (default: none)",
 };
 
 pub const OUTPUT: OptionEntry = OptionEntry {
     name: "output",
     value_name: "PATH",
-    help: "The file to write; - or nothing for standard output. It is required if FILE is given",
+    help: "The file to write, or - for standard output (default: -); required if FILE is given",
 };
 
 /// `--output` of `encrypt_string`, which has no FILE.
 pub const STRING_OUTPUT: OptionEntry = OptionEntry {
     name: "output",
     value_name: "PATH",
-    help: "The file to write; - or nothing for standard output",
+    help: "The file to write, or - for standard output (default: -)",
 };
 
 pub const FILE: OptionEntry = OptionEntry {
     name: "FILE",
     value_name: "",
-    help: "The file to read; - or nothing for standard input",
+    help: "The file to read, or - for standard input (default: -)",
 };
 
 pub const STRING: OptionEntry = OptionEntry {
     name: "STRING",
     value_name: "",
-    help: "The text to encrypt; - or nothing for standard input",
+    help: "The text to encrypt, or - for standard input (default: -)",
 };
