@@ -202,9 +202,9 @@ dist: portable all
 # The Debian package of the program and its companions, in bin/. It is built in a copy,
 # so that what debhelper writes does not lie among the sources.
 package: portable all
-	@rm -rf bin/package && mkdir -p bin/package/source
-	@tar --create --exclude='./.*' --exclude=./bin --exclude=out . bin/ansible-vault bin/processor \
-		| tar --extract --directory=bin/package/source
+	@rm -rf bin/package && mkdir -p bin/package/source/bin
+	@tar --create --exclude='./.*' --exclude=./bin --exclude=out . | tar --extract --directory=bin/package/source
+	@cp "$(PROGRAM)" bin/package/source/bin/ansible-vault
 	cd bin/package/source && dpkg-buildpackage --build=binary --no-pre-clean --no-sign
 	@mv bin/package/*.deb bin/ && rm -r bin/package
 
@@ -221,4 +221,4 @@ releases: all
 	PYTEST_PROCESSES=$(PYTEST_PROCESSES) tools/releases "$(PROGRAM)" $(RELEASES)
 
 clean:
-	rm -rf bin .hypothesis crates/*/out
+	rm -rf bin crates/*/out

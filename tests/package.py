@@ -92,14 +92,16 @@ def copy(tmp_path: pathlib.Path, program: str) -> pathlib.Path:
     return copy
 
 
-def test_made_again(copy: pathlib.Path, package: pathlib.Path) -> None:
-    """A folder with a space, another time, umask and zone make the same bytes, of the program that was built last:
-    nothing is built anew."""
+@pytest.mark.parametrize("name", ["bin/ansible-vault", "built"])
+def test_made_again(copy: pathlib.Path, package: pathlib.Path, name: str) -> None:
+    """A directory with a space, another time, umask and zone make the same bytes, of the program that is named or was
+    built last: nothing is built anew."""
+    (copy / "bin/ansible-vault").rename(copy / name)
     (copy.parent / "rt").write_text("#!/bin/sh\necho rt is run >&2\nexit 1\n")
     (copy.parent / "rt").chmod(0o755)
     (copy / "man/ansible-vault.1").touch()
     environment = os.environ | {"TZ": "Asia/Tokyo", "PATH": f"{copy.parent}{os.pathsep}{os.environ['PATH']}"}
-    done = run_make(str(ROOT / "bin/ansible-vault"), "package", at=copy, umask=0o077, env=environment)
+    done = run_make(name, "package", at=copy, umask=0o077, env=environment)
     assert done.returncode == 0, done.stderr
     assert (copy / "bin" / package.name).read_bytes() == package.read_bytes()
 
