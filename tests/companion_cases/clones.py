@@ -79,7 +79,7 @@ OPERATIONS = {
     "am": "git format-patch -q -1 --output-directory .. theirs && git am -q -3 ../0001*",
     "stash": "git checkout -q base && cp ../unknown2.yml a.yml && git stash -q && git checkout -q ours; git stash pop",
 }
-NOT_MERGED = "is not merged: the merge driver failed, so the file has only ours"
+NOT_MERGED = "is not merged: the merge driver failed, so the file has only your side's version"
 
 
 @pytest.mark.parametrize("what", OPERATIONS)

@@ -111,9 +111,9 @@ def test_leftovers(place: Place) -> None:
 
 def leftover(name: str) -> list[str]:
     return [
-        f"ansible-vault-hook: {name} is what a failed companion left, and may be plaintext",
-        f"  look into it, and remove it by `git rm --cached {name}` and `rm {name}`",
-        f"  if that is meant, commit with --no-verify, or add to .gitattributes: /{name} -ansible-vault",
+        f"ansible-vault-hook: {name} was left behind by a failed companion, and may be plaintext",
+        f"  look at its content, and remove it with `git rm --cached {name}` and `rm {name}`",
+        f"  if that is intended, commit with --no-verify, or add to .gitattributes: /{name} -ansible-vault",
     ]
 
 

@@ -58,7 +58,7 @@ def test_pre_commit(place: Place) -> None:
     (place.tree / "b.yml").symlink_to("c.yml")
     place.put("c.yml", TEXT)
     place.shell("git add -A")
-    why = f"leads to c.yml, and {WHOLE}"
+    why = f"points to c.yml, and {WHOLE}"
     done = by_framework(place)
     ended("a link, which pre-commit does not name, and what has moved", done, 1, f"b.yml {why}", GONE.format("a.yml"))
 

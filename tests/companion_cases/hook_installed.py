@@ -11,9 +11,9 @@ from lib.subtests import SubTests
 
 pytestmark = pytest.mark.usefixtures("git")
 
-THIS_ONE = "git runs what is in this folder for this repository and its worktrees"
+THIS_ONE = "git runs these hooks for this repository and its worktrees"
 NO_SECRETS = "git diff and git merge are not set up; they need secrets: --install --vault-id "
-UNMARKED = "git diff and git merge know vaults by .gitattributes; add to it, for all of the team:"
+UNMARKED = "git diff and git merge recognize vaults by .gitattributes; for the whole team, add these lines to it:"
 MARKS = "diff=ansible-vault merge=ansible-vault"
 DIFF, DRIVER = SETTINGS = ["diff.ansible-vault.textconv", "merge.ansible-vault.driver"]
 
@@ -73,7 +73,7 @@ def test_other_hooks(cases: Companions) -> None:
     place = cases.place()
     under_git(place, ATTRIBUTES)
     place.shell("git config core.hooksPath ../my-hooks && mkdir inner")
-    which = "git runs what is in this folder for this repository and its worktrees: core.hooksPath is set by {}"
+    which = "git runs these hooks for this repository and its worktrees: core.hooksPath is set by {}"
     done = place.shell(f"{HOOK} --install", folder="inner")
     installs("core.hooksPath", done, place.path / "my-hooks", which=which.format(".git/config"))
     assert sorted(os.listdir(place.path / "my-hooks")) == ["pre-commit", "pre-merge-commit"], "is where they are"
@@ -96,13 +96,13 @@ def test_moved_programs(place: Place) -> None:
     place.put("a.vault.yml", TEXT)
     silent("git runs no hook", add_and_commit(place))
     hooks = place.tree / ".git/hooks"
-    installs("repaired", place.run(HOOK, "--install"), hooks, f"installed in the place of a link to {old}")
+    installs("repaired", place.run(HOOK, "--install"), hooks, f"installed in place of a link to {old}")
     place.put("a.vault.yml", TEXT * 2)
     refused("git runs it", add_and_commit(place), "a.vault.yml")
     (hooks / "pre-commit").unlink()
     (hooks / "pre-commit").symlink_to("/nowhere/else")
     done = place.run(HOOK, "--install")
-    why = f"{hooks}/pre-commit leads to /nowhere/else, which does not exist"
+    why = f"{hooks}/pre-commit points to /nowhere/else, which does not exist"
     ended("the link of somebody else", done, 1, why)
     assert place.run(HOOK, "--uninstall").returncode == 0
     assert os.readlink(hooks / "pre-commit") == "/nowhere/else", "it stays"
@@ -115,7 +115,7 @@ def test_for_every_repository(place: Place, variable: str, whose: str) -> None:
     settings = place.path / "settings"
     settings.write_text(f"[core]\nhooksPath = {hooks}\n")
     done = place.run(HOOK, "--install", **{f"GIT_CONFIG_{variable}": str(settings)})
-    which = f"git runs what is in this folder for every repository {whose}: core.hooksPath is set by {settings}"
+    which = f"git runs these hooks for every repository {whose}: core.hooksPath is set by {settings}"
     installs(whose, done, hooks, which=which)
     assert sorted(os.listdir(hooks)) == ["pre-commit", "pre-merge-commit"]
 

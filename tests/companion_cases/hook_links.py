@@ -130,5 +130,5 @@ def test_commits(place: Place, path: str) -> None:
     (place.tree / "vault.yml").symlink_to(path.format(tree=place.tree))
     assert stat.S_ISREG((place.tree / "vault.yml").stat().st_mode)
     name = "..data" if path == "..data" else "deep/plain.yml"
-    why = f"leads to {name}, and {WHOLE}"
+    why = f"points to {name}, and {WHOLE}"
     refused("plaintext", add_and_commit(place), "vault.yml", why=why, hint=meant("vault.yml"))

@@ -181,7 +181,7 @@ def test_links(place: Place, subtests: SubTests) -> None:
     place.put("deep/other.yml", sealed("new"))
     (place.tree / "link.yml").symlink_to("deep/plain.yml")
     silent("at first", again(place, "deep/vault.yml", sealed("old")))
-    why = "leads to deep/plain.yml, and is not a vault, but was one in the parent commit"
+    why = "points to deep/plain.yml, and is not a vault, but was one in the parent commit"
     leaks = ("plain.yml", "../deep/plain.yml", "../link.yml")
     for target in (*leaks, "other.yml", "nowhere.yml", "vault.yml", "/etc/hostname", "../..", "../../outside"):
         with subtests.test(target):
@@ -205,7 +205,7 @@ def test_in_two_commits(place: Place) -> None:
     place.put("vars.yml", A_PLAIN)
     silent("the hook sees one commit", again(place, "all.yml", TEXT))
     head = place.shell("git rev-parse HEAD").stdout[:10]
-    whys = {"all.yml": "is not a vault, but was one", "vars.yml": "has a.password in plaintext, encrypted"}
+    whys = {"all.yml": "is not a vault, but was one", "vars.yml": "has a.password in plaintext, which was encrypted"}
     lines = [
         line for name, why in whys.items() for line in (f"{HOOK}: {head}: {name} {why} in {first[:10]}", meant(name))
     ]
@@ -260,4 +260,4 @@ def test_plaintext_that_was_there(place: Place, plain: bytes) -> None:
 def test_plaintext_that_is_new(place: Place, plain: bytes) -> None:
     done = moved(place, plain)
     assert done.returncode == 1
-    assert f"{HOOK}: c.yml has " in done.stderr and "in plaintext, encrypted in the parent commit" in done.stderr
+    assert f"{HOOK}: c.yml has " in done.stderr and "in plaintext, which was encrypted in the parent commit" in done.stderr

@@ -177,7 +177,7 @@ FOREIGN = {
     ),
     "no labels": (
         (sealed("prod", BASE), sealed("prod", OURS), sealed("dev", b"x")),
-        "secrets with two labels decrypt it: prod in ours, dev in theirs",
+        "secrets with different labels decrypt the two sides: prod ours, dev theirs",
     ),
     "a value": (
         (OF_PROD, OUR_PROD, block("dev", b"x", "prod", "k") + b"z: 1\n"),
@@ -269,7 +269,7 @@ def test_what_fails(place: Place, subtests: SubTests) -> None:
     assert place.files() == {"a.yml": changes[1]}, "ours stays"
 
 
-NOT_MERGED = "is not merged: the merge driver failed, so the file has only ours"
+NOT_MERGED = "is not merged: the merge driver failed, so the file has only your side's version"
 AGAIN = "  `git checkout --merge a.yml` merges it, or says why not; to keep ours, commit with --no-verify"
 
 

@@ -155,7 +155,7 @@ def test_asked_at_a_terminal(place: Place) -> None:
     needs_pyyaml()
     editor = place.script('printf "new: !Vault word\\n" >> "$1"', "editor")
     words = ["sh", "-c", 'exec "$@" < /dev/tty', "sh", EDIT, *place.by_file("old"), "vars.yml"]
-    question = "Is that meant? (yes, no): "
+    question = "Is that intended? (yes, no): "
     place.put("vars.yml", block("old"))
     again = "Open the editor again? (yes, no): "
     session = ask(place, *words, answers=[(question, b"no\n"), (again, b"no\n")], EDITOR=editor)
@@ -182,7 +182,7 @@ def test_put_back(place: Place, subtests: SubTests) -> None:
         with subtests.test(name):
             place.put(name, values, 0o640)
             done = edit(place, 'printf "c: !vault \\"more\\n" >> "$1"', *both, "--encrypt-vault-id", "prod", "--", name)
-            ended("a quote is missing", done, 1, "it cannot be read as YAML", "To mend it, and to put it into")
+            ended("a quote is missing", done, 1, "it cannot be read as YAML", "To correct it, and to put it into")
             mend, put = commands(done.stderr)
             ended("not mended", place.shell(put), 1, "it cannot be read as YAML")
             assert place.get(name) == values, "the file stays"

@@ -4,8 +4,8 @@ from companion_cases import HOOK, Done, Place
 
 AUTHOR = {f"GIT_{who}_{what}": "a@b" for who in ("AUTHOR", "COMMITTER") for what in ("NAME", "EMAIL")}
 WHOLE = "is not a vault, but was one in the parent commit"
-IN_PART = "has {} in plaintext, encrypted in the parent commit"
-GONE = "is not encrypted, and {} is gone, which was a vault in the parent commit"
+IN_PART = "has {} in plaintext, which was encrypted in the parent commit"
+GONE = "is not encrypted, and {}, which is gone, was a vault in the parent commit"
 
 
 def under_git(place: Place, attributes: str) -> None:
@@ -31,12 +31,12 @@ def refused(what: str, done: Done, *names: str, why: str = "is not encrypted", h
 
 def unmarking(name: str) -> str:
     """The hint for a file that stands beside a vault."""
-    return f"  encrypt it, or unmark it by a last line of .gitattributes: /{name} !diff !ansible-vault"
+    return f"  encrypt it, or unmark it with a line at the end of .gitattributes: /{name} !diff !ansible-vault"
 
 
 def meant(name: str) -> str:
     """The hint for plaintext that may be meant."""
-    return f"  if that is meant, commit with --no-verify, or add to .gitattributes: /{name} -ansible-vault"
+    return f"  if that is intended, commit with --no-verify, or add to .gitattributes: /{name} -ansible-vault"
 
 
 def with_hooks(place: Place, attributes: str = "") -> None:

@@ -52,7 +52,7 @@ def test_links(place: Place) -> None:
     shared = str(place.tree / "shared/vault.yml")
     for words, part in (((), "1 rotated, 0 under"), (("--dry-run",), "0 to be rotated, 1 under")):
         done = place.run(ROTATE, *words, *to_new(place), "tree")
-        why = f"tree/chain.yml: it leads to {shared}, outside the paths you named; name that file to rotate it\n"
+        why = f"tree/chain.yml: it points to {shared}, outside the paths you named; name that file to rotate it\n"
         ended("a link out of the folder", done, 1, why, part, "1 failed")
         assert place.get("shared/vault.yml") == sealed("old"), "its file stays"
     done = place.run(ROTATE, *to_new(place), "tree", shared)

@@ -28,10 +28,10 @@ TYPED = {
 # What may be typed after the key of a block, and why it is refused.
 REFUSED = {
     "!vault": "b is missing after `!vault`",
-    "!vault a\n  b": "b continues in further lines",
-    "!vault 'a\n  b'": "b continues in further lines",
+    "!vault a\n  b": "b continues on further lines",
+    "!vault 'a\n  b'": "b continues on further lines",
     "!vault >\n  a": "b is a folded scalar",
-    "!vault\n  a": "b stands below its tag",
+    "!vault\n  a": "b is below its tag",
     "!vault [a]": "b is not a string",
     "!vault {{ a }}": "b is not a string",
     "!vault\n  b: c": "b is not a string",
@@ -43,7 +43,7 @@ REFUSED = {
 MISPLACED = {
     "b: !vault |-\n  x\ny\n": "line 3: it cannot be read as YAML: could not find expected ':'",
     "b: !vault |-\n   x\n  y\n": "line 3: it cannot be read as YAML: did not find expected key",
-    "# b: !vault |-\n#   x\n": "line 1: `!vault` is not a tag within a comment",
+    "# b: !vault |-\n#   x\n": "line 1: within a comment or a string, `!vault` is not a tag",
     "t: |\n  b: !vault |-\n    x\n": "line 2: `!vault` is not a tag within",
     "b: {c: !vault x}\n": "line 1: c is within brackets",
 }

@@ -55,5 +55,5 @@ def new_secrets(run: Run, old: list[Secret]) -> list[Secret]:
     new = options.of_options(words.new_ids, words.new_paths, encrypts=True)
     fitting = [secret for secret in new or old if secret.label == run.label and (new or secret.is_setting)]
     if run.label and not fitting and (words.value(ENCRYPT_ID) or not new):
-        raise Refused(f"no new secret has the label {program.shown(run.label)} to encrypt with")
+        raise Refused(f"no new secret has the label that was chosen for encryption, {program.shown(run.label)}")
     return new or fitting[:1] or secrets(encrypts=True, none=NO_NEW)

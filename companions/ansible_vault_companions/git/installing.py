@@ -28,7 +28,7 @@ REPOSITORIES = {
 }
 MARKS = "diff=ansible-vault merge=ansible-vault"
 NO_SECRETS = "git diff and git merge are not set up; they need secrets: --install --vault-id prod@~/.vault/prod.pass"
-UNMARKED = "git diff and git merge know vaults by .gitattributes; add to it, for all of the team:"
+UNMARKED = "git diff and git merge recognize vaults by .gitattributes; for the whole team, add these lines to it:"
 MOST_LINES = 10
 # The line in which a vault or a block begins, for git grep.
 ENVELOPE = r"^ *\$ANSIBLE_VAULT;1\.[12];AES256"
@@ -63,9 +63,9 @@ def install_hook(hook: str, program: str) -> str:
     if _is_ours(old, program):
         os.unlink(hook)
         os.symlink(program, hook)
-        return f"installed in the place of a link to {shown(old)}"
+        return f"installed in place of a link to {shown(old)}"
     if not os.path.exists(hook):
-        raise Refused(f"leads to {shown(old)}, which does not exist; remove the link and run this again")
+        raise Refused(f"points to {shown(old)}, which does not exist; remove the link and run this again")
     raise Refused(f"exists already; add this line to it: {os.path.basename(program)} || exit 1")
 
 

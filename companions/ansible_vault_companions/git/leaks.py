@@ -47,8 +47,13 @@ def decrypted(before: bytes, after: bytes) -> str | None:
         was_damaged = not is_whole(before)
         is_encrypted = is_whole(after) or (was_damaged and after.startswith(MAGIC))
         return None if is_encrypted or not after.strip() else WAS_VAULT
-    names = now_plain(before, after)
-    return f"has {', '.join(names)} in plaintext, encrypted" if names else None
+    return _in_plaintext(now_plain(before, after))
+
+
+def _in_plaintext(names: list[str]) -> str | None:
+    if not names:
+        return None
+    return f"has {', '.join(names)} in plaintext, which {'was' if len(names) == 1 else 'were'} encrypted"
 
 
 def now_plain(before: bytes, after: bytes) -> list[str]:
@@ -133,7 +138,7 @@ class Moves:
     def _fault_of_vault(self, file: File, content: bytes) -> str | None:
         is_new = file.before is None and file.blob not in self.change.gone.values()
         vault = next((name for name in self.vaults if is_new and self._may_be(file.name, content, name)), None)
-        return f"is not encrypted, and {_shown(vault)} is gone, which was a vault" if vault is not None else None
+        return f"is not encrypted, and {_shown(vault)}, which is gone, was a vault" if vault is not None else None
 
     def _may_be(self, name: bytes, content: bytes, vault: bytes) -> bool:
         """Whether it is where the vault may have gone to."""
@@ -164,8 +169,7 @@ class Moves:
         came = places.came(old, new, self._plain_in_gone_files) if old and new else []
         branches = places.with_those_above(came)
         found = [(name, path) for name, path in lost if path in branches]
-        names = [f"{places.shown_path(path)} of {_shown(name)}" for name, path in found]
-        return f"has {', '.join(names)} in plaintext, encrypted" if names else None
+        return _in_plaintext([f"{places.shown_path(path)} of {_shown(name)}" for name, path in found])
 
     @cached_property
     def _plain_in_gone_files(self) -> dict[Path, Counter[str]]:

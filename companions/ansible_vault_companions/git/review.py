@@ -16,10 +16,10 @@ from ansible_vault_companions.program import shown, write_error
 
 TO_MERGE = "  resolve the conflict with ansible-vault-edit"
 TO_MERGE_AGAIN = "  `git checkout --merge {}` merges it, or says why not; to keep ours, commit with --no-verify"
-MEANT = "  if that is meant, commit with --no-verify, or add to .gitattributes: {} -ansible-vault"
-UNMARK = "  encrypt it, or unmark it by a last line of .gitattributes: {} !diff !ansible-vault"
-LEFTOVER = "is what a failed companion left, and may be plaintext"
-TO_REMOVE = "  look into it, and remove it by `git rm --cached {0}` and `rm {0}`"
+MEANT = "  if that is intended, commit with --no-verify, or add to .gitattributes: {} -ansible-vault"
+UNMARK = "  encrypt it, or unmark it with a line at the end of .gitattributes: {} !diff !ansible-vault"
+LEFTOVER = "was left behind by a failed companion, and may be plaintext"
+TO_REMOVE = "  look at its content, and remove it with `git rm --cached {0}` and `rm {0}`"
 
 
 class Fault(NamedTuple):
@@ -97,7 +97,7 @@ class Review:
             return leaks.decrypted(before, self.blobs.read(file.blob))
         target, blob = links.target(file.name, os.getcwdb(), partial(contents.entry, index=index), self.blobs.read)
         why = leaks.decrypted(before, self.blobs.read(blob)) if target else None
-        return f"leads to {_shown(target)}, and {why}" if why else None
+        return f"points to {_shown(target)}, and {why}" if why else None
 
     def is_beside_vault(self, name: bytes, index: str | None) -> bool:
         """Whether there is a vault in the same folder."""

@@ -21,7 +21,7 @@ from ansible_vault_companions.tool.tool import Decrypt, Tool
 
 KINDS_DIFFER = "one side is a vault and the other is not"
 LABELS_DIFFER = "the labels differ: {} in ours, {} in theirs"
-LABELS_OF_SECRETS_DIFFER = "secrets with two labels decrypt it: {} in ours, {} in theirs"
+LABELS_OF_SECRETS_DIFFER = "secrets with different labels decrypt the two sides: {} ours, {} theirs"
 SECRETS_DIFFER = "both sides changed its secret, and the new secrets differ"
 
 

@@ -29,8 +29,8 @@ BELOW = b"# What was saved begins below.\n"
 BEFORE = "before"
 NO_COPY = "no earlier edit left a copy beside it or in $TMPDIR; edit it without --resume"
 SEVERAL = (
-    "--resume would not know which value gets which secret: {} is not under the same password alone as the file; take "
-    "from it what you need, which `ansible-vault-textconv` shows"
+    "--resume cannot tell which value gets which secret, because {} and the file together use several secrets; "
+    "`ansible-vault-textconv` shows the copy: take from it what you need"
 )
 
 
@@ -82,7 +82,7 @@ class Copies:
     def replacing_steps(self, copy: str) -> list[str]:
         """The commands that show a copy, and put it in the place of the file."""
         return [
-            f"To look at it, and to put it in the place of {self.path}:",
+            f"To look at it, and to replace {self.path} with it:",
             f"  {shlex.join([SHOWS, *self.options(), copy])}",
             f"  cp -- {shlex.join([copy, self.path])} && rm {shlex.quote(copy)}",
         ]
@@ -101,7 +101,7 @@ class Copies:
                 f"  {shlex.join([NAME, *self.options(), copy])}",
                 f"  VISUAL={shlex.quote(f'{shows} >')} {shlex.join([*edits, '--', self.path])} {removes}",
             ]
-        return [f"To mend it, and to put it into {self.path}:", *steps]
+        return [f"To correct it, and to put it into {self.path}:", *steps]
 
     def options(self) -> list[str]:
         return options.words(self.args.vault_id, self.args.vault_password_file)

@@ -102,7 +102,7 @@ class Rotation:
         target = os.path.realpath(path)
         if not any(target == place or target.startswith(os.path.join(place, "")) for place in self.places):
             why = "outside the paths you named; name that file to rotate it"
-            raise Refused(f"it leads to {program.shown(target)}, {why}")
+            raise Refused(f"it points to {program.shown(target)}, {why}")
         if self.is_dry:
             replacing.check_replaceable(target)
         else:

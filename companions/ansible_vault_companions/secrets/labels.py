@@ -26,9 +26,9 @@ def fault(secret: Secret, envelope: bytes) -> str:
         return ""
     other, meant = shown(secret.label), shown(label)
     return (
-        f"its label is {meant}, but {shown(secret.given)} decrypts it, a secret of the label {other}; find out who "
-        f"changed the label or copied the text here, and write {other} as the label in its first line, or if that "
-        f"secret is one of {meant}, too, name it with --vault-id {shown(f'{label}@{secret.place}')}"
+        f"its label is {meant}, but {shown(secret.given)}, a secret with the label {other}, decrypts it; find out who "
+        f"changed the label or copied the text here; then either write {other} as the label in its first line or, if "
+        f"that secret also belongs to {meant}, name it with --vault-id {shown(f'{label}@{secret.place}')}"
     )
 
 

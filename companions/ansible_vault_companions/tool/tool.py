@@ -27,7 +27,8 @@ class Tool:
     def __init__(self, companion: str, is_known: bool = False) -> None:
         self.path = finding.path_for(companion)
         if not (is_known or finding.has_messages(self.path) or _says_its_name(self.path)):
-            raise Refused(f"{self.path} is not the ansible-vault of the companions; put theirs beside them or on PATH")
+            why = "is not the ansible-vault that the companions need; put the right one beside them or on PATH"
+            raise Refused(f"{self.path} {why}")
 
     def run(self, words: list[str], data: bytes, secrets: list[Secret]) -> bytes:
         """What the tool writes; what it refuses is refused here, in its words."""

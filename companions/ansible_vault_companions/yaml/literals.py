@@ -22,15 +22,15 @@ MOST_INDENTATION = 9
 NOT_UTF_8 = "it is not UTF-8"
 CONTROL = "it has control characters"
 VAULT_WITHIN = "its plaintext is itself a vault"
-TOO_DEEP = "its lines would stand too far to the right"
+TOO_DEEP = "its lines would be indented too far"
 
 BY_ESCAPES = "has control characters; write them as escapes, in double quotes"
-IN_FLOW = "is within brackets or braces, where no block can be; write it in a line of its own"
-BELOW = "stands below its tag; write it in the line of `!vault`"
-SEVERAL_LINES = "continues in further lines; write `!vault |-`, and its lines below"
+IN_FLOW = "is within brackets or braces, where no block can be; write it on a line of its own"
+BELOW = "is below its tag; write it on the same line as `!vault`"
+SEVERAL_LINES = "continues on further lines; write `!vault |-`, and its lines below"
 FOLDED = "is a folded scalar (`>`); write `!vault |-`, and its lines below"
 NOTHING = 'is missing after `!vault`; write `""` for an empty one'
-NO_TEXT = "is not a string: a list, a mapping or a key"
+NO_TEXT = "is a list, a mapping or a key, not a string"
 SURROGATE = "has an escape for half of a character; write the character"
 
 

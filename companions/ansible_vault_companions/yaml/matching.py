@@ -19,8 +19,8 @@ from ansible_vault_companions.yaml.values import Value
 
 NEW = "is new; choose its secret with --encrypt-vault-id"
 NO_SUCH_LABEL = "is new, and no secret has the label of --encrypt-vault-id"
-SEVERAL = "had several labels or secrets there; choose one with --encrypt-vault-id"
-NEW_OR_CHANGED = "may be new or changed, and would get another secret then; save one change at a time"
+SEVERAL = "could get any of the labels or secrets that values there had; choose one with --encrypt-vault-id"
+NEW_OR_CHANGED = "may be a new value or a changed one, which would get different secrets; save one change at a time"
 
 
 class Typed(NamedTuple):

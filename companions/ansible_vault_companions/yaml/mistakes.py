@@ -15,7 +15,7 @@ from ansible_vault_companions.yaml.values import Scan
 # What UTF-8 does not decode; and what UTF-16 and UTF-32 have, and no text.
 NO_UTF_8 = re.compile("[\0\udc80-\udcff]")
 
-HIDDEN = "`!vault` is not a tag within a comment or a text, so what follows it would stay in plaintext"
+HIDDEN = "within a comment or a string, `!vault` is not a tag, so what follows it would stay in plaintext"
 LIKE_A_TAG = "`{}` is not the tag `!vault`, so what follows it would stay in plaintext"
 NOT_UTF_8 = "it is no longer UTF-8; save it as UTF-8"
 MARKED = "it now begins with a byte order mark; save it as UTF-8 without one"
@@ -44,4 +44,4 @@ def check_lookalikes(before: Scan, found: Scan, note: str) -> None:
 def _is_meant(why: str) -> bool:
     if not os.isatty(0):
         return False
-    return prompts.choice(f"{why}. Is that meant?", ["yes", "no"]) == "yes"
+    return prompts.choice(f"{why}. Is that intended?", ["yes", "no"]) == "yes"

@@ -22,7 +22,7 @@ REPLACEMENT = "\ufffd"
 # Faults of the scanner that begin in an earlier line than the one in which they show.
 BEGIN_EARLIER = ("while scanning a simple key", "while scanning a quoted scalar")
 
-NO_PYYAML = "PyYAML is missing, which reads YAML: install Debian's python3-yaml, or PyYAML with pip"
+NO_PYYAML = "PyYAML, which reads YAML, is missing: install Debian's python3-yaml, or PyYAML with pip"
 
 
 class NotYaml(Refused):
