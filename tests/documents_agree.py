@@ -143,7 +143,8 @@ PAGES = sorted(PAGE.parent.glob("*.1"))
 DOCUMENTS = [README, ROOT / "CONTRIBUTING.md", *sorted((ROOT / "docs").glob("*.md")), *PAGES]
 # The options of other programs, which the documents name too.
 OF_GIT = {"--cached", "--clean", "--filter", "--global", "--merge", "--no-edit", "--no-verify", "--textconv"}
-OF_OTHERS = {"--anew", "--list-axioms", "--sample", "--strict", "--test", "--unshallow", "--vault-pass", "--wait"}
+OF_OTHERS = {"--hook-type", "--sample", "--strict", "--unshallow", "--vault-pass", "--wait"}
+OF_RT = {"--allow-holes", "--anew", "--list-axioms", "--only", "--test"}
 # Of newer releases of Ansible's tool than 2.14.
 OF_NEWER = {"--skip-tty-check"}
 # Stands for any option.
@@ -159,8 +160,9 @@ def test_options(document: Path) -> None:
     """Each that a document names is one of the program, of a companion, of Ansible's tool or of others."""
     of_companions = (each for name in COMPANIONS for each in companion_options(name))
     ours = described_options().union(*OF_ANSIBLE.values(), *of_companions)
+    others = OF_GIT | OF_RT | OF_OTHERS | OF_NEWER | {ANY_OPTION}
     assert len(ours) > 30
-    assert options_named(document.read_text()) - ours - OF_GIT - OF_OTHERS - OF_NEWER - {ANY_OPTION} == set()
+    assert options_named(document.read_text()) - ours - others == set()
 
 
 def test_options_are_named() -> None:

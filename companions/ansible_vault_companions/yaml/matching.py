@@ -19,7 +19,7 @@ from ansible_vault_companions.yaml.values import Value
 
 NEW = "is new; choose its secret with --encrypt-vault-id"
 NO_SUCH_LABEL = "is new, and no secret has the label of --encrypt-vault-id"
-SEVERAL = "could get any of the labels or secrets that values there had; choose one with --encrypt-vault-id"
+SEVERAL = "is in a place where values had different labels or secrets; choose one with --encrypt-vault-id"
 NEW_OR_CHANGED = "may be a new value or a changed one, which would get different secrets; save one change at a time"
 
 
