@@ -1,12 +1,12 @@
-"""What the companions of ansible-vault share. It is tested, not proved."""
+"""The modules that ansible-vault's companions share. They are tested, not proved."""
 
 import os
 import sys
 
-# That of ansible-vault, with which they are released.
+# The companions are released together with ansible-vault, under the same version.
 VERSION = "0.5.0"
-# The oldest Python for which they are written. An older one, from 3.6 on, can read this file and the programs, which
-# import it before anything else of the package, and so have none of the syntax or annotations that it refuses.
+# The oldest supported Python. An older one, from 3.6 on, can still read this file and the programs, and so reaches the
+# check below: they have no syntax or annotations that it refuses.
 OLDEST = (3, 9)
 
 if sys.version_info < OLDEST:

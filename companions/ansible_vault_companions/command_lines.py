@@ -14,7 +14,7 @@ BY_TOOL = "it leaves encryption to ansible-vault"
 def parser(
     name: str, summary: str, statuses: str, example: str = "", ciphers: str = BY_TOOL, **options: Any
 ) -> argparse.ArgumentParser:
-    """A command line whose faults end the program with status 2. Its help says what encrypts and decrypts."""
+    """A parser that exits with status 2 if the command line is invalid. `ciphers` says what does the encryption."""
     shown_example = f"Example:\n  {example}\n\n" if example else ""
     made = argparse.ArgumentParser(
         prog=name,

@@ -1,4 +1,4 @@
-"""Works on several things at once."""
+"""Works on several items at once."""
 
 from __future__ import annotations
 
@@ -13,10 +13,10 @@ Result = TypeVar("Result")
 def work_on(
     items: Iterable[Item], jobs: int, work: Callable[[Item], Result], take: Callable[[Result], None]
 ) -> None:
-    """Processes several files, or parts of one, at once, and takes the results in order. If that is ended early, those
-    in process are finished, and no other is begun."""
+    """Calls `work` for several items at once, and `take` for each result, in order. If `take` raises, items in progress
+    are finished, and no new ones are begun."""
     with ThreadPoolExecutor(jobs) as pool:
-        # It cancels the others when it is left.
+        # When this loop ends early, `map` cancels the items that have not begun.
         for result in pool.map(work, items):
             take(result)
 

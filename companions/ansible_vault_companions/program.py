@@ -1,4 +1,4 @@
-"""What every companion begins and ends with."""
+"""Starts and ends every companion, and writes its output."""
 
 from __future__ import annotations
 
@@ -12,7 +12,7 @@ from ansible_vault_companions import stopping
 
 
 class Refused(Exception):
-    """Something is refused; the text says why. If the text is the tool's, so is the status."""
+    """Something is refused; the text says why. If the text comes from ansible-vault, so does the status."""
 
     def __init__(self, text: str, status: int = 1) -> None:
         super().__init__(text)
@@ -24,18 +24,18 @@ class NotWritten(Refused):
 
 
 def shown(name: str) -> str:
-    """A name of a file as it can be printed: line ends and what a terminal would obey are spelled out."""
+    """A file name in printable form: line ends and terminal control characters are escaped."""
     return name if name.isprintable() else ascii(name)
 
 
 def counted_labels(counts: dict[str, int]) -> str:
-    """How many envelopes have labels that are left alone, and which."""
+    """The number of envelopes with other labels, in total and for each label, as text."""
     labels = ", ".join(f"{shown(label)} {count}" for label, count in sorted(counts.items()))
     return f"{sum(counts.values())} of other labels" + (f" ({labels})" if labels else "")
 
 
 def write(data: bytes) -> None:
-    """Writes to standard output; a signal ends the wait for who reads it."""
+    """Writes to standard output. A signal ends the wait for a slow reader."""
     try:
         with stopping.interruptible():
             sys.stdout.buffer.write(data)
@@ -56,20 +56,20 @@ def write_error(text: str) -> None:
 
 
 def reason(fault: Exception) -> str:
-    """Why something is refused, without the path, which precedes it anyway."""
+    """The reason for a failure, without the path, since messages begin with the path anyway."""
     return fault.strerror if isinstance(fault, OSError) and fault.strerror else str(fault)
 
 
 def refusal(path: str, fault: Exception) -> str:
-    """Which file is refused, and why."""
+    """The path of a refused file, with the reason."""
     return f"{shown(path)}: {reason(fault)}"
 
 
 def run(name: str, main: Callable[[list[str]], int]) -> None:
-    """Runs a companion over its words, and ends with its status or by a signal."""
+    """Runs a companion with the command line's words. Exits with its status, or by the signal that stopped it."""
     _prepare_streams()
     stopping.prepare()
-    # A core dump would hold plaintext and passwords.
+    # A core dump would contain plaintext and passwords.
     resource.setrlimit(resource.RLIMIT_CORE, (0, resource.getrlimit(resource.RLIMIT_CORE)[1]))
     try:
         status = _status_of(main)
@@ -89,7 +89,7 @@ def _status_of(main: Callable[[list[str]], int]) -> int:
     try:
         status = main(sys.argv[1:])
     except SystemExit as end:
-        # After the help, or a fault of the command line.
+        # argparse exits after the help and after an invalid command line.
         status = int(end.code or 0)
     write(b"")
     return status
@@ -109,8 +109,8 @@ def _status_of_fault(name: str, fault: Exception) -> int:
 
 
 def _prepare_streams() -> None:
-    """Opens /dev/null for each standard stream that is closed, so that no other file gets its number. Reading or
-    writing it still fails."""
+    """Opens /dev/null for each closed standard stream, so that no other file gets its number. It is opened in the
+    wrong direction, so reading or writing the stream still fails."""
     for number, mode in enumerate((os.O_WRONLY, os.O_RDONLY, os.O_RDONLY)):
         try:
             os.fstat(number)
@@ -124,7 +124,7 @@ def _prepare_streams() -> None:
 
 
 def _discard(descriptor: int) -> None:
-    """What could not be written is not tried again when Python ends."""
+    """Points a stream to /dev/null, so that Python does not try the failed write again when it exits."""
     null = os.open(os.devnull, os.O_WRONLY)
     os.dup2(null, descriptor)
     os.close(null)

@@ -1,4 +1,4 @@
-"""Runs programs. A signal is passed on to them and to all that they started, and nothing of it goes on running."""
+"""Runs programs. A signal is passed on to them and to their descendants, so that none of them is left running."""
 
 from __future__ import annotations
 
@@ -10,21 +10,21 @@ from typing import Any
 
 from ansible_vault_companions.stopping import GRACE_PERIOD, check, state
 
-# Seconds in which what was killed is gone.
+# Seconds for killed processes to disappear.
 KILL_PERIOD = 1
-# Seconds between two looks at what is to end.
+# Seconds between two checks whether processes have ended.
 PAUSE = 0.02
-# Seconds after which Python heeds a signal that came just before a system call that waits, and so did not interrupt it.
+# Seconds between wake-ups. A signal that arrives just before a blocking system call does not interrupt that call.
 WAITING_PERIOD = 1
 
 
 class Program(subprocess.Popen[bytes]):
-    """A program that runs, and what it started, where a signal was passed on to it."""
+    """A running program. `started` contains the descendants that it had when a signal was passed on."""
 
     started: tuple[int, ...] = ()
 
     def pass_on(self, number: int) -> None:
-        """To all of them, as the shell of an editor starts the editor."""
+        """Sends a signal to the program and its descendants. An editor, for example, is the child of a shell."""
         if self.returncode is None:
             self.started += tuple(_descendants(self.pid))
         self.send_signal(number)
@@ -33,15 +33,15 @@ class Program(subprocess.Popen[bytes]):
                 os.kill(each, number)
 
     def wait_for_started(self) -> None:
-        """What the signal is to end, too, may still write where something is to be read or removed. After the grace
-        period it is killed."""
+        """Waits for the signaled descendants to end, since they may still write to files that the caller will read or
+        remove. After the grace period they are killed."""
         end = time.monotonic() + GRACE_PERIOD + KILL_PERIOD
         while any(map(_is_alive, self.started)) and time.monotonic() < end:
             time.sleep(PAUSE)
 
 
 def _descendants(process: int) -> list[int]:
-    """Each thread has children of its own."""
+    """The process's children and their descendants. Linux lists the children of each thread separately."""
     children: list[int] = []
     with suppress(OSError):
         for thread in os.listdir(f"/proc/{process}/task"):
@@ -51,7 +51,7 @@ def _descendants(process: int) -> list[int]:
 
 
 def _is_alive(process: int) -> bool:
-    """It may be a zombie for ever, where the first process of a container waits for none."""
+    """Whether a process runs. Zombies do not count: some containers never reap them."""
     try:
         with open(f"/proc/{process}/stat") as file:
             return file.read().rpartition(")")[2].split()[0] != "Z"
@@ -60,7 +60,7 @@ def _is_alive(process: int) -> bool:
 
 
 def run(words: list[str], data: bytes | None = None, **options: Any) -> subprocess.CompletedProcess[bytes]:
-    """Runs a program to its end."""
+    """Runs a program to its end. Raises Stopped if a signal arrived before or during the run."""
     check()
     done = _run(words, data, **options)
     check()
@@ -68,8 +68,8 @@ def run(words: list[str], data: bytes | None = None, **options: Any) -> subproce
 
 
 def run_on_terminal(words: list[str]) -> int:
-    """Runs a program that has the terminal, and so the signals of its keys, for itself. A signal during the run
-    raises nothing after it: what the program has written is to be looked at first."""
+    """Runs a program that owns the terminal, and so handles Ctrl-C itself. A signal during the run raises nothing
+    afterwards, so that the caller can first look at what the program wrote."""
     check()
     state.leaves_keys = True
     try:
@@ -92,7 +92,7 @@ def _run(words: list[str], data: bytes | None = None, **options: Any) -> subproc
 
 
 def _wait_for_end(program: Program, data: bytes | None) -> tuple[bytes, bytes]:
-    # What reads data ends by itself; and Python does not write the rest of them after a timeout.
+    # A program that reads data ends by itself. Besides, Python does not write the rest of the data after a timeout.
     if data is not None:
         return program.communicate(data)
     while True:

@@ -1,5 +1,5 @@
-"""Secrets of a command line of ansible-vault-with for which something is run, or that are asked for: also those that it
-need not name, and the new one of rekey."""
+"""Gets the secrets of ansible-vault-with that come from scripts or prompts, including a password that nothing names and
+the new secret of rekey."""
 
 from __future__ import annotations
 
@@ -13,7 +13,7 @@ from ansible_vault_companions.tool import finding
 from ansible_vault_companions.tool.tool import Tool
 
 WRONG_COMMAND_LINE = 2
-# What the tool refuses before it opens any file.
+# The tool refuses this word before it opens any file.
 REFUSED_SECRET = "--vault-id=prompt"
 NO_NEW = (
     "no new secret is given: name one with --new-vault-id or --new-vault-password-file, or run this at a terminal and "
@@ -24,7 +24,7 @@ NO_NEW = (
 def obtained(
     companion: str, tool: Tool, run: Run, named: list[Source], line: list[str]
 ) -> tuple[list[Secret], list[Secret]]:
-    """All secrets, and the new ones. From now on signals are noted, and first the tool looks at the command line."""
+    """The secrets, and the new ones of rekey. Starts noting signals, and lets the tool check the command line first."""
     stopping.listen()
     _refuse_wrong(tool, run.words.command, line)
     encrypts = run.words.command in ENCRYPTING
@@ -33,7 +33,7 @@ def obtained(
 
 
 def _refuse_wrong(tool: Tool, command: str, line: list[str]) -> None:
-    """Lets the tool refuse the command line, if it does, before anything is asked or run."""
+    """Lets the tool refuse an invalid command line before the user is asked or a script runs."""
     try:
         tool.run([command, REFUSED_SECRET, *line], b"", [])
     except Refused as fault:
@@ -42,7 +42,7 @@ def _refuse_wrong(tool: Tool, command: str, line: list[str]) -> None:
 
 
 def secrets(encrypts: bool, none: str = options.NONE) -> list[Secret]:
-    """What is asked for where nothing names a secret, and what is said if that is not possible."""
+    """Asks for a password where nothing names a secret. Raises Refused with the text `none` if there is no terminal."""
     [secret] = options.of_options([ASKED], [], encrypts)
     if isinstance(secret.fault, NoTerminal):
         raise Refused(none)
@@ -50,7 +50,7 @@ def secrets(encrypts: bool, none: str = options.NONE) -> list[Secret]:
 
 
 def new_secrets(run: Run, old: list[Secret]) -> list[Secret]:
-    """Those of the options, else that of the settings with the label to encrypt with, else what is asked for."""
+    """Those from the options, else the one from the settings with the label to encrypt with, else a typed one."""
     words = run.words
     new = options.of_options(words.new_ids, words.new_paths, encrypts=True)
     fitting = [secret for secret in new or old if secret.label == run.label and (new or secret.is_setting)]

@@ -1,4 +1,4 @@
-"""The help of a command of ansible-vault as ansible-vault-with takes it."""
+"""The help for a command of ansible-vault-with."""
 
 from __future__ import annotations
 
@@ -9,7 +9,7 @@ from ansible_vault_companions.program import Refused
 from ansible_vault_companions.tool import finding
 from ansible_vault_companions.tool.tool import Tool
 
-# What is otherwise than in the help of the tool.
+# Replacements in the tool's own help, for each command.
 SEVERAL_FILES = [("[FILE]", "[FILE]...")]
 IN_PLACE = [
     *SEVERAL_FILES,
@@ -31,7 +31,7 @@ FOR_ALL = """\
   -J, --ask-vault-password        Ask at the terminal for the password of the label `default`
       --ask-vault-pass            The same
       --vault-pass-file <PATH>    The same as --vault-password-file"""
-# The options that the tool does not have.
+# Options that the tool does not have.
 ADDED = {
     ENCRYPT_STRING: """
   -p, --prompt                    Ask at the terminal for one more text, and for its name
@@ -46,7 +46,7 @@ For more, see `{name} --help`."""
 
 
 def show(companion: str, tool: Tool, words: Words) -> int:
-    """The help, from that of the tool, unless the tool refuses the command line."""
+    """Prints the tool's help with replacements and additions. If the tool refuses the command line, it takes over."""
     line = [words.command, *words.secret_options(), *words.others]
     try:
         text = tool.run(line, b"", []).decode()

@@ -1,4 +1,4 @@
-"""Several files or strings of one command line of ansible-vault, with a run of the tool for each."""
+"""Handles several files or strings on one command line, with one run of ansible-vault for each."""
 
 from __future__ import annotations
 
@@ -19,12 +19,12 @@ from ansible_vault_companions.secrets.sources import Secret
 from ansible_vault_companions.tool.faults import NOT_DECRYPTED, NotDecrypted
 from ansible_vault_companions.tool.tool import Tool
 
-# What only several strings or a typed one have, or each has for itself.
+# Options that are not passed on as given: the tool does not have them, or each string gets its own.
 OF_STRINGS = (VARIABLE, STDIN_NAME, PROMPT, SHOW_INPUT)
 
 
 class Text(NamedTuple):
-    """A string to encrypt, with the name of its variable, if it has one, and where it comes from."""
+    """A string to encrypt, with the name of its variable, if any, and its origin."""
 
     content: bytes
     name: str | None
@@ -32,13 +32,13 @@ class Text(NamedTuple):
 
 
 def heed_label(run: Run, envelope: bytes) -> None:
-    """Anybody can change a label. So if several secrets are given, one of another label may not decrypt what is
-    rekeyed: its text would get the password that is meant for this label."""
+    """With several secrets, requires that rekey decrypts an envelope by a secret with its label. Anybody can change a
+    label, and text of another label would get the new password that is meant for this one."""
     run.heeds_label = run.words.command == REKEY and len(run.secrets) > 1 and bool(written_label(envelope))
 
 
 def output(tool: Tool, run: Run, options: list[str], data: bytes) -> bytes:
-    """What the tool writes for some input; secrets that are too many for it are tried in several runs."""
+    """The tool's output for an input. If there are too many secrets for one run, tries them in several."""
     heed_label(run, data)
     for group in run.groups():
         with suppress(NotDecrypted):
@@ -50,7 +50,7 @@ def output(tool: Tool, run: Run, options: list[str], data: bytes) -> bytes:
 
 
 def handle(companion: str, tool: Tool, run: Run) -> int:
-    """Replaces each file or shows it, or makes a block of each string."""
+    """Replaces or shows each file, or makes a block of each string. Returns the exit status."""
     end = b""
 
     def replace(path: str) -> None:
@@ -59,7 +59,7 @@ def handle(companion: str, tool: Tool, run: Run) -> int:
         replacing.replace(path, after, before, is_private=run.words.command == DECRYPT)
 
     def show(path: str) -> None:
-        """The next one begins on a line of its own."""
+        """Shows a file. If its text does not end with a newline, the next file still begins on a new line."""
         nonlocal end
         text = output(tool, run, run.words.without(), reading.named(path))
         program.write(end + text)
@@ -71,7 +71,7 @@ def handle(companion: str, tool: Tool, run: Run) -> int:
 
 
 def _each(companion: str, paths: list[str], work: Callable[[str], None]) -> int:
-    """The highest status of all files; one that fails is reported, and the others go on."""
+    """Calls `work` for each file, and returns the highest status. Reports a failure and continues with the rest."""
     statuses = [0]
     for path in paths:
         try:
@@ -83,7 +83,7 @@ def _each(companion: str, paths: list[str], work: Callable[[str], None]) -> int:
 
 
 def _blocks(tool: Tool, run: Run) -> int:
-    """Writes a block of YAML for each string, in Ansible's order: what is typed, standard input, arguments."""
+    """Writes a block for each string, in Ansible's order: the typed one, standard input, arguments."""
     words = run.words
     texts = [*_typed(words), *_read(words), *_given(words)]
     path = words.value(OUTPUT)
@@ -119,7 +119,7 @@ def _read(words: Words) -> list[Text]:
 
 
 def _all_of(file: str | int) -> bytes:
-    """All that comes, or more than the tool takes; a signal ends the wait for it."""
+    """The whole input, or its beginning if it is too long for the tool. A signal ends the wait for it."""
     with stopping.interruptible(), open(file, "rb", closefd=file != 0) as opened:
         return opened.read(reading.LIMIT + 1)
 
@@ -136,7 +136,7 @@ def _given(words: Words) -> list[Text]:
 
 
 def _kept_input(words: Words) -> bytes:
-    """The input, which becomes standard input if it can be read only once."""
+    """The input. If it can be read only once, a copy in memory replaces standard input and the argument."""
     path = next(iter(words.arguments), STANDARD_INPUT)
     if os.path.isfile(path) and path != STANDARD_INPUT:
         return reading.named(path)
@@ -146,13 +146,13 @@ def _kept_input(words: Words) -> bytes:
         file.write(data)
     os.lseek(descriptor, 0, os.SEEK_SET)
     os.dup2(descriptor, 0)
-    # Arguments are words without a name.
+    # Arguments have an empty name.
     words.leave_out("")
     return data
 
 
 def serving(tool: Tool, run: Run) -> list[Secret]:
-    """No more secrets than the tool takes at once: those among which one decrypts the input, which is kept."""
+    """The first group of secrets that decrypts the input, or the last group. The tool can still read the input."""
     data = _kept_input(run.words)
     heed_label(run, data)
     *groups, last = run.groups()

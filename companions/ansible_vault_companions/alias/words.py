@@ -1,4 +1,4 @@
-"""The words of a command line of ansible-vault, and among them those that name secrets."""
+"""Parses a command line, and separates the options that name secrets from the rest."""
 
 from __future__ import annotations
 
@@ -7,12 +7,12 @@ from ansible_vault_companions.alias.table import STDIN_NAME, VALUE, VARIABLE, VE
 from ansible_vault_companions.secrets.sources import ASKED
 
 STANDARD_INPUT = "-"
-# What ends the options.
+# Ends the options.
 END = "--"
 
 
 class Words:
-    """The command, what names secrets, and all else in its order."""
+    """The command, the options that name secrets, and everything else in its order."""
 
     def __init__(self) -> None:
         self.command = ""
@@ -21,24 +21,24 @@ class Words:
         self.new_ids: list[str] = []
         self.new_paths: list[str] = []
         self.arguments: list[str] = []
-        # Options with their values, and arguments, each by the name of the option.
+        # Options and arguments: the option's name, empty for an argument, and the words.
         self.parts: list[tuple[str, list[str]]] = []
         # The values of each option.
         self.values: dict[str, list[str]] = {}
-        # Why an option is refused.
+        # The reason to refuse an option, if there is one.
         self.fault = ""
 
     @property
     def others(self) -> list[str]:
-        """All that does not name secrets."""
+        """All words after the command that do not name secrets."""
         return [word for _, words in self.parts for word in words]
 
     def has(self, *names: str) -> bool:
-        """Whether one of these options is given."""
+        """Whether any of these options is given."""
         return any(name in names for name, _ in self.parts)
 
     def without(self, *names: str) -> list[str]:
-        """The options that do not name secrets, without some."""
+        """The options that do not name secrets, except some."""
         return [word for name, words in self.parts for word in words if name and name not in names]
 
     def value(self, name: str) -> str | None:
@@ -46,12 +46,11 @@ class Words:
         return self.values[name][-1] if name in self.values else None
 
     def has_files(self) -> bool:
-        """Whether all arguments are files, and there are some."""
+        """Whether there are arguments, and none of them is standard input."""
         return bool(self.arguments) and STANDARD_INPUT not in self.arguments
 
     def are_several(self) -> bool:
-        """Whether they take more than one run of the tool, or one whose output replaces a file or whose string is
-        typed."""
+        """Whether they need more than one run of the tool, or one that replaces a file or encrypts a typed string."""
         is_more = len(self.arguments) > 1
         if self.command == ENCRYPT_STRING:
             return self.has(PROMPT) or is_more or bool(self.arguments and self.has(STDIN_NAME))
@@ -61,7 +60,7 @@ class Words:
         return bool(self.ids or self.paths)
 
     def secret_options(self) -> list[str]:
-        """The options that name secrets, with other names where the tool has these."""
+        """The options that name secrets, under the names that the tool has for them."""
         return [
             *(f"--vault-id={each}" for each in self.ids),
             *(f"--vault-password-file={each}" for each in self.paths),
@@ -70,11 +69,11 @@ class Words:
         ]
 
     def leave_out(self, *names: str) -> None:
-        """Takes options away that the tool is not to have."""
+        """Removes options that the tool must not get."""
         self.parts = [part for part in self.parts if part[0] not in names]
 
     def take(self, word: str, following: list[str]) -> None:
-        """One word, with its value where that follows. What has no value is left to the tool to refuse."""
+        """Takes a word, and its value if that follows. An option without its value is left for the tool to refuse."""
         if not word.startswith("-") or word == STANDARD_INPUT:
             self._argument(word)
             return
@@ -91,12 +90,12 @@ class Words:
             self._option(name, value, [f"{name}{equals}{value}"])
 
     def end(self, words: list[str]) -> None:
-        """The words after the end of the options."""
+        """Takes the words after the end of the options as arguments."""
         self.arguments += words
         self.parts.append(("", [END, *words]))
 
     def _split(self, word: str) -> tuple[str, str, str]:
-        """The name of an option, an equals sign where a value follows, and the value."""
+        """The name of an option, an equals sign if the word contains a value, and that value."""
         if word.startswith("--"):
             name, equals, value = word.partition("=")
             return self._whole(name), equals, value
@@ -107,7 +106,7 @@ class Words:
         return word, "", ""
 
     def _whole(self, name: str) -> str:
-        """The name of an abbreviated option, where it is clear."""
+        """The full name of an abbreviated option. Sets `fault` if it is ambiguous."""
         known = known_to(self.command)
         found = [option for option in known if option.startswith(name)]
         if name in known or not found:

@@ -1,7 +1,7 @@
 """Finds, reads and replaces files.
 
-`searching` and `reading` find files and read them up to a limit. `finding` finds the vaults and blocks in a file, which
-are `envelopes`, and `changes` puts other bytes in their places. `replacing` writes a new content beside a file and
-renames it. `private_folder` and `last_save` are for an editor.
+`searching` and `reading` find files and read them up to a limit. `finding` finds the `envelopes` in a file, and
+`changes` replaces some bytes with others. `replacing` writes new content to a file beside the old one, and renames it.
+`private_folder` and `last_save` are for an editor.
 May import no other package.
 """

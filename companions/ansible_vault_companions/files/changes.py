@@ -1,4 +1,4 @@
-"""Bytes that take the place of others in a file, whose other bytes stay."""
+"""Replaces some bytes of a file and keeps all others."""
 
 from __future__ import annotations
 
@@ -6,7 +6,7 @@ from typing import Iterable, NamedTuple
 
 
 class Change(NamedTuple):
-    """Bytes that take the place of others."""
+    """The bytes from `start` to `end`, and their replacement."""
 
     start: int
     end: int
@@ -22,5 +22,5 @@ def changed(data: bytes, changes: Iterable[Change]) -> bytes:
 
 
 def indented(text: bytes, margin: bytes, end: bytes) -> bytes:
-    """Its lines with this end, and with a margin before those that are not empty."""
+    """The text with this line ending, and with a margin before each line that is not empty."""
     return end.join(margin + line if line else b"" for line in text.split(b"\n"))

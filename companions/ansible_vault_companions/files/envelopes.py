@@ -1,4 +1,4 @@
-"""What an envelope in a file is: a vault is one, and a block of YAML is an indented one."""
+"""Envelopes in files: a vault as a whole is one, and a block contains an indented one."""
 
 from __future__ import annotations
 
@@ -10,7 +10,7 @@ from ansible_vault_companions.files.changes import indented
 from ansible_vault_companions.program import Refused, shown
 
 MAGIC = b"$ANSIBLE_VAULT"
-# What every envelope within a file begins with.
+# The beginning of every envelope within a file.
 START = MAGIC + b";"
 UTF_16 = tuple(MAGIC.decode().encode(codec) for codec in ("utf-16-le", "utf-16-be"))
 TAG_NAME = b"!vault"
@@ -20,23 +20,23 @@ LINE = re.compile(rb"[^\r\n]*")
 
 @dataclass(frozen=True)
 class Envelope:
-    """An envelope in a file, with the place of its bytes there."""
+    """An envelope in a file, with the position of its bytes."""
 
     start: int
     end: int
-    # Of its first line, from 1; 0 where the file is a vault.
+    # The number of its first line, from 1; 0 if the file is a vault.
     line: int
     spaces: bytes
-    # As the tool reads it; nothing where it cannot be put back.
+    # As the tool reads it; empty if it cannot be replaced.
     text: bytes
     label: str | None
-    # Of the variable, where the line has one.
+    # The name of its variable, if it has one.
     name: str | None = None
-    # Why it cannot be put back.
+    # Why it cannot be replaced; empty if it can.
     obstacle: str = ""
 
     def place(self, path: str) -> str:
-        """Where it stands, for a message."""
+        """The path, with the line number if it is not the whole file, for a message."""
         return f"{shown(path)}:{self.line}" if self.line else shown(path)
 
     def readable(self) -> bytes:
@@ -54,7 +54,7 @@ class Envelope:
         """Another envelope with the same indentation and line endings as this one."""
         if not self.line:
             return envelope.replace(b"\n", self._end())
-        # The end of a block's last line is none of the block's.
+        # The newline after the last line does not belong to the block.
         return self.in_place(envelope.removesuffix(b"\n"))
 
     def _end(self) -> bytes:
@@ -62,20 +62,20 @@ class Envelope:
 
 
 def matched(pattern: re.Pattern[bytes], data: bytes, start: int = 0, end: int = sys.maxsize) -> re.Match[bytes]:
-    """What is found at a place where the pattern is known to match."""
+    """The match at a position where the pattern is known to match."""
     found = pattern.match(data, start, end)
     assert found
     return found
 
 
 def label_of(text: bytes) -> str | None:
-    """The label of an envelope, `default` if its first line has none; None if that is no header."""
+    """The label of an envelope; `default` if its first line has none, and None if that line is not a header."""
     label = written_label(text)
     return "default" if label == "" else label
 
 
 def written_label(text: bytes) -> str | None:
-    """The label in the first line of an envelope, empty if there is none, as in format 1.1; None if that is no
+    """The label in the first line of an envelope. Empty if there is none, as in format 1.1; None if that line is not a
     header."""
     fields = [field.strip() for field in matched(LINE, text)[0].split(b";")]
     if len(fields) < 3 or not b"".join(fields).isascii():

@@ -1,7 +1,7 @@
 """Finds the envelopes in a file.
 
-They are found by their bytes, in one pass and with no parser of YAML: all else in a file keeps every
-byte. One in a form that cannot be put back as it stands is found, too, and says what to do about it.
+The search looks at bytes, in one pass and without a YAML parser, so that everything else in a file can keep every
+byte. It also finds envelopes in a form that cannot be replaced. Those have an `obstacle`, which says what to do.
 """
 
 from __future__ import annotations
@@ -12,7 +12,7 @@ from typing import Iterator
 from ansible_vault_companions import stopping
 from ansible_vault_companions.files.envelopes import BYTE_ORDER_MARK, MAGIC, START, UTF_16, Envelope, label_of, matched
 
-# Forms in which an envelope is not put back, with what to do.
+# Forms of an envelope that cannot be replaced, and what to do about each.
 IN_A_LINE = (
     "an envelope in quotes or within a line; write it as a block (`NAME: !vault |` and its lines below, "
     "indented with spaces), or encrypt the whole file"
@@ -24,31 +24,31 @@ BEHIND_MARK = "an envelope after a byte order mark; remove the mark"
 BEHIND_SPACE = "an envelope after empty lines or spaces at the start of the file; remove them, or it is not a vault"
 IN_UTF_16 = "envelopes in UTF-16; save the file as UTF-8"
 
-# The lines of a block, but for the end of the last one.
+# The lines of a block, without the newline of the last one.
 BLOCK = re.compile(
     rb"(?P<spaces> *)\$ANSIBLE_VAULT;[^\r\n]*(?P<digits>(?:\r?\n(?P=spaces)[0-9a-fA-F]+(?=\r?\n|\Z))*)"
 )
-# What the line before a block ends with: `!vault |`, with an anchor, a mark or a comment.
+# The end of the line before a block: `!vault |`, perhaps with an anchor, an indicator or a comment.
 TAG = re.compile(
     rb"!vault(?:-encrypted)?[ \t]+(?:&\S+[ \t]+)?(?P<style>[|>])[0-9+-]*[ \t]*(?:[ \t]#[^\r\n]*)?\r?\n\Z"
 )
-# What stands before an envelope in the line of its tag.
+# The text before an envelope on the same line as its tag.
 TAG_IN_LINE = re.compile(rb"!vault(?:-encrypted)?[ \t]+(?:&\S+[ \t]+)?[\"']?\Z")
-# How much of a line is searched before a tag, and before an envelope in the line of its tag.
+# How much of a line is searched for a tag: of the line before an envelope, and of the envelope's own line.
 LONGEST_TAG = 4096
 LONGEST_TAG_IN_LINE = 128
-# How a line begins: with spaces, other blanks, and the mark of a comment.
+# The beginning of a line: spaces, other blanks, and a comment mark.
 LINE_HEAD = re.compile(rb"(?P<spaces> *)(?P<blanks>[ \t]*)(?P<comment>#?)")
-# The header of an envelope that is no line of its own, which ends at a quote or an escape.
+# The header of an envelope within a line. It ends at a quote or an escape.
 HEADER = re.compile(rb"[^\r\n\"'\\]{0,256}")
 KNOWN_HEADER = re.compile(rb"\$ANSIBLE_VAULT;1\.\d;AES")
 DIGITS = re.compile(rb"[0-9a-fA-F]{32}")
-# How far after the start of such an envelope its digits are searched.
+# How far after the start of such an envelope to look for digits.
 WINDOW = 512
 
 
 def envelopes(data: bytes) -> list[Envelope]:
-    """All that a file holds: itself, or those within it."""
+    """All envelopes in a file: the whole file if it is a vault, otherwise those within it."""
     if data.startswith(MAGIC):
         return [Envelope(0, len(data), 0, b"", data, label_of(data))]
     found = list(_within(data))
@@ -58,12 +58,12 @@ def envelopes(data: bytes) -> list[Envelope]:
 
 
 class _Line:
-    """The line of a place in the data. Places come in their order, so that all of them take one pass."""
+    """The line around a position in the data. Positions only increase, so that all of them take one pass."""
 
     def __init__(self, data: bytes) -> None:
         self.data = data
         self.place = self.start = 0
-        # Of the first character that is no white space.
+        # The position of the first character that is not white space.
         self.first = len(data) - len(data.lstrip())
         self.number = 1
         self.head = matched(LINE_HEAD, data)
@@ -77,7 +77,7 @@ class _Line:
         self.place = place
 
     def before(self) -> bytes:
-        """The line before this one, or the end of a long one."""
+        """The line before this one, or the end of it if it is long."""
         first = max(0, self.start - LONGEST_TAG)
         return self.data[max(first, self.data.rfind(b"\n", first, max(0, self.start - 1)) + 1) : self.start]
 
@@ -95,7 +95,7 @@ def _within(data: bytes) -> Iterator[Envelope]:
 
 
 def _block(line: _Line) -> Envelope | None:
-    """The block that begins in this line, at this place."""
+    """The block that begins at this position, if one does."""
     if line.place != line.head.end("spaces"):
         return None
     tag_line = line.before()
@@ -124,7 +124,7 @@ def _obstacle_of_block(line: _Line, tag: re.Match[bytes] | None) -> str:
 
 
 def _elsewhere(line: _Line) -> Envelope | None:
-    """The envelope at this place, where it has digits nearby or a tag before it."""
+    """The envelope at this position that is not a block, if digits follow nearby or a tag precedes it."""
     data, place = line.data, line.place
     after = place + len(START)
     following = data.find(START, after, after + WINDOW)
@@ -135,13 +135,13 @@ def _elsewhere(line: _Line) -> Envelope | None:
     if not (digits or tag):
         return None
     header = matched(HEADER, data, place, digits.start() if digits else len(data))[0]
-    # Only what follows the last brace or comma.
+    # The name is after the last brace or comma.
     name = _name(re.split(rb"[{,]", data[first : tag.start()])[-1]) if tag else None
     return Envelope(place, after, line.number, b"", b"", label_of(header), name, _obstacle(line))
 
 
 def _obstacle(line: _Line) -> str:
-    """Why the envelope of this line is no block."""
+    """The reason why the envelope in this line is not a block."""
     if line.head["comment"]:
         return COMMENTED
     if line.place == line.head.end("blanks"):
@@ -152,7 +152,7 @@ def _obstacle(line: _Line) -> str:
 
 
 def _name(head: bytes) -> str | None:
-    """The name of the variable, from what precedes its tag."""
+    """The name of the variable, from the text before its tag."""
     words = head[-LONGEST_TAG:].split()
     if words and words[-1].startswith(b"&"):
         words.pop()

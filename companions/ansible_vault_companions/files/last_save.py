@@ -1,4 +1,4 @@
-"""What an editor has saved last as a whole: one that is ended while it saves may leave half a text."""
+"""Keeps the last complete text that an editor saved, since an editor that is killed while saving may leave half."""
 
 from __future__ import annotations
 
@@ -9,15 +9,15 @@ import threading
 from ansible_vault_companions.files import reading
 from ansible_vault_companions.program import Refused
 
-# Seconds between two looks at the file. What is the same in both is whole.
+# Seconds between two checks of the file. If nothing changed between them, the text is complete.
 PAUSE = 0.3
 
-# What changes when a file is written or replaced.
+# Changes whenever a file is written or replaced.
 State = tuple[int, int, int]
 
 
 class LastSave:
-    """Watches the file at a path from a thread of its own."""
+    """Watches the file at a path, in a thread of its own."""
 
     def __init__(self, path: str) -> None:
         self.path = path

@@ -1,4 +1,4 @@
-"""The folder of a plaintext that is edited, for its owner alone."""
+"""The directory for the plaintext of an edit, which only its owner can open."""
 
 from __future__ import annotations
 
@@ -14,13 +14,13 @@ from ansible_vault_companions.files import reading
 from ansible_vault_companions.program import Refused
 
 PREFIX = "ansible-vault-"
-# How often a folder is removed in which something is still being written, and the seconds between.
+# Attempts to remove a directory in which something is still being written, and the seconds between them.
 REMOVALS = 20
 PAUSE = 0.05
 
 
 class PrivateFolder:
-    """It is in memory if there is such a place, and is removed at the end, unless it is kept."""
+    """A private directory, in memory if possible. It is removed at the end of the context, unless it is kept."""
 
     def __init__(self) -> None:
         self.is_kept = False
@@ -46,14 +46,14 @@ class PrivateFolder:
             raise Refused(f"{program.reason(fault)}; {left}" if isinstance(fault, Refused) else str(left)) from None
 
     def create(self, name: str, content: bytes) -> str:
-        """The path of a new file here."""
+        """Creates a file in the directory, and returns its path."""
         path = os.path.join(self.path, name)
         with open(path, "xb", opener=_private_opener) as file:
             file.write(content)
         return path
 
     def others(self, name: str) -> list[tuple[str, bytes]]:
-        """The files here but for this one, with what they hold, as far as they can be read."""
+        """The names and contents of the other files in the directory, as far as they can be read."""
         found = []
         with suppress(OSError):
             for entry in os.scandir(self.path):
@@ -63,7 +63,7 @@ class PrivateFolder:
         return found
 
     def remove(self) -> None:
-        """What the editor has left running may still write there."""
+        """Removes the directory. Tries repeatedly, since a process of the editor may still be writing to it."""
         for _ in range(REMOVALS):
             try:
                 shutil.rmtree(self.path)
@@ -78,16 +78,16 @@ class PrivateFolder:
         raise Refused(f"plaintext is left in {self.path}: {last}; remove it yourself")
 
     def keep(self, why: Exception, name: str, text: bytes | None) -> Refused:
-        """The plaintext stays, since there is no other copy of what was typed: in $TMPDIR, if it can be moved there,
-        since what is in memory may go when the user logs out."""
+        """Keeps the plaintext, since there is no other copy of the user's work. Copies it from memory to $TMPDIR if
+        possible, since memory may be cleared when the user logs out. Returns the exception to raise."""
         is_there = os.path.lexists(self.path)
         copy = self._copied(name, text) if self.is_in_memory or not is_there else None
         self.is_kept = copy is None
         return Refused(f"{program.reason(why)}; what you saved is left in plaintext in {copy or self.path}")
 
     def _copied(self, name: str, text: bytes | None) -> str | None:
-        """The path of a copy of this folder in $TMPDIR, if one can be made, with this text even if the folder has
-        gone."""
+        """Copies the directory to $TMPDIR, and puts this text there even if the directory is gone. Returns the path of
+        the copy, or None if that fails."""
         copy = None
         try:
             copy = tempfile.mkdtemp(prefix=PREFIX)

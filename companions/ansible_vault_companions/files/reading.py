@@ -10,19 +10,19 @@ from typing import BinaryIO, Callable, Iterator
 from ansible_vault_companions import stopping
 from ansible_vault_companions.program import Refused
 
-# What is read at once of a file that may be no text at all. Some files of /proc give no odd number of bytes.
+# Bytes to read at once, since a file may be huge. Some files in /proc refuse reads of an odd size.
 CHUNK_SIZE = 1 << 20
-# The bytes of the longest vault. A text that has more is not read either, and of what has no end, such as a device or
-# a file of /proc, no more than this.
+# The length of the longest vault, in bytes. Longer texts are not read either, and of an endless file, as in /proc, no
+# more than this is read.
 LIMIT = 6 * 16_777_216 + 8_192
 
 
 class TooLong(OSError):
-    """A file has more bytes than are read of any."""
+    """A file is longer than the limit."""
 
 
 def read(path: str) -> bytes | None:
-    """The content of the file at a path, if there is one."""
+    """The content of the file at a path, or None if there is no file."""
     try:
         with opened(path) as file:
             return b"".join(parts(file, path))
@@ -31,7 +31,7 @@ def read(path: str) -> bytes | None:
 
 
 def named(path: str) -> bytes:
-    """The content of a file that has to be there. A signal ends the reading at once."""
+    """The content of a file that must exist. A signal ends the reading at once."""
     with stopping.interruptible():
         content = read(path)
     if content is None:
@@ -40,7 +40,7 @@ def named(path: str) -> bytes:
 
 
 def pieces(path: str) -> Iterator[bytes]:
-    """What a file holds, as much as it says that it has. A signal ends the reading."""
+    """Yields the content of a file, up to its stated size if that exceeds LIMIT. A signal ends the reading."""
     with opened(path) as file:
         yield from parts(file, path, stopping.check, max(LIMIT, os.fstat(file.fileno()).st_size))
 
@@ -48,7 +48,7 @@ def pieces(path: str) -> Iterator[bytes]:
 def parts(
     file: BinaryIO, path: str, check: Callable[[], None] = lambda: None, limit: int = LIMIT
 ) -> Iterator[bytes]:
-    """What a file holds, from its beginning, if that is no more than its limit."""
+    """Yields the content of a file from its beginning. Raises TooLong after the limit."""
     file.seek(0)
     left = limit
     while piece := file.read(CHUNK_SIZE):
@@ -60,7 +60,7 @@ def parts(
 
 
 def opened(path: str) -> BinaryIO:
-    """A file to read. Anything else is refused: opening a pipe might wait for ever."""
+    """Opens a regular file for reading. Refuses anything else: opening a pipe might wait forever."""
     descriptor = os.open(path, os.O_RDONLY | os.O_NONBLOCK | os.O_NOCTTY)
     mode = os.fstat(descriptor).st_mode
     if stat.S_ISREG(mode):

@@ -1,4 +1,4 @@
-"""How a file takes the place of another: it is written whole beside it, and then renamed."""
+"""Replaces files: the new file is written completely beside the old one, and then renamed."""
 
 from __future__ import annotations
 
@@ -13,22 +13,22 @@ from ansible_vault_companions.files import reading
 from ansible_vault_companions.program import Refused
 
 PREFIX = ".ansible-vault-"
-# What the name of a copy of what was saved begins with, and how many bytes of other names it has.
+# The name of a copy of an edit begins with this, and contains at most this many bytes of other names.
 SAVED = f"{PREFIX}saved-"
 LONGEST_NAME = 150
 LONGEST_END = 60
-# What `mkstemp` puts into it.
+# The part of a name that `mkstemp` chooses.
 RANDOM = "[a-z0-9_]{8}"
-# The mode of what its owner alone may read.
+# The mode of a file that only its owner may read.
 PRIVATE = 0o600
-# What says that a file system has no hard links.
+# Errors of a file system without hard links.
 NO_LINKS = (errno.EPERM, errno.EOPNOTSUPP, errno.ENOSYS, errno.EMLINK)
 
 
 def replace(path: str, content: bytes, before: bytes | None, is_private: bool = False) -> None:
-    """Replaces the content of a file that is still as it was read; links are followed. A private file is readable by
-    its owner only, whatever its mode was. The folder is synced, so that the old content does not come back after
-    a power failure."""
+    """Replaces the content of a file, following links. Refuses if the content is no longer `before`. A private file is
+    readable only by its owner, whatever its mode was. The directory is synced, so that the old content does not come
+    back after a power failure."""
     target = os.path.realpath(path)
     beside = _write_beside(target, content, is_private)
     try:
@@ -45,15 +45,15 @@ def replace(path: str, content: bytes, before: bytes | None, is_private: bool = 
 
 
 def check_replaceable(target: str) -> None:
-    """Refuses now what `replace` would refuse."""
+    """Refuses in advance a file that `replace` could not replace."""
     if target in _mount_points():
         raise Refused("it is a mount point, so no other file can replace it; use the file that is mounted there")
     os.unlink(_write_beside(target, b""))
 
 
 def save_copy(target: str, content: bytes, name: str = "") -> str:
-    """The path of a new file with this content, for its owner alone: beside the target, or in $TMPDIR. The name of
-    what else an editor left may end its own."""
+    """Writes a private copy beside the target, or else in $TMPDIR, and returns its path. For another file that an
+    editor left, `name` becomes the end of the copy's name."""
     suffix = f"-{_end_of(name, LONGEST_END)}" if name else ""
     (folder, prefix), (_, other_prefix) = _places_of_copies(target)
     try:
@@ -63,7 +63,7 @@ def save_copy(target: str, content: bytes, name: str = "") -> str:
 
 
 def copies(target: str, is_last_save: bool = False) -> list[str]:
-    """The copies that there are, or those of last saves alone."""
+    """The paths of all copies for a target, or only of those of last saves, which have no `name` at their end."""
     found = []
     end = r"\Z" if is_last_save else r"(?:-|\Z)"
     for folder, prefix in _places_of_copies(target):
@@ -74,13 +74,13 @@ def copies(target: str, is_last_save: bool = False) -> list[str]:
 
 
 def is_leftover(name: str) -> bool:
-    """Whether a file is called as one that is renamed when it is whole, or as a copy of what was saved."""
+    """Whether a file has the name of a temporary file that was never renamed, or of a copy of an edit."""
     return re.fullmatch(f"{re.escape(PREFIX)}{RANDOM}|{re.escape(SAVED)}.*", name, re.DOTALL) is not None
 
 
 def _places_of_copies(target: str) -> list[tuple[str, str]]:
-    """Folders, with what the names of copies begin with there: the target's name, or in $TMPDIR its whole path."""
-    # `tempfile` would write a file there to see whether it can.
+    """The directories for copies, with the beginning of the names there. In $TMPDIR it has the target's whole path."""
+    # `tempfile` would test the directory by writing a file there.
     temporary = os.environ.get("TMPDIR") or "/tmp"
     names = [(os.path.dirname(target), os.path.basename(target)), (temporary, target.replace("/", "%"))]
     return [(folder, f"{SAVED}{_end_of(name, LONGEST_NAME)}-") for folder, name in names]
@@ -91,7 +91,7 @@ def _end_of(name: str, length: int) -> str:
 
 
 def _create(beside: str, target: str) -> None:
-    """Gives a new file its name, which nobody else may have taken meanwhile."""
+    """Gives a new file its final name. Refuses if another program has created a file of that name."""
     try:
         try:
             os.link(beside, target)
@@ -107,8 +107,8 @@ def _create(beside: str, target: str) -> None:
 
 
 def _write_beside(target: str, content: bytes, is_private: bool = False) -> str:
-    """The path of a new file with this content, and with the owner and the mode of the target if there is
-    one; else for its owner alone."""
+    """Writes a file beside the target, and returns its path. It gets the target's owner and mode if the target exists;
+    otherwise only its owner may read it."""
     return _write_new(os.path.dirname(target), content, target if os.path.lexists(target) else None, is_private)
 
 
@@ -135,15 +135,15 @@ def _write_new(
 
 
 def _copy_metadata(descriptor: int, target: str, is_private: bool) -> None:
-    """Copies owner, mode and extended attributes (such as ACLs), in the order in which none resets another. A
-    private file gets the owner only, and the mode 0600."""
+    """Copies owner, mode and extended attributes (such as ACLs), in an order in which none resets another. A private
+    file gets only the owner, and the mode 0600."""
     old, new = os.stat(target), os.fstat(descriptor)
     if stat.S_ISREG(old.st_mode) and old.st_nlink > 1:
         raise Refused(f"it has {old.st_nlink} names (hard links); replace the others by symbolic links first")
     if (old.st_uid, old.st_gid) != (new.st_uid, new.st_gid):
         _give(descriptor, old.st_uid, old.st_gid)
     wanted = [] if is_private else _attributes(target)
-    # Those that the folder gives to every new file.
+    # Attributes that the directory gives to every new file.
     for name in set(_attributes(descriptor)) - set(wanted):
         os.removexattr(descriptor, name)
     os.fchmod(descriptor, PRIVATE if is_private else stat.S_IMODE(old.st_mode))
@@ -160,7 +160,7 @@ def _give(descriptor: int, user: int, group: int) -> None:
 
 
 def _attributes(target: str | int) -> list[str]:
-    """The names of the extended attributes but for those of security modules, which the system gives."""
+    """The names of the extended attributes, except those of security modules, which the system sets."""
     try:
         return [name for name in os.listxattr(target) if not name.startswith("security.")]
     except OSError as fault:
@@ -173,13 +173,13 @@ def _sync(folder: str) -> None:
     try:
         descriptor = os.open(folder, os.O_RDONLY | os.O_DIRECTORY)
     except PermissionError:
-        # A folder that may be written and not be read.
+        # The directory may be writable but not readable.
         os.sync()
         return
     try:
         os.fsync(descriptor)
     except OSError as fault:
-        # Some file systems sync no folders.
+        # Some file systems cannot sync directories.
         if fault.errno != errno.EINVAL:
             raise
     finally:

@@ -1,4 +1,4 @@
-"""The files below the paths of a command line, and those that have envelopes."""
+"""Finds the files below the paths of a command line, and reads those with envelopes."""
 
 from __future__ import annotations
 
@@ -14,9 +14,9 @@ from ansible_vault_companions.files.envelopes import MAGIC, UTF_16, mentions_env
 from ansible_vault_companions.files.reading import CHUNK_SIZE, LIMIT, TooLong, opened, parts
 from ansible_vault_companions.program import Refused
 
-# Bytes of an envelope's beginning that may end one piece and continue in the next.
+# If two pieces split the beginning of an envelope, the first one has at most this many bytes of it.
 OVERLAP = max(map(len, UTF_16)) - 1
-# Prose shows blocks that are not meant.
+# Documents, in which blocks may be examples.
 PROSE = (".md", ".rst", ".adoc", ".html")
 PLACES = """\
 Each PATH is a file or a directory. Directories are searched recursively,
@@ -29,11 +29,11 @@ what to do."""
 
 
 class Unsearched(Refused):
-    """A file has no envelope as far as it is read, and goes on."""
+    """A file has no envelope up to the limit, but is longer."""
 
 
 def add_options(parser: argparse.ArgumentParser) -> None:
-    """The paths to search, and what is left out there."""
+    """Adds the paths to search, and the options that leave out files."""
     parser.add_argument("--tracked", action="store_true", help="look only at files that git tracks")
     parser.add_argument(
         "--exclude",
@@ -49,7 +49,7 @@ def add_options(parser: argparse.ArgumentParser) -> None:
 def files_below(
     paths: list[str], refuse: Callable[[str, Exception], None], excluded: Collection[str] = ()
 ) -> Iterator[str]:
-    """Each file once, whatever leads to it; what cannot be looked at is refused by its name. A signal ends it."""
+    """Yields each file once, even if several paths lead to it. Refuses what cannot be searched. A signal ends it."""
     seen = set()
     for path in paths:
         for file, is_named in _candidates(path, refuse, excluded):
@@ -69,14 +69,14 @@ def files_below(
 
 
 def _leads_nowhere(file: str, fault: OSError) -> bool:
-    """Whether it is a link to nothing, or to itself."""
+    """Whether the path is a link to nothing, or to itself."""
     return os.path.islink(file) and fault.errno in (errno.ENOENT, errno.ELOOP)
 
 
 def _candidates(
     path: str, refuse: Callable[[str, Exception], None], excluded: Collection[str]
 ) -> Iterator[tuple[str, bool]]:
-    """The path itself where it is no folder, else all files below it; and whether it was named."""
+    """Yields the path itself if it is not a directory, otherwise all files below it; and whether the user named it."""
     if not os.path.isdir(path):
         if not _is_excluded(os.path.normpath(path), excluded):
             yield path, True
@@ -91,7 +91,7 @@ def _candidates(
 
 
 def _is_excluded(path: str, patterns: Collection[str]) -> bool:
-    """Whether the name of a file or folder below the one that is searched is like a pattern, or its path is."""
+    """Whether a pattern matches a path below the searched directory, or just its name if the pattern has no slash."""
     normal = [os.path.normpath(pattern) for pattern in patterns]
     return any(fnmatchcase(path if "/" in pattern else os.path.basename(path), pattern) for pattern in normal)
 
@@ -101,7 +101,7 @@ def is_prose(path: str) -> bool:
 
 
 def contents(path: str, with_prose: bool = False) -> bytes:
-    """The content of a file; empty if it has no envelope that is to be looked at. A signal ends the search."""
+    """The content of a file; empty if it has no envelopes or is a document to skip. A signal ends the search."""
     with opened(path) as file:
         begins = file.read(CHUNK_SIZE).startswith(MAGIC)
         is_skipped = is_prose(path) and not with_prose

@@ -1,7 +1,7 @@
 """Asks git what a repository holds, and finds plaintext that must not be committed.
 
-`commands` runs git so that no file of a repository is executed; `repositories`, `contents`, `attributes`, `commits` and
-`links` ask it. `leaks` has the rule of what is no longer encrypted, `places` where a file has what, `damage` what is
-wrong with a file by itself, and `unmerged` open conflicts. `review` puts them together; `installing` sets up a clone.
+`commands` runs git so that it executes no file of a repository; `repositories`, `contents`, `attributes`, `commits` and
+`links` ask it. `leaks` decides what is no longer encrypted, with the positions in files from `places`. `damage` checks
+a file by itself, and `unmerged` lists open conflicts. `review` puts them together; `installing` sets up a clone.
 May import files, yaml.
 """

@@ -1,4 +1,4 @@
-"""Runs git, so that it starts nothing that a folder names."""
+"""Runs git so that it starts no program that a repository names."""
 
 from __future__ import annotations
 
@@ -9,19 +9,19 @@ from typing import Any
 from ansible_vault_companions import running
 from ansible_vault_companions.program import Refused
 
-# A folder that somebody else made has settings, hooks and attributes of its own, which name programs. To read an index
-# git would start that of core.fsmonitor, to write one the hook post-index-change, and to get an object that a partial
-# clone lacks a transport, and with it core.sshCommand or a helper for credentials. These are switched off. Filters,
-# pagers, and programs that show differences or merge them belong to commands that are not used here.
+# A stranger's repository has its own settings, hooks and attributes, which name programs. git would start the program
+# in core.fsmonitor to read an index, the hook post-index-change to write one, and a transport (and so core.sshCommand
+# or a credential helper) to fetch an object that a partial clone lacks. These are switched off. Filters, pagers, and
+# programs for diff and merge belong to git commands that are not used here.
 OFF = ("-c", "core.fsmonitor=false", "-c", "submodule.recurse=false")
 HOOKS_OFF = ("-c", f"core.hooksPath={os.devnull}")
-# These run no hook, and say where the hooks are.
+# These commands run no hook, and need the real setting to say where the hooks are.
 OF_HOOKS = ("rev-parse", "config")
 NO_TRANSPORT = {"GIT_NO_LAZY_FETCH": "1", "GIT_ALLOW_PROTOCOL": "none"}
 
 
 def command(words: tuple[str, ...]) -> list[str]:
-    """One of git's commands, so that it starts nothing that a folder names."""
+    """The words of a git command that starts no program that a repository names."""
     hooks = () if words[0] in OF_HOOKS else HOOKS_OFF
     return ["git", "--no-pager", "--literal-pathspecs", *OFF, *hooks, *words]
 
@@ -33,7 +33,7 @@ def environment(index: str | None = None) -> dict[str, str]:
 def run(
     *words: str, data: bytes = b"", index: str | None = None, **options: Any
 ) -> subprocess.CompletedProcess[bytes]:
-    """Runs one of git's commands to its end, whatever its status is."""
+    """Runs a git command to its end, whatever its status."""
     pipes = {"stdin": subprocess.PIPE, "stdout": subprocess.PIPE}
     try:
         return running.run(command(words), data, env=environment(index), **pipes, **options)
@@ -51,7 +51,7 @@ def git(
 
 
 def answer(*words: str, folder: str | None = None) -> bytes:
-    """What git answers; nothing if it has no answer."""
+    """The output of a git command, or nothing if it fails."""
     try:
         return git(*words, folder=folder, is_quiet=True)
     except Refused:

@@ -1,4 +1,4 @@
-"""What commits change: which files come, and which go."""
+"""The changes that commits make: which files are added, changed or removed."""
 
 from __future__ import annotations
 
@@ -11,21 +11,21 @@ from ansible_vault_companions.git.commands import answer, git
 from ansible_vault_companions.git.contents import FILE_MODES, LINK_MODE, PARTIAL, entries, listed
 from ansible_vault_companions.program import Refused, shown
 
-# How messages call other commits.
+# How messages refer to other commits.
 PARENT = "the parent commit"
 EARLIER = "an earlier commit"
-# By a variable of this name git names to a hook a commit that is merged.
+# git gives a hook the commits being merged in environment variables with this prefix.
 MERGED = "GITHEAD_"
 SHALLOW = (
     "this clone is shallow, so earlier commits are missing; run `git fetch --unshallow` first, and let a pipeline "
     "fetch all of them (fetch-depth: 0, GIT_DEPTH: 0)"
 )
-# What names the remote that is to have what a partial clone lacks.
+# The settings of a partial clone, which name the remote with the objects that it lacks.
 PROMISOR = r"^(extensions\.partialclone|remote\..*\.promisor)$"
 
 
 class File(NamedTuple):
-    """A file of a commit, or a link, with the content of the file that was there before."""
+    """A file or link of a commit, with the blob of the file that was there before, if any."""
 
     name: bytes
     blob: str
@@ -36,10 +36,10 @@ class File(NamedTuple):
 class Change(NamedTuple):
     """All differences from another commit."""
 
-    # How messages call that commit.
+    # How messages refer to that commit.
     since: str
     files: list[File]
-    # The files that have gone: their blobs by their names.
+    # The blobs of the removed files, by name.
     gone: dict[bytes, str]
 
 
@@ -57,13 +57,13 @@ def _change(since: str, *command: str) -> Change:
 
 
 def _differences(*command: str, data: bytes = b"") -> Iterator[tuple[bytes, list[str]]]:
-    """The names of the files that differ, with both modes, both blobs and the kind of the difference."""
+    """The names of the files that differ, with both modes, both blobs and the kind of difference."""
     fields = git(*command, "--raw", "-z", "--no-abbrev", "--no-renames", data=data).split(b"\0")
     return ((name, about.decode().removeprefix(":").split()) for about, name in zip(fields[::2], fields[1::2]))
 
 
 def staged() -> list[Change]:
-    """How the index differs from each parent that a commit of it will have."""
+    """The differences of the index from each parent that its commit will have."""
     ours = _staged_since(_head())
     names = {file.name for file in ours.files}
     theirs = [_staged_since(each) for each in _merged()] if names else []
@@ -79,12 +79,12 @@ def _head() -> str:
 
 
 def _empty() -> str:
-    """A tree without files is the parent of a first commit."""
+    """The empty tree, which serves as the parent of a first commit."""
     return git("hash-object", "-t", "tree", "--stdin").decode().strip()
 
 
 def _merged() -> list[str]:
-    """The commits that are merged into the one that is checked out."""
+    """The commits that are being merged into the current one."""
     found = {name.removeprefix(MERGED) for name in os.environ if name.startswith(MERGED)}
     try:
         with open(git("rev-parse", "--git-path", "MERGE_HEAD").removesuffix(b"\n"), encoding="ascii") as file:
@@ -95,7 +95,7 @@ def _merged() -> list[str]:
 
 
 def commit(name: str) -> str:
-    """The commit that a name means."""
+    """The ID of the commit with this name. Raises Refused if there is none."""
     found = answer("rev-parse", "--verify", "--end-of-options", f"{name}^{{commit}}").decode().strip()
     if not found:
         raise Refused(f"{shown(name)} is not a commit in this clone; if others have it, run `git fetch`")
@@ -103,7 +103,7 @@ def commit(name: str) -> str:
 
 
 def of_commit(name: str) -> list[Change]:
-    """How a commit differs from each of its parents."""
+    """The differences of a commit from each of its parents."""
     return [_change(PARENT, "diff-tree", "-r", parent, name) for parent in _parents(name)]
 
 
@@ -113,19 +113,19 @@ def _parents(name: str) -> list[str]:
 
 
 def commits_since(first: str) -> list[str]:
-    """Those that are checked out and not in this one, the oldest first."""
+    """The commits in the history of HEAD that are not in the history of this one, oldest first."""
     return git("rev-list", "--reverse", "--topo-order", f"{first}..HEAD").decode().split()
 
 
 def of_range(first: str, last: str) -> list[Change]:
-    """How a commit differs from where its history and that of the first one meet."""
-    # None if they have nothing in common.
+    """The differences of the last commit from each merge base with the first one."""
+    # There may be no base.
     bases = answer("merge-base", "--all", first, last).decode().split()
     return [_change(base[:10], "diff-tree", "-r", base, last) for base in bases if base != last]
 
 
 def of_history(name: str, text: str) -> Change:
-    """How the files of a commit differ from what they had when this text came into them or went, in any ancestor."""
+    """The differences of a commit's files from their versions before and after any ancestor added or removed a text."""
     now = {file.name: file for file in files_of(name)}
     pickaxe = ("--stdin", "-r", "-m", "--root", "--no-commit-id", "--no-textconv", f"-S{text}")
     found: set[File] = set()
@@ -136,7 +136,7 @@ def of_history(name: str, text: str) -> Change:
 
 
 def files_named(paths: list[str]) -> list[File]:
-    """Those of the index at these paths, or below them; git refuses a path at which there is none."""
+    """The files of the index at or below these paths. git refuses a path without any."""
     found = entries(*map(os.fsencode, paths), options=("--full-name", "--error-unmatch"))
     return _files((name, mode, blob) for name, (mode, blob) in found.items())
 
@@ -153,7 +153,7 @@ def _files(entries: Iterable[tuple[bytes, str, str]]) -> list[File]:
 
 
 def refuse_incomplete() -> None:
-    """A clone that lacks earlier commits or contents."""
+    """Refuses a clone that lacks earlier commits or contents."""
     if git("rev-parse", "--is-shallow-repository").strip() == b"true":
         raise Refused(SHALLOW)
     if answer("config", "--get-regexp", PROMISOR):
@@ -162,7 +162,7 @@ def refuse_incomplete() -> None:
 
 @contextmanager
 def index_of(name: str) -> Iterator[str]:
-    """An index that has the files of a commit."""
+    """A context with a temporary index that contains the files of a commit."""
     with tempfile.TemporaryDirectory(prefix="ansible-vault-") as folder:
         path = os.path.join(folder, "index")
         git("read-tree", name, index=path)

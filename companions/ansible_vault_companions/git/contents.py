@@ -1,4 +1,4 @@
-"""What an index has, and the contents of blobs."""
+"""The entries of an index, and the contents of blobs."""
 
 from __future__ import annotations
 
@@ -9,33 +9,33 @@ from contextlib import suppress
 from ansible_vault_companions.git.commands import command, environment, git
 from ansible_vault_companions.program import Refused
 
-# What git calls files: neither links nor modules.
+# The modes of regular files, as opposed to links and submodules.
 FILE_MODES = {"100644", "100755"}
 LINK_MODE = "120000"
-# How many contents are kept, since a file is compared with the one before it in several ways.
+# How many contents are kept, since the versions of a file are compared in several ways.
 RECENT = 4
 PARTIAL = "this is a partial clone, which lacks contents of files; clone again without --filter"
 
 
 def listed(output: bytes) -> list[tuple[list[str], bytes]]:
-    """What git says of each file before a tab, by words, and the name of the file."""
+    """For each file that git lists, the words before the tab and the name after it."""
     lines = (line.partition(b"\t") for line in output.split(b"\0")[:-1])
     return [(about.decode().split(), name) for about, _, name in lines]
 
 
 def entries(*paths: bytes, index: str | None = None, options: tuple[str, ...] = ()) -> dict[bytes, tuple[str, str]]:
-    """What is in an index at some paths, or below them: modes and blobs by their names."""
+    """The entries of an index at or below some paths: modes and blobs, by name."""
     words = ["ls-files", "-s", "-z", *options, "--", *(os.fsdecode(path) or "." for path in paths)]
     return {name: (mode, blob) for (mode, blob, _), name in listed(git(*words, index=index))}
 
 
 def entry(name: bytes, index: str | None = None) -> tuple[str, str]:
-    """The mode and the blob of a file or link in an index; nothing if there is none."""
+    """The mode and blob of a file or link in an index; empty strings if there is none."""
     return entries(name, index=index).get(name, ("", ""))
 
 
 class Blobs:
-    """Reads contents, by one run of git for all of them."""
+    """Reads the contents of blobs, all with a single git process."""
 
     def __enter__(self) -> Blobs:
         pipe = subprocess.PIPE
@@ -46,7 +46,7 @@ class Blobs:
         return self
 
     def __exit__(self, *_: object) -> None:
-        # It only reads, and need not come to an end by itself.
+        # git only reads, so it may be terminated at any point.
         self.git.terminate()
         with suppress(BrokenPipeError):
             self.stdin.close()

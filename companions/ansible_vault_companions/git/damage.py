@@ -1,4 +1,4 @@
-"""What is wrong with a file by itself: conflict markers, and plaintext where there has to be an envelope."""
+"""Checks a file by itself: for conflict markers, and for plaintext where there must be an envelope."""
 
 from __future__ import annotations
 
@@ -23,16 +23,16 @@ HEADER = re.compile(rb"\$ANSIBLE_VAULT;1\.(?:1;AES256|2;AES256;[^;\r\n]{1,128})[
 TAG_LENGTH = 32
 CIPHER_BLOCK = 16
 CONFLICT_MARKER = re.compile(rb"^(?:<<<<<<<|>>>>>>>|\|\|\|\|\|\|\|)(?:[ \t][^\r\n]*)?\r?$", re.MULTILINE)
-# No line of a value stands directly below a marker where the merge driver has merged it.
+# The merge driver never leaves a line of an envelope directly below a marker.
 MARKER_IN_ENVELOPE = re.compile(
     rb"^(?:<{7}|\|{7}|={7}|>{7})(?:[ \t][^\r\n]*)?\r?\n[ \t]*(?:[0-9a-fA-F]{32}|\$ANSIBLE_VAULT;)", re.MULTILINE
 )
-# What follows a block, up to its first character.
+# The text after a block, up to the first character that is not white space.
 NEXT_LINE = re.compile(rb"(?:\r?\n[ \t]*(?=[\r\n]))*\r?\n(?P<spaces> *)\S")
 
 
 def ciphertext(envelope: bytes) -> bytes:
-    """Empty unless it has a header, and after it nothing but the digits of salt, tag and ciphertext."""
+    """The ciphertext of an envelope; empty if the header or the digits of salt, tag and ciphertext are malformed."""
     header = HEADER.match(envelope)
     if not header:
         return b""
@@ -45,37 +45,37 @@ def ciphertext(envelope: bytes) -> bytes:
 
 
 def is_whole(text: bytes) -> bool:
-    """Whether a text is an envelope that is not damaged."""
+    """Whether a text is an undamaged envelope."""
     return bool(ciphertext(text))
 
 
 def fits(text: bytes, envelope: bytes) -> bool:
-    """Whether a text has the length of what is encrypted, which is padded to whole blocks."""
+    """Whether a text, padded to whole cipher blocks, has the length of an envelope's ciphertext."""
     return (len(text) // CIPHER_BLOCK + 1) * CIPHER_BLOCK == len(ciphertext(envelope))
 
 
 def is_unmerged(text: bytes) -> bool:
-    """Whether git has left conflict markers in it."""
+    """Whether git has left conflict markers in a text."""
     return CONFLICT_MARKER.search(text) is not None
 
 
 def has_unmerged_envelopes(text: bytes) -> bool:
-    """Whether it has conflict markers beside envelopes, and is no vault."""
+    """Whether a text has conflict markers beside envelopes, and is not a vault."""
     return not text.startswith(MAGIC) and is_unmerged(text) and bool(envelopes(text))
 
 
 def is_torn(text: bytes) -> bool:
-    """Whether conflict markers are within an envelope, where git leaves them without the merge driver."""
+    """Whether conflict markers are inside an envelope, as git leaves them without the merge driver."""
     return START in text and is_unmerged(text) and bool(text.startswith(MAGIC) or MARKER_IN_ENVELOPE.search(text))
 
 
 def merge_again(name: str) -> str:
-    """What to do about a file in which an envelope is torn."""
+    """For a message: what to do about a file with a torn envelope."""
     return MERGE_AGAIN.format(shlex.quote(shown(name)))
 
 
 def fault_of_marked(content: bytes, marks: set[str]) -> str | None:
-    """Why a file with these attributes is refused."""
+    """The reason to refuse a file with these attributes, or None."""
     if is_whole(content):
         return None
     if content.startswith(MAGIC):
@@ -90,7 +90,7 @@ def fault_of_marked(content: bytes, marks: set[str]) -> str | None:
 
 
 def _is_whole_block(content: bytes, block: Envelope) -> bool:
-    """Whether its lines are those of an envelope, and no line of the same text follows them."""
+    """Whether a block is an undamaged envelope, and no further line belongs to the same value."""
     following = NEXT_LINE.match(content, block.end)
     is_longer = block.spaces and following and len(following["spaces"]) >= len(block.spaces)
     return not block.obstacle and is_whole(block.text) and not is_longer

@@ -1,4 +1,4 @@
-"""Sets up a clone, and undoes it: the hooks, and the settings of git that name the other companions."""
+"""Sets up the hooks of a clone and the git settings that run the other companions, and undoes that."""
 
 from __future__ import annotations
 
@@ -12,14 +12,14 @@ from ansible_vault_companions.git import attributes, commands, repositories
 from ansible_vault_companions.program import Refused, shown, write_line
 
 HOOKS = ("pre-commit", "pre-merge-commit")
-# The settings of git, the companions that they name, and what these are given.
+# The git settings, each with the companion that it runs and the arguments after the secrets.
 SETTINGS = {
     "diff.ansible-vault.textconv": ("ansible-vault-textconv", ""),
     "merge.ansible-vault.driver": ("ansible-vault-merge", " %O %A %B %P"),
 }
-# Beside a setting, the value that it was given here.
+# The last part of the settings that record which values --install has set.
 INSTALLED = "installed"
-# The scope of a setting of git.
+# The repositories that a setting applies to, by its scope.
 REPOSITORIES = {
     "local": "this repository and its worktrees",
     "worktree": "this worktree",
@@ -30,12 +30,12 @@ MARKS = "diff=ansible-vault merge=ansible-vault"
 NO_SECRETS = "git diff and git merge are not set up; they need secrets: --install --vault-id prod@~/.vault/prod.pass"
 UNMARKED = "git diff and git merge recognize vaults by .gitattributes; for the whole team, add these lines to it:"
 MOST_LINES = 10
-# The line in which a vault or a block begins, for git grep.
+# Matches the first line of a vault or a block, for git grep.
 ENVELOPE = r"^ *\$ANSIBLE_VAULT;1\.[12];AES256"
 
 
 class Hooks(NamedTuple):
-    """Where git looks for hooks, and the program that they lead to."""
+    """The directory in which git looks for hooks, and the program that they link to."""
 
     folder: str
     program: str
@@ -45,14 +45,14 @@ class Hooks(NamedTuple):
 
 
 def hooks(program: str) -> Hooks:
-    """Those of this repository. A relative core.hooksPath begins at its top."""
+    """The hooks of this repository. Changes to its top directory, where a relative core.hooksPath starts."""
     os.chdir(repositories.top())
     folder = os.fsdecode(commands.git("rev-parse", "--git-path", "hooks").removesuffix(b"\n"))
     return Hooks(os.path.abspath(folder), program)
 
 
 def install_hook(hook: str, program: str) -> str:
-    """What was done. A link to a program of this name is one that an earlier run has made."""
+    """Installs a hook, and says what was done. A link to a program of this name counts as made by --install."""
     try:
         os.symlink(program, hook)
         return "installed"
@@ -91,7 +91,7 @@ def for_which_repositories() -> str:
 
 
 def wanted(setting: str, program: str, secrets: list[str]) -> str:
-    """The command of a setting. A companion that is not on PATH is the one beside this program."""
+    """The command for a setting. It has the companion's full path if the companion is not on PATH."""
     name, rest = SETTINGS[setting]
     path = name if shutil.which(name) else os.path.join(os.path.dirname(program), name)
     return shlex.join([path, *secrets]) + rest
@@ -127,7 +127,7 @@ def _beside(setting: str) -> str:
 
 
 def say_what_is_unmarked() -> None:
-    """The lines that .gitattributes lacks, for the files of the index that have envelopes."""
+    """Prints the lines that .gitattributes lacks for the files in the index that have envelopes."""
     found = commands.answer("grep", "--cached", "-z", "-l", "-I", "-E", "-e", ENVELOPE).split(b"\0")[:-1]
     names = [name for name in found if not is_prose(os.fsdecode(name))]
     attributes_of = attributes.drivers(names or [b"vault.yml"])

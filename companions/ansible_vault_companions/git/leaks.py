@@ -1,24 +1,24 @@
-"""The rule by which something was encrypted and is plaintext now. It takes no secret, and would rather refuse.
+"""Decides whether a change leaves in plaintext what was encrypted before. Uses no secret, and refuses if in doubt.
 
-A change is all that differs between the files of a commit, or of the index, and those of one parent.
+A change is the difference between the files of a commit, or of the index, and the files of one parent.
 
-A *vault* that was a file has to be a vault still, or empty, or gone. A link counts as the file that it leads to.
-If it has gone, and no file is the same vault, a new file is refused that is no vault, and
-  - has its name in another folder, or is in a folder that now has its path; or
-  - is in its folder, or in one to which another file of that folder has gone, and has its suffix, or its name but for
-    the suffix, or a length that its plaintext may have. One that may be a plaintext of the same name that has gone,
-    too, is not refused.
-A plaintext that only moves is never refused.
+A *vault* must remain a vault, or become empty, or be removed. A link counts as the file that it points to. If a vault
+was removed, and no other file is the same vault, a new file that is not a vault is refused if it
+  - has the vault's name in another directory, or is below a directory that now has the vault's path; or
+  - is in the vault's directory, or in one to which another file from there has moved, and has the vault's suffix, or
+    its name apart from the suffix, or a length that fits its ciphertext. A file with the name of a plaintext file that
+    was also removed is not refused, since it may be that file.
+A plaintext file that only moves is never refused.
 
-A *value* that was an envelope within a file may go, move, or be encrypted anew. A file is refused in which a plaintext
-is that it did not have there, if
-  1. it had an envelope at the same keys, above or below them, which is not there any longer;
-  2. of its envelopes fewer have the same name than before; or
-  3. another file had an envelope at these keys or above them, which is nowhere in the change any longer.
-The keys are those of YAML, and all items of a list are at the same ones, so that their order does not matter. A file
-that moves brings its plaintexts along: for 3, what a file that has gone had at the same keys is not new. A name is
-what a line, or an item within braces, has before its colon. PyYAML finds the keys; without it, and in a file that it
-cannot read, there is 2 alone. The manual page lists what is not seen.
+A *value* that was an envelope within a file may be removed, move, or be encrypted again. A file is refused if it has a
+plaintext that is new in its place, and
+  1. it had an envelope at the same keys, or above or below them, which is no longer there;
+  2. it has fewer envelopes with the same name than before; or
+  3. another file had an envelope at these keys or above them, which is no longer anywhere in the change.
+Keys are those of YAML. All items of a list have the same ones, so their order does not matter. Plaintexts may move with
+their file: for 3, a plaintext is not new if a removed file had it at the same keys. A name is the text before the colon
+in a line, or in an item within braces. PyYAML finds the keys; without it, or in a file that it cannot read, only 2
+applies. The manual page lists what this does not detect.
 """
 
 from __future__ import annotations
@@ -41,8 +41,8 @@ Read = Callable[[str], bytes]
 
 
 def decrypted(before: bytes, after: bytes) -> str | None:
-    """What was encrypted in a file and is plaintext in it. The message ends where the name of the other commit
-    follows, as do all of these."""
+    """For a message: what was encrypted in a file and is now plaintext, or None. As in all these messages, the name of
+    the other commit can follow."""
     if before.startswith(MAGIC):
         was_damaged = not is_whole(before)
         is_encrypted = is_whole(after) or (was_damaged and after.startswith(MAGIC))
@@ -57,7 +57,7 @@ def _in_plaintext(names: list[str]) -> str | None:
 
 
 def now_plain(before: bytes, after: bytes) -> list[str]:
-    """The values of a file that are refused by 1 and 2: their keys or their names."""
+    """The keys or names of the values of a file that rules 1 and 2 refuse."""
     if START not in before or not places.differ(before, after):
         return []
     paths = _at_their_keys(before, after)
@@ -82,15 +82,15 @@ def _under_their_names(before: bytes, after: bytes) -> list[str]:
 
 
 class Moves:
-    """What has gone in a change: vaults, and by 3 the values of other files."""
+    """The vaults that a change removes, and for rule 3 the values that it removes from files."""
 
     def __init__(self, change: Change, read: Read) -> None:
         self.change = change
         self.read = read
-        # Their contents by their names.
+        # The contents of the removed vaults, by name.
         self.vaults: dict[bytes, bytes] = {}
         self.plain_names: set[bytes] = set()
-        # The files that had values, the keys there, and their envelopes.
+        # The envelopes of the removed values, by file and keys.
         self.values: dict[tuple[bytes, Path], Counter[str]] = {}
         there = {file.blob for file in change.files}
         for name, blob in change.gone.items():
@@ -104,7 +104,7 @@ class Moves:
                 self._note_values(name, content, b"")
 
     def note_values(self, file: File) -> None:
-        """The values of a file that are not there any longer."""
+        """Notes the values that are no longer in a file."""
         if file.before and not file.is_link:
             self._note_values(file.name, self.read(file.before), self.read(file.blob))
 
@@ -115,7 +115,7 @@ class Moves:
                 self.values.update(((name, path), old.encrypted[path]) for path in places.lost(old, new))
 
     def faults(self, files: list[File]) -> Iterator[tuple[File, str]]:
-        """What may be in plaintext in these files."""
+        """Yields each of these files that may have a removed vault or value in plaintext, with the reason."""
         self._forget_moved_values()
         for file in files if self.values or self.vaults else []:
             content = self.read(file.blob)
@@ -125,7 +125,7 @@ class Moves:
                     yield file, why
 
     def _forget_moved_values(self) -> None:
-        """Those whose envelopes are as often in the files as before."""
+        """Forgets the values whose envelopes occur in the files as often as before."""
         if not self.values:
             return
         balance: Counter[str] = Counter()
@@ -141,7 +141,7 @@ class Moves:
         return f"is not encrypted, and {_shown(vault)}, which is gone, was a vault" if vault is not None else None
 
     def _may_be(self, name: bytes, content: bytes, vault: bytes) -> bool:
-        """Whether it is where the vault may have gone to."""
+        """Whether a new file may be the plaintext of a removed vault."""
         (folder, base), (vault_folder, vault_base) = os.path.split(name), os.path.split(vault)
         if base == vault_base or name.startswith(vault + b"/"):
             return True
@@ -152,7 +152,7 @@ class Moves:
 
     @cached_property
     def _went(self) -> dict[bytes, set[bytes]]:
-        """The names that have gone from each folder."""
+        """The names that were removed from each directory."""
         return _by_folders(self.change.gone)
 
     @cached_property
@@ -160,7 +160,7 @@ class Moves:
         return _by_folders(file.name for file in self.change.files if file.before is None)
 
     def _fault_of_values(self, file: File, content: bytes) -> str | None:
-        """The values that this file has in plaintext, and had not, where other files had them encrypted."""
+        """For a message: the new plaintexts of this file at the keys of removed values of other files, or None."""
         lost = [(name, path) for name, path in self.values if name != file.name and _last_key(path) in content]
         before = self.read(file.before) if file.before else b""
         if not (lost and places.differ(before, content)):
@@ -173,7 +173,7 @@ class Moves:
 
     @cached_property
     def _plain_in_gone_files(self) -> dict[Path, Counter[str]]:
-        """The plaintexts at each path in the files that have gone: in another file they are not new."""
+        """The plaintexts of removed files, at each path. They are not new if they appear in another file."""
         found: dict[Path, Counter[str]] = defaultdict(Counter)
         for blob in self.change.gone.values():
             old = places.by_keys(self.read(blob))

@@ -1,4 +1,4 @@
-"""Where the links of a commit lead."""
+"""Follows the links of a commit."""
 
 from __future__ import annotations
 
@@ -7,15 +7,15 @@ from typing import Callable
 
 from ansible_vault_companions.git.contents import FILE_MODES, LINK_MODE
 
-# How many links are followed, one after the other.
+# How many links are followed, one after another.
 MOST_LINKS = 40
 
 
 def target(
     link: bytes, top: bytes, entry: Callable[[bytes], tuple[str, str]], read: Callable[[str], bytes]
 ) -> tuple[bytes, str]:
-    """The file of the commit that a link leads to, as the system follows it below the top folder, and its blob; nothing
-    if there is none. `entry` is the mode and the blob at a name."""
+    """The file of the commit that a link leads to, and its blob; empty strings if there is none. Follows links as the
+    system does below the top directory. `entry` returns the mode and the blob at a name."""
     above = top.split(os.sep.encode())
     place, names = [*above], [*reversed(link.split(b"/"))]
     links, mode, blob = 0, "", ""

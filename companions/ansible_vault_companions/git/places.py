@@ -1,4 +1,4 @@
-"""Where a file of YAML has envelopes and plaintexts: by the keys that lead to them, or by the names in its lines."""
+"""Finds the envelopes and plaintexts of a YAML file, by the keys that lead to them or by the names in its lines."""
 
 from __future__ import annotations
 
@@ -13,15 +13,14 @@ from ansible_vault_companions.program import Refused, shown
 from ansible_vault_companions.yaml.nodes import ALIAS, PLAIN, nodes
 from ansible_vault_companions.yaml.paths import Path, Step
 
-# The key of any item of a list, and that by which a mapping is merged into another one, which leads to no path of its
-# own.
+# The key of every list item, and the key that merges a mapping into another, which is not part of a path.
 ITEM = "[]"
 MERGE = "<<"
-# Plain scalars that have no text.
+# Plain scalars without a text.
 NOTHING = ("", "~", "null")
 NOWHERE: Counter[str] = Counter()
 
-# A name at the beginning of a line, or within braces, and what follows it there.
+# A name at the beginning of a line, or within braces, and the text after it.
 IN_LINE = re.compile(
     rb"^[ \t]*(?:-[ \t]+)*(?P<name>\"[^\"\r\n]*\"|'[^'\r\n]*'|[^\s\"'#{-][^\s:#]*(?:[ \t]+[^\s:#]+)*)[ \t]*:"
     rb"(?P<text>[ \t][^\r\n]*|(?=[\r\n]|\Z))",
@@ -34,23 +33,23 @@ ITEM_IN_LINE = re.compile(rb"^[ \t]*-(?P<text>[ \t][^\r\n]*)", re.MULTILINE)
 
 
 class Texts(NamedTuple):
-    """The texts at each path, and how often each is there."""
+    """The texts at each path, with the number of times that each occurs."""
 
     encrypted: dict[Path, Counter[str]]
     plain: dict[Path, Counter[str]]
 
 
 class Names(NamedTuple):
-    """How many envelopes a name has, and which plaintexts. An item of a list may have none, and counts as ITEM."""
+    """The number of envelopes with each name, and the plaintexts. A list item without a name counts as ITEM."""
 
     encrypted: Counter[str]
     plain: Counter[tuple[str, bytes]]
 
 
-# Two for the two versions of a file.
+# One entry for each of the two versions of a file.
 @lru_cache(maxsize=2)
 def by_keys(content: bytes) -> Texts | None:
-    """None if it cannot be read as YAML, or PyYAML is not installed."""
+    """The texts of a file, by keys. None if it is not valid YAML, or PyYAML is not installed."""
     encrypted: dict[Path, Counter[str]] = defaultdict(Counter)
     plain: dict[Path, Counter[str]] = defaultdict(Counter)
     try:
@@ -72,13 +71,13 @@ def _extend(path: Path, last: Step, step: Step) -> Path:
 
 
 def by_names(content: bytes) -> Names:
-    """What its lines say, whether it is YAML or not."""
+    """The envelopes and plaintexts of a file, by the names in its lines. It need not be YAML."""
     encrypted = Counter(each.name or ITEM for each in envelopes(content) if each.name or not each.obstacle)
     named = [each for pattern in (IN_LINE, IN_BRACES) for each in pattern.finditer(content)]
     items = [each for each in ITEM_IN_LINE.finditer(content) if not IN_LINE.match(content, each.start())]
     found = [*((_name(each["name"]), each["text"]) for each in named), *((ITEM, each["text"]) for each in items)]
     plain = Counter((name, TAG_NAME if TAG_NAME in text else text.strip()) for name, text in found)
-    # A tag that has an envelope is no plaintext.
+    # A tag with an envelope is not a plaintext.
     plain.subtract({(name, TAG_NAME): count for name, count in encrypted.items()})
     return Names(encrypted, +plain)
 
@@ -88,7 +87,7 @@ def _name(written: bytes) -> str:
 
 
 def shown_path(path: Path) -> str:
-    """It as jq writes it."""
+    """The path, as jq writes it."""
     return shown(".".join(path).replace(f".{ITEM}", ITEM))
 
 
@@ -98,7 +97,7 @@ def shown_name(name: str) -> str:
 
 @lru_cache(maxsize=1)
 def differ(before: bytes, after: bytes) -> bool:
-    """Whether they differ in more than their envelopes. If not, nothing has been decrypted."""
+    """Whether two texts differ outside their envelopes. If not, nothing was decrypted."""
     return _around_envelopes(before) != _around_envelopes(after)
 
 
@@ -127,12 +126,12 @@ def with_those_above(paths: Iterable[Path]) -> set[Path]:
 
 
 def lost(old: Texts, new: Texts) -> list[Path]:
-    """Where an envelope is no longer."""
+    """The paths at which an envelope is missing from the new version."""
     return [path for path, found in old.encrypted.items() if found - new.encrypted.get(path, NOWHERE)]
 
 
 def came(old: Texts, new: Texts, elsewhere: dict[Path, Counter[str]] | None = None) -> list[Path]:
-    """Where a plaintext is that was not there, nor at these keys elsewhere."""
+    """The paths of plaintexts that were not in the old version, nor elsewhere at the same keys."""
     other = elsewhere or {}
     was = {path: old.plain.get(path, NOWHERE) + other.get(path, NOWHERE) for path in new.plain}
     return [path for path, found in new.plain.items() if found - was[path]]

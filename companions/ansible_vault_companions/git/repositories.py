@@ -1,4 +1,4 @@
-"""The repositories that files are in."""
+"""Finds the git repositories of files."""
 
 from __future__ import annotations
 
@@ -17,7 +17,7 @@ def top() -> str:
 
 
 def by_repository(paths: list[str]) -> dict[str, dict[bytes, str]]:
-    """The paths by the repository that each is in, and by their names there."""
+    """The paths in each repository, by their names there. Files outside of repositories are left out."""
     repositories: dict[str, dict[bytes, str]] = {}
     for path in paths:
         target = os.path.realpath(path)
@@ -29,13 +29,13 @@ def by_repository(paths: list[str]) -> dict[str, dict[bytes, str]]:
 
 
 def files_named(args: argparse.Namespace, refuse: Callable[[str, Exception], None]) -> list[str]:
-    """The files below the paths of a command line, or those of them that git tracks."""
+    """The files below the paths of a command line; with --tracked, only those that git tracks."""
     paths = list(searching.files_below(args.paths, refuse, args.exclude))
     return _tracked(paths) if args.tracked else paths
 
 
 def _tracked(paths: list[str]) -> list[str]:
-    """Those of these paths that git tracks, each in the repository that it is in; a link is what it leads to."""
+    """The paths that git tracks, each in its own repository. A link counts as the file that it points to."""
     found: set[str] = set()
     repositories = by_repository(paths)
     if paths and not repositories:
@@ -48,7 +48,7 @@ def _tracked(paths: list[str]) -> list[str]:
 
 @lru_cache(maxsize=None)
 def _repository(folder: str) -> str | None:
-    """The folder at or above this one that git keeps."""
+    """The top directory of the repository that contains this directory, if any."""
     if os.path.lexists(os.path.join(folder, ".git")):
         return folder
     above = os.path.dirname(folder)

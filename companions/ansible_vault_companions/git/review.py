@@ -1,4 +1,4 @@
-"""Looks at what the index or a commit changes, and reports each file that is refused, with what to do about it."""
+"""Reviews the changes of the index or of commits, and reports each refused file with advice."""
 
 from __future__ import annotations
 
@@ -23,16 +23,16 @@ TO_REMOVE = "  look at its content, and remove it with `git rm --cached {0}` and
 
 
 class Fault(NamedTuple):
-    """Why a file is refused, and what to do."""
+    """The reason why a file is refused, and what to do."""
 
     why: str
     hint: str = ""
-    # The commit in which it was otherwise.
+    # The commit with which the file was compared, if any.
     since: str = ""
 
 
 class Review:
-    """Looks at files, and reports those that are refused, each once."""
+    """Checks files, and reports each refused file once."""
 
     def __init__(self, program: str, blobs: Blobs) -> None:
         self.program = program
@@ -41,7 +41,7 @@ class Review:
         self.conflicts = unmerged.conflicts()
 
     def look_at(self, change: Change, index: str | None = None, where: str = "") -> None:
-        """The files of an index."""
+        """Checks the files of a change with the attributes of an index. `where` precedes each message."""
         marks = attributes.marks([file.name for file in change.files], index)
         moves = leaks.Moves(change, self.blobs.read)
         rest = []
@@ -66,7 +66,7 @@ class Review:
             write_error(fault.hint)
 
     def present_fault(self, file: File, marks: set[str], index: str | None) -> Fault | None:
-        """Why a file is refused whatever it was before."""
+        """The reason to refuse a file, apart from its earlier content."""
         pattern = attributes.pattern(file.name)
         is_leftover = replacing.is_leftover(os.path.basename(os.fsdecode(file.name)))
         if is_leftover and not attributes.is_meant_plain(file.name, index):
@@ -85,7 +85,7 @@ class Review:
         return Fault(damage.UNMERGED, TO_MERGE) if damage.has_unmerged_envelopes(content) else None
 
     def fault_since(self, file: File, change: Change, index: str | None) -> Fault | None:
-        """Why a file is refused for what was encrypted in it before."""
+        """The reason to refuse a file because something in it was encrypted before."""
         why = self.decrypted(file, index) if file.before else None
         if not why or attributes.is_meant_plain(file.name, index):
             return None
@@ -100,7 +100,7 @@ class Review:
         return f"points to {_shown(target)}, and {why}" if why else None
 
     def is_beside_vault(self, name: bytes, index: str | None) -> bool:
-        """Whether there is a vault in the same folder."""
+        """Whether there is a vault in the same directory."""
         folder = os.path.dirname(name)
         files = contents.entries(folder, index=index).items()
         near = (about for each, about in files if os.path.dirname(each) == folder)
@@ -112,7 +112,7 @@ def _shown(name: bytes) -> str:
 
 
 def review_staged(review: Review, files: list[File]) -> None:
-    """What the index changes, and these files of it, changed or not."""
+    """Reviews the staged changes, and these files of the index even if they did not change."""
     for change in [*commits.staged(), Change("", files, {})]:
         review.look_at(change)
     for name, blob in unmerged.unmerged_in_index():
@@ -120,7 +120,7 @@ def review_staged(review: Review, files: list[File]) -> None:
 
 
 def review_since(review: Review, name: str) -> None:
-    """What each commit changed, and what all of them did together."""
+    """Reviews each commit after this one, and their combined changes."""
     first, last = commits.commit(name), commits.commit("HEAD")
     names = commits.commits_since(first)
     for each in names:
@@ -130,7 +130,7 @@ def review_since(review: Review, name: str) -> None:
 
 
 def _review_changes(review: Review, name: str, changes: list[Change], where: str = "") -> None:
-    """The changes that led to a commit, by the marks that it has."""
+    """Reviews changes that led to a commit, with the attributes in that commit."""
     if any(change.files for change in changes):
         with commits.index_of(name) as index:
             for change in changes:
@@ -138,7 +138,7 @@ def _review_changes(review: Review, name: str, changes: list[Change], where: str
 
 
 def review_all(review: Review) -> None:
-    """All files, what the last commit changed, and what was a vault in any commit before it."""
+    """Reviews all files, the changes of the last commit, and every file that was a vault in an earlier commit."""
     name = commits.commit("HEAD")
     files = Change("", commits.files_of(name), {})
     earlier = commits.of_history(name, MAGIC.decode())

@@ -1,4 +1,4 @@
-"""What is still to be merged, which neither git nor the hook can see without a secret."""
+"""Notes which files still have to be merged. Without a secret, neither git nor the hook can see that."""
 
 from __future__ import annotations
 
@@ -12,16 +12,16 @@ from ansible_vault_companions.git.contents import entry, listed
 from ansible_vault_companions.git.repositories import by_repository
 from ansible_vault_companions.program import Refused
 
-# Where it is noted what is still to be merged, which neither git nor the hook can see without a secret. A line of one
-# word is the blob of a content with conflict markers. A longer one is a file that the merge driver could not merge: its
-# blobs in ours and in theirs, its name in hexadecimal digits, and the commit that was checked out.
+# The file with the notes, in git's directory. A line with one word is the blob of a content with conflict markers. A
+# longer line is a file that the merge driver could not merge: its blobs in ours and in theirs, its name in hexadecimal
+# digits, and the current commit at that time.
 CONFLICTS = "ansible-vault-conflicts"
-# Of an entry of the index that is theirs in a conflict.
+# The stage of an index entry for theirs in a conflict.
 THEIRS = "3"
 
 
 class Unmerged(NamedTuple):
-    """A file that is as ours has it, since the merge driver failed."""
+    """A file that still has our version, since the merge driver failed."""
 
     name: bytes
     ours: str
@@ -29,7 +29,7 @@ class Unmerged(NamedTuple):
 
 
 def note_conflict(content: bytes, folder: str | None = None) -> None:
-    """Notes in the repository of a folder, if there is one, that a content is still to be merged."""
+    """Notes in the repository of a directory, if there is one, that a content still has to be merged."""
     notes = _notes(folder)
     if notes:
         hashed = [git("hash-object", "--stdin", data=each, folder=folder) for each in as_stored(content)]
@@ -38,18 +38,18 @@ def note_conflict(content: bytes, folder: str | None = None) -> None:
 
 
 def as_stored(content: bytes) -> set[bytes]:
-    """What git may keep of a content, by the attributes of its file: the same, or with other ends of lines. git itself
-    would run a filter that the folder names."""
+    """The forms in which git may store a content, depending on attributes: unchanged, or with other line endings. git
+    is not asked, since it would run a filter that the repository names."""
     return {content, content.replace(b"\r\n", b"\n")}
 
 
 def conflicts() -> set[str]:
-    """The blobs that have conflict markers."""
+    """The noted blobs with conflict markers."""
     return {words[0] for words in _lines(_notes()) if len(words) == 1}
 
 
 def note_unmerged(name: str, ours: str, theirs: str) -> None:
-    """Notes that a file is not merged yet. Its versions are at these paths."""
+    """Notes that a file is not merged yet. `ours` and `theirs` are the paths of its versions."""
     notes = _notes()
     if notes:
         blobs = git("hash-object", "--no-filters", "--", ours, theirs).decode().split()
@@ -58,7 +58,7 @@ def note_unmerged(name: str, ours: str, theirs: str) -> None:
 
 
 def forget_unmerged(name: str) -> None:
-    """Takes that note back, since the file is merged."""
+    """Removes the note, since the file is merged."""
     notes = _notes()
     lines = _lines(notes)
     kept = [words for words in lines if words[2:3] != [os.fsencode(name).hex()]]
@@ -68,8 +68,8 @@ def forget_unmerged(name: str) -> None:
 
 
 def unmerged(folder: str | None = None) -> list[Unmerged]:
-    """The files that the merge driver could not merge, as long as nothing is committed and the index has the conflict,
-    which it has until the merge is given up, whatever git was doing."""
+    """The files that the merge driver could not merge, unless something was committed since, or the conflict is gone
+    from the index. Whatever git was doing, the index keeps it until the merge is abandoned."""
     lines = [words for words in _lines(_notes(folder)) if len(words) > 2]
     head = _head(folder) if lines else ""
     noted = {Unmerged(bytes.fromhex(words[2]), *words[:2]) for words in lines if words[3:] in ([], [head])}
@@ -78,7 +78,7 @@ def unmerged(folder: str | None = None) -> list[Unmerged]:
 
 
 def unmerged_of(paths: list[str]) -> set[str]:
-    """The files whose content is still that of ours, each in the repository that it is in, if in any."""
+    """The unmerged files among these whose content is still our version, each according to its own repository."""
     found = set()
     for repository, names in by_repository(paths).items():
         for each in unmerged(repository):
@@ -89,14 +89,14 @@ def unmerged_of(paths: list[str]) -> set[str]:
 
 
 def unmerged_in_index() -> list[tuple[bytes, str]]:
-    """The files whose staged content is still that of ours: their names and blobs."""
+    """The names and blobs of the unmerged files whose staged content is still our version."""
     noted = [(each.name, each.ours) for each in unmerged()]
     return [(name, blob) for name, blob in noted if entry(name)[1] == blob]
 
 
 def _blobs_of(path: str, like: str) -> list[str]:
-    """What git calls the content of a file, and the same with ends of lines as git keeps them, by the hash of another
-    blob. git itself would run a filter that the folder names."""
+    """The blob IDs that a file's content may have, with the hash function of another ID. git is not asked, since it
+    would run a filter that the repository names."""
     try:
         content = reading.read(path) or b""
     except (Refused, OSError):
@@ -106,7 +106,7 @@ def _blobs_of(path: str, like: str) -> list[str]:
 
 
 def _theirs(folder: str | None) -> set[tuple[bytes, str]]:
-    """The names and blobs that theirs has in the conflicts of an index, also in those that are staged as resolved."""
+    """The names and blobs of theirs in the conflicts of an index, including those that are staged as resolved."""
     entries = listed(git("ls-files", "-z", "--unmerged", "--resolve-undo", folder=folder))
     return {(name, blob) for (_, blob, stage), name in entries if stage == THEIRS}
 
@@ -116,7 +116,7 @@ def _head(folder: str | None = None) -> str:
 
 
 def _notes(folder: str | None = None) -> str | None:
-    """The path of the notes; none outside of a repository."""
+    """The path of the notes; None outside of a repository."""
     path = answer("rev-parse", "--git-path", CONFLICTS, folder=folder).removesuffix(b"\n")
     return os.path.join(folder or "", os.fsdecode(path)) if path else None
 

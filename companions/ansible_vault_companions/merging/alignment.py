@@ -1,4 +1,4 @@
-"""Which of several equal values are the same in two versions: those with the same envelopes, in the same order."""
+"""Decides which of several equal values in two versions are the same: those with equal envelopes, in order."""
 
 from __future__ import annotations
 
@@ -6,8 +6,8 @@ import itertools
 
 
 def aligned(known: list[bytes], envelopes: list[bytes]) -> list[int]:
-    """For each envelope its place among the known ones, by the fewest changes that make one list of the other. Those
-    that are new get places behind all."""
+    """For each envelope, its position in the list of known ones, by the fewest changes that turn one list into the
+    other. New envelopes get positions after all known ones."""
     costs = _costs(known, envelopes)
     places, new, at = [], itertools.count(len(known)), 0
     for number, envelope in enumerate(envelopes):
@@ -20,7 +20,7 @@ def aligned(known: list[bytes], envelopes: list[bytes]) -> list[int]:
 
 
 def _costs(known: list[bytes], envelopes: list[bytes]) -> list[list[int]]:
-    """How many changes it takes from each place on in both."""
+    """For each pair of positions, the number of changes that turn the rest of one list into the rest of the other."""
     rows, columns = len(known), len(envelopes)
     costs = [[rows - row + columns - column for column in range(columns + 1)] for row in range(rows + 1)]
     for row, column in itertools.product(reversed(range(rows)), reversed(range(columns))):

@@ -1,4 +1,4 @@
-"""What a merge must not make: it is refused, and the file stays as it is in ours."""
+"""Refuses results that a merge must not produce. The file then stays as it is in ours."""
 
 from __future__ import annotations
 
@@ -19,7 +19,7 @@ TORN = "git can merge its lines, but the result has a value that neither side ha
 
 
 def encrypted(tool: Tool, text: bytes, secret: Secret, label: str) -> bytes:
-    """A new envelope, which is decrypted again before it takes the place of any other."""
+    """A new envelope. It is decrypted as a check before it replaces another."""
     envelope = tool.encrypt(text, secret, label)
     if label_of(envelope) != label or tool.view(envelope, secret) != text:
         raise Refused(NOT_ENCRYPTED)
@@ -27,14 +27,14 @@ def encrypted(tool: Tool, text: bytes, secret: Secret, label: str) -> bytes:
 
 
 def check_envelopes(content: bytes, known: list[bytes]) -> None:
-    """Refuses a result with an envelope that is in none of its versions."""
+    """Refuses a result with an envelope that is not in any of the known texts."""
     if not _readable(content).issubset({text for each in known for text in _readable(each)}):
         raise Refused(TORN)
 
 
 def check_values(content: bytes, restored: list[bytes], known: list[Value]) -> None:
-    """Refuses a result that is no YAML, or with a value that was not meant: the envelopes of blocks are the restored
-    ones, and all others are in one of the sides."""
+    """Refuses a result that is not YAML, or that has an unexpected value: the envelopes of blocks must be the restored
+    ones, and every other encrypted value must be known from one of the sides."""
     try:
         values = [value for value in Scan(content).values if blocks.is_envelope(value)]
     except NotYaml as fault:
@@ -47,7 +47,7 @@ def check_values(content: bytes, restored: list[bytes], known: list[Value]) -> N
 
 
 def check_labels(opened: dict[bytes, Opened], base: Version, sides: dict[str, Version]) -> None:
-    """Refuses what a side has brought in under a label whose secret it is not under."""
+    """Refuses a new block of a side if its label does not allow the secret that decrypts it."""
     known = {each.envelope for each in base.blocks}
     for side, version in sides.items():
         for block in version.blocks:
@@ -58,5 +58,5 @@ def check_labels(opened: dict[bytes, Opened], base: Version, sides: dict[str, Ve
 
 
 def _readable(data: bytes) -> set[bytes]:
-    """The envelopes in a file that the tool can read."""
+    """The envelopes in a file in a form that the tool can read."""
     return {each.text.replace(b"\r\n", b"\n") for each in envelopes(data) if each.text}

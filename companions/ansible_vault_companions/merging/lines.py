@@ -1,4 +1,4 @@
-"""Three texts merged by lines. git does it, which has files in memory alone."""
+"""Merges three texts by lines, with git. The texts are passed in memory, never on disk."""
 
 from __future__ import annotations
 
@@ -9,9 +9,9 @@ from typing import NamedTuple
 from ansible_vault_companions.git import commands
 from ansible_vault_companions.program import Refused
 
-# What git names the sides of a conflict by.
+# The names of the sides in git's conflict markers.
 SIDES = OURS, BASE, THEIRS = ("ours", "base", "theirs")
-# The status of `git merge-file` is the number of conflicts, up to this; a greater one is a failure.
+# The status of `git merge-file` is the number of conflicts, up to this. A greater status means failure.
 MOST_CONFLICTS = 127
 
 
@@ -21,7 +21,7 @@ class Merged(NamedTuple):
 
 
 def merged_lines(ours: bytes, base: bytes, theirs: bytes) -> Merged:
-    """What git makes of three texts."""
+    """The result of git's merge of three texts."""
     files = [_in_memory(text) for text in (ours, base, theirs)]
     names = [word for side in SIDES for word in ("-L", side)]
     paths = [f"/proc/self/fd/{file}" for file in files]

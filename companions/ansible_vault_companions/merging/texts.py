@@ -1,8 +1,8 @@
-"""Three versions of a file that is a vault, or of YAML with values that are, merged into one.
+"""Merges three versions of a vault, or of YAML with blocks, into one.
 
-A text is encrypted only under the password that it was already under on its side, or under a new one of the same label
-that the other side has put it under. Nothing authenticates a label, so both sides have to show that they know a secret
-of that label; what does not is not merged.
+The text of a side is encrypted only with the password that this side used, or with a new password of the same label
+that the other side used. Nothing authenticates a label, so both sides have to show that they know a secret with that
+label; otherwise the file is not merged.
 """
 
 from __future__ import annotations
@@ -26,7 +26,7 @@ SECRETS_DIFFER = "both sides changed its secret, and the new secrets differ"
 
 
 class Version(NamedTuple):
-    """The vault of one side, decrypted."""
+    """The vault of one side, with its plaintext."""
 
     envelope: bytes
     label: str
@@ -35,13 +35,13 @@ class Version(NamedTuple):
 
 
 def merged(tool: Tool, decrypt: Decrypt, base: bytes, ours: bytes, theirs: bytes) -> Merged:
-    """The merged file, with how many conflicts are in it."""
+    """The merged file, and the number of conflicts in it."""
     are_vaults = [each.startswith(MAGIC) for each in (ours, theirs)]
     if all(are_vaults):
         return _merged_vaults(tool, decrypt, base, ours, theirs)
     if any(are_vaults):
         raise Refused(KINDS_DIFFER)
-    # A base that was a vault would show its plaintext in a conflict.
+    # A base that was a vault must not appear in a conflict.
     before = b"" if base.startswith(MAGIC) else base
     if any(TAG_NAME in each for each in (ours, before, theirs)):
         return Values(decrypt, before, ours, theirs).merged(tool)
@@ -56,7 +56,7 @@ def _merged_vaults(tool: Tool, decrypt: Decrypt, base: bytes, ours: bytes, their
         raise Refused(LABELS_DIFFER.format(shown(first.label), shown(second.label)))
     before = _before(decrypt, base, first)
     secret = _secret(first, before, second)
-    # The text of a base that is under another secret would be in a conflict, in the styles that show it.
+    # A conflict may show the base, so its text is left out if it was encrypted with another secret.
     text_before = before.plaintext if before else b"" if base.startswith(MAGIC) else base
     text, conflicts = merged_lines(first.plaintext, text_before, second.plaintext)
     for each in (first, second):
@@ -66,7 +66,7 @@ def _merged_vaults(tool: Tool, decrypt: Decrypt, base: bytes, ours: bytes, their
 
 
 def _permitted(decrypt: Decrypt, envelope: bytes, side: str) -> Version:
-    """The vault of a side, if its label allows the secret that decrypts it."""
+    """The vault of a side. Refuses it if its label does not allow the secret that decrypts it."""
     found = _decrypted(decrypt, envelope, side)
     fault = labels.fault(found.secret, envelope)
     if fault:
@@ -75,7 +75,7 @@ def _permitted(decrypt: Decrypt, envelope: bytes, side: str) -> Version:
 
 
 def _before(decrypt: Decrypt, base: bytes, ours: Version) -> Version | None:
-    """The common base, if its text may be put under a secret of ours."""
+    """The common base, or None if its text must not be encrypted with a secret of our side."""
     if not base.startswith(MAGIC) or label_of(base) != ours.label:
         return None
     found = _decrypted(decrypt, base, BASE)
@@ -94,7 +94,7 @@ def _decrypted(decrypt: Decrypt, envelope: bytes, side: str) -> Version:
 
 
 def _secret(ours: Version, base: Version | None, theirs: Version) -> Secret:
-    """That of both, or of the side that has put it under another one of the same label."""
+    """The secret of both sides, or the new one of the side that changed it to another with the same label."""
     first, second = ours.secret, theirs.secret
     if first.is_same(second):
         return first

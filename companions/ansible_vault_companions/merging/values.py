@@ -1,7 +1,7 @@
-"""Three versions of YAML with values that are vaults, merged into one.
+"""Merges three versions of YAML with blocks into one.
 
-A token stands for each value in the line of its tag, so that git merges the value as a whole. Two versions have the
-same token where the same keys lead to the same text with the same looks, and it is put back as one of them has it.
+A token replaces each value in the line of its tag, so that git merges the value as a whole. Two versions have the same
+token where the same keys lead to the same text in the same layout. The value of one of them then replaces the token.
 """
 
 from __future__ import annotations
@@ -21,18 +21,18 @@ from ansible_vault_companions.tool.tool import Decrypt, Tool
 from ansible_vault_companions.yaml import blocks
 from ansible_vault_companions.yaml.blocks import Block
 
-# What a block has between its spaces and ends of lines.
+# Anything in a block that is not white space.
 INK = re.compile(rb"\S+")
 
 
 class Values:
-    """Three versions of YAML with tokens in the places of their values."""
+    """Three versions of YAML, with tokens in place of their values."""
 
     def __init__(self, decrypt: Decrypt, base: bytes, ours: bytes, theirs: bytes) -> None:
         self.mark = f"ansible-vault-{randomness.token_hex(16)}".encode()
-        # By what they stand for: a value with its number among equal ones, and the keys that lead to a value.
+        # The token of each value, by its properties and its number among equal ones; `paths` numbers the paths.
         self.tokens: dict[Hashable, bytes] = {}
-        # The envelopes of equal values in the first version that has some.
+        # The envelopes of equal values, in the first version that has any.
         self.equal: dict[Hashable, list[bytes]] = {}
         self.paths: dict[Hashable, int] = {}
         self.versions = [scanned(each) for each in (ours, base, theirs)]
@@ -45,7 +45,7 @@ class Values:
         self._keep_rekeyed(self.theirs, self.ours)
         for each in self.versions:
             self._put_tokens(each)
-        # The envelopes of the result in their order, and the new ones by their tokens.
+        # The envelopes of the result in order, and the new envelopes by token.
         self.restored: list[bytes] = []
         self.made: dict[bytes, bytes] = {}
 
@@ -60,15 +60,15 @@ class Values:
                 version.places[self._token((what, number))] = place
 
     def _numbers(self, what: Hashable, envelopes: list[bytes]) -> list[int]:
-        """Of equal values. One whose envelope is as before keeps its number, whatever became of the others."""
+        """Numbers for equal values. A value with an unchanged envelope keeps its number, whatever the others do."""
         return aligned(self.equal.setdefault(what, envelopes), envelopes)
 
     def _token(self, what: Hashable) -> bytes:
         return self.tokens.setdefault(what, b"%s-%d" % (self.mark, len(self.tokens)))
 
     def _keep_rekeyed(self, side: Version, other: Version) -> None:
-        """Makes a conflict of a value that a side has put under another secret, and whose old envelope the other has at
-        other keys, or under another tag: it would be all that is left of the value."""
+        """Forces a conflict if a side gave a value another secret, and the other side moved its old envelope to other
+        keys or another tag. Otherwise the old envelope would be all that is left of the value."""
         found = {}
         for token, place in side.places.items():
             before = self.base.places.get(token)
@@ -85,7 +85,7 @@ class Values:
         version.text = changed(version.data, changes)
 
     def _tokenized(self, data: bytes, block: Block, token: bytes) -> list[Change]:
-        """A token in the line of the tag, and a line below that keeps the lines of two values apart."""
+        """Puts a token in the line of the tag, and adds a line below it that keeps the lines of two values apart."""
         value = block.value
         number = self.paths.setdefault(value.path, len(self.paths))
         below = blocks.line_end(data, value.line_end) + b"%s/%d" % (self.mark, number)
@@ -109,7 +109,7 @@ class Values:
         return Merged(content, conflicts)
 
     def _restored(self, tool: Tool, found: re.Match[bytes]) -> bytes:
-        """The block of a token, which ends as the line below it; of such a line alone, nothing."""
+        """The block for a token, with the line ending of the line below. If that line is alone, nothing."""
         token = found["token"]
         if token is None:
             return b""
@@ -120,7 +120,7 @@ class Values:
         return block.header + found["rest"] + body + end
 
     def _chosen(self, tool: Tool, token: bytes) -> tuple[Block, bytes | None]:
-        """The block for a token, and another envelope if the other side has put the value under a new secret."""
+        """The block for a token, and a new envelope if the other side gave the value a new secret."""
         ours, base, theirs = (each.places.get(token) for each in self.versions)
         if ours and theirs:
             return (theirs if base and _is_newer(ours, base, theirs) else ours).block, None
@@ -131,8 +131,8 @@ class Values:
         return self.base.places[token].block, None
 
     def _anew(self, tool: Tool, token: bytes, side: Version, other: Version) -> bytes | None:
-        """The value of a side under the new secret of the other, which has put the same label and text under it. If the
-        other has another text, too, it may be a copy of any envelope, and there is a conflict."""
+        """The value of a side, encrypted with the new secret of the other side, if that kept label and text; otherwise
+        None. If it also changed the text, its envelope may be a copy from anywhere, so this is a conflict."""
         mine = side.places[token]
         path = mine.block.value.path
         new, before = other.at(path), self.base.at(path)
@@ -147,7 +147,7 @@ class Values:
 
 
 def _known_by(place: Place) -> Hashable:
-    """What is the same where nobody has changed a value, though it may be encrypted anew."""
+    """The properties that stay the same unless somebody changes the value, even if it is encrypted again."""
     block = place.block
     looks = block.value.path, block.header, INK.sub(b"", block.body)
     if not place.opened:
@@ -156,12 +156,12 @@ def _known_by(place: Place) -> Hashable:
 
 
 def _digits(envelope: bytes) -> bytes:
-    """A line of its tag and ciphertext, which no other envelope has."""
+    """A line with digits of the envelope's tag or ciphertext, which no other envelope has."""
     return envelope.split()[1:][-2:][0]
 
 
 def _is_newer(ours: Place, base: Place, theirs: Place) -> bool:
-    """Whether theirs is the side that has put a value under another secret, or else has encrypted it again."""
+    """Whether theirs is the side that gave a value another secret or, if neither did, that encrypted it again."""
     if ours.opened and theirs.opened and not ours.is_under_same(theirs):
         return ours.is_under_same(base)
     return ours.block.envelope == base.block.envelope

@@ -1,4 +1,4 @@
-"""A version of a YAML file that is merged, with its values that are vaults, of which some are decrypted."""
+"""The versions of a YAML file to merge, with their blocks, some of which are decrypted."""
 
 from __future__ import annotations
 
@@ -19,25 +19,25 @@ from ansible_vault_companions.yaml.values import Scan, Value
 
 
 class Opened(NamedTuple):
-    """What is in an envelope."""
+    """The secret and the plaintext of an envelope."""
 
     secret: Secret
     plaintext: bytes
 
 
 class Place(NamedTuple):
-    """A value where it stands in a version."""
+    """A block of a version, with its plaintext if it was decrypted."""
 
     block: Block
-    # None if it is not decrypted: all versions have the same envelopes there, or no secret decrypts it.
+    # None if it was not decrypted: all versions have the same envelopes there, or no secret decrypts it.
     opened: Opened | None
 
     def is_under_same(self, other: Place) -> bool:
-        """Whether both are under one password."""
+        """Whether both are encrypted with the same password."""
         return bool(self.opened and other.opened and self.opened.secret.is_same(other.opened.secret))
 
     def is_of_same_label(self, other: Place) -> bool:
-        """Whether both have one label, and their secrets have one, too."""
+        """Whether both have the same label, and their secrets also have the same label."""
         has_one = self.opened and other.opened and self.opened.secret.label == other.opened.secret.label
         return bool(has_one) and self.block.label == other.block.label
 
@@ -46,22 +46,22 @@ class Place(NamedTuple):
 class Version:
     data: bytes
     is_yaml: bool = True
-    # All values that are vaults, and those of them that can be put back.
+    # All encrypted values, and the blocks among them, which can be replaced.
     values: list[Value] = field(default_factory=list)
     blocks: list[Block] = field(default_factory=list)
-    # The text with tokens, and what these stand for.
+    # The text with tokens, and the value for each token.
     text: bytes = b""
     places: dict[bytes, Place] = field(default_factory=dict)
-    # The values by the keys that lead to them.
+    # The values, by the keys that lead to them.
     by_path: dict[Path, list[Place]] = field(default_factory=lambda: defaultdict(list))
 
     def at(self, path: Path) -> Place | None:
-        """The only value that these keys lead to."""
+        """The value that these keys lead to, if there is exactly one."""
         found = self.by_path.get(path, [])
         return found[0] if len(found) == 1 else None
 
     def envelopes_at(self) -> dict[Path, list[bytes]]:
-        """The envelopes by the keys that lead to them."""
+        """The envelopes, by the keys that lead to them."""
         found: dict[Path, list[bytes]] = defaultdict(list)
         for each in self.blocks:
             found[each.value.path].append(each.envelope)
@@ -69,7 +69,7 @@ class Version:
 
 
 def scanned(data: bytes) -> Version:
-    """What is no YAML has no values, and is merged as any text."""
+    """The version with its values. Text that is not YAML has none, and is merged like any text."""
     try:
         values = [value for value in Scan(data).values if blocks.is_envelope(value)]
     except NotYaml:
@@ -78,7 +78,7 @@ def scanned(data: bytes) -> Version:
 
 
 def opened(decrypt: Decrypt, versions: list[Version]) -> dict[bytes, Opened]:
-    """The envelopes that a secret decrypts, of the keys that do not lead to the same ones in all versions."""
+    """The contents of the envelopes that a secret decrypts. Skips keys with the same envelopes in all versions."""
     by_paths = [each.envelopes_at() for each in versions]
     paths = {path for each in by_paths for path in each}
     changed = [path for path in paths if any(each.get(path) != by_paths[0].get(path) for each in by_paths)]

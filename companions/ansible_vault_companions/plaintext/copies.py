@@ -1,4 +1,4 @@
-"""The encrypted copy of what was saved and cannot be put back, and how it gets into its file or is taken up again."""
+"""Keeps an edit that cannot be put back in an encrypted copy, says how to recover it, and resumes from it."""
 
 from __future__ import annotations
 
@@ -23,9 +23,9 @@ from ansible_vault_companions.yaml import inline
 
 NAME = "ansible-vault-edit"
 SHOWS = "ansible-vault-textconv"
-# A first line for a text that only begins like a vault.
+# A line before a text that begins like a vault but is not one.
 BELOW = b"# What was saved begins below.\n"
-# What ends the name of a copy of the save before the last.
+# The end of the name for a copy of the previous save.
 BEFORE = "before"
 NO_COPY = "no earlier edit left a copy beside it or in $TMPDIR; edit it without --resume"
 SEVERAL = (
@@ -36,16 +36,16 @@ SEVERAL = (
 
 @dataclass
 class Copies:
-    """Keeps what is typed in an edit of a file."""
+    """Keeps what the user typed in an edit of a file."""
 
     tool: Tool
     vault: Vault | Values | SingleValue
-    # Of the plaintext, which has the name of the file there.
+    # The directory with the plaintext, which has the file's name there.
     folder: PrivateFolder
-    # Of the file, as the command line has it.
+    # The path of the file, as on the command line.
     path: str
     args: argparse.Namespace
-    # What is to be put back.
+    # The text to put back.
     text: bytes | None = None
 
     @property
@@ -53,7 +53,7 @@ class Copies:
         return os.path.basename(self.path)
 
     def rescue(self, text: bytes, why: Exception) -> Refused:
-        """Where what was saved is, since the vault cannot be made of it."""
+        """Keeps a text that cannot become the file's new content. Returns the exception that says where it is."""
         try:
             copy = self.sealed(text)
         except Exception:
@@ -61,14 +61,14 @@ class Copies:
         return self.keep_encrypted(copy, why, is_finished=self.vault.IS_WHOLE or copy == text)
 
     def sealed(self, text: bytes) -> bytes:
-        """It as a whole, encrypted. A vault is so already; what only begins like one is put below a comment, since
-        ansible-vault does not encrypt it as it is."""
+        """The whole text, encrypted. A vault stays as it is. A text that only begins like one is put below a comment,
+        since ansible-vault would refuse to encrypt it."""
         if damage.is_whole(text):
             return text
         return layers.encrypted(self.tool, BELOW * text.startswith(MAGIC) + text, self.vault.keys)
 
     def keep_encrypted(self, content: bytes, why: Exception, is_finished: bool) -> Refused:
-        """Where what was saved is, since it is not in the vault; and how it gets there."""
+        """Writes encrypted content to a copy. Returns the exception that says where it is, and how to put it back."""
         try:
             copy = replacing.save_copy(self.vault.target, content)
         except OSError:
@@ -80,7 +80,7 @@ class Copies:
         return Refused("\n".join([f"{program.reason(why)}; {where}", *map(program.shown, steps)]))
 
     def replacing_steps(self, copy: str) -> list[str]:
-        """The commands that show a copy, and put it in the place of the file."""
+        """The commands that show a copy, and replace the file with it."""
         return [
             f"To look at it, and to replace {self.path} with it:",
             f"  {shlex.join([SHOWS, *self.options(), copy])}",
@@ -88,7 +88,7 @@ class Copies:
         ]
 
     def mending_steps(self, copy: str) -> list[str]:
-        """The commands that mend the text of a copy, which is a vault, and put it into the file."""
+        """The commands that correct the text of a copy, which is a vault, and put it into the file."""
         label = ["--encrypt-vault-id", self.args.encrypt_vault_id] if self.args.encrypt_vault_id else []
         edits, shows = [NAME, *self.options(), *label], shlex.join([SHOWS, *self.options(), copy])
         removes = f"&& rm {shlex.quote(copy)}"
@@ -107,8 +107,8 @@ class Copies:
         return options.words(self.args.vault_id, self.args.vault_password_file)
 
     def keep_others(self, text: bytes | None, last_save: bytes | None) -> str:
-        """Copies what the editor has left of its own, such as a swap file, which may hold what was typed and not saved,
-        and the save before one that it may not have finished."""
+        """Copies other files that the editor left, such as a swap file, which may contain unsaved text. Also copies the
+        last complete save, since the editor may not have finished a later one."""
         paths = []
         for name, content in [*self.folder.others(self.name), (BEFORE, last_save)]:
             if not content or content in (text, self.vault.plaintext):
@@ -120,7 +120,7 @@ class Copies:
 
 
 def newest(target: str) -> str:
-    """The copy that the last edit has kept of what was saved. In $TMPDIR others may have made files of that name."""
+    """The newest copy of an edit. Files of other users are ignored: in $TMPDIR, anybody can use such a name."""
     found = [each for each in replacing.copies(target, is_last_save=True) if os.lstat(each).st_uid == os.geteuid()]
     if not found:
         raise Refused(NO_COPY)
@@ -128,8 +128,8 @@ def newest(target: str) -> str:
 
 
 def taken_up(copy: str, vault: Vault | Values, decrypt: Decrypt) -> bytes:
-    """The text of a copy, which is a vault or, where the text was finished, YAML with values that are. Somebody may
-    have put the file, or a value of it, under another password meanwhile, which the text must not get."""
+    """The text of a copy, which is a vault or, if the text was finished, YAML with blocks. Refuses if copy and file use
+    several secrets: the file may have a new password by now, which the text must not get."""
     content = reading.named(copy)
     if content.startswith(MAGIC):
         keys, text = layers.decrypted(decrypt, content)

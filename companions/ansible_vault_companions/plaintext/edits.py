@@ -1,4 +1,4 @@
-"""An edit of a plaintext: what was saved is put back, or is kept in an encrypted copy, whatever fails."""
+"""Edits a plaintext. Whatever fails, the saved text is put back or kept in an encrypted copy."""
 
 from __future__ import annotations
 
@@ -26,20 +26,20 @@ AT_TERMINAL = "--value reads standard input, which is a terminal; use a pipe or 
 
 @dataclass
 class Edit(Copies):
-    """An edit of a plaintext, which is in a folder."""
+    """An edit of a plaintext in a private directory."""
 
-    # As a whole, if the editor saved anything.
+    # The last complete text, if the editor saved any.
     last_save: bytes | None = None
 
     def run_editor(self) -> tuple[bytes | None, str]:
-        """What the editor saved, and why it counts for nothing."""
+        """Runs the editor. Returns the saved text, or None, and why it must not replace the vault, if it must not."""
         editor = os.environ.get("VISUAL") or os.environ.get("EDITOR") or "vi"
         path = os.path.join(self.folder.path, self.name)
         try:
             with LastSave(path) as last_save:
                 status = running.run_on_terminal(["sh", "-c", f'{editor} "$@"', editor, path])
         except stopping.Stopped:
-            # It has run before, and what was saved then is to be kept.
+            # Keep the text that an earlier run of the editor saved.
             if self.text is None:
                 raise
             return None, by_signal()
@@ -52,19 +52,19 @@ class Edit(Copies):
         except OSError as unread:
             raise self.folder.keep(unread, self.name, self.text) from None
         if text is None:
-            # The folder, too, may be gone: logging out removes what is in memory.
+            # Even the directory may be gone: logging out removes files in memory.
             return last_save.text, fault or "the editor left no file"
         return text, fault
 
     def put_back(self, text: bytes, fault: str) -> bool:
-        """Encrypts what was saved, before the plaintext goes: into the vault or, if anything fails, into a copy. False
-        where it is to be edited again."""
+        """Encrypts the saved text before the plaintext is removed: into the vault or, if anything fails, into a copy.
+        Returns False if the user wants to edit it again."""
         vault, self.text = self.vault, text
         try:
             if text.startswith(MAGIC):
                 raise Refused(ITSELF_A_VAULT)
             content = vault.encrypted(self.tool, text)
-        # Whatever it is, nothing is to be lost by it.
+        # Whatever went wrong, the text must not be lost.
         except Exception as failed:
             if isinstance(failed, Refused) and not fault and self.opens_again(failed):
                 return False
@@ -83,13 +83,13 @@ class Edit(Copies):
         return True
 
     def opens_again(self, why: Exception) -> bool:
-        """Whether somebody at the terminal wants to mend what was saved."""
+        """Whether the user, asked at the terminal, wants to correct the saved text."""
         if not os.isatty(0) or isinstance(self.vault, SingleValue):
             return False
         question = f"{program.shown(self.path)}: {program.reason(why)}. Open the editor again?"
         try:
             return prompts.choice(question, ["yes", "no"]) == "yes"
-        # A signal, or no terminal any longer.
+        # A signal arrived, or the terminal is gone.
         except (stopping.Stopped, Refused, OSError):
             return False
 
@@ -101,7 +101,7 @@ def by_signal() -> str:
 def edit(
     tool: Tool, vault: Vault | Values, path: str, args: argparse.Namespace, text: bytes | None = None
 ) -> bytes | None:
-    """What was saved, if anything was changed. The editor begins with the plaintext, or with another text."""
+    """Edits the plaintext, starting with `text` if given. Returns the saved text, or None if nothing changed."""
     with PrivateFolder() as folder:
         this = Edit(tool, vault, folder, path, args)
         folder.create(this.name, vault.plaintext if text is None else text)
@@ -113,7 +113,7 @@ def edit(
                 if fault:
                     fault += this.keep_others(saved, this.last_save)
                 if saved is None or vault.is_as_it_was(saved):
-                    # What was saved before the editor opened again counts if it fails then.
+                    # If the editor fails after it was opened again, the text saved before is used.
                     saved = this.text if fault else None
                 if saved is None:
                     break
@@ -125,7 +125,7 @@ def edit(
 
 
 def set_value(tool: Tool, value: SingleValue, path: str, args: argparse.Namespace) -> None:
-    """Puts standard input in the place of a value."""
+    """Replaces a value with standard input."""
     with PrivateFolder() as folder:
         this = Edit(tool, value, folder, path, args)
         text = _standard_input()

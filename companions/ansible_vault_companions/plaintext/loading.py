@@ -1,4 +1,4 @@
-"""What is edited: a vault, or YAML with values that are vaults; its text, and how that is encrypted again."""
+"""Loads a vault, or YAML with blocks, for an edit. Each class knows how to encrypt its text again."""
 
 from __future__ import annotations
 
@@ -31,16 +31,16 @@ TO_ADD = "; or to add values without seeing the others, choose their secret with
 
 @dataclass
 class Vault:
-    """A file that is a vault, and how it is encrypted again."""
+    """A file that is a vault, or a new one."""
 
-    # Whether the text, encrypted as a whole, may take its place.
+    # Whether the text, encrypted as a whole, may replace the file.
     IS_WHOLE: ClassVar[bool] = True
 
     target: str
-    # Several for a copy of what several secrets encrypted.
+    # Several for a copy that was encrypted with several secrets in turn.
     keys: list[Key]
     plaintext: bytes = b""
-    # As it was found; none for one that is not there.
+    # The envelope as it was read; None for a new vault.
     envelope: Envelope | None = None
 
     @property
@@ -51,7 +51,7 @@ class Vault:
         return text == self.plaintext
 
     def label_faults(self) -> list[str]:
-        """Where a secret of another label opens it: that secret stays, and so does the label."""
+        """A message if a secret with another label decrypts it. The edit keeps that secret and the label."""
         fault = labels.fault(self.keys[0][0], self.envelope.text) if self.envelope else ""
         return [fault] if fault else []
 
@@ -61,7 +61,7 @@ class Vault:
 
 
 class Values:
-    """A file of YAML with values that are vaults, or are to be."""
+    """A YAML file with values that are encrypted or will be."""
 
     IS_WHOLE: ClassVar[bool] = False
 
@@ -74,8 +74,8 @@ class Values:
 
     @property
     def keys(self) -> list[Key]:
-        """What its text is encrypted by where it cannot be put back: the secrets of its values, and that for new ones;
-        all, where it is not known which."""
+        """The keys for a copy of the text, if it cannot be put back: the keys of its values, and the one for new
+        values. If none of these is known, all secrets."""
         shown = [each.key for each in self.showing.decrypted]
         chosen = self.choice.keys() if self.choice.label is not None or not shown else []
         return layers.different([*shown, *chosen] or [(each, each.label) for each in self.choice.secrets])
@@ -95,7 +95,7 @@ class Values:
 
 
 def _choose_secret(secrets: list[Secret], label: str | None) -> Secret:
-    """The secret for a new vault: that of the label, else the only one."""
+    """The secret for a new vault: the one with the label or, without a label, the only one."""
     fitting = [secret for secret in secrets if label in (None, secret.label)]
     if not fitting:
         raise Refused("no secret has the label of --encrypt-vault-id")
@@ -105,7 +105,7 @@ def _choose_secret(secrets: list[Secret], label: str | None) -> Secret:
 
 
 def load(tool: Tool, secrets: list[Secret], path: str, new_label: str | None) -> Vault | Values:
-    """The vault at a path, or a new one, or the values of a file."""
+    """The vault at a path, a new vault if there is no file, or the values of a YAML file."""
     target = os.path.realpath(path)
     with stopping.interruptible():
         content = reading.read(target)

@@ -1,4 +1,4 @@
-"""Puts vaults and blocks of YAML under new secrets, by their labels, also those within the plaintext of another."""
+"""Re-encrypts vaults and blocks with new secrets, according to their labels, including blocks within plaintexts."""
 
 from __future__ import annotations
 
@@ -19,26 +19,26 @@ from ansible_vault_companions.secrets.sources import Secret
 from ansible_vault_companions.tool.remembering import RememberingTool
 
 LEFT = "it is in a document and was not rotated; to ignore documents, add --skip-documents"
-# Stands for an envelope that is not made.
+# A placeholder for the new envelope in a dry run.
 DRY = b"$ANSIBLE_VAULT"
 
 
 @dataclass
 class Report:
-    """What became of the vaults and blocks of a file, or of all."""
+    """The results for the vaults and blocks of a file, or of all files."""
 
     lines: list[str] = field(default_factory=list)
-    # What is no failure.
+    # Messages that are not failures.
     notes: list[str] = field(default_factory=list)
     faults: list[str] = field(default_factory=list)
-    # Envelopes in documents, which may be under an old secret.
+    # Messages on envelopes in documents that may still be under an old secret.
     left: list[str] = field(default_factory=list)
     changed: int = 0
-    # Of these, those within the plaintext of another.
+    # How many of these are within the plaintext of another.
     changed_within: int = 0
     had_it: int = 0
     others: Counter[str] = field(default_factory=Counter)
-    # Those of the new secrets that anything has.
+    # The labels of new secrets that some envelope has.
     labels: set[str] = field(default_factory=set)
 
     def add(self, other: "Report") -> None:
@@ -53,12 +53,12 @@ class Report:
 
 @dataclass
 class Rotation:
-    """What is to be done to each file."""
+    """Rotates files with these secrets."""
 
     tool: RememberingTool
     old: list[Secret]
     new: dict[str, Secret]
-    # The files and folders that were named, by their real paths.
+    # The real paths of the files and directories that the user named.
     places: list[str]
     is_dry: bool
     skips_documents: bool
@@ -66,7 +66,7 @@ class Rotation:
     pool: ThreadPoolExecutor
 
     def rotate_file(self, path: str) -> Report:
-        """Faults are reported, so that the other files are still processed."""
+        """Rotates a file. Failures are in the report, so that the other files are still processed."""
         report = Report()
         try:
             data = searching.contents(path)
@@ -85,7 +85,7 @@ class Rotation:
         return report
 
     def _find_left(self, path: str, report: Report) -> None:
-        """An envelope in a document may be an example, so none is rotated."""
+        """Reports the envelopes of a document. They may be examples, so they are not rotated."""
         for envelope in envelopes(searching.contents(path, with_prose=True)):
             if envelope.label in self.new and self._is_left(envelope, self.new[envelope.label]):
                 report.left.append(f"{envelope.place(path)}: {LEFT}")
@@ -111,7 +111,7 @@ class Rotation:
     def _rotated(
         self, data: bytes, place: Callable[[Envelope], str], report: Report, map_: Callable[..., Iterable[Any]] = map
     ) -> bytes:
-        """What becomes of data that has envelopes; those that fail stay."""
+        """The data with rotated envelopes. Those that fail stay unchanged."""
         found = envelopes(data)
         changes = []
         for envelope, (text, own) in zip(found, map_(lambda each: self._result(each, place(each)), found)):
@@ -121,18 +121,18 @@ class Rotation:
         return changed(data, changes)
 
     def _result(self, envelope: Envelope, where: str) -> tuple[bytes | None, Report]:
-        """The new text of an envelope, or None, and what is reported of it."""
+        """The new text of an envelope, or None if it stays unchanged, and its report."""
         report = Report()
         try:
             return self._change(envelope, where, report), report
         except Refused as fault:
             report.faults.append(f"{where}: {fault}")
-            # What was changed within it is not written either.
+            # Changes within it are not written either.
             report.changed = report.changed_within = 0
             return None, report
 
     def _change(self, envelope: Envelope, where: str, report: Report) -> bytes | None:
-        """The new text of an envelope, rotated without and within; None where it stays."""
+        """The new text of an envelope, which is rotated itself and within; None if it stays unchanged."""
         label = envelope.label
         if label is None:
             envelope.readable()
@@ -155,7 +155,7 @@ class Rotation:
         return None if had_it and after == plaintext else self._encrypted(text, after, new, label)
 
     def _change_within(self, envelope: Envelope, label: str, where: str, report: Report) -> bytes | None:
-        """The same for an envelope that keeps its secret, where one of its label is given."""
+        """The same for an envelope that keeps its secret. If an old secret has its label, rotates what is within it."""
         secrets = [secret for secret in self.old if secret.label == label]
         if envelope.obstacle or not secrets:
             return None
@@ -167,7 +167,7 @@ class Rotation:
         return None if after == plaintext else self._encrypted(envelope.text, after, secret, label)
 
     def _within(self, plaintext: bytes, where: str, report: Report) -> bytes:
-        """What becomes of a plaintext, which may have blocks, too."""
+        """The plaintext of an envelope, with the blocks in it rotated."""
         if plaintext.startswith(MAGIC):
             raise Refused("its plaintext is itself a vault, which ansible-vault does not encrypt; decrypt it first")
         before = report.changed

@@ -1,4 +1,4 @@
-"""Another text for a single value of YAML, by the path that is typed."""
+"""Sets a single value of YAML, at the path that the user types."""
 
 from __future__ import annotations
 
@@ -25,16 +25,16 @@ WHOLE = "the whole file is a vault; edit it without --value"
 NO_PLACE = "there is no place for {} in this YAML; edit the file without --value"
 # A key that needs no quotes.
 SIMPLE_KEY = re.compile(r"[A-Za-z_][A-Za-z0-9_-]*")
-# Stands for the envelope until there is one, and for the text before that.
+# Placeholders for an envelope that does not exist yet, and for the text of a new key.
 NO_ENVELOPE = b"$ANSIBLE_VAULT;1.1;AES256\n6162\n"
 NO_PLAINTEXT = b"!vault x"
 
 
 class SingleValue:
-    """A value that gets another text, under its own secret and label, or under those that are chosen."""
+    """A value that gets a new text, with its own secret and label or with a chosen secret."""
 
     IS_WHOLE: ClassVar[bool] = False
-    # Nothing is shown.
+    # Nothing is shown to the user.
     plaintext = b""
 
     def __init__(self, target: str, content: bytes, path: str, decrypt: Decrypt, choice: Choice) -> None:
@@ -45,7 +45,7 @@ class SingleValue:
         self.target = target
         self.content = content
         self.is_chosen = choice.label is not None
-        # With the tag and a text where there is no value yet.
+        # If there is no encrypted value yet, a tag and a text are added.
         self.text = content
         found = value_at(content, path)
         if not (found and blocks.is_envelope(found)):
@@ -59,23 +59,23 @@ class SingleValue:
         self.keys: list[Key] = [choice.key(found)] if self.is_chosen or not self.before else [self.before.key]
         if "@" in self.keys[0][1]:
             raise Refused(NO_OPTION.format(self.keys[0][1]))
-        # Before a text is read that might be lost.
+        # Fails early, before a text is read that might be lost.
         self._with_envelope(NO_ENVELOPE)
 
     def is_as_it_was(self, text: bytes) -> bool:
         return self.before is not None and self.before.plaintext == text and self.before.key == self.keys[0]
 
     def label_faults(self) -> Iterable[str]:
-        """Where a secret of another label opens it: that secret stays, and so does the label."""
+        """A message if a secret with another label decrypts it. The edit keeps that secret and the label."""
         if self.before and not self.is_chosen:
             yield from filter(None, [labels.fault(self.before.secret, self.before.block.envelope)])
 
     def encrypted(self, tool: Tool, text: bytes) -> bytes:
-        """The file with an envelope for this text."""
+        """The file's content with an envelope for this text."""
         return self._with_envelope(tool.encrypt(text, *self.keys[0]))
 
     def _decrypted(self, decrypt: Decrypt) -> Decrypted | None:
-        """What it was; where another secret is chosen, nobody has to know."""
+        """The old value. None if it was not encrypted, or cannot be decrypted but gets another secret anyway."""
         if not blocks.is_envelope(self.value):
             return None
         block = blocks.block_of(self.text, self.value)
@@ -102,16 +102,16 @@ class SingleValue:
         return after
 
     def _others(self, data: bytes | None = None) -> list[tuple[str, bool, str | None, str, str]]:
-        """All nodes of the file but for the value and its key."""
+        """All nodes of the file except the value and its key."""
         found = nodes(self.content if data is None else data, extend=typed)
-        # An alias may stand for the value.
+        # An alias may refer to the value.
         every = [node._replace(tag=None, text="") if node.style == ALIAS else node for node in found]
         about = [("".join(node.path), node.is_key, node.tag, node.style, node.text) for node in every]
         return [each for each in about if each[0] != self.path]
 
 
 def _prepared(content: bytes, path: str, value: Value | None, is_chosen: bool) -> bytes:
-    """A file with a value that is to be encrypted, in plaintext."""
+    """The file's content with a tag before the value to encrypt, which is still in plaintext."""
     node = node_at(content, path)
     if not is_chosen:
         why = Refused(NOT_ENCRYPTED.format(shown(path))) if node else no_value(content, path)
@@ -134,7 +134,7 @@ def _with_tag(content: bytes, node: Node) -> bytes:
 
 
 def _with_key(content: bytes, path: str) -> bytes:
-    """The last key of the path is new in its mapping, below the others."""
+    """Adds the last key of the path to its mapping, below the other keys."""
     words = LAST_KEY.fullmatch(path)
     every = [*nodes(content, extend=typed)] if words else []
     around = {id(node.container): node.container for node in every if node.container.style == MAPPING}
@@ -156,5 +156,5 @@ def _with_key(content: bytes, path: str) -> bytes:
 
 
 def _offset(content: bytes, place: int) -> int:
-    """That of a character, in bytes."""
+    """The offset, in bytes, of a position in characters."""
     return len(decoded(content)[:place].encode(errors="surrogateescape"))

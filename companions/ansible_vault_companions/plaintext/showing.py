@@ -1,4 +1,4 @@
-"""The plaintext of a vault, and of the blocks in a file, in their places, for git."""
+"""Shows the plaintext of a vault, or of the blocks in a file, for git."""
 
 from __future__ import annotations
 
@@ -22,7 +22,7 @@ NAME = "ansible-vault-textconv"
 
 
 class SkippingTool(RememberingTool):
-    """Reports a secret that the tool refuses once, and then skips it: a clone need not have them all."""
+    """Reports a secret that the tool refuses once, and then skips it. A clone need not have every secret."""
 
     def view(self, envelope: bytes, secret: Secret) -> bytes:
         if not secret.is_plain() and self.once(secret, 0, lambda: self._fault(secret)):
@@ -40,7 +40,7 @@ class SkippingTool(RememberingTool):
 
 
 def converted(data: bytes, path: str, found: list[Envelope], decrypt: Decrypt) -> bytes:
-    """A file with plaintext in the places of its values in YAML, and of its other envelopes."""
+    """The file's data with plaintext in place of its blocks and its other envelopes."""
     changes, values = _literals(decrypt, path, data)
     spans = {value.line_end: value.end for value in values}
     starts = sorted(spans)
@@ -49,7 +49,7 @@ def converted(data: bytes, path: str, found: list[Envelope], decrypt: Decrypt) -
 
 
 def _literals(decrypt: Decrypt, path: str, data: bytes) -> tuple[list[Change], list[Value]]:
-    """What shows the values of YAML as literals, and which values these are; none where it is no YAML."""
+    """The changes that show YAML values as literals, and those values; both empty if the data is not YAML."""
     if data.startswith(MAGIC) or TAG_NAME not in data:
         return [], []
     try:
@@ -66,7 +66,7 @@ def _literals(decrypt: Decrypt, path: str, data: bytes) -> tuple[list[Change], l
 
 
 def _others(decrypt: Decrypt, path: str, found: list[Envelope]) -> list[Change]:
-    """Puts the plaintext of each other envelope that can be decrypted in its place."""
+    """The changes that replace each other envelope with its plaintext, as far as it can be decrypted."""
     changes: list[Change] = []
 
     def change(envelope: Envelope) -> Change | str:

@@ -1,4 +1,4 @@
-"""A single value of YAML, by the path that is typed."""
+"""Finds a single value of YAML, at the path that the user types."""
 
 from __future__ import annotations
 
@@ -15,7 +15,7 @@ NOT_ENCRYPTED = "{} is not encrypted"
 
 
 def value_of(data: bytes, path: str, decrypt: Decrypt) -> bytes:
-    """The plaintext of a value, or of one in the plaintext of a vault."""
+    """The plaintext of a value in YAML, or in the plaintext of a vault."""
     is_vault = data.startswith(MAGIC)
     text = layers.decrypted(decrypt, data)[1] if is_vault else data
     value = value_at(text, path)

@@ -1,7 +1,7 @@
 """Gets the secrets that options and Ansible's settings name.
 
-`sources` says where passwords come from, and reads files. `options` adds the options to a command line and gets the
-passwords of any source, also of `scripts` and `prompts`. `settings` finds the settings in the environment and in
-ansible.cfg, which `configuration` reads. `labels` says which secret may open which envelope.
+`sources` lists where passwords come from, and reads password files. `options` adds the options to a command line, and
+gets passwords from any source, including `scripts` and `prompts`. `settings` finds the settings in the environment and
+in ansible.cfg, which `configuration` reads. `labels` says which secret may decrypt which envelope.
 May import files.
 """

@@ -9,12 +9,12 @@ from ansible_vault_companions.program import Refused, reason, shown
 
 SECTION = "defaults"
 SUFFIXES = (".cfg", ".ini")
-# How many bytes are read of one: a folder may have one that has no end.
+# Bytes read at most: the file may be a stranger's, and of any length.
 LONGEST = 1 << 20
 
 
 def section(path: str) -> dict[str, str]:
-    """The keys and values of the section of a file."""
+    """The keys and values of the section, empty if there is none. Raises Refused if the file cannot be read."""
     parser = configparser.ConfigParser(inline_comment_prefixes=(";",))
     try:
         parser.read_string(_text(path))

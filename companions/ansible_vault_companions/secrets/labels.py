@@ -1,4 +1,4 @@
-"""What the label of an envelope allows, which is a hint and no proof."""
+"""Decides which secrets may decrypt an envelope, by its label. A label is a hint, not a proof."""
 
 from __future__ import annotations
 
@@ -8,18 +8,18 @@ from ansible_vault_companions.secrets.sources import DEFAULT, Secret
 
 
 def in_order(secrets: list[Secret], label: str | None) -> list[Secret]:
-    """Those that may decrypt a vault of this label, and those of the same label first."""
+    """The secrets that may be tried on a vault with this label. Those with the same label come first."""
     fitting = [secret for secret in secrets if secret.label == label or not secret.requires_match]
     return sorted(fitting, key=lambda secret: secret.label != label)
 
 
 def fault(secret: Secret, envelope: bytes) -> str:
-    """Why the label of an envelope does not allow the secret that decrypts it; empty if it does.
+    """Says why the label of an envelope does not allow the secret that decrypts it; empty if it does.
 
-    Nothing authenticates a label: anybody can change it, or copy the envelope, without a password. So if another
-    label's secret decrypts an envelope, its text may not be put under the password of the envelope's label, or be
-    taken for its text. An envelope without a label (format 1.1) says nothing, so any secret may decrypt it. So may
-    the only one that is named, which decrypts all labels as with Ansible's tool: no other can be meant.
+    Nothing authenticates a label: anybody can change it, or copy the envelope, without a password. So if a secret with
+    another label decrypts an envelope, its text must not be encrypted with the password that belongs to the envelope's
+    label, or be trusted as a text of that label. Any secret may decrypt an envelope without a label (format 1.1). If
+    only one secret is named, it may decrypt every label, as with Ansible's tool: no other can be meant.
     """
     label = written_label(envelope)
     if not label or secret.label == label or secret.is_only:
@@ -33,7 +33,7 @@ def fault(secret: Secret, envelope: bytes) -> str:
 
 
 def tried(envelope: bytes, secrets: list[Secret]) -> str:
-    """What was tried for an envelope that none of these secrets decrypts, and what to do."""
+    """For a message: which of these secrets were tried on an envelope that none decrypts, and what to do."""
     label = written_label(envelope)
     names = ", ".join(shown(secret.given) for secret in secrets) or "none: no secret has its label"
     has = f"label {shown(label)}" if label else "no label"

@@ -1,4 +1,4 @@
-"""The options that name secrets, and the secrets of a command line and of Ansible's settings."""
+"""The options that name secrets, and the secrets from a command line and from Ansible's settings."""
 
 from __future__ import annotations
 
@@ -25,7 +25,7 @@ NONE = (
 
 
 def add_options(parser: argparse.ArgumentParser, prefix: str = "", which: str = "") -> None:
-    """The options that name secrets; they may be repeated. Those with a prefix are not named by settings."""
+    """Adds the options that name secrets. Settings do not apply to options with a prefix."""
     group = parser.add_argument_group(which or "secrets", SOURCES + ("" if prefix else BY_SETTINGS))
     group.add_argument(
         f"--{prefix}vault-id",
@@ -56,8 +56,8 @@ def add_options(parser: argparse.ArgumentParser, prefix: str = "", which: str = 
 def from_options(
     parser: argparse.ArgumentParser, ids: list[str], paths: list[str], encrypts: bool = False
 ) -> list[Secret]:
-    """The secrets of a command line and of the settings, in Ansible's order. To encrypt, what is typed is asked for
-    twice."""
+    """The secrets from a command line and from the settings, in Ansible's order. To encrypt, the user has to type each
+    password twice."""
     found = Settings(bool(ids or paths), configuration.section, lambda text: write_error(f"{parser.prog}: {text}"))
     named = sources.named(ids, paths, found)
     secrets = sources.load(parser.prog, named, encrypts, password)
@@ -71,7 +71,7 @@ def from_options(
 
 
 def password(source: Source, encrypts: bool) -> bytes:
-    """What is typed, what a script writes, or what is in a file; to encrypt, it is typed twice."""
+    """The password from a prompt, a script or a file. To encrypt, the user has to type it twice."""
     if source.is_prompt:
         return prompts.password(source.place, source.label or DEFAULT, encrypts)
     if source.is_script():
@@ -85,11 +85,11 @@ def of_options(ids: list[str], paths: list[str], encrypts: bool = False) -> list
 
 
 def words(ids: list[str], paths: list[str]) -> list[str]:
-    """The options of a command line that name these secrets."""
+    """The words of a command line that name these secrets."""
     by_path = (word for path in paths for word in ("--vault-password-file", path))
     return [*(word for each in ids for word in ("--vault-id", each)), *by_path]
 
 
 def encrypt_label(ids: list[str], paths: list[str]) -> str | None:
-    """The label of the secret to encrypt with, by the settings that count beside these options."""
+    """The label of the secret to encrypt with, from the settings that apply along with these options."""
     return Settings(bool(ids or paths), configuration.section).encrypt_label()

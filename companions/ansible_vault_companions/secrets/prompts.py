@@ -1,4 +1,4 @@
-"""Passwords that are asked for at the terminal, in Ansible's words."""
+"""Asks for passwords at the terminal, with Ansible's prompts."""
 
 from __future__ import annotations
 
@@ -14,7 +14,7 @@ from ansible_vault_companions.secrets.settings import ASK, PROMPT
 from ansible_vault_companions.secrets.sources import NoTerminal
 
 TERMINAL = "/dev/tty"
-# What Ctrl-Z types where it is no key for a signal, and what stands for no key.
+# The character that Ctrl-Z types when it sends no signal, and the value that disables a special key.
 SUSPEND, NO_KEY = b"\x1a", b"\0"
 # The prompts for decrypting, and those for encrypting.
 TO_DECRYPT = {PROMPT: ["Vault password ({}): "], ASK: ["Vault password: "]}
@@ -25,7 +25,7 @@ TO_ENCRYPT = {
 
 
 def password(kind: str, label: str, encrypts: bool) -> bytes:
-    """The password that is typed: once to decrypt, twice to encrypt."""
+    """The password that the user types: once to decrypt, twice to encrypt."""
     questions = (TO_ENCRYPT if encrypts else TO_DECRYPT)[kind]
     typed = [_answer(question.format(shown(label))) for question in questions]
     if len(set(typed)) > 1:
@@ -34,7 +34,7 @@ def password(kind: str, label: str, encrypts: bool) -> bytes:
 
 
 def string(is_hidden: bool) -> bytes:
-    """The string to encrypt that is typed."""
+    """The string to encrypt, as the user types it."""
     text = _hidden("String to encrypt (hidden): ") if is_hidden else line("String to encrypt:")
     if not text:
         raise Refused("you typed an empty string; try again")
@@ -42,7 +42,7 @@ def string(is_hidden: bool) -> bytes:
 
 
 def line(question: str) -> bytes:
-    """A line that is typed and shown."""
+    """A line that the user types. It is shown."""
     _require_terminal()
     with stopping.interruptible(), open(TERMINAL, "r+b", buffering=0) as terminal:
         terminal.write(question.encode())
@@ -50,7 +50,7 @@ def line(question: str) -> bytes:
 
 
 def choice(question: str, answers: list[str]) -> str:
-    """One of these answers; it is asked for until it is typed."""
+    """One of these answers. Asks until the user types one of them."""
     listed = ", ".join(map(shown, answers))
     while (typed := line(f"{question} ({listed}): ").decode(errors="replace").strip()) not in answers:
         pass
@@ -72,8 +72,8 @@ def _typed(terminal: FileIO) -> bytes:
 
 
 def _hidden(question: str) -> bytes:
-    """A line that is typed and not shown. It is UTF-8 whatever the locale says, so that the same keys make the same
-    password."""
+    """A line that the user types. It is not shown. It must be UTF-8, whatever the locale, so that the same keys always
+    give the same password."""
     _require_terminal()
     with stopping.interruptible(), open(TERMINAL, "r+b", buffering=0) as terminal:
         with _without_echo(terminal):
@@ -89,7 +89,7 @@ def _hidden(question: str) -> bytes:
 
 @contextmanager
 def _without_echo(terminal: FileIO) -> Iterator[None]:
-    """Meanwhile nothing that is typed is shown, and Ctrl-Z has no effect: after it and `fg`, a shell would show it."""
+    """A context without echo. Ctrl-Z has no effect in it: after Ctrl-Z and `fg`, a shell would show what is typed."""
     shown = termios.tcgetattr(terminal)
     keys = [*shown[6]]
     keys[termios.VSUSP] = NO_KEY
@@ -101,7 +101,7 @@ def _without_echo(terminal: FileIO) -> Iterator[None]:
 
 
 def _require_terminal() -> None:
-    """Without one the question would go to the standard streams, which are for data."""
+    """Raises NoTerminal if there is none. The standard streams are for data, so they are never used to ask."""
     try:
         os.close(os.open(TERMINAL, os.O_RDWR | os.O_NOCTTY))
     except OSError:

@@ -1,4 +1,4 @@
-"""Password files that are programs: each is run as Ansible runs it, and writes the password."""
+"""Runs password files that are programs, as Ansible does. They print the password."""
 
 from __future__ import annotations
 
@@ -8,18 +8,18 @@ import subprocess
 from ansible_vault_companions import running
 from ansible_vault_companions.program import Refused, reason, shown
 
-# What the name of a script that is given the label ends with, before its suffix.
+# A script gets the label if its name, without the suffix, ends with this.
 CLIENT = "-client"
-# The status by which such a script says that it has no secret for the label.
+# The exit status of such a script if it has no secret for the label.
 UNKNOWN_LABEL = 2
 
 
 def password(path: str, label: str) -> bytes:
-    """What the script writes for a label, which is empty where none is given, without line ends around it."""
+    """The script's output without the line ends around it. The label is empty if none was given."""
     is_client = os.path.splitext(path)[0].endswith(CLIENT)
     words = [os.path.abspath(path), *(["--vault-id", label] if is_client and label else [])]
-    # A script may ask at the terminal by its streams; it is not to read the data of the companion. Of a client only
-    # faults are shown.
+    # A script may ask at the terminal through its standard streams, but must not read the companion's input. Messages
+    # of a client are shown only if it fails.
     stdin = None if os.isatty(0) else subprocess.DEVNULL
     try:
         done = running.run(words, stdin=stdin, stdout=subprocess.PIPE, stderr=subprocess.PIPE if is_client else None)
@@ -42,7 +42,7 @@ def _failure(done: subprocess.CompletedProcess[bytes], is_client: bool) -> str:
 
 
 def _whole(password: bytes) -> bytes:
-    """Refuses what the tool would take for another password."""
+    """Refuses output that the tool would read as a different password, since it strips white space."""
     if not password:
         raise Refused("this script wrote no password")
     if password != password.strip():

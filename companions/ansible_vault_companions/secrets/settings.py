@@ -1,4 +1,4 @@
-"""The settings of Ansible that name secrets: variables of the environment, and `ansible.cfg`."""
+"""Ansible's settings that name secrets: environment variables and `ansible.cfg`."""
 
 from __future__ import annotations
 
@@ -11,34 +11,34 @@ from ansible_vault_companions.program import shown
 NAME = "ansible.cfg"
 HOME = "~/.ansible.cfg"
 SYSTEM = "/etc/ansible/ansible.cfg"
-# Stands for the current folder in a path of the settings.
+# In a path of the settings, this means the current directory.
 CURRENT = "{{CWD}}"
-# The variable of the environment, and the key in the file.
+# For each setting, the environment variable and the key in the file.
 IDENTITIES = "ANSIBLE_VAULT_IDENTITY_LIST", "vault_identity_list"
 PASSWORD_FILE = "ANSIBLE_VAULT_PASSWORD_FILE", "vault_password_file"
 ASKS = "ANSIBLE_ASK_VAULT_PASS", "ask_vault_pass"
 ENCRYPT_IDENTITY = "ANSIBLE_VAULT_ENCRYPT_IDENTITY", "vault_encrypt_identity"
 ID_MATCH = "ANSIBLE_VAULT_ID_MATCH", "vault_id_match"
-# What stands for a path where a password is to be asked for.
+# These, in place of a path, ask for a password.
 PROMPT, ASK = "prompt", "prompt_ask_vault_pass"
-# What Ansible reads as true.
+# Values that Ansible reads as true.
 TRUE = ("1", "on", "t", "true", "y", "yes")
 
 
 def expanded(path: str, folder: str = "") -> str:
-    """A path as Ansible reads it, from this folder or the current one where it is relative."""
+    """A path as Ansible reads it. A relative one starts from this directory, or else from the current one."""
     return os.path.join(folder, os.path.expanduser(os.path.expandvars(path)))
 
 
-# Reads the section of a file: its keys and values.
+# Reads the keys and values in the section of a file.
 Section = Callable[[str], dict[str, str]]
 
 
 class Settings:
-    """What they say. A variable counts before the file, also one that is empty.
+    """The values of the settings. An environment variable overrides the file, even if it is empty.
 
-    Beside options that name secrets nothing leads into the current folder, which may be a stranger's: neither its
-    ansible.cfg nor a relative path. Only if ANSIBLE_CONFIG names a file by a relative path, that folder is trusted."""
+    The current directory may be a stranger's. So if options name secrets, its ansible.cfg is ignored, and so are paths
+    in the settings that lead into it. The exception: ANSIBLE_CONFIG names a file by a relative path."""
 
     def __init__(self, beside_options: bool, section: Section, warn: Callable[[str], None] = lambda _: None) -> None:
         named = _named_configuration()
@@ -47,12 +47,12 @@ class Settings:
         self.found = section(self.path) if self.path else {}
 
     def identities(self) -> list[str]:
-        """Each as [LABEL@]SOURCE, with paths from the current folder, as Ansible has them."""
+        """The sources, as [LABEL@]SOURCE. As with Ansible, relative paths start from the current directory."""
         items = [_unquoted(item.strip()) for item in self._value(IDENTITIES).split(",")]
         return [item for item in items if item and self._is_trusted(item.partition("@")[2] or item)]
 
     def password_file(self) -> str:
-        """The path of the password file; empty where there is none."""
+        """The path of the password file; empty if there is none."""
         path = self._value(PASSWORD_FILE)
         folder = "" if PASSWORD_FILE[0] in os.environ or not self.path else os.path.dirname(self.path)
         if not path or not (folder or self._is_trusted(path)) or (CURRENT in path and not self.trusts_folder):
@@ -60,7 +60,7 @@ class Settings:
         return expanded(path.replace(CURRENT, os.getcwd()) if CURRENT in path else path, folder)
 
     def asks(self) -> bool:
-        """Whether a password is to be asked for."""
+        """Whether to ask for a password."""
         return _unquoted(self._value(ASKS)).lower() in TRUE
 
     def encrypt_label(self) -> str | None:
@@ -68,12 +68,11 @@ class Settings:
         return _unquoted(self._value(ENCRYPT_IDENTITY)) or None
 
     def requires_match(self) -> bool:
-        """Whether a secret decrypts only what has its label: by any value, as with Ansible, which reads no
-        `false` here."""
+        """Whether a secret may decrypt only its own label. As with Ansible, any value means yes, even `false`."""
         return bool(_unquoted(self._value(ID_MATCH)))
 
     def _is_trusted(self, place: str) -> bool:
-        # $PWD leads to the current folder, too.
+        # $PWD also leads to the current directory.
         return self.trusts_folder or "PWD" not in place and (os.path.isabs(expanded(place)) or place in (PROMPT, ASK))
 
     def _value(self, setting: tuple[str, str]) -> str:
@@ -87,7 +86,7 @@ def _unquoted(text: str) -> str:
 
 
 def _named_configuration() -> str | None:
-    """The file that ANSIBLE_CONFIG names, if it is there."""
+    """The file that ANSIBLE_CONFIG names, if it is readable."""
     named = expanded(os.environ.get("ANSIBLE_CONFIG", ""))
     if os.path.isdir(named):
         named = os.path.join(named, NAME)
@@ -95,7 +94,7 @@ def _named_configuration() -> str | None:
 
 
 def _configuration(trusts_folder: bool, warn: Callable[[str], None]) -> str | None:
-    """The first file, in Ansible's order of places."""
+    """The first readable file, in Ansible's order of places."""
     places = [os.path.expanduser(HOME), SYSTEM]
     if not trusts_folder:
         pass
@@ -111,7 +110,7 @@ def _is_readable(path: str) -> bool:
 
 
 def _is_world_writable(folder: str) -> bool:
-    """Whether it is; and so is one that is not there."""
+    """Whether anyone may write to the directory, or its mode is unknown."""
     try:
         return os.stat(folder).st_mode & stat.S_IWOTH != 0
     except OSError:

@@ -1,6 +1,6 @@
 """Runs ansible-vault, which does all encryption and decryption.
 
-`finding` finds it, `tool` runs it, and `faults` turns its refusals into exceptions. `remembering` runs it no more often
-than it takes. `layers` is for a vault within another vault.
+`finding` finds it, `tool` runs it, and `faults` turns its refusals into exceptions. `remembering` avoids runs that
+would repeat a result. `layers` is for a vault within another vault.
 May import files, secrets.
 """

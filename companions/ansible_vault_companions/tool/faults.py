@@ -1,16 +1,16 @@
-"""What ansible-vault refuses, by the text of its fault, which says more than its status."""
+"""Exceptions for ansible-vault's refusals, chosen by its error message, which says more than its status."""
 
 from __future__ import annotations
 
 from ansible_vault_companions.program import Refused
 
 NOT_DECRYPTED = "no secret decrypts this vault"
-# What begins the line of a fault.
+# The beginning of an error message.
 ERROR = "ERROR! "
 
 
 class SecretRefused(Refused):
-    """The tool refuses a secret, whatever it is to decrypt."""
+    """The tool refuses a secret, whatever the input."""
 
 
 class NotDecrypted(Refused):
@@ -18,7 +18,7 @@ class NotDecrypted(Refused):
 
 
 class NotVault(Refused):
-    """There is no vault, so the tool has nothing to say against the secrets."""
+    """The input is not a vault. The tool checks secrets first, so it has accepted them."""
 
 
 KINDS: dict[str, type[Refused]] = {
@@ -36,6 +36,6 @@ KINDS: dict[str, type[Refused]] = {
 
 
 def refused(status: int, errors: bytes) -> Refused:
-    """What to raise for a run that failed. Any other fault is one of the input or of the command line."""
+    """The exception to raise for a failed run. Plain Refused means a fault in the input or on the command line."""
     text = errors.decode(errors="replace").strip().removeprefix(ERROR)
     return KINDS.get(text, Refused)(text or f"ansible-vault ended with status {status}", status)

@@ -1,4 +1,4 @@
-"""Finds ansible-vault, and lets it take the place of a companion."""
+"""Finds ansible-vault, and replaces a companion's process with it."""
 
 from __future__ import annotations
 
@@ -11,12 +11,12 @@ from ansible_vault_companions.secrets.sources import Secret
 from ansible_vault_companions.tool.faults import NOT_DECRYPTED
 
 NAME = "ansible-vault"
-# The first bytes of a program that the system runs by itself, and so of no script.
+# The first bytes of a compiled program, as opposed to a script.
 ELF = b"\x7fELF"
 
 
 def path_for(companion: str) -> str:
-    """The path of the ansible-vault beside a companion, else of the one on PATH."""
+    """The path of the ansible-vault beside a companion, otherwise of the one on PATH."""
     path = beside(companion, NAME) or _program(filter(None, os.get_exec_path()), NAME)
     if path is None:
         raise Refused(f"there is no {NAME} beside this program or on PATH; install it")
@@ -29,7 +29,7 @@ def beside(companion: str, name: str) -> str | None:
 
 
 def has_messages(path: str) -> bool:
-    """Whether it is a program with a message of the tool in it, so that it need not be started to know it."""
+    """Whether the file is a compiled program that contains a message of the tool. This identifies it without a run."""
     try:
         with open(path, "rb") as file:
             program = file.read()
@@ -39,7 +39,7 @@ def has_messages(path: str) -> bool:
 
 
 def take_over(path: str, words: list[str], secrets: list[Secret]) -> int:
-    """Replaces this process by the tool, which inherits its streams: this does not return."""
+    """Replaces this process with the tool, which inherits its streams. Does not return."""
     for secret in secrets:
         if secret.descriptor is not None:
             os.set_inheritable(secret.descriptor, True)
@@ -53,7 +53,7 @@ def _program(folders: Iterable[str], name: str) -> str | None:
 
 
 def _folders(program: str) -> Iterator[str]:
-    """The folders that a program is in, from link to link."""
+    """The program's directory and, if the program is a symbolic link, the directories that the links lead to."""
     path = os.path.abspath(program)
     yield os.path.dirname(path)
     while os.path.islink(path):

@@ -1,16 +1,16 @@
-"""A text under several secrets, which takes all of them to read: a vault within the plaintext of another."""
+"""Encrypts a text with several secrets, all of which are needed to read it: each vault is inside another."""
 
 from __future__ import annotations
 
 from ansible_vault_companions.files.envelopes import MAGIC, label_of
 from ansible_vault_companions.tool.tool import Decrypt, Key, Tool
 
-# The line that precedes the inner vault, since ansible-vault encrypts no vault as it is.
+# A line before the inner vault, since ansible-vault refuses to encrypt a text that begins like a vault.
 NOTE = b"# The vault below is under another secret; ansible-vault-edit decrypts both.\n"
 
 
 def encrypted(tool: Tool, text: bytes, keys: list[Key]) -> bytes:
-    """A vault under each of these keys in turn, the first of them outermost."""
+    """The text, encrypted with each of these keys in turn. The first key is outermost."""
     *outer, innermost = keys
     vault = tool.encrypt(text, *innermost)
     for key in reversed(outer):
@@ -19,7 +19,7 @@ def encrypted(tool: Tool, text: bytes, keys: list[Key]) -> bytes:
 
 
 def decrypted(decrypt: Decrypt, vault: bytes) -> tuple[list[Key], bytes]:
-    """What each layer is encrypted by, the outermost first, and the text within."""
+    """The keys of all layers, outermost first, and the text inside."""
     keys = []
     text = NOTE + vault
     while text.startswith(NOTE + MAGIC):
@@ -30,7 +30,7 @@ def decrypted(decrypt: Decrypt, vault: bytes) -> tuple[list[Key], bytes]:
 
 
 def different(keys: list[Key]) -> list[Key]:
-    """The first key of each password."""
+    """The first key with each password."""
     found: dict[bytes | None, Key] = {}
     for secret, label in keys:
         found.setdefault(secret.password(), (secret, label))

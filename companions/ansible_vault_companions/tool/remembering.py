@@ -1,4 +1,4 @@
-"""Runs ansible-vault no more often than it takes: each run derives a key, and an envelope may be anywhere twice."""
+"""Avoids repeated runs of ansible-vault: each run derives a key, and the same envelope may occur more than once."""
 
 from __future__ import annotations
 
@@ -9,12 +9,12 @@ from typing import Callable, Hashable
 from ansible_vault_companions.secrets.sources import Secret
 from ansible_vault_companions.tool.tool import Tool
 
-# How many bytes of envelopes and texts are remembered at most, since a run may read any number of files.
+# Limits the total size, in bytes, of remembered envelopes and texts, since there may be any number of files.
 MOST_REMEMBERED = 1 << 26
 
 
 class RememberingTool(Tool):
-    """Decrypts each envelope once by each secret, and remembers the result, also that it is refused."""
+    """Decrypts each envelope only once with each secret. Remembers the results, including refusals."""
 
     def __init__(self, companion: str) -> None:
         super().__init__(companion)
@@ -26,14 +26,14 @@ class RememberingTool(Tool):
         return self.once((envelope, secret), len(envelope), lambda: super(RememberingTool, self).view(envelope, secret))
 
     def encrypt_again(self, envelope: bytes, plaintext: bytes, secret: Secret, label: str) -> bytes:
-        """The plaintext under a secret and a label, in the place of an envelope: the same one wherever that stands, so
-        that copies stay copies. Others with the same plaintext get envelopes of their own."""
+        """Encrypts the plaintext to replace an envelope. Identical envelopes get the same replacement, so that copies
+        stay copies. Different envelopes with the same plaintext get different ones."""
         size = len(envelope) + len(plaintext)
         make = lambda: self.encrypt(plaintext, secret, label)
         return self.once((envelope, plaintext, secret, label), size, make)
 
     def once(self, what: Hashable, size: int, make: Callable[[], bytes]) -> bytes:
-        """The result of a first call, for which others wait that come while it runs."""
+        """Calls `make`, or returns the remembered result of an equal call. Waits for one that is still running."""
         with self.lock:
             result = self.results.get(what)
             is_first = result is None

@@ -17,12 +17,12 @@ from ansible_vault_companions.tool.faults import NOT_DECRYPTED, NotDecrypted, No
 
 # A secret, and the label that the envelope gets.
 Key = tuple[Secret, str]
-# Decrypts an envelope, and says by which secret.
+# Decrypts an envelope, and also returns the secret that worked.
 Decrypt = Callable[[bytes], tuple[Secret, bytes]]
 
 
 class Tool:
-    """The ansible-vault beside a companion, else the one on PATH."""
+    """The ansible-vault beside a companion, otherwise the one on PATH."""
 
     def __init__(self, companion: str, is_known: bool = False) -> None:
         self.path = finding.path_for(companion)
@@ -31,7 +31,7 @@ class Tool:
             raise Refused(f"{self.path} {why}")
 
     def run(self, words: list[str], data: bytes, secrets: list[Secret]) -> bytes:
-        """What the tool writes; what it refuses is refused here, in its words."""
+        """The tool's output. Raises Refused with the tool's message if it fails."""
         kept = [secret.descriptor for secret in secrets if secret.descriptor is not None]
         done = running.run([self.path, *words], data, pass_fds=kept, stdin=PIPE, stdout=PIPE, stderr=PIPE)
         if done.returncode < 0:
@@ -41,7 +41,7 @@ class Tool:
         return done.stdout
 
     def view(self, envelope: bytes, secret: Secret) -> bytes:
-        """The plaintext, by this secret."""
+        """The plaintext, decrypted with this secret."""
         if secret.fault:
             raise SecretRefused(f"{secret.given}: {secret.fault}")
         try:
@@ -50,7 +50,7 @@ class Tool:
             raise SecretRefused(f"{secret.given}: {fault}", fault.status) from None
 
     def accept(self, secrets: list[Secret]) -> None:
-        """Refuses a secret that the tool refuses: with no input the secrets alone are looked at."""
+        """Refuses a secret that the tool refuses. An empty input makes the tool check the secret alone."""
         for secret in secrets:
             try:
                 with suppress(NotVault):
@@ -61,8 +61,8 @@ class Tool:
                 raise Refused(f"{secret.given}: {fault}", fault.status) from None
 
     def decrypt(self, envelope: bytes, secrets: list[Secret]) -> tuple[Secret, bytes]:
-        """The secret that decrypts it, and the plaintext; secrets with its label are tried first. Each is tried by
-        itself, so it is certain which one it is; whether the label allows it says `labels.fault`."""
+        """The secret that decrypts the envelope, and the plaintext. Tries secrets one at a time, those with its label
+        first, so it is certain which one worked. `labels.fault` says whether the label allows that secret."""
         tried = labels.in_order(secrets, label_of(envelope))
         for secret in tried:
             with suppress(NotDecrypted):
@@ -70,7 +70,7 @@ class Tool:
         raise NotDecrypted(f"{NOT_DECRYPTED} {labels.tried(envelope, tried)}")
 
     def encrypt(self, plaintext: bytes, secret: Secret, label: str) -> bytes:
-        """The plaintext under a secret and this label."""
+        """The plaintext, encrypted with a secret and labeled with this label."""
         return self.run(["encrypt", secret.option(label=label)], plaintext, [secret])
 
 

@@ -1,4 +1,4 @@
-"""Values of YAML that are vaults, and how another envelope or a text takes their place."""
+"""The blocks of a YAML file, and the changes that replace values with other envelopes or texts."""
 
 from __future__ import annotations
 
@@ -15,20 +15,20 @@ from ansible_vault_companions.yaml import literals, nodes
 from ansible_vault_companions.yaml.paths import Path
 from ansible_vault_companions.yaml.values import LINE_END, Value
 
-# How many columns an envelope stands to the right of its key, as Ansible's tool writes it.
+# The indentation of an envelope relative to its key, as Ansible's tool writes it.
 INDENTATION = 10
-# How the first line of a body that is not empty is indented.
+# Finds the indentation of a body's first line that is not empty.
 INDENTED = re.compile(rb"(?: *%s)+(?P<spaces> *)" % LINE_END.pattern)
 SIMPLE_END = re.compile(rb"\r\n?|\xc2\x85|")
 
 
 def replacement(value: Value, header: bytes, body: bytes, end: int) -> list[Change]:
-    """Replaces a value that ends there by another block scalar. What follows its header in that line stays."""
+    """Replaces a value, up to `end`, with another block scalar. The rest of the header's line is kept."""
     return [Change(value.start, value.header_end, header), Change(value.line_end, end, body)]
 
 
 def line_end(data: bytes, place: int) -> bytes:
-    """How a line ends that ends here."""
+    """The line ending at this position, or a newline if there is none."""
     return matched(SIMPLE_END, data, place)[0] or b"\n"
 
 
@@ -38,10 +38,10 @@ def named(value: Value) -> str:
 
 @dataclass(frozen=True)
 class Block:
-    """A value that is a vault."""
+    """A value that is an envelope."""
 
     value: Value
-    # As they are in the file: the header, and all below its line.
+    # The header, and everything below its line, as they are in the file.
     header: bytes
     body: bytes
     # As the tool reads it.
@@ -49,13 +49,13 @@ class Block:
     label: str
 
     def in_place_of(self, value: Value) -> list[Change]:
-        """The same envelope where a value stands."""
+        """Replaces a value with this block's envelope, with the same layout where possible."""
         if value.column == self.value.column:
             return replacement(value, self.header, self.body, value.end)
         return self.replace(value, self.envelope)
 
     def replace(self, value: Value, envelope: bytes) -> list[Change]:
-        """Another envelope where a value stands."""
+        """Replaces a value with another envelope, in the style of this block."""
         header = self.header if value.column == self.value.column else b"|"
         found = matched(INDENTED, self.body)
         indentation = len(found["spaces"]) - max(self.value.column, 0)
@@ -63,7 +63,7 @@ class Block:
 
 
 def new_block(data: bytes, value: Value, envelope: bytes) -> list[Change]:
-    """An envelope in the place of a value that was none."""
+    """Replaces a value that was not encrypted with an envelope."""
     return replacement(value, b"|", _body(value, envelope, INDENTATION, line_end(data, value.line_end)), value.end)
 
 
@@ -76,11 +76,11 @@ def is_envelope(value: Value) -> bool:
 
 
 def block_of(data: bytes, value: Value) -> Block:
-    """The block that a value is, where it can be put back."""
+    """The block of an encrypted value. Refuses one that cannot be replaced."""
     if value.is_key or value.style != nodes.LITERAL:
         raise Refused(FOLDED if value.style == nodes.FOLDED else IN_A_LINE)
     envelope = value.content.strip() + b"\n"
-    # Empty lines below are none of the envelope's.
+    # Empty lines below do not belong to the envelope.
     body = data[value.line_end : value.content_end]
     return Block(value, data[value.start : value.header_end], body, envelope, label_of(envelope) or "")
 
@@ -98,5 +98,5 @@ class Decrypted(NamedTuple):
 
     @property
     def key(self) -> tuple[Secret, str]:
-        """What it is encrypted with: a secret, and a label."""
+        """The secret and the label that it is encrypted with."""
         return self.secret, self.block.label

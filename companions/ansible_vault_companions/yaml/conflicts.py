@@ -1,4 +1,4 @@
-"""Texts in which git has left the markers of conflicts."""
+"""Texts in which git has left conflict markers."""
 
 from __future__ import annotations
 
@@ -9,12 +9,12 @@ CONFLICT_MARKER = re.compile(r"([<|=>])\1{6}(?:[ \t]|\r?\Z)")
 
 
 def sides(text: str) -> list[str]:
-    """A text as each side of git's conflicts has it, with comments in the place of the others; none where there are
-    no conflicts."""
+    """The text of each side of git's conflicts, with comments in place of the other sides; empty if there are no
+    conflicts."""
     if CONFLICT not in text:
         return []
     lines = text.split("\n")
-    # Of each line: the marker of its side; nothing where all sides have it.
+    # For each line, the marker of its side; empty if all sides have the line.
     marks, mark = [], ""
     for line in lines:
         found = CONFLICT_MARKER.match(line)

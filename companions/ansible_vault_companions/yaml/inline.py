@@ -1,6 +1,6 @@
-"""YAML in which single values are vaults: its text with their plaintexts, and that text encrypted again.
+"""Shows YAML with its blocks in plaintext, and encrypts the edited text again.
 
-All else keeps every byte, and so does the envelope of a value that stays as it was.
+Everything else keeps every byte, and so does the envelope of an unchanged value.
 """
 
 from __future__ import annotations
@@ -20,11 +20,11 @@ from ansible_vault_companions.yaml.matching import Choice, Typed
 from ansible_vault_companions.yaml.nodes import NotYaml
 from ansible_vault_companions.yaml.values import LINE_END, Scan, Value
 
-# How many columns a literal stands to the right of its key.
+# The indentation of a literal relative to its key.
 INDENTATION = 2
-# What the comments of an edit begin with.
+# The beginning of the comments that are added for an edit.
 NOTE = b"# ansible-vault: "
-# What may follow a value: empty lines, and a comment before all else.
+# Text that may follow a value: empty lines, or a comment before anything else.
 SPACES = re.compile(rb" *")
 EMPTY_LINE = re.compile(rb"%s[ \t]*%s" % (LINE_END.pattern, LINE_END.pattern))
 COMMENT = re.compile(rb"(?:[ \t]*%s)+(?P<spaces> *)#" % LINE_END.pattern)
@@ -35,7 +35,7 @@ NO_PLACE = "there is no place for a block in this YAML; remove tabs and indented
 
 
 class StillEncrypted(NamedTuple):
-    """A value that stays encrypted, and why."""
+    """A value that stays encrypted, and the reason."""
 
     value: Value
     why: Refused
@@ -43,11 +43,11 @@ class StillEncrypted(NamedTuple):
 
 @dataclass
 class Showing:
-    """What becomes of a file so that its values are seen."""
+    """The changes to a file that show its values."""
 
     data: bytes
     found: Scan
-    # What its notes begin with; none where they are left out.
+    # The beginning of its notes; empty if notes are left out.
     note: bytes
     changes: list[Change] = field(default_factory=list)
     decrypted: list[Decrypted] = field(default_factory=list)
@@ -57,7 +57,7 @@ class Showing:
         return changed(self.data, self.changes)
 
     def show(self, each: Decrypted) -> None:
-        """Shows a plaintext as a literal, whose lines no comment and no empty line below can join."""
+        """Shows a plaintext as a literal. Comments and empty lines below must not become part of its text."""
         value, text = each.block.value, each.plaintext
         end = blocks.line_end(self.data, value.line_end)
         base = max(value.column, 0)
@@ -83,11 +83,11 @@ class Showing:
             self.changes.append(Change(value.line_start, value.line_start, text))
 
     def needs_final_newline(self, each: Decrypted) -> bool:
-        """Whether the last line of the file needs an end, which it has not, for this plaintext."""
+        """Whether this plaintext needs a newline at the end of the file, which the file does not have."""
         return each.plaintext.endswith(b"\n") and each.block.value.content_end == len(self.data)
 
     def contents(self) -> list[bytes]:
-        """What its values have to be in the text."""
+        """The contents that the values must have in the text."""
         texts = {each.block.value: each.plaintext for each in self.decrypted}
         return [texts.get(value, value.content) for value in self.found.values]
 
@@ -97,7 +97,7 @@ def _named(value: Value) -> bytes:
 
 
 def showing(data: bytes, decrypt: Decrypt, with_notes: bool) -> Showing:
-    """A file with its values in plaintext. Notes say which of them stay encrypted."""
+    """A file with its values in plaintext. Notes, if wanted, say which of them stay encrypted."""
     made = Showing(data, Scan(data), NOTE if with_notes else b"")
     while made.note and made.note in data:
         made.note = b"#" + made.note
@@ -117,7 +117,7 @@ def showing(data: bytes, decrypt: Decrypt, with_notes: bool) -> Showing:
 
 
 def _decrypted(data: bytes, value: Value, decrypt: Decrypt) -> Decrypted | Refused:
-    """A value in plaintext, or why it stays encrypted."""
+    """A value in plaintext, or the reason why it stays encrypted."""
     try:
         block = blocks.block_of(data, value)
         secret, plaintext = decrypt(block.envelope)
@@ -130,7 +130,7 @@ def _decrypted(data: bytes, value: Value, decrypt: Decrypt) -> Decrypted | Refus
 
 
 def encrypted(shown: Showing, text: bytes, tool: Tool, choice: Choice) -> bytes:
-    """The file for an edited text."""
+    """The new content of the file, from the edited text."""
     mistakes.check_encoding(shown.text(), text)
     found = Scan(text)
     mistakes.check_lookalikes(shown.found, found, shown.note.decode())
@@ -154,7 +154,7 @@ def encrypted(shown: Showing, text: bytes, tool: Tool, choice: Choice) -> bytes:
 
 
 def _contents(data: bytes) -> list[bytes]:
-    """What the values of a text are; none where it is no YAML."""
+    """The contents of a text's values; empty if it is not YAML."""
     try:
         return [value.content for value in Scan(data).values]
     except NotYaml:

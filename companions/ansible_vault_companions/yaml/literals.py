@@ -1,6 +1,6 @@
-"""A text as a literal scalar of YAML (`|`), and back what follows a tag `!vault`.
+"""Writes a text as a YAML literal (`|`), and reads the text of a value back.
 
-What YAML cannot show as a literal is not shown, and what could be read in another way than it was meant is refused.
+A text that YAML cannot write as a literal is not shown. A value that could be misread is refused.
 """
 
 from __future__ import annotations
@@ -13,9 +13,9 @@ from ansible_vault_companions.program import Refused
 from ansible_vault_companions.yaml import nodes
 from ansible_vault_companions.yaml.values import LINE_END, Value
 
-# What YAML has in no text, or would take for the end of a line.
+# Characters that YAML does not allow in a text, or takes for the end of a line.
 UNSHOWN = re.compile("[^\t\n\x20-\x7e\xa0-\u2027\u202a-\ud7ff\ue000-\ufefe\uff00-\ufffd\U00010000-\U0010ffff]")
-# A text whose first line begins with a blank would hide its indentation.
+# A text whose first line begins with a blank needs its indentation in the header.
 BEGINS_WITH_BLANK = re.compile(rb"\n*[ \t]")
 MOST_INDENTATION = 9
 
@@ -35,7 +35,7 @@ SURROGATE = "has an escape for half of a character; write the character"
 
 
 def obstacle(text: bytes) -> str:
-    """Why a text cannot be shown as a literal; nothing where it can."""
+    """The reason why a text cannot be shown as a literal; empty if it can."""
     if is_envelope(text):
         return VAULT_WITHIN
     try:
@@ -46,12 +46,12 @@ def obstacle(text: bytes) -> str:
 
 
 def is_envelope(text: bytes) -> bool:
-    """Whether a text, or what follows a tag, is encrypted."""
+    """Whether a text, or the text of a value, is encrypted."""
     return text.lstrip(b"\"' \t\r\n").startswith(MAGIC)
 
 
 def header(text: bytes, indentation: int) -> bytes:
-    """The header of a literal whose lines are indented by this many columns more than its key."""
+    """The header of a literal with this indentation relative to its key."""
     chomping = b"-" if not text.endswith(b"\n") else b"+" if text == b"\n" or text.endswith(b"\n\n") else b""
     if not BEGINS_WITH_BLANK.match(text):
         return b"|" + chomping
@@ -61,14 +61,14 @@ def header(text: bytes, indentation: int) -> bytes:
 
 
 def lines(text: bytes, spaces: int, end: bytes) -> bytes:
-    """Its lines, indented, each after the line ending of the one above; no line ending follows the last."""
+    """The indented lines of a text, each after a line ending. No line ending follows the last line."""
     return end + indented(text.removesuffix(b"\n"), b" " * spaces, end) if text else b""
 
 
 def plain(value: Value) -> bytes:
-    """The text of a value that is to be encrypted."""
+    """The text of a value to encrypt. Refuses one in a form that could be misread."""
     written = LINE_END.sub(b"\n", value.written)
-    # What an escape stands for may be anything.
+    # In quotes, escapes may stand for any character, so only the written form is checked.
     as_is = value.content if value.style == nodes.LITERAL else written
     faults = {
         NO_TEXT: value.is_key or value.style in (nodes.LIST, nodes.MAPPING),

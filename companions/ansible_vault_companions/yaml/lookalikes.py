@@ -1,4 +1,4 @@
-"""What may be meant as the tag `!vault`, and is none: YAML would leave the text behind it in plaintext."""
+"""Finds text that may be meant as the tag `!vault` but is not. YAML would leave what follows in plaintext."""
 
 from __future__ import annotations
 
@@ -7,19 +7,19 @@ from functools import lru_cache
 from typing import Iterator
 
 NAME = "vault"
-# A word behind `!`, and between them a blank or a mark that does not belong there. Or `!` was typed without Shift, as
-# `1`. The word is cut where it is too long to be a misspelt one.
+# A word after `!`, perhaps with blanks or stray punctuation between them, or after a `1`, which is `!` typed without
+# Shift. The word is cut off at a length that no misspelling has.
 LIKE_A_TAG = re.compile(
     r"(?P<mark>(?<!\w)[!\uff01](?!=)[^\w\r\n]{0,4}|[!\uff01](?!=)[^\w\s]{0,4}|(?<!\w)[1\xa1](?=(?i:vault)))"
     r"(?P<word>[^\W_]{1,8})(?P<after>[:,]?)"
 )
-# Typing errors in a whole word, and in the beginning of one, as in `!vaultTEXT`.
+# Typing errors allowed in a whole word, and in the beginning of one, as in `!vaultTEXT`.
 MOST_ERRORS, MOST_ERRORS_IN_BEGINNING = 2, 1
 
 
 def lookalikes(line: str) -> Iterator[tuple[int, str]]:
-    """The places in a line of what is like the tag, or is the tag itself; and how it is written, without what may be
-    the beginning of a secret."""
+    """The positions in a line of the tag and of text that resembles it, each with the text as written. The text is cut
+    off where a secret may begin."""
     for found in LIKE_A_TAG.finditer(line):
         word = found["word"]
         if resembles(word):
@@ -28,7 +28,7 @@ def lookalikes(line: str) -> Iterator[tuple[int, str]]:
 
 
 def resembles(word: str) -> bool:
-    """Whether a word is the name of the tag but for a few typing errors."""
+    """Whether a word is the tag's name, apart from a few typing errors."""
     typed = word.casefold()
     length = len(NAME)
     beginnings = {typed[: length + more] for more in (-1, 0, 1)}
@@ -39,7 +39,7 @@ def resembles(word: str) -> bool:
 
 @lru_cache(maxsize=4096)
 def _errors(typed: str, meant: str) -> int:
-    """How many letters were left out, added, exchanged with the next one or mistaken for another one."""
+    """The number of letters that were left out, added, replaced, or swapped with the next one."""
     if not typed or not meant:
         return len(typed) + len(meant)
     ways = [

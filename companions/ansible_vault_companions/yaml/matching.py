@@ -1,7 +1,7 @@
-"""Which of the values that stood encrypted in a file are those of its edited text.
+"""Matches the values of an edited text with the blocks that the file had before.
 
-A value is identified by the keys that lead to it, and in lists by its text and its position. If that leaves open
-which secret it gets, it is refused.
+A value is identified by the keys that lead to it, and in lists by its text and its position. If that does not
+determine which secret it gets, it is refused.
 """
 
 from __future__ import annotations
@@ -24,25 +24,25 @@ NEW_OR_CHANGED = "may be a new value or a changed one, which would get different
 
 
 class Typed(NamedTuple):
-    """A value of the edited text that is to be encrypted."""
+    """A value of the edited text to encrypt."""
 
     value: Value
     plaintext: bytes
 
 
 class Action(NamedTuple):
-    """What becomes of a value: it keeps the envelope of a block, or is encrypted by a key, and if it was changed,
-    with the looks of a block."""
+    """What to do with a value. Without a key, it keeps the block's envelope; with one, it is encrypted, in the style
+    of the block if there is one."""
 
     block: Decrypted | None
     key: Key | None = None
 
 
 class Choice(NamedTuple):
-    """How the secret for a new value is chosen."""
+    """Chooses the secret for a new value."""
 
     secrets: list[Secret]
-    # Of --encrypt-vault-id.
+    # The label from --encrypt-vault-id.
     label: str | None
 
     def key(self, value: Value) -> Key:
@@ -54,7 +54,7 @@ class Choice(NamedTuple):
         return fitting[0], fitting[0].label
 
     def _asked(self, value: Value, secrets: list[Secret]) -> list[Secret]:
-        """Those of the label that is typed, if somebody is there to ask."""
+        """The secrets with the label that the user types. Refuses the value if there is nobody to ask."""
         labels = [*dict.fromkeys(secret.label for secret in secrets)]
         if len(labels) == 1 or not os.isatty(0):
             raise unclear(value, NEW)
@@ -62,7 +62,7 @@ class Choice(NamedTuple):
         return [secret for secret in secrets if secret.label == label]
 
     def keys(self) -> list[Key]:
-        """It alone, where it is clear."""
+        """The key for a new value if it is clear without asking; otherwise empty."""
         fitting = self._fitting()
         is_clear = self.label is not None or len(fitting) == 1
         return [(fitting[0], fitting[0].label)] if fitting and is_clear else []
@@ -76,7 +76,7 @@ def unclear(value: Value, why: str) -> Refused:
 
 
 def actions(blocks: list[Decrypted], typed: list[Typed], choice: Choice) -> list[Action]:
-    """What becomes of each value."""
+    """The action for each value, in order."""
     found: dict[int, Action] = {}
     left: dict[Path, list[Decrypted]] = {}
     for block in blocks:
@@ -96,8 +96,8 @@ def actions(blocks: list[Decrypted], typed: list[Typed], choice: Choice) -> list
 
 
 def _keep_in_place(found: dict[int, Action], left: dict[Path, list[Decrypted]], typed: list[Typed]) -> None:
-    """Those that stayed as they were, where as many values are at the same keys as before. Another one of these, such
-    as of a list, may have the same text under another secret."""
+    """Keeps values that are unchanged in their positions, if their keys lead to as many values as before. Position
+    matters since two items of a list may have the same text under different secrets."""
     for path, before in left.items():
         there = [(number, each) for number, each in enumerate(typed) if each.value.path == path]
         for (number, each), block in zip(there, [*before]) if len(there) == len(before) else ():
@@ -107,7 +107,7 @@ def _keep_in_place(found: dict[int, Action], left: dict[Path, list[Decrypted]], 
 
 
 def _keep(found: dict[int, Action], left: dict[Path, list[Decrypted]], typed: list[Typed]) -> None:
-    """The others that stayed as they were."""
+    """Keeps other unchanged values, by their keys and text."""
     for number, each in enumerate(typed):
         if number in found:
             continue
@@ -119,7 +119,7 @@ def _keep(found: dict[int, Action], left: dict[Path, list[Decrypted]], typed: li
 
 
 def _change(found: dict[int, Action], left: list[Decrypted], typed: list[tuple[int, Typed]], choice: Choice) -> None:
-    """Those that were changed in their places: as many as there are blocks, or fewer, or more."""
+    """Decides on changed values whose keys led to blocks before: as many as there are blocks, or fewer, or more."""
     keys = {block.key for block in left}
     for place, (number, each) in enumerate(typed):
         if len(typed) == len(left):
@@ -135,7 +135,7 @@ def _change(found: dict[int, Action], left: list[Decrypted], typed: list[tuple[i
 
 
 def _moved(unkept: list[Decrypted], plaintext: bytes) -> Action | None:
-    """The envelope of a value that has another key now."""
+    """Keeps the envelope of a value that moved to other keys, unless several secrets had its text."""
     candidates = [block for block in unkept if block.plaintext == plaintext]
     if len({block.key for block in candidates}) != 1:
         return None

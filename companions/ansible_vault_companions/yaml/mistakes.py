@@ -1,4 +1,4 @@
-"""What is saved by mistake and would leave values in plaintext: another encoding, and what is only like a tag."""
+"""Refuses mistakes that would leave values in plaintext: another encoding, and text that only resembles a tag."""
 
 from __future__ import annotations
 
@@ -12,7 +12,7 @@ from ansible_vault_companions.secrets import prompts
 from ansible_vault_companions.yaml.nodes import TAGS, decoded
 from ansible_vault_companions.yaml.values import Scan
 
-# What UTF-8 does not decode; and what UTF-16 and UTF-32 have, and no text.
+# Bytes that are not UTF-8, as `decoded` has them, and the null characters that UTF-16 and UTF-32 leave in a text.
 NO_UTF_8 = re.compile("[\0\udc80-\udcff]")
 
 HIDDEN = "within a comment or a string, `!vault` is not a tag, so what follows it would stay in plaintext"
@@ -22,8 +22,8 @@ MARKED = "it now begins with a byte order mark; save it as UTF-8 without one"
 
 
 def check_encoding(before: bytes, after: bytes) -> None:
-    """Refuses a text in another encoding than before. The file itself may have bytes that are not UTF-8, as in a
-    comment: it may have no more of them."""
+    """Refuses a text in a different encoding than before. Bytes that are not UTF-8 are allowed if the file already had
+    them, as in a comment."""
     if after.startswith(BYTE_ORDER_MARK) and not before.startswith(BYTE_ORDER_MARK):
         raise Refused(MARKED)
     if Counter(NO_UTF_8.findall(decoded(after))) - Counter(NO_UTF_8.findall(decoded(before))):
@@ -31,7 +31,7 @@ def check_encoding(before: bytes, after: bytes) -> None:
 
 
 def check_lookalikes(before: Scan, found: Scan, note: str) -> None:
-    """Refuses what was typed like a tag and is none, unless somebody at the terminal says that it is meant."""
+    """Refuses new text that resembles a tag but is not one, unless the user confirms it at the terminal."""
     known = Counter((text, like) for _, text, like in before.lookalikes())
     for line, text, like in found.lookalikes():
         known[text, like] -= 1

@@ -1,4 +1,4 @@
-"""The nodes of a YAML text as PyYAML reads them, with which Ansible reads its files."""
+"""The nodes of a YAML text, as PyYAML reads them. Ansible uses PyYAML as well."""
 
 from __future__ import annotations
 
@@ -12,14 +12,14 @@ from ansible_vault_companions.program import Refused
 from ansible_vault_companions.yaml.paths import Extend, Path, Step, by_keys
 
 TAGS = ("!vault", "!vault-encrypted")
-# Styles; others are the quotes of scalars.
+# Styles. A quoted scalar has its quote as its style.
 LITERAL, FOLDED, PLAIN, ALIAS, LIST, MAPPING = "|", ">", "", "*", "[", "{"
 
 BYTE_ORDER_MARK = "\ufeff"
-# PyYAML refuses a whole text for one of these, even in a comment.
+# PyYAML refuses a whole text because of one of these, even in a comment.
 UNREADABLE = re.compile("[^\t\n\r\x20-\x7e\x85\xa0-\ud7ff\ue000-\ufffd\U00010000-\U0010ffff]")
 REPLACEMENT = "\ufffd"
-# Faults of the scanner that begin in an earlier line than the one in which they show.
+# Scanner errors whose cause is on an earlier line than the one where PyYAML notices them.
 BEGIN_EARLIER = ("while scanning a simple key", "while scanning a quoted scalar")
 
 NO_PYYAML = "PyYAML, which reads YAML, is missing: install Debian's python3-yaml, or PyYAML with pip"
@@ -36,14 +36,14 @@ class NoPyYaml(Refused):
 class Node(NamedTuple):
     """A scalar, an alias, or the beginning of a collection."""
 
-    # What leads to it; the path of a key ends with the key itself.
+    # The keys that lead to it; the path of a key ends with the key itself.
     path: Path
     is_key: bool
     tag: str | None
     style: str
-    # Of a scalar, or of the one that an alias stands for.
+    # The text of a scalar, or of the scalar that an alias refers to.
     text: str
-    # Its characters, from its tag or anchor on. A block scalar ends below the empty lines that follow it.
+    # Positions in characters. A node starts at its tag or anchor; a block scalar ends after the empty lines below it.
     start: int
     end: int
     # Where it starts; lines are counted from 1.
@@ -53,32 +53,32 @@ class Node(NamedTuple):
 
     @property
     def is_value(self) -> bool:
-        """Whether it is a text, and no key; or an alias, which stands for a text or a collection."""
+        """Whether it is a scalar or an alias, and not a key."""
         return not self.is_key and self.style not in (LIST, MAPPING)
 
 
 class Container:
-    """A mapping or a list; or a document, which has a single node, to which nothing leads."""
+    """A mapping, a list or a document. A document has a single node, whose path is empty."""
 
     __slots__ = ("path", "step", "style", "column", "in_flow", "is_key", "key", "count")
 
     def __init__(self, path: Path, step: Step, style: str | None, column: int, in_flow: bool, is_key: bool) -> None:
         self.path = path
-        # What leads to it from the collection around it.
+        # The step that leads to it from the collection around it.
         self.step = step
         self.style = style
-        # That of its keys or dashes; in flow style, that of the collection around it. -1 for a document.
+        # The column of its keys or dashes, or in flow style of the collection around it; -1 for a document.
         self.column = column
         self.in_flow = in_flow
         # Whether it is part of a key.
         self.is_key = is_key
-        # The key whose value comes next; None where a key does.
+        # The key whose value comes next; None if a key comes next.
         self.key: str | None = None
         self.count = 0
 
     def next(self, text: str) -> tuple[Step, bool]:
-        """What leads to its next node, which has this text, and whether that is a key. A key that is a collection has
-        no text."""
+        """The step to its next node, which has this text, and whether that node is a key or part of one. A key that is
+        a collection has an empty text."""
         if self.style is MAPPING:
             if self.key is None:
                 self.key = text
@@ -92,18 +92,18 @@ class Container:
 
 
 def decoded(data: bytes) -> str:
-    """The characters that the places of nodes count. Each byte that is no UTF-8 is one."""
+    """The text whose characters the positions of nodes count. Each byte that is not UTF-8 is one character."""
     return data.decode(errors="surrogateescape")
 
 
 def nodes(data: bytes, tags: Collection[str] = (), extend: Extend = by_keys) -> Iterator[Node]:
-    """All nodes in their order, or those with one of some tags. What YAML has in no text is read as U+FFFD."""
+    """All nodes in order, or only those with certain tags. Characters that YAML does not allow are read as U+FFFD."""
     yaml = _pyyaml()
     text = decoded(data)
     content = text.lstrip(BYTE_ORDER_MARK)
     skipped = len(text) - len(content)
     containers = [Container(Path(), "", None, -1, False, False)]
-    # By anchors: tags and texts of scalars.
+    # The tag and text of the scalar at each anchor.
     anchored: dict[str, tuple[str | None, str]] = {}
     beginnings = {yaml.MappingStartEvent: MAPPING, yaml.SequenceStartEvent: LIST}
     ends = (yaml.MappingEndEvent, yaml.SequenceEndEvent)
@@ -136,8 +136,8 @@ def nodes(data: bytes, tags: Collection[str] = (), extend: Extend = by_keys) -> 
 
 
 def _column(text: str, style: str, mark: Any) -> int:
-    """That of a collection in block style. The event of its beginning ends at the first key or dash; or behind the
-    dash, if that is in the column of the key above."""
+    """The column of a collection in block style. Its first event ends at the first key or dash, or after the dash if
+    that is in the column of the key above."""
     column: int = mark.column
     return column if style is MAPPING or text.startswith("-", mark.index) else column - 1
 
@@ -158,8 +158,8 @@ def _explained(fault: Any) -> str:
 
 
 def _pyyaml() -> ModuleType:
-    """PyYAML, from where `site` finds packages. The companions start without `site`, by -S; no folder that it adds
-    depends on the current one."""
+    """Imports PyYAML. The companions start without `site`, by -S, but it is needed to find packages. The directories
+    that it adds do not depend on the current one."""
     try:
         if sys.flags.no_site and "yaml" not in sys.modules:
             import site

@@ -10,12 +10,12 @@ Step = Union[str, int]
 
 class Path:
     """The keys that lead to a node. Paths share their beginnings, so the paths of all nodes take no more memory than
-    the text, however deep it is."""
+    the text, however deeply it is nested."""
 
     __slots__ = ("above", "last", "_hash")
 
     def __init__(self, above: Path | None = None, last: str = "") -> None:
-        # None for that of a document, to which nothing leads.
+        # None for the empty path of a document.
         self.above = above
         self.last = last
         self._hash = hash((above, last))
@@ -36,7 +36,7 @@ class Path:
         return True
 
     def _share(self, same: Path) -> None:
-        """Takes the beginning of the same path, so that paths below both are compared in a few steps."""
+        """Takes over the beginning of an equal path, so that paths below the two can be compared in a few steps."""
         one: Path | None = self
         two: Path | None = same
         while one and two and one is not two:
@@ -46,17 +46,17 @@ class Path:
         return (each.last for each in reversed([*self.upwards()]) if each.above is not None)
 
     def upwards(self) -> Iterator[Path]:
-        """It, and all above it."""
+        """This path and all paths above it."""
         each: Path | None = self
         while each is not None:
             yield each
             each = each.above
 
 
-# How a path goes on: the path of a collection, the step that leads to the collection, and the next one.
+# Extends a path by a step: takes a collection's path, the step that leads to the collection, and the next step.
 Extend = Callable[[Path, Step, Step], Path]
 
 
 def by_keys(path: Path, _last: Step, step: Step) -> Path:
-    """The places of a list lead to no paths of their own."""
+    """Extends a path by keys only, so that all items of a list share its path."""
     return path if isinstance(step, int) else Path(path, step)

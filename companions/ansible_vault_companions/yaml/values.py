@@ -1,7 +1,7 @@
-"""Where values with the tag `!vault` are in YAML, and which bytes are theirs.
+"""Finds the values with the tag `!vault` in YAML, and their bytes.
 
-What cannot be read as YAML is refused, so that no plaintext in the wrong column is taken for something else. Between
-git's conflict markers each side is read without the other.
+A text that is not valid YAML is refused, so that plaintext in the wrong column is not mistaken for something else.
+Between git's conflict markers, each side is read without the other.
 """
 
 from __future__ import annotations
@@ -17,31 +17,31 @@ from ansible_vault_companions.yaml.lookalikes import lookalikes
 from ansible_vault_companions.yaml.nodes import Node
 from ansible_vault_companions.yaml.paths import Extend, Path, by_keys
 
-# How a line ends in YAML 1.1.
+# The line endings of YAML 1.1.
 LINE_END = re.compile(rb"(?:\r\n?|\n|\xc2\x85|\xe2\x80[\xa8\xa9])")
 LINE_ENDS_IN_TEXT = "\n\u2028\u2029"
-# The tag and the anchor of a value, and what is between them and it.
+# The tag and the anchor of a value, and everything between them and the value.
 PROPERTIES = re.compile(rb"(?:[!&][^ \t\r\n]*(?:[ \t]+(?:#[^\r\n]*)?|%s)*)+" % LINE_END.pattern)
 BLOCK_HEADER = re.compile(rb"[|>](?P<indicators>[-+0-9]*)")
 
 
 class Value(NamedTuple):
-    """What follows a tag."""
+    """A value that follows a tag."""
 
-    # As of nodes.
+    # As in Node.
     style: str
     is_key: bool
-    # Of the tag: its line, from 1, and where that begins.
+    # The line of the tag, from 1, and the offset of that line.
     line: int
     line_start: int
-    # Of a key, that of its mapping.
+    # For a key, the path of its mapping.
     path: Path
-    # The column of the collection that it is in; -1 where it is in none.
+    # The column of the collection around it; -1 if there is none.
     column: int
     in_flow: bool
-    # Whether it begins in a line below that of the tag.
+    # Whether it begins on a line below the tag.
     is_below: bool
-    # Its text, and how that is written.
+    # Its text, and the bytes as written.
     content: bytes
     written: bytes
     # Offsets: the first byte; the end of a block scalar's header, or of another scalar; the end of that line; the end.
@@ -49,7 +49,7 @@ class Value(NamedTuple):
     header_end: int
     line_end: int
     end: int
-    # The end without the empty lines that belong to it.
+    # The end, without the empty lines that belong to it.
     content_end: int
 
     @property
@@ -58,7 +58,7 @@ class Value(NamedTuple):
 
 
 class Scan:
-    """What a file contains."""
+    """The tagged values of a file."""
 
     def __init__(self, data: bytes, extend: Extend = by_keys) -> None:
         self.data = data
@@ -68,15 +68,15 @@ class Scan:
         self.values = list(self._values())
 
     def lookalikes(self) -> Iterator[tuple[int, str, str]]:
-        """What is like the tag and is none, or is the tag within a comment or a text: the number of its line, the line,
-        and it."""
+        """Text that resembles the tag but is not one, or is the tag within a comment or a text: the line number, the
+        line, and that text."""
         for number, (place, line) in enumerate(self._lines(), 1):
             for start, like in lookalikes(line):
                 if not self.tagged.at(place + start):
                     yield number, line.strip(), like
 
     def comments(self, beginning: str) -> Iterator[tuple[int, int]]:
-        """The offsets of the lines, with their ends, that are comments and begin so."""
+        """The start and end offsets of the lines that are comments with this beginning."""
         offsets = _Offsets(self.text)
         for place, line in self._lines():
             comment = line.lstrip()
@@ -110,7 +110,7 @@ class Scan:
 
 
 class _Places:
-    """Nodes by their places, of which none is within another's."""
+    """Finds a node by position. No node is within another."""
 
     def __init__(self, nodes: Iterable[Node]) -> None:
         self.nodes = list(nodes)
@@ -122,7 +122,7 @@ class _Places:
 
 
 class _Offsets:
-    """The offsets in bytes of characters, which are asked for in their order."""
+    """Converts positions in characters to offsets in bytes. Fast if the positions increase."""
 
     def __init__(self, text: str) -> None:
         self.text = text
@@ -141,7 +141,7 @@ def _encoded(text: str) -> bytes:
 
 
 def _value(data: bytes, node: Node, head: str, tag: int, end: int) -> Value:
-    """The value of a node that has these bytes, behind the head of its line."""
+    """The value of a node from the offset `tag` to the offset `end`. `head` precedes the node in its line."""
     start = matched(PROPERTIES, data, tag, end).end()
     written = data[start:end]
     header = BLOCK_HEADER.match(data, start) if node.style in (nodes.LITERAL, nodes.FOLDED) else None
@@ -168,7 +168,7 @@ def _value(data: bytes, node: Node, head: str, tag: int, end: int) -> Value:
 
 
 def _ends(data: bytes, line_end: int, end: int, indicators: bytes, text: str) -> tuple[int, int]:
-    """The ends of a block scalar with the empty lines that its text has, and without them."""
+    """The ends of a block scalar with the empty lines at the end of its text, and without them."""
     content = text.rstrip(LINE_ENDS_IN_TEXT)
     count = 1 + sum(map(content.count, LINE_ENDS_IN_TEXT)) if content else 0
     ends = [found.start() for found in LINE_END.finditer(data, line_end, end)]
