@@ -16,7 +16,6 @@ from typing import Any
 
 import pytest
 import pytest_timeout
-from hypothesis.configuration import set_hypothesis_home_dir
 
 from lib.cases import Cases
 from lib.locales import use_plain_locale
@@ -24,8 +23,8 @@ from lib.needs import OF_ANOTHER_BUILD, TAKES_MOUNTS, TAKES_ROOT, is_confined
 from lib.paths import ROOT
 from lib.signals import heed_signals
 
-# What the tests write into the repository is below bin/, which they leave out when they copy it.
-set_hypothesis_home_dir(ROOT / "bin" / "hypothesis")
+# Tests write into the repository only below bin/, which they leave out when they copy it.
+os.environ["HYPOTHESIS_STORAGE_DIRECTORY"] = str(ROOT / "bin" / "hypothesis")
 PROGRAM = ROOT / "bin" / "ansible-vault"
 OUTCOMES = "outcomes"
 # How many tests of each part have to be run with --floors, the others by their markers; and how much they have to make

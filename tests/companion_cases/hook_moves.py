@@ -260,4 +260,5 @@ def test_plaintext_that_was_there(place: Place, plain: bytes) -> None:
 def test_plaintext_that_is_new(place: Place, plain: bytes) -> None:
     done = moved(place, plain)
     assert done.returncode == 1
-    assert f"{HOOK}: c.yml has " in done.stderr and "in plaintext, which was encrypted in the parent commit" in done.stderr
+    assert f"{HOOK}: c.yml has " in done.stderr
+    assert "in plaintext, which was encrypted in the parent commit" in done.stderr

@@ -18,7 +18,9 @@ AROUND = ("around", "prod2")
 FORMS = ("file", "block", "within")
 # The new passwords of labels.
 NEW = {DEFAULT: "new", "dev": "dev2"}
-NEXT_STEP = re.compile(r"its label is (\S+), but (\S+), a secret with the label (\S+), decrypts it; .* --vault-id (\S+)$")
+NEXT_STEP = re.compile(
+    r"its label is (\S+), but (\S+), a secret with the label (\S+), decrypts it; .* --vault-id (\S+)$"
+)
 
 
 class Made(NamedTuple):
