@@ -99,7 +99,7 @@ def test_help(place: Place, command: str) -> None:
     assert f"\nUsage: {WITH} {command} [OPTIONS] {takes}...\n" in done.stdout
     assert f"\n  {takes}...  " in done.stdout and f"{takes} " not in done.stdout, "several are taken"
     assert "required if FILE" not in done.stdout, "it is not needed"
-    in_place = "; FILE by default" in done.stdout and "Files to replace, or, " in done.stdout
+    in_place = "(default: FILE)" in done.stdout and "Files to replace, or, " in done.stdout
     assert in_place == (command in ("encrypt", "decrypt", "rekey"))
     assert (" one after the other;" in done.stdout) == (command == "view")
 
