@@ -212,7 +212,7 @@ def test_no_terminal(place: Place, subtests: SubTests) -> None:
 
 def test_standard_input(place: Place, subtests: SubTests) -> None:
     """Where the terminal is read, it is said so; and not where a file is, or a pipe."""
-    reading = "Reading standard input. Ctrl-D ends it"
+    reading = "Reading standard input. End it with Ctrl-D"
     place.put("a.yml", sealed("dev"))
     lines = {
         "encrypt_string --stdin-name word": "word: !vault |",

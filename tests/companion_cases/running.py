@@ -132,7 +132,7 @@ def test_command_lines(place: Place, subtests: SubTests) -> None:
                 assert (done.returncode, done.stdout, done.stderr) == (3, "", f"{WITH}: {part}\n")
     salted = [*place.by_file("old"), "--salt", "salt"]
     done = place.run(WITH, "encrypt", *salted, "plain.yml", "plain.yml")
-    ended("one salt for two", done, 2, "--salt is for one FILE or STRING")
+    ended("one salt for two", done, 2, "--salt is for a single FILE or STRING")
     assert place.files() == before, "all files stay"
 
 
@@ -274,7 +274,7 @@ def test_several_strings(place: Place, subtests: SubTests) -> None:
         ("a", ""): (1, "the string to encrypt is empty"),
         ("a", "b", "-n", "x\ny"): (1, "a variable name holds a control byte"),
         ("a", "b", "--loud"): (2, "error: unexpected argument '--loud' found"),
-        ("a", "b", "--salt", "salt"): (2, "--salt is for one FILE or STRING"),
+        ("a", "b", "--salt", "salt"): (2, "--salt is for a single FILE or STRING"),
         ("a", "b", "--encrypt-vault-id", "prod"): (1, "no secret has the label of --encrypt-vault-id"),
         ("a", "b", "--output", "nowhere/c.yml"): (1, "No such file or directory"),
     }
