@@ -50,8 +50,8 @@ def file_with(item: str) -> str:
 
 
 def definitions_of(crate: str, module: str, names: str) -> Path | None:
-    """Return the file of this repository that an import takes its names from, or None. The module `declared` is derived
-    from the code: for constants and traits, return the code; the names of cases need no explanation.
+    """Return the file of this repository that an import takes its names from, or None. Names under `declared` come from
+    the prover: for constants and traits, return the code; names of cases explain themselves.
     """
     folder = CRATES / crate
     if not folder.is_dir():
