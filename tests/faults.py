@@ -26,7 +26,7 @@ FILES = Target.NEW, Target.OLD
 # The commands, each with the targets of its output.
 TO_FILES = [(command, target) for command in OPTIONS for target in FILES if command != "view"]
 TARGETS = [*TO_FILES, *((command, Target.STREAM) for command in OPTIONS)]
-# How often each signal is sent to each long run: in all, and at least in a share.
+# How often each signal is sent to each long run, and how often at least with --share.
 MOMENTS, FEWEST = 20, 2
 
 each_target = pytest.mark.parametrize("command, target", TARGETS)

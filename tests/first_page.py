@@ -1,7 +1,7 @@
 """Run the commands of the README's section "Five minutes" in order, with a program as `ansible-vault` and the
 companions beside it, and compare their output. `newcomer` types the other commands.
 
-`first_page.py PROGRAM` prints them, and fails if one prints something else than the README says.
+`first_page.py PROGRAM` prints them, and fails if one prints anything other than what the README says.
 """
 
 import os

@@ -119,7 +119,7 @@ DPKG_QUERY = """\
 
 @pytest.mark.parametrize("name", ["bin/ansible-vault", "share/man/man1/ansible-vault-edit.1"])
 def test_owned(tmp_path: pathlib.Path, make: Make, name: str) -> None:
-    """No file of a package is overwritten, whichever of ours it is in the way of."""
+    """No file of a package is overwritten, whichever of our files it conflicts with."""
     prefix, tools = tmp_path / "usr", tmp_path / "tools"
     tools.mkdir()
     (tools / "dpkg-query").write_text(DPKG_QUERY.format(owned=prefix / name))

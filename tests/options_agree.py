@@ -165,7 +165,7 @@ def test_companion(name: str) -> None:
     assert sorted(named - set(flat(described))) == [], "and no other"
     statuses = {int(status) for status in re.findall(r"^\.It (\d)$", page["EXIT STATUS"], re.MULTILINE)}
     assert statuses == companion_statuses(name), "its page has the exit statuses of its help"
-    # The hook puts them into settings, and reads none.
+    # The hook puts its options for secrets into git's settings, and does not read Ansible's.
     takes_secrets = "--vault-id" in flat(in_help) and name != "ansible-vault-hook"
     settings = {"ANSIBLE_VAULT_IDENTITY_LIST", "ANSIBLE_VAULT_PASSWORD_FILE", "ANSIBLE_CONFIG"}
     variables = set(re.findall(r"\bEv (\w+)", page.get("ENVIRONMENT", "")))

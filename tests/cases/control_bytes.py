@@ -60,6 +60,6 @@ FORGED = {
 
 @pytest.mark.parametrize("word, shown", FORGED.items())
 def test_forged_lines(cases: Cases, word: str, shown: str) -> None:
-    """A line end in an argument begins no line of the message."""
+    """A line end in an argument starts no new line in the message."""
     message = stored_mistakes("view")["view x y"].replace("'y'", f"'{shown}'")
     cases.run(["view", "x", word], status=2, err=message.encode())
