@@ -186,7 +186,7 @@ def some_of(every: list[Refusal], seed: int, share: int) -> list[Refusal]:
 
 
 def refused_calls(program: str, scenarios: list[Scenario], seed: int, share: int) -> tuple[int, int]:
-    """Return how many runs were made, and how many there are in all."""
+    """Make a share of the runs. Return how many were made, and how many there are in all."""
     every, differing = refusals(program, scenarios), []
     chosen = some_of(every, seed, share)
     for refusal in chosen:
