@@ -1,26 +1,26 @@
-# A pipe fails if any of its commands does.
+# Make a pipe fail if any of its commands fails.
 SHELL := bash
 .SHELLFLAGS := -o pipefail -c
 
 PREFIX ?= /usr/local
 DESTDIR ?=
-# The program that is tested, measured and installed; one that is named is not built.
+# The program to test, measure and install. If you name another, make does not build it.
 PROGRAM := bin/ansible-vault
-# The processor that the program is built for, as x86-64-v3; by default that of the last build, at first x86-64-v2.
+# The processor to build for, such as x86-64-v3. The default is the last build's, and at first x86-64-v2.
 CPU ?= $(shell cat bin/processor 2> /dev/null)
 # Whether `make install` may replace files that it did not install.
 REPLACE ?= no
-# Whether `make test` skips what needs a tool that is not installed, `rt` among them. If not, it stops at once.
+# Whether `make test` skips tests that need a missing tool, such as `rt`. Otherwise, it stops at once.
 PARTIAL ?= no
-# Whether `make bench` makes one short round of each, to see that it works. Its figures then mean nothing.
+# Whether `make bench` runs only one short round of each, to show that it works. Its figures then mean nothing.
 QUICK ?= no
 QUICKLY := $(if $(filter yes,$(QUICK)),--quick)
 
 VERSION := $(shell sed -n 's/^const VERSION: &str = "\(.*\)";$$/\1/p' crates/vault_request/src/command_line.rt)
 SOURCES := $(shell find crates/*/src crates/*/specs crates/*/proofs) crates.txt
 
-# The installed files, below the prefix, in the folders that Debian's tools search. Python finds the module that the
-# companions share beside the files that the links lead to.
+# The installed files, below the prefix, in the directories that Debian's tools search. Python finds the companions'
+# shared package beside the files that the links point to.
 TOP := $(DESTDIR)$(PREFIX)
 COMPANIONS := $(patsubst companions/ansible-vault-%,%,$(sort $(wildcard companions/ansible-vault-*)))
 MANUALS := $(wildcard man/*.1)
@@ -34,7 +34,7 @@ else
 ZSH_FOLDER := share/zsh/site-functions
 endif
 DOCUMENTS := share/doc/ansible-vault
-# Each with its source, after the colon. The documents lie as they do here, for their links.
+# Each file, with its source after the colon. The documents keep their relative paths, which their links need.
 INSTALLED := bin/ansible-vault:$(PROGRAM) $(foreach page,$(MANUALS),$(page:man/%=$(PAGES)/%):$(page)) \
 	$(BASH_FOLDER)/ansible-vault:completions/ansible-vault.bash \
 	$(FISH_FOLDER)/ansible-vault.fish:completions/ansible-vault.fish \
@@ -44,26 +44,26 @@ INSTALLED := bin/ansible-vault:$(PROGRAM) $(foreach page,$(MANUALS),$(page:man/%
 	$(foreach name,$(COMPANIONS),$(LIBRARY)/ansible-vault-$(name):companions/ansible-vault-$(name)) \
 	$(foreach file,$(sort $(shell find companions/ansible_vault_companions -name '*.py')),\
 		$(file:companions/%=$(LIBRARY)/%):$(file))
-# Each with what it leads to, after the colon.
+# Each link, with its target after the colon.
 LINKS := $(foreach name,$(COMPANIONS),\
 	bin/ansible-vault-$(name):../$(LIBRARY)/ansible-vault-$(name) \
 	$(BASH_FOLDER)/ansible-vault-$(name):ansible-vault \
 	$(FISH_FOLDER)/ansible-vault-$(name).fish:ansible-vault.fish)
-# Where `make dist` puts its archives, their names, and how they are made. The time is that of the newest version.
+# Where `make dist` puts its archives, their names, and the command for them. Their date is the newest version's.
 DIST := bin/dist
 SOURCE_NAME := ansible-vault-$(VERSION)
 PROGRAM_NAME := ansible-vault-$(VERSION)-linux-x86_64
 SOURCE_DATE_EPOCH ?= $(shell date -u -d "$$(sed -n 's/^\#\# .*, \(.*\)/\1/p' CHANGELOG.md | head -n 1)" +%s)
 ARCHIVE = tar --create --format=gnu --sort=name --mtime=@$(SOURCE_DATE_EPOCH) --mode=u+rw,a+rX,go-w \
 	--owner=0 --group=0 --numeric-owner
-# The sums of the files that were installed, so that no other is uninstalled.
+# The checksums of the installed files, so that `make uninstall` removes no others.
 SUMS := $(LIBRARY)/installed.sha256
 
-# What runs the tests, and in how many processes: more than there are processors, since many tests wait.
+# The command that runs the tests, and the number of processes: more than processors, since many tests wait.
 PYTEST ?= /usr/bin/python3 -B -X utf8 -m pytest
 PYTEST_PROCESSES ?= $(shell expr $$(nproc) + 2)
 TESTING = $(PYTEST) --quiet --numprocesses=$(PYTEST_PROCESSES) "--program=$(PROGRAM)"
-# What `make coverage` runs, and how many percent of the companions' lines that is at least.
+# The tests that `make coverage` runs, and the least percentage of the companions' lines that they must run.
 COVERED := tests/companion_cases
 LEAST_COVERED := 97
 # The arguments of tools/plant_faults, tools/mutants, tools/fresh_machine and tools/releases.
@@ -71,7 +71,7 @@ PLANTED :=
 MUTANTS :=
 MACHINE :=
 RELEASES :=
-# For how long `make fuzz` makes requests, and what part of the faults `make faults` tries: one in SHARE.
+# How long `make fuzz` makes requests, and what share of the faults `make faults` tries: one in SHARE.
 SECONDS ?= 3600
 SHARE ?= 1
 
@@ -81,7 +81,7 @@ SHARE ?= 1
 
 all: $(PROGRAM)
 
-# Proves a program and the crates below it, where they changed, and builds it.
+# Prove a program and the crates below it, if they changed, and build it.
 BUILD = mkdir -p bin && cd crates/$(1) && "$(CURDIR)/tools/progress.py" "$(CURDIR)/bin/$(1).log" rt run
 
 bin/ansible-vault: $(SOURCES) bin/processor
@@ -89,11 +89,11 @@ bin/ansible-vault: $(SOURCES) bin/processor
 	@$(call BUILD,ansible_vault) $(if $(CPU),--cpu $(CPU)) -- --version
 	@cp crates/ansible_vault/out/ansible_vault $@
 
-# Runs the examples of the README in a folder of their own, and prints them.
+# Run the README's examples in a directory of their own, and print them.
 demo: all
 	@python3 -B tests/first_page.py $(PROGRAM)
 
-# Names the packages that the tests lack, before anything is proved.
+# Stop before anything is proved if packages that the tests need are missing.
 packages:
 	@missing=$$(tools/missing_packages); [ -z "$$missing" ] || [ "$(PARTIAL)" = yes ] || { \
 		echo "The tests need packages: apt-get install $$missing   (PARTIAL=yes skips what uses them)" >&2; \
@@ -105,14 +105,14 @@ bin/vault_allocation_failures: $(SOURCES)
 	@$(call BUILD,vault_allocation_failures) -- drive view < /dev/null
 	@cp crates/vault_allocation_failures/out/vault_allocation_failures $@
 
-# Changes if the processor does.
+# This file changes only if the processor does.
 bin/processor: FORCE
 	@mkdir -p bin
 	@echo '$(CPU)' | cmp -s - $@ || echo '$(CPU)' > $@
 
-# The gate, and then the tests, with the programs that the gate builds, but for another processor. They are as old as
-# the gate's beginning: a source that changes meanwhile is newer. As many proofs as there are processors run side by
-# side, each in one job: a further job of a proof would load the libraries again.
+# Run the gate, and then the tests, with the programs that the gate builds, unless CPU names another processor. Their
+# date is the start of the gate, so that a source changed meanwhile is newer. There are as many proofs in parallel as
+# processors, each with one job: every further job of a proof would load the libraries again.
 check: export RT_JOBS ?= $(shell nproc)
 check: packages bin/processor
 	@echo "Proving every crate and its tests, and trying their must-fail edits"
@@ -124,36 +124,36 @@ check: packages bin/processor
 	@touch -r bin/gate-begun bin/vault_allocation_failures
 	@$(MAKE) --no-print-directory test
 
-# No part of the gate: the mutants of each crate beside its must-fail edits, before a release.
+# Not part of the gate: try the mutants of each crate, in addition to its must-fail edits, before a release.
 mutants: all
 	@echo "Trying the mutants; what became of each is printed once all are tried"
 	@tools/mutants $(MUTANTS)
 
-# All of them, file by file. A part with fewer tests than its floor fails, and the last line counts the tests.
+# Run all tests, file by file. A part with fewer tests than its floor fails. The last line counts the tests.
 test: packages all $(if $(shell command -v rt),bin/vault_allocation_failures)
 	$(TESTING) -m '' --dist=loadfile --floors --runs=6000 --seconds=120 --share=20
 
-# No part of the gate: plants faults in copies of the repository, and runs the test that is to catch each.
+# Not part of the gate: plant faults in copies of the repository, and run the test that must catch each.
 planted: all
 	tools/plant_faults "--program=$(PROGRAM)" $(PLANTED)
 
-# No part of the gate: which lines of the companions no test of theirs runs. Tests that watch what a companion writes
-# fail here, since it notes its lines, too.
+# Not part of the gate: show which lines of the companions their tests never run. Tests that watch what a companion
+# writes fail here, since it also writes its coverage data.
 coverage: all
 	@rm -rf bin/coverage && mkdir -p bin/coverage && chmod a+rwx bin/coverage
 	-LINES_RUN=$(abspath bin/coverage) $(TESTING) $(COVERED)
 	@/usr/bin/python3 -m coverage combine --quiet --rcfile=tests/lines_run.ini
 	@/usr/bin/python3 -m coverage report --rcfile=tests/lines_run.ini --fail-under=$(LEAST_COVERED)
 
-# Random requests.
+# Test with random requests.
 fuzz: all
 	$(TESTING) -m fuzz --runs=100000000 --seconds=$(SECONDS) --timeout=0 --seed=$(shell date +%s)
 
-# Makes every system call fail in turn, and injects the other faults.
+# Make every system call fail in turn, and inject the other faults.
 faults: all
 	$(TESTING) -m faults --share=$(SHARE) --timeout=0
 
-# The program that does parts of the work alone, for the benchmarks.
+# The program that runs parts of the work alone, for the benchmarks.
 bin/vault_bench: $(SOURCES) bin/processor
 	@$(call BUILD,vault_bench) $(if $(CPU),--cpu $(CPU)) -- counter-mode 48 1
 	@cp crates/vault_bench/out/vault_bench $@
@@ -167,24 +167,24 @@ bench: all bin/vault_bench
 	bench/counter_mode.py $(QUICKLY)
 	bench/key_derivation.py $(QUICKLY)
 
-# Refuses to overwrite a file of another program.
+# Refuse to overwrite another program's file.
 install: all
 	@tools/installed install "$(TOP)" $(SUMS) $(REPLACE) $(INSTALLED) -- $(LINKS)
 	@$(if $(DESTDIR),,echo "Type next: hash -r; ansible-vault --version")
 
-# Removes files that are as they were installed, and lists the others.
+# Remove the installed files that are unchanged, and list the others.
 uninstall:
 	@tools/installed uninstall "$(TOP)" $(SUMS) $(LINKS)
 
-# Fails if the program is built for a newer processor than a package may need.
+# Fail if the program is built for a newer processor than a package may need.
 portable:
 	@[ -z "$(CPU)" ] || { \
 		echo "bin/ansible-vault is built for $(CPU), and packages and archives are for all processors: make CPU=" >&2; \
 		exit 1; \
 	}
 
-# The archives of a version, with their sums: its sources, as git lists them, and what `make install` puts below a
-# prefix. They have the same bytes wherever and whenever they are made of the same sources and program.
+# Make the archives of a version, and their checksums: the sources that git tracks, and the files that `make install`
+# puts below a prefix. The same sources and program always give the same bytes.
 dist: portable all
 	@git ls-files --error-unmatch Makefile > /dev/null 2>&1 || { \
 		echo "make dist archives what git tracks: run it in a git checkout" >&2; \
@@ -199,8 +199,8 @@ dist: portable all
 	@rm -r $(DIST)/$(PROGRAM_NAME)
 	@cd $(DIST) && sha256sum *.tar.gz > SHA256SUMS
 
-# The Debian package of the program and its companions, in bin/. It is built in a copy,
-# so that what debhelper writes does not lie among the sources.
+# Build the Debian package of the program and its companions, in bin/. Work in a copy, so that debhelper writes nothing
+# among the sources.
 package: portable all
 	@rm -rf bin/package && mkdir -p bin/package/source/bin
 	@tar --create --exclude='./.*' --exclude=./bin --exclude=out . | tar --extract --directory=bin/package/source
@@ -208,15 +208,15 @@ package: portable all
 	cd bin/package/source && dpkg-buildpackage --build=binary --no-pre-clean --no-sign
 	@mv bin/package/*.deb bin/ && rm -r bin/package
 
-# The scripts in Python, sh and bash, the manual pages, the length of lines, and names that nothing uses.
+# Check the scripts in Python, sh and bash, the manual pages and the length of lines, and find unused names.
 lint:
 	tools/lint
 
-# Types the README's commands on a Debian that has nothing else, as root; MACHINE is its suite, and before it --kept.
+# Run the README's commands on a Debian that has nothing else, as root. MACHINE is its suite, or --kept and its suite.
 fresh-machine:
 	tools/fresh_machine $(MACHINE)
 
-# Compares with the Ansible of other releases of Debian, as root; RELEASES are their names, and by default all.
+# Compare with the Ansible of other Debian releases, as root. RELEASES are their names, by default all.
 releases: all
 	PYTEST_PROCESSES=$(PYTEST_PROCESSES) tools/releases "$(PROGRAM)" $(RELEASES)
 

@@ -1,5 +1,5 @@
 #!/usr/bin/env -S /usr/bin/python3 -B
-"""Draws processor time and memory of `view` against the size of the plaintext, from what `commands.py` measured.
+"""Draw the processor time and memory of `view` against the size of the plaintext, as `commands.py` measured them.
 
 Usage: chart.py FILE.svg, with the points as JSON on standard input.
 """
@@ -14,7 +14,7 @@ except ImportError:
     sys.exit("chart.py needs matplotlib: apt-get install python3-matplotlib")
 
 matplotlib.use("svg")
-# The drawing of the same numbers is the same file.
+# Make the same numbers give the same file.
 matplotlib.rcParams["svg.hashsalt"] = "ansible-vault"
 
 from matplotlib import pyplot
@@ -23,7 +23,7 @@ Point = dict[str, Any]
 
 NAMES = {"ours": "this tool", "theirs": "Ansible's tool"}
 UNITS = [(1 << 20, "MiB"), (1 << 10, "KiB"), (1, "B")]
-# Where ticks of a logarithmic axis may stand.
+# The possible ticks of a logarithmic axis.
 TICKS = [digit * 10**power for power in range(6) for digit in (1, 2, 5)]
 
 
@@ -33,7 +33,7 @@ def size_name(size: int) -> str:
 
 
 def ticks_around(values: list[float]) -> list[int]:
-    """The ticks from the last one below all values to the first one above them."""
+    """Return the ticks from the last one below all values to the first one above them."""
     low = max((tick for tick in TICKS if tick < min(values)), default=TICKS[0])
     high = min((tick for tick in TICKS if tick > max(values)), default=TICKS[-1])
     return [tick for tick in TICKS if low <= tick <= high]

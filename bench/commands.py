@@ -1,14 +1,14 @@
 #!/usr/bin/env -S python3 -B
-"""Times the commands of the built program and of Ansible's own tool, in alternation, and `view` also by the alias.
+"""Time the commands of the program and of Ansible's own tool, in alternation, and also `view` through the alias.
 
 Usage: commands.py PROGRAM [--runs N] [--time clock|processor] [--only START] [--chart FILE.svg] [--quick]
 
-Of five or more runs of a tool the median is shown, with the minimum and the maximum in parentheses. A ratio is that of
-the medians, with the extremes of single turns in parentheses. It is of processor time, which other work on the machine
-affects least; a ratio of wall-clock times is printed only if both times agree. Below the times stand the instructions
-of a run of this tool, as Valgrind counts them. The vaults are made by the tests' own Python; Ansible's tool is found as
-`tests/lib/ansible.py` says. The last lines are the table of docs/speed.md. The chart shows time and memory of `view`
-against the size of the vault.
+Each tool runs five times or more. The table shows the median, and the minimum and the maximum in parentheses. A ratio
+compares the medians, with the extremes of single turns in parentheses. It is of processor time, which other work on the
+machine affects least; a ratio of wall-clock times is printed only if both times agree. Below the times are the
+instructions of one run of this tool, as Valgrind counts them. The tests' own Python makes the vaults. Ansible's tool is
+found as `tests/lib/ansible.py` says. The last lines are the table of docs/speed.md. The chart shows time and memory of
+`view` against the size of the vault.
 """
 
 import argparse
@@ -35,14 +35,14 @@ from model.vaults import seal
 SIZES = {"1 KiB": 1 << 10, "64 KiB": 1 << 16, "1 MiB": 1 << 20, "16 MiB": 1 << 24}
 CHART_SIZES = {"4 KiB": 1 << 12, "16 KiB": 1 << 14, "256 KiB": 1 << 18, "4 MiB": 1 << 22}
 QUICK_SIZES, QUICK_CHART_SIZES = {"1 KiB": 1 << 10}, {"4 KiB": 1 << 12}
-# The default, and the fewest whose median is shown.
+# The default, and the least number of runs whose median is shown.
 RUNS = 5
 RIGHT = b"the right password"
 OURS, THEIRS, ALIAS = "ours", "theirs", "the alias"
-# How many times as long as the tool the alias takes at most.
+# The alias should take at most this many times as long as the tool.
 ALIAS_GOAL = 2.5
 PYTHON = "/usr/bin/python3"
-# How many times faster the rows of these names shall be.
+# How many times faster these rows should be.
 GOALS = {
     "view, 1 KiB": 23,
     "view, 1 MiB": 13,
@@ -50,7 +50,7 @@ GOALS = {
     "encrypt, 1 MiB": 8,
     "rekey, 1 KiB": 13,
 }
-# The rows of the table in docs/speed.md, as they are called there.
+# The rows of the table in docs/speed.md, and their names there.
 TABLE = {
     "view, 1 KiB": "`view`, 1 KiB",
     "view, 1 MiB": "`view`, 1 MiB",
@@ -67,7 +67,7 @@ class Row(NamedTuple):
 
 
 class Rows:
-    """The rows of the table; each row makes its own vault and its own files."""
+    """The rows of the table. Each row makes its own vault and its own files."""
 
     def __init__(self, program: str, ansible: str | None, folder: Path) -> None:
         self.program = program
@@ -85,7 +85,7 @@ class Rows:
         return str(self.folder / name)
 
     def both(self, ours: Task, theirs: list[str], **other: Any) -> dict[str, Task]:
-        """Theirs has the input and the test of ours where it has none of its own."""
+        """Return our task and theirs. By default, theirs has the same input and the same check."""
         tasks = {OURS: Task([self.program, *ours.command], ours.stdin, ours.accepts)}
         if self.ansible is not None:
             stdin = other.pop("stdin", ours.stdin)
@@ -121,7 +121,7 @@ class Rows:
         return Row(f"rekey, {name}", size, theirs)
 
     def alias(self) -> Row:
-        """`view` by the tool, by ansible-vault-with beside it, and by Ansible's tool."""
+        """Compare `view` by the tool, by ansible-vault-with beside it, and by Ansible's tool."""
         text = plaintext(1 << 10)
         path = self.file("vault", seal(RIGHT, text))
         companion = self.folder / "ansible-vault-with"
@@ -137,7 +137,7 @@ class Rows:
         return Row("view, 1 KiB, by the alias", 1 << 10, tasks)
 
     def chosen(self, sizes: dict[str, int], start: str) -> Iterator[Row]:
-        """The rows whose names begin so; no other is prepared."""
+        """Yield the rows whose names begin with `start`. The others are not prepared."""
         makers: dict[str, Callable[[], Row]] = {}
         for name, size in sizes.items():
             makers[f"view, {name}"] = partial(self.view, name, size, self.alone)
@@ -157,14 +157,14 @@ def plaintext(size: int) -> bytes:
 
 
 def ratio_of(times: dict[str, Times], kind: str) -> Spread:
-    """How many times faster ours is: by the medians, and in single turns."""
+    """Return how many times faster ours is: by the medians, and in single turns."""
     ours, theirs = times[OURS].of(kind), times[THEIRS].of(kind)
     turns = spread([their / our for our, their in zip(ours, theirs)])
     return turns._replace(median=spread(theirs).median / spread(ours).median)
 
 
 def has_ratio(times: dict[str, Times], kind: str) -> bool:
-    """Whether there is a ratio, and it is meaningful."""
+    """Return whether there is a meaningful ratio."""
     return THEIRS in times and (kind == PROCESSOR or all(took.is_steady for took in times.values()))
 
 
@@ -187,7 +187,7 @@ def heading(with_theirs: bool, kind: str) -> str:
 
 
 def print_table(measured: dict[str, dict[str, Times]], runs: int, kind: str) -> None:
-    """As it stands in docs/speed.md."""
+    """Print the table as it appears in docs/speed.md."""
     print(f"\nTimes of {TIMES[kind]}: the median of {runs} runs, and in parentheses the least and the most.\n")
     print("| | this tool | Ansible's tool | times faster |\n|---|---|---|---|")
     for name, title in TABLE.items():
@@ -204,7 +204,7 @@ def print_alias(row: Row, runs: int, kind: str) -> None:
 
 
 def print_instructions(row: Row) -> None:
-    """Of a run by this tool, which are the same on each machine."""
+    """Print the instructions of a run of this tool, which are the same on each machine."""
     if shutil.which("valgrind"):
         _, functions = count_instructions(row.tasks[OURS].command, row.tasks[OURS].stdin)
         parts = ", ".join(f"{part} {count / 1e6:.1f}" for part, count in parts_of(functions).items())

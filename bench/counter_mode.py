@@ -1,8 +1,8 @@
 #!/usr/bin/env -S python3 -B
-"""Times counter mode over 16 MiB: this repository's, plain C by tables, and OpenSSL's: counter_mode.py [--quick]
+"""Time counter mode over 16 MiB in this repository, in plain C with tables, and in OpenSSL: counter_mode.py [--quick]
 
-A run over one pass is taken from a run over several, so that start-up and memory drop out, and of
-several rounds the best counts.
+The time of a run with one pass is subtracted from the time of a run with two, so that start-up and memory drop out. The
+best of several rounds counts.
 """
 
 import os
@@ -18,12 +18,12 @@ from measured import BENCHMARK, options
 HERE = pathlib.Path(__file__).resolve().parent
 LENGTH = 16 * 1024 * 1024
 ROUNDS = 15
-# What OPENSSL_ia32cap takes to hide AES-NI and the vector instructions that replace it.
+# The value of OPENSSL_ia32cap that hides AES-NI and the vector instructions that replace it.
 NO_AES = "~0x200000200000000"
 
 
 def best_seconds(commands: dict[str, list[str]], rounds: int) -> dict[str, float]:
-    """The least time of one pass of each command, by rounds that take turns."""
+    """Return the least time of one pass of each command. The commands take turns."""
     times: dict[tuple[str, int], float] = {}
     for _ in range(rounds):
         for name, command in commands.items():
@@ -37,13 +37,13 @@ def best_seconds(commands: dict[str, list[str]], rounds: int) -> dict[str, float
 
 
 def last_block(command: list[str]) -> str:
-    """What a command prints of one pass over the length and three bytes."""
+    """Return what a command prints for one pass over the length plus three bytes."""
     run = subprocess.run([*command, str(LENGTH + 3), "1"], check=True, capture_output=True, text=True)
     return run.stdout
 
 
 def openssl_speed(environment: dict[str, str]) -> float | None:
-    """OpenSSL's own figure for pieces of 16 KiB, in MB/s, or None."""
+    """Return OpenSSL's own figure for pieces of 16 KiB, in MB/s, or None."""
     command = ["openssl", "speed", "-seconds", "1", "-bytes", "16384", "-evp", "aes-256-ctr"]
     run = subprocess.run(command, env={**os.environ, **environment}, capture_output=True, text=True)
     found = re.search(r"^aes-256-ctr\s+([0-9.]+)k", run.stdout, re.IGNORECASE | re.MULTILINE)

@@ -1,8 +1,8 @@
 #!/usr/bin/env -S python3 -B
-"""Times reading and writing of envelopes, in MB of their text a second: envelope.py [--quick]
+"""Time reading and writing envelopes, in MB of their text per second: envelope.py [--quick]
 
-Beside reading stands python3's `bytes.fromhex` twice on the same body. All are taken in turn in one
-run, and of each the best time counts.
+Reading is compared with python3's `bytes.fromhex`, applied twice to the same body. All are measured in one run, and the
+best time of each counts.
 """
 
 import os
@@ -22,21 +22,21 @@ READING_TARGET, WRITING_TARGET = 150, 250
 
 
 def check_length() -> None:
-    """The program writes the length that the format gives."""
+    """Check that the program writes the length that the format requires."""
     run = subprocess.run([BENCHMARK, "write", str(CIPHER_LENGTH), "1"], stdout=subprocess.PIPE, check=True)
     if int(run.stdout) != len(envelope(80, CIPHER_LENGTH)):
         raise SystemExit("the program writes an envelope of another length")
 
 
 def envelope(width: int, length: int) -> bytes:
-    """An envelope of that much ciphertext, with lines of that many digits."""
+    """Return an envelope of this much ciphertext, with lines of this many digits."""
     parts = bytes([7] * 32), bytes([9] * 32), os.urandom(length)
     digits = b"\n".join(part.hex().encode() for part in parts).hex().encode()
     return HEADER + b"".join(digits[i : i + width] + b"\n" for i in range(0, len(digits), width))
 
 
 def python_twice(text: bytes) -> list[bytes]:
-    """Both levels of hexadecimal, and no more of the format."""
+    """Decode both levels of hexadecimal, and nothing else of the format."""
     inner = bytes.fromhex(text[len(HEADER) :].decode()).split(b"\n")
     return [bytes.fromhex(part.decode()) for part in inner]
 
@@ -60,7 +60,7 @@ def repeated_python(text: bytes) -> None:
 
 
 def rate(work: Callable[[], None], size: int) -> float:
-    """MB of text a second."""
+    """Return how many MB of text are processed per second."""
     start = time.perf_counter()
     work()
     return size * REPEATS / 1e6 / (time.perf_counter() - start)

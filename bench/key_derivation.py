@@ -1,9 +1,8 @@
 #!/usr/bin/env -S python3 -B
-"""Times the derivation of a vault's keys, ten thousand rounds of PBKDF2 into 80 bytes: key_derivation.py [--quick]
+"""Time the derivation of a vault's keys, ten thousand rounds of PBKDF2 to 80 bytes: key_derivation.py [--quick]
 
-Beside it stand 60,000 compressions by the kit's `sha2`, as many as these rounds take, one by one, and
-OpenSSL's PBKDF2, called through `hashlib`. All are taken in turn in one run, and of each the least
-processor time counts.
+It is compared with 60,000 compressions by the kit's `sha2`, the number that these rounds take, one by one, and with
+OpenSSL's PBKDF2, called through `hashlib`. All take turns in one run, and the least processor time of each counts.
 """
 
 import hashlib
@@ -22,7 +21,7 @@ TARGET = 1.06
 
 
 def check_keys() -> None:
-    """The program derives what OpenSSL does."""
+    """Check that the program and OpenSSL derive the same keys."""
     run = subprocess.run([BENCHMARK, "derive", "1"], stdout=subprocess.PIPE, text=True, check=True)
     if run.stdout.strip() != str(list(openssl()[:32])):
         raise SystemExit("the program and OpenSSL derive different keys")
@@ -42,13 +41,13 @@ def repeated_openssl() -> None:
 
 
 def processor_seconds() -> float:
-    """What this program has used so far, and the programs that it ran."""
+    """Return the processor time of this program and of the programs that it ran, so far."""
     used = [resource.getrusage(resource.RUSAGE_SELF), resource.getrusage(resource.RUSAGE_CHILDREN)]
     return sum(part.ru_utime + part.ru_stime for part in used)
 
 
 def milliseconds(work: Callable[[], None]) -> float:
-    """The processor time that one of the repeats takes."""
+    """Return the processor time of one repetition, in milliseconds."""
     start = processor_seconds()
     work()
     return (processor_seconds() - start) * 1000 / REPEATS

@@ -1,4 +1,4 @@
-"""Runs of programs that take turns: time of the clock, processor time and peak memory of each."""
+"""Run programs in turn, and measure the wall-clock time, processor time and peak memory of each."""
 
 import argparse
 import os
@@ -12,17 +12,17 @@ from pathlib import Path
 from statistics import median
 from typing import Callable, NamedTuple
 
-# The program that does parts of the work alone; `make bin/vault_bench` builds it.
+# The program that runs parts of the work alone; `make bin/vault_bench` builds it.
 BENCHMARK = str(Path(__file__).resolve().parent.parent / "bin" / "vault_bench")
 CLOCK, PROCESSOR = "clock", "processor"
-# Times of the clock and of the processor that differ by more than this part show that the machine was busy.
+# If wall-clock and processor times differ by more than this fraction, the machine was busy.
 TOLERANCE = 0.5
-# How often the memory of a running program is looked at, in seconds.
+# How often to look at the memory of a running program, in seconds.
 SAMPLING_INTERVAL = 0.0005
 
 
 def options(description: str | None) -> argparse.ArgumentParser:
-    """The options of each benchmark."""
+    """Return a parser with the options that every benchmark has."""
     parser = argparse.ArgumentParser(description=description, formatter_class=argparse.RawDescriptionHelpFormatter)
     parser.add_argument("--quick", action="store_true", help="one short round, whose figures mean nothing")
     return parser
@@ -30,8 +30,8 @@ def options(description: str | None) -> argparse.ArgumentParser:
 
 @dataclass
 class Task:
-    """A command, its standard input, and what its standard output must satisfy; `prepare` runs before
-    each run and is not timed."""
+    """A command, its standard input, and a check of its standard output. `prepare` runs before each run and is not
+    timed."""
 
     command: list[str]
     stdin: bytes
@@ -40,7 +40,7 @@ class Task:
 
 
 class Spread(NamedTuple):
-    """The median of several figures, the least and the most."""
+    """The median, the minimum and the maximum of several figures."""
 
     median: float
     minimum: float
@@ -54,7 +54,7 @@ class Spread(NamedTuple):
 
 
 def figure(value: float) -> str:
-    """With three digits or more."""
+    """Format with one decimal below 100, and with none from 100 on."""
     return f"{value:.1f}" if value < 100 else f"{value:.0f}"
 
 
@@ -64,7 +64,7 @@ def spread(values: list[float]) -> Spread:
 
 @dataclass
 class Times:
-    """What each run took, in milliseconds of the clock and of the processor, and the most memory, in MiB."""
+    """The wall-clock and processor times of each run, in milliseconds, and the peak memory, in MiB."""
 
     clock: list[float] = field(default_factory=list)
     processor: list[float] = field(default_factory=list)
@@ -75,13 +75,13 @@ class Times:
 
     @property
     def is_steady(self) -> bool:
-        """Whether both times say the same; only then a ratio of the clock says anything."""
+        """Whether both times agree. Only then does a ratio of wall-clock times mean anything."""
         return median(self.clock) <= (1 + TOLERANCE) * median(self.processor)
 
 
 def peak_memory(process: int, seen: list[float]) -> None:
-    """Notes the peak resident memory in MiB while the process runs: the figure that the system reports after its
-    end includes this program's own memory."""
+    """Note the peak resident memory in MiB while the process runs. After its end, the system's figure would include
+    this program's own memory."""
     try:
         while True:
             status = Path(f"/proc/{process}/status").read_text()
@@ -110,7 +110,7 @@ def run_once(task: Task, times: Times) -> None:
 
 
 def memory_of(task: Task) -> float:
-    """In a run of its own, since to look takes time."""
+    """Return the peak memory of a separate run, since looking at it takes time."""
     task.prepare()
     seen: list[float] = [0.0]
     with tempfile.TemporaryFile() as stdin:
@@ -126,7 +126,7 @@ def memory_of(task: Task) -> float:
 
 
 def measure_in_turn(tasks: dict[str, Task], runs: int) -> dict[str, Times]:
-    """Runs each task once, then each again, and so on; what each run took, by task."""
+    """Run each task once, then each again, and so on. Return what each run took, by task."""
     times = {name: Times() for name in tasks}
     for _ in range(runs):
         for name, task in tasks.items():

@@ -1,11 +1,10 @@
 #!/usr/bin/env -S python3 -B
-"""Says where the time of `view` and `encrypt` goes, by the program that does each part alone.
+"""Show where the time of `view` and `encrypt` goes, with a program that runs each part alone.
 
-Usage: parts.py PROGRAM [--quick]. All is processor time, taken in turn in one run; of several rounds the least counts,
-since what else a machine does slows each part by another share.
-Beside a part stands the least that it could take: the compressions of `sha2` alone, or a copy of the envelope.
-The kernel's part is the whole program's; the rest is its start, its arguments, line ends and what is not
-measured alone.
+Usage: parts.py PROGRAM [--quick]. All figures are processor time, measured in turn in one run. The least of several
+rounds counts, since other work on the machine slows each part by a different share. Beside a part is the least time
+that it could take: the compressions of `sha2` alone, or a copy of the envelope. The kernel's part is the whole
+program's. The rest is start-up, arguments, line ends and anything that is not measured alone.
 """
 
 import ctypes
@@ -27,29 +26,29 @@ ROUNDS = 9
 KIB, MIB = 1 << 10, 1 << 20
 SIZES = {"1 KiB": KIB, "1 MiB": MIB, "16 MiB": 16 * MIB}
 PASSWORD = b"a password"
-# How many compressions a derivation makes.
+# The number of compressions in a derivation.
 DERIVATION = 60_000
 BLOCK = 64
-# What a part is repeated for: some MiB of it, and at most MOST times.
+# Repeat a part until it has processed this many bytes, but at most MOST times.
 REPEATED, MOST = 8 * MIB, 2_000
 
 
 class Used(NamedTuple):
-    """Processor time in milliseconds, and how much of it the kernel took."""
+    """Processor time in milliseconds, in all and in the kernel."""
 
     whole: float
     kernel: float
 
 
 class Part(NamedTuple):
-    """A program that does a part as often as its last argument says, with its input."""
+    """A program that runs a part as often as its last argument says, and its input."""
 
     words: list[str]
     repeats: int
     stdin: str = os.devnull
 
     def milliseconds(self) -> float:
-        """What one time takes, without the program's start."""
+        """Return the time of one repetition, without the program's start-up."""
         total, startup = (run([*self.words, str(times)], self.stdin).whole for times in (self.repeats, 0))
         return (total - startup) / self.repeats
 
@@ -78,12 +77,12 @@ def times_for(size: int) -> int:
 
 
 def tag_compressions(size: int) -> int:
-    """The compressions of HMAC: the inner key block, the padded message, and two for the outer hash."""
+    """Return the compressions of HMAC: the inner key block, the padded message, and two for the outer hash."""
     return 1 + (size + 9 + BLOCK - 1) // BLOCK + 2
 
 
 class Parts:
-    """What is measured, by its name: each part alone, and the whole runs of the program."""
+    """What is measured, by name: each part alone, and whole runs of the program."""
 
     def __init__(self, program: str, folder: Path, sizes: dict[str, int]) -> None:
         self.parts = {
@@ -108,7 +107,7 @@ class Parts:
             self.copies[name] = vault.stat().st_size
 
     def measure(self, rounds: int) -> tuple[dict[str, float], dict[str, float]]:
-        """The milliseconds of each by its name, and the kernel's share of each run."""
+        """Return the milliseconds of each, by name, and the kernel's fraction of each run."""
         taken: dict[str, list[float]] = {}
         kernel: dict[str, list[float]] = {}
         for _ in range(rounds):
@@ -120,7 +119,7 @@ class Parts:
                 used = run(words, stdin)
                 taken.setdefault(name, []).append(used.whole)
                 kernel.setdefault(name, []).append(used.kernel)
-        # The kernel's time is counted in clock ticks: only the mean of several runs is meaningful.
+        # The kernel's time is counted in clock ticks, so only the mean of several runs is meaningful.
         shares = {name: mean(times) / mean(taken[name]) for name, times in kernel.items()}
         return {name: min(times) for name, times in taken.items()}, shares
 

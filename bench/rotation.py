@@ -1,9 +1,9 @@
 #!/usr/bin/env -S python3 -B
-"""Times how many vaults get a new secret: by ansible-vault-rotate and by Ansible's own tool, in one run each, in turn.
+"""Time giving many vaults a new secret in one run, by ansible-vault-rotate and by Ansible's own tool, in turn.
 
 Usage: rotation.py PROGRAM [--vaults N] [--runs N] [--quick]
 
-The vaults are of 1 KiB, and are made anew before each run. No two are equal, since equal ones are decrypted once.
+The vaults contain 1 KiB, and are written again before each run. No two are equal, since equal ones are decrypted once.
 """
 
 import sys
@@ -22,7 +22,7 @@ PASSWORDS = {"old": b"the old password", "new": b"the new password"}
 
 
 class Vaults:
-    """A folder of vaults, password files, and the companion beside the program."""
+    """A directory of vaults, password files, and the companion beside the program."""
 
     def __init__(self, folder: Path, program: Path, count: int) -> None:
         self.folder = folder

@@ -1,4 +1,4 @@
-"""`make dist`: an archive of the sources and one of the built program, the same wherever they are made."""
+"""`make dist` makes an archive of the sources and one of the built program, the same wherever it runs."""
 
 import os
 import pathlib
@@ -19,7 +19,7 @@ ARCHIVES = [f"{SOURCE}.tar.gz", f"{PROGRAM}.tar.gz"]
 
 
 def made(program: str, folder: pathlib.Path, at: pathlib.Path = ROOT, **options: Any) -> list[bytes]:
-    """The archives and their sums, as `make dist` of a checkout makes them."""
+    """Run `make dist` in a checkout, and return the archives and their checksums."""
     done = run_make(program, "dist", f"DIST={folder}", "CPU=", at=at, **options)
     assert done.returncode == 0, done.stderr
     assert sorted(path.name for path in folder.iterdir()) == sorted([*ARCHIVES, "SHA256SUMS"])
@@ -67,7 +67,7 @@ def test_contents(archives: pathlib.Path, tmp_path: pathlib.Path) -> None:
 
 
 def test_made_again(program: str, archives: pathlib.Path, tmp_path: pathlib.Path) -> None:
-    """Of the unpacked sources, in another folder, zone and umask, the same archives are made."""
+    """The unpacked sources give the same archives in another directory, time zone and umask."""
     unpacked(archives / ARCHIVES[0], tmp_path / "unpacked")
     checkout = tmp_path / "unpacked" / SOURCE
     for words in (["init", "--quiet"], ["add", "--all"]):

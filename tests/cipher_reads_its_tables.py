@@ -1,7 +1,7 @@
-"""Shows that the cipher reads its tables: no contract can say in which way a value is found.
+"""The cipher reads its tables: no contract can say how a value is found.
 
-In copies of the cipher, another number stands at entry 0 of a table. The key of zeros and the block of zeros read that
-entry, so their vector then has to fail.
+Copies of the cipher have another number at entry 0 of a table. The zero key and the zero block read that entry, so
+their test vector must then fail.
 """
 
 import re
@@ -20,7 +20,7 @@ NAMES = [found[1] for found in TABLE.finditer((CIPHER / "src" / "tables.rt").rea
 
 
 def copy_cipher(crates: Path, table: str) -> str:
-    """Under a name of its own, with another first entry of the table, or without a change; the name."""
+    """Copy the cipher under a new name, change the first entry of the table if it exists, and return the name."""
     name = f"vault_aes_{table.lower()}"
     shutil.copytree(CIPHER, crates / name, ignore=shutil.ignore_patterns("out", "proofs", "must-fail", "mutants"))
     for file in [*crates.glob(f"{name}/src/**/*.rt"), *crates.glob(f"{name}/specs/**/*.antt")]:
@@ -36,7 +36,7 @@ def copy_cipher(crates: Path, table: str) -> str:
 
 
 def outcomes(folder: Path, ciphers: dict[str, str]) -> dict[str, str]:
-    """How `rt try` ends the test of each cipher's vector, before any proof."""
+    """Return how `rt try` ends the test of each cipher's vector, before any proof."""
     source = folder / "crates" / "vectors" / "src"
     source.mkdir(parents=True)
     for name in ciphers.values():

@@ -1,7 +1,7 @@
-"""Asks the shells themselves what they offer: the commands, and files where a file is wanted; and of the
-companions the options that their help names. None offers a `~` that nobody would expand.
+"""Ask the shells themselves what they offer: commands, files where a file is expected, and for the companions, the
+options in their help. None offers a `~` that nobody would expand.
 
-The options of the program are compared in `options_agree`.
+`options_agree` compares the options of the program.
 """
 
 import pathlib
@@ -17,7 +17,7 @@ from shells import SHELLS, needs_shell, typed_in_bash
 
 FILES = ["one.pass", "one.yml", "two.yml", "with a space.pass", "-dash.yml"]
 
-# The beginnings of command lines, and the commands and paths that are offered.
+# The starts of command lines, and the commands and paths that are offered.
 OFFERED = {
     "": set(OPTIONS),
     "encr": {"encrypt", "encrypt_string"},
@@ -47,7 +47,7 @@ def folder(tmp_path: pathlib.Path) -> pathlib.Path:
 
 
 def replacing(shell: str, wanted: set[str]) -> set[str]:
-    """bash replaces what begins with the `@`, the others the whole value."""
+    """Return what the shell offers: bash replaces only the text from the `@` on, the others the whole value."""
     return {each.replace("dev@", "@") if shell == "bash" else each for each in wanted}
 
 
@@ -57,7 +57,7 @@ def test_program(shell: str, folder: pathlib.Path, words: str, wanted: set[str])
 
 
 def test_checkout_with_a_space(shell: str, folder: pathlib.Path, monkeypatch: pytest.MonkeyPatch) -> None:
-    """The completions, and what asks the shells, lie below a path with a space."""
+    """The completions, and the scripts that ask the shells, may be below a path with a space."""
     for name in ("HERE", "COMPLETIONS"):
         copy = folder / "a checkout" / name.lower()
         shutil.copytree(getattr(shells, name), copy)
@@ -93,7 +93,7 @@ OFFERED_BY_COMPANIONS = {
 
 
 def offered_options(shell: str, words: str, folder: pathlib.Path, alias: str = "") -> list[str]:
-    """The options that a shell offers after words, by one dash and by two."""
+    """Return the options that a shell offers after one dash and after two."""
     offered = SHELLS[shell](f"{words} -", folder, alias) | SHELLS[shell](f"{words} --", folder, alias)
     return sorted(offered - set(FILES))
 
@@ -107,13 +107,13 @@ def test_options_of_companions(shell: str, folder: pathlib.Path, name: str) -> N
     assert offered_options(shell, name, folder) == sorted(options_of(name))
 
 
-# What an option's value is called in the help of a companion, if it is a file.
+# The names of file values in a companion's help.
 FILES_IN_HELP = {"FILE", "[LABEL@]FILE"}
 
 
 @pytest.mark.parametrize("name", COMPANIONS)
 def test_values_of_companions(shell: str, folder: pathlib.Path, name: str) -> None:
-    """Files are offered for an option's value if that is a file."""
+    """Files are offered for an option whose value is a file, and for no other."""
     values = companion_values(name)
     assert len(values) > 2
     found = {option: SHELLS[shell](f"{name} {option} one.p", folder) for option in values}
@@ -125,7 +125,7 @@ def test_companions(shell: str, folder: pathlib.Path, line: str, wanted: set[str
     assert SHELLS[shell](line, folder) == replacing(shell, wanted)
 
 
-# Each makes one of the other for all that is typed.
+# Aliases that make ansible-vault run ansible-vault-with for everything that is typed.
 ALIASES = {
     "short": "alias ansible-vault=ansible-vault-with",
     "long": "alias ansible-vault='ansible-vault-with --vault-id one.pass'",
@@ -136,7 +136,7 @@ SHORT = ALIASES["short"]
 @pytest.mark.parametrize("command", WITH_COMMANDS)
 @pytest.mark.parametrize("name, alias", [("ansible-vault-with", ""), ("ansible-vault", SHORT)], ids=["name", "alias"])
 def test_options_of_commands(shell: str, folder: pathlib.Path, name: str, alias: str, command: str) -> None:
-    """After a command ansible-vault-with takes the options of the tool's, and its own for secrets."""
+    """After a command, ansible-vault-with takes the tool's options, and its own for secrets."""
     own = options_of("ansible-vault-with") - {"-V", "--version"}
     of_tool = page_sets().get(command, set()) | own | OF_ANSIBLE.get(command, set())
     wanted = of_tool if command in OPTIONS else options_of("ansible-vault-edit")
@@ -146,7 +146,7 @@ def test_options_of_commands(shell: str, folder: pathlib.Path, name: str, alias:
 @pytest.mark.parametrize("line", [line for line in OFFERED_BY_COMPANIONS if line.startswith("ansible-vault-with ")])
 @pytest.mark.parametrize("alias", ALIASES.values(), ids=ALIASES)
 def test_alias(shell: str, folder: pathlib.Path, alias: str, line: str) -> None:
-    """By an alias, ansible-vault has the completion of ansible-vault-with."""
+    """Through an alias, ansible-vault has the completion of ansible-vault-with."""
     words = line.removeprefix("ansible-vault-with ")
     assert SHELLS[shell](f"ansible-vault {words}", folder, alias) == OFFERED_BY_COMPANIONS[line]
 
@@ -156,7 +156,7 @@ def test_alias_of_another_tool(shell: str, folder: pathlib.Path) -> None:
 
 
 def test_alias_that_zsh_does_not_expand(folder: pathlib.Path) -> None:
-    """As somebody may have set it."""
+    """The option may be set in somebody's zsh."""
     needs_shell("zsh")
     assert SHELLS["zsh"]("ansible-vault ", folder, f"setopt complete_aliases; {SHORT}") == {*WITH_COMMANDS}
 
@@ -167,7 +167,7 @@ def test_alias_typed_in_bash(folder: pathlib.Path, line: str, wanted: list[str])
     assert typed_in_bash(line, folder, SHORT) == wanted
 
 
-# Where `~` begins a path, and whether the shell expands it there.
+# Paths that begin with `~`, and whether the shell expands it there.
 HOME_PATHS = {
     "view --vault-id ~/one.p": True,
     "view --vault-password-file ~/one.p": True,
@@ -189,7 +189,7 @@ HOME_PATHS = {
 def test_home(
     shell: str, folder: pathlib.Path, monkeypatch: pytest.MonkeyPatch, name: str, words: str, is_expanded: bool
 ) -> None:
-    """`~` is offered where the shell expands it; elsewhere the path of the folder, and in fish nothing."""
+    """`~` is offered where the shell expands it. Otherwise the directory's path is offered, and in fish, nothing."""
     monkeypatch.setenv("HOME", str(folder))
     (folder / "work").mkdir()
     offered = SHELLS[shell](f"{name} {words}", folder / "work")
@@ -201,7 +201,7 @@ def test_home(
         assert [each.partition("/")[2] for each in offered] == [f"{folder}/one.pass"[1:]]
 
 
-# What is typed before a tab in bash, and the arguments that the command gets.
+# What is typed before a tab in bash, and the arguments that the command receives.
 TYPED = {
     "rek": ["rekey"],
     "view with": ["view", "with a space.pass"],
@@ -216,7 +216,7 @@ TYPED = {
 }
 
 
-# What is typed with quotes or backslashes in fish, and what is offered for the whole value.
+# Values typed with quotes or backslashes in fish, and the whole value that is offered.
 QUOTED = {
     '"dev@with': "dev@with a space.pass",
     "'dev@with a": "dev@with a space.pass",

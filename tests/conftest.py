@@ -1,6 +1,6 @@
-"""What pytest knows of these tests: their options, the program, and what is skipped, kept and counted.
+"""Pytest's options, fixtures and summary for these tests, and what happens to skipped and failed ones.
 
-A test that is skipped, because the machine does not have a tool or a right, fails with --require-all.
+With --require-all, a test that would be skipped because the machine lacks a tool or a privilege fails.
 """
 
 import locale
@@ -27,8 +27,8 @@ from lib.signals import heed_signals
 os.environ["HYPOTHESIS_STORAGE_DIRECTORY"] = str(ROOT / "bin" / "hypothesis")
 PROGRAM = ROOT / "bin" / "ansible-vault"
 OUTCOMES = "outcomes"
-# How many tests of each part have to be run with --floors, the others by their markers; and how much they have to make
-# of what they record. Rows that are no tests of their own are counted as one kind.
+# With --floors, at least this many tests of each part must run (OUTCOMES counts the tests without a marker listed
+# here), and the tests must record at least the amounts in LEAST. Subtests count as one of these amounts.
 FLOORS = {OUTCOMES: 2000, "fuzz": 4, "faults": 44, "allocations": 40, "valgrind": 65, "newcomer": 16}
 ROWS = "subtests"
 Report = pytest.TestReport | pytest.CollectReport
@@ -37,7 +37,7 @@ LEAST = {ROWS: 1400, "random requests": 200, "refused calls": 700, "signals": 36
 
 
 def seed_of_commit() -> int:
-    """Another one for each commit; 1 where git knows of none."""
+    """Return the abbreviated hash of HEAD as a number, or 1 if git knows no commit."""
     command = ["git", "-C", str(ROOT), "rev-parse", "--short=8", "HEAD"]
     try:
         return int(subprocess.run(command, capture_output=True, text=True, check=True).stdout, 16)
@@ -64,9 +64,9 @@ def pytest_addoption(parser: pytest.Parser) -> None:
 def pytest_sessionstart(session: pytest.Session) -> None:
     heed_signals()
     use_plain_locale()
-    # The files of a test are read by everybody, whatever the caller's own are.
+    # Other users must be able to read the tests' files, whatever the caller's umask.
     os.umask(0o022)
-    # The companions, too, are run by the Python that runs the tests.
+    # The companions, too, must run on the Python that runs the tests.
     if os.path.realpath(shutil.which("python3") or "") != os.path.realpath(sys.executable):
         os.environ["PATH"] = os.pathsep.join([os.path.dirname(sys.executable), os.environ["PATH"]])
     if not session.config.pluginmanager.has_plugin("subtests"):
@@ -79,12 +79,12 @@ def pytest_sessionstart(session: pytest.Session) -> None:
 
 
 def pytest_collection_modifyitems(items: list[pytest.Item]) -> None:
-    """The longest begin first."""
+    """Run the longest tests first."""
     items.sort(key=lambda item: item.get_closest_marker("newcomer") is None)
 
 
 def missing_tool(raised: pytest.ExceptionInfo[BaseException] | None) -> str | None:
-    """The command that could not be run since no folder of PATH has it."""
+    """Return the command that could not be run because it is not on PATH, or None."""
     if raised is None or not isinstance(raised.value, FileNotFoundError):
         return None
     is_command = str(raised.traceback[-1].path).endswith("/subprocess.py")
@@ -98,14 +98,14 @@ def reason_of(skipped: Report) -> str:
 
 
 def may_be_left_out(reason: str) -> bool:
-    """Even where all is required."""
+    """Return whether --require-all accepts this reason to skip a test."""
     if reason == TAKES_ROOT:
         return os.geteuid() != 0
     return is_confined() if reason == TAKES_MOUNTS else reason.startswith(OF_ANOTHER_BUILD)
 
 
 def leave_out(report: Report, raised: pytest.ExceptionInfo[BaseException] | None, config: pytest.Config) -> None:
-    """What a missing tool prevents is skipped, and fails if all is required."""
+    """Skip what a missing tool prevents. With --require-all, fail what is skipped."""
     if tool := missing_tool(raised):
         report.outcome, report.longrepr = "skipped", (report.nodeid, 0, f"Skipped: without {tool}")
     if report.skipped and config.getoption("--require-all") and not may_be_left_out(reason_of(report)):
@@ -115,7 +115,7 @@ def leave_out(report: Report, raised: pytest.ExceptionInfo[BaseException] | None
 
 @pytest.hookimpl(hookwrapper=True)
 def pytest_make_collect_report(collector: pytest.Collector) -> Generator[None, Any, None]:
-    """Many modules make their vaults with openssl while they are read."""
+    """Skip a module that needs a missing tool on import: many make their vaults with openssl."""
     report = (yield).get_result()
     leave_out(report, report.call.excinfo, collector.config)
 
@@ -132,7 +132,7 @@ def pytest_runtest_makereport(item: pytest.Function, call: pytest.CallInfo[None]
 
 @pytest.hookimpl(trylast=True)
 def pytest_exception_interact(node: pytest.Item | pytest.Collector, report: pytest.TestReport) -> None:
-    """A test goes on behind a row that fails, and so does its time limit, which pytest-timeout cancels here."""
+    """Restart the time limit after a failed subtest: the test goes on, but pytest-timeout cancels its timer here."""
     settings = pytest_timeout.get_env_settings(node.config)
     if hasattr(report, "context") and settings.timeout:
         node.ihook.pytest_timeout_set_timer(item=node, settings=settings)
@@ -144,18 +144,18 @@ def reports_of(config: pytest.Config, *kinds: str) -> list[Any]:
 
 
 def ends_of_tests(config: pytest.Config) -> list[Any]:
-    """Reports of tests, and of what could not be collected."""
+    """Return the reports of finished tests, and of modules that could not be collected."""
     reports = reports_of(config, "passed", "failed", "error", "skipped")
     return [each for each in reports if each.when == "call" or not each.passed]
 
 
 def part_of(report: Report) -> str:
-    """What could not be collected has no markers."""
+    """Return the part that a report counts for. Modules that could not be collected have no markers."""
     return next((part for part in FLOORS if part in getattr(report, "keywords", ())), OUTCOMES)
 
 
 def too_few(config: pytest.Config) -> list[str]:
-    """A line for each floor that is not reached. A run that leaves out what it could not run has none."""
+    """Return a message for each floor that was not reached, or none if the run skipped what it could not run."""
     ends = ends_of_tests(config)
     is_partial = any(each.skipped and not may_be_left_out(reason_of(each)) for each in ends)
     if is_partial or not config.getoption("--floors"):
@@ -175,7 +175,7 @@ def pytest_sessionfinish(session: pytest.Session) -> None:
 
 
 def amounts(ends: list[pytest.TestReport]) -> dict[str, tuple[int, int]]:
-    """What the tests record that they made of what was asked, added up by its name."""
+    """Add up what the tests recorded, by name: how much they did, and how much they should have done."""
     added: dict[str, tuple[int, int]] = {}
     for what, (made, asked) in (each for end in ends for each in getattr(end, "user_properties", [])):
         before = added.get(what, (0, 0))
@@ -184,7 +184,7 @@ def amounts(ends: list[pytest.TestReport]) -> dict[str, tuple[int, int]]:
 
 
 def pytest_terminal_summary(terminalreporter: Any, config: pytest.Config) -> None:
-    """Says what was left out, and what was made of what was asked. Its last line counts the tests."""
+    """Print the skipped tests and the amounts that the tests recorded. The last line counts the tests."""
     if config.option.collectonly:
         return
     ends, failures, say = ends_of_tests(config), too_few(config), terminalreporter.write_line
@@ -208,7 +208,7 @@ def program(request: pytest.FixtureRequest) -> str:
 
 @pytest.fixture
 def tmp_path(request: pytest.FixtureRequest) -> Iterator[Path]:
-    """A folder that everybody may enter, unlike pytest's own `tmp_path`. It is kept if the test fails."""
+    """Make a directory that everybody may enter, unlike pytest's own `tmp_path`. Keep it if the test fails."""
     folder = Path(tempfile.mkdtemp(prefix="ansible-vault-test-"))
     folder.chmod(0o755)
     yield folder
@@ -219,5 +219,5 @@ def tmp_path(request: pytest.FixtureRequest) -> Iterator[Path]:
 
 @pytest.fixture
 def cases(program: str, tmp_path: Path) -> Cases:
-    """Runs the program, with files in a folder of its own."""
+    """Return the runner of the program, which creates its files in `tmp_path`."""
     return Cases(program, tmp_path)

@@ -1,8 +1,8 @@
-"""What the program and the companions cost, against the stored table: instructions, allocations and imported modules.
+"""Compare the cost of the program and the companions with a stored table: instructions, allocations and imports.
 
-None of it is a time, so a slow-down of one percent is seen on a busy machine. What is more than the table allows fails,
-and so does what is much less, since then the table no longer guards it: `tests/store_counts PROGRAM` stores it anew.
-The counts of another compiler, kit, processor or Python are others, and are not compared.
+None of this is a time, so a slow-down of one percent shows even on a busy machine. A cost above the table's fails. So
+does one far below it, since the table would no longer guard it: `tests/store_counts PROGRAM` stores it again. Another
+compiler, kit, processor or Python gives other counts, which are not compared.
 """
 
 import os
@@ -36,11 +36,11 @@ SPEED = ROOT / "docs" / "speed.md"
 SIZES = {"1 KiB": 1 << 10, "1 MiB": 1 << 20, "16 MiB": 1 << 24}
 REFUSED = "view, refused as too long"
 RUNS = [*(f"{command}, {size}" for size in SIZES for command in COMMANDS), REFUSED]
-# Runs are counted side by side, longest first.
+# Runs are counted in parallel, the longest first.
 WORKERS = len(os.sched_getaffinity(0))
-# How much more or less than the table a count may be: this part of it, and what the start of a process varies by.
+# How far a count may differ from the table: by this fraction, and by how much the start of a process varies.
 TOLERANCE, SLACK = 0.01, 20_000
-# A function with a smaller part of a run is stored among the others.
+# Functions with a smaller share of a run are stored together.
 LEAST_SHARE = 0.0005
 OTHERS = "others"
 
@@ -67,7 +67,7 @@ def run_of(cases: Cases, name: str) -> Run:
 
 
 def of_each(cases: Cases, count: Callable[[Run], tuple[Done, Found]]) -> dict[str, Found]:
-    """The count of each run, all of which have to end as they should."""
+    """Return the count of each run. Every run must end as expected."""
 
     def counted(name: str) -> Found:
         run = run_of(cases, name)
@@ -106,7 +106,7 @@ def is_over(found: int, stored: int) -> bool:
 
 
 def culprits(part: str, found: Counter[str], stored: Counter[str]) -> str:
-    """The functions of a part that grew or shrank most; those that the table lacks are among its others."""
+    """Return the functions of a part that grew or shrank most. The table has the small ones only as `others`."""
     names = [name for name in found | stored if part in (TOTAL, part_of(name)) and name != OTHERS]
     changed = {name: found[name] - stored[name] for name in names}
     most = sorted((name for name in changed if abs(changed[name]) > SLACK), key=lambda name: -abs(changed[name]))
@@ -114,7 +114,7 @@ def culprits(part: str, found: Counter[str], stored: Counter[str]) -> str:
 
 
 def misses(found: Counter[str], stored: Counter[str]) -> list[str]:
-    """A line for each part, and for the whole, that takes more or less than the table says."""
+    """Return a line for each part, and for the total, that is above or below the table."""
     now, before = parts_of(found), parts_of(stored)
     lines = []
     for part in now:
@@ -157,7 +157,7 @@ def test_allocations(cases: Cases, stored: Table) -> None:
     found = allocations(cases)
     numbers, peaks = ({name: each[index] for name, each in stored["allocations"].items()} for index in (0, 1))
     assert {name: each.number for name, each in found.items()} == numbers
-    # The paths of the run's files are part of the peak.
+    # The peak includes the paths of the run's files.
     assert {name: each.peak for name, each in found.items()} == pytest.approx(peaks, rel=TOLERANCE)
 
 
@@ -171,14 +171,14 @@ def test_imports(name: str) -> None:
 
 
 def rounded(functions: Counter[str]) -> dict[str, int]:
-    """The functions that matter, the largest first; all others are one, but each part keeps its own."""
+    """Return the functions that matter, the largest first, and the sum of the others. Each part keeps its own."""
     least = LEAST_SHARE * functions.total()
     kept = {name: count for name, count in functions.most_common() if count >= least or part_of(name) != REST}
     return kept | {OTHERS: functions.total() - sum(kept.values())}
 
 
 def lines_of(stored: Table) -> list[str]:
-    """The table of docs/speed.md, in millions of instructions."""
+    """Return the table of docs/speed.md, in millions of instructions."""
     heading = [TOTAL, *PARTS, REST]
     lines = [f"| | {' | '.join(heading)} |", "|---" * (len(heading) + 1) + "|"]
     for name in RUNS:
@@ -210,7 +210,7 @@ def text_of(program: str, cases: Cases) -> str:
 
 
 def store(program: str, folder: Path) -> None:
-    """Stores the counts of this program, here and in docs/speed.md."""
+    """Store the counts of this program in the table and in docs/speed.md."""
     TABLE.write_text(text_of(program, Cases(program, folder)))
     lines = lines_of(table())
     before, _, after = SPEED.read_text().partition(lines[0])

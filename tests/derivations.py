@@ -1,5 +1,5 @@
-"""How many keys a run derives, by the instructions that Valgrind counts: one for each secret that is tried,
-and for each envelope that is written.
+"""Count the keys that a run derives by its instructions under Valgrind: one for each secret that it tries, and one for
+each envelope that it writes.
 
 Nothing else in a run costs as much: reading the other password files is far below one derivation.
 """
@@ -24,9 +24,9 @@ pytestmark = pytest.mark.valgrind
 
 WORKERS = 2
 COLLECTED = re.compile(r"Collected *: *(\d+)")
-# Ten thousand rounds, of which each takes six compressions of 64 steps, take more instructions than this.
+# Ten thousand rounds, each of six compressions with 64 steps, take more instructions than this.
 LEAST_DERIVATION = 10_000 * 6 * 64 * 10
-# What a run may cost besides, in derivations.
+# What everything else in a run may cost, in derivations.
 TOLERANCE = 0.02
 MOST_SECRETS = 16
 
@@ -63,7 +63,7 @@ def runs(cases: Cases) -> list[Run]:
 
 
 def collected(program: str, run: Run) -> tuple[subprocess.CompletedProcess[bytes], int]:
-    """The run, and how many instructions it took."""
+    """Return the run, and how many instructions it took."""
     with tempfile.NamedTemporaryFile("r") as log:
         tool = ["--tool=callgrind", "--callgrind-out-file=/dev/null", f"--log-file={log.name}"]
         done = subprocess.run(
@@ -80,7 +80,7 @@ def test_derivations(cases: Cases) -> None:
         counted = list(pool.map(lambda run: collected(cases.program, run), every))
     answers = {run.name: (done.returncode, done.stdout) for run, (done, _) in zip(every, counted)}
     assert answers == {run.name: (run.status, run.output) for run in every}
-    # The first two runs are the measure of the others.
+    # The first two runs give the cost of a start and of one derivation.
     base, one = counted[0][1], counted[1][1] - counted[0][1]
     assert one > LEAST_DERIVATION, f"a derivation takes {one} instructions"
     found = {run.name: (count - base) / one for run, (_, count) in zip(every, counted)}

@@ -1,5 +1,5 @@
-"""Compares what the documents say with the code: faults, limits, messages, exit statuses, figures, options, paths, and
-the example on each crate's first page with the test that runs it.
+"""The documents agree with the code: faults, limits, messages, exit statuses, figures, options, paths, and the example
+on each crate's first page, which a test also runs.
 """
 
 import re
@@ -18,7 +18,7 @@ CRATES = ROOT / "crates"
 FAULTS = (CRATES / "vault_fault" / "src" / "fault.rt").read_text()
 STATUSES = (CRATES / "vault_cli" / "src" / "runs" / "status.rt").read_text()
 
-# The constants whose values stand in each row.
+# The constants whose values appear in each row.
 LIMITS = {
     "plaintext that is encrypted (L)": {"PLAINTEXT_LIMIT"},
     "ciphertext, read or written (L + 16)": {"CIPHERTEXT_LIMIT"},
@@ -33,7 +33,7 @@ LIMITS = {
 
 
 def code_texts() -> dict[str, list[str]]:
-    """The texts of each fault, one for each role if it has several."""
+    """Return the texts of each fault, one for each role if there are several."""
     texts: dict[str, list[str]] = {}
     for name, text in re.findall(r'Fault::(\w+)(?:\(Role::\w+\))? =>\s*"(.*)",', FAULTS):
         texts.setdefault(name, []).append(text)
@@ -41,7 +41,7 @@ def code_texts() -> dict[str, list[str]]:
 
 
 def code_statuses() -> dict[str, int]:
-    """The exit status of the faults that have one of their own, and of all others under `_`."""
+    """Return the exit status of each fault that has its own, and the status of all others under `_`."""
     codes = dict(re.findall(r"Status::(\w+) => (\d),", STATUSES))
     statuses = {}
     for faults, status in re.findall(r"^ +(Fault::.*|_) => Status::(\w+),$", STATUSES, re.MULTILINE):
@@ -51,20 +51,20 @@ def code_statuses() -> dict[str, int]:
 
 
 def code_faults() -> dict[int, tuple[list[str], int]]:
-    """The texts and the status of each number."""
+    """Return the texts and the status of each fault number in the code."""
     texts, statuses = code_texts(), code_statuses()
     numbers = re.findall(r"Fault::(\w+)(?:\(_\))? => (\d+),", FAULTS)
     return {int(number): (texts[name], statuses.get(name, statuses["_"])) for name, number in numbers}
 
 
 def document_faults() -> dict[int, tuple[list[str], int]]:
-    """The texts and the status of each number."""
+    """Return the texts and the status of each fault number in the document."""
     rows = re.findall(r"^ +(\d+) +(\d) +(\S.*(?:\n {5,}\D.*)*)$", FORMATS, re.MULTILINE)
     return {int(number): (re.split(r"\n +", texts), int(status)) for number, status, texts in rows}
 
 
 def code_limits() -> dict[str, int]:
-    """The constants of the files `limits.rt`."""
+    """Return the constants of the files `limits.rt`."""
     values: dict[str, int] = {}
     for file in sorted(CRATES.glob("vault_*/src/limits.rt")):
         constants = re.findall(r"^(?:pub )?const (\w+): \w+ = (.*);$", file.read_text(), re.MULTILINE)
@@ -74,12 +74,12 @@ def code_limits() -> dict[str, int]:
 
 
 def numbers(text: str) -> set[int]:
-    """The numbers of a row but for the 1 from which some begin."""
+    """Return the numbers of a row, except for the 1 that begins some ranges."""
     return {int(each.replace(",", "")) for each in re.findall(r"\d[\d,]*", text)} - {1}
 
 
 def document_limits() -> dict[str, str]:
-    """The rows of the document's table."""
+    """Return the rows of the document's table."""
     table = FORMATS.partition("\n## Limits\n")[2].partition("\n## ")[0]
     rows = dict(re.findall(r"^\| (.+) \| (.+) \|$", table, re.MULTILINE))
     secrets = re.findall(r"at most (\d+) secrets", table)
@@ -103,15 +103,15 @@ def test_page() -> None:
 
 
 def code_codes() -> set[int]:
-    """The exit statuses of the code."""
+    """Return the exit statuses in the code."""
     return {int(code) for code in re.findall(r"Status::\w+ => (\d),", STATUSES)}
 
 
 def test_exit_statuses() -> None:
-    """The parser's own status is among those of the code."""
+    """The code's statuses include the parser's own."""
     texts = dict(re.findall(r"^\.It (\d)\n(.+)$", sections(PAGE.read_text())["EXIT STATUS"], re.MULTILINE))
     assert [int(code) for code in texts] == sorted(code_codes()), "the manual page has the code's exit statuses"
-    # Each fault of its own status ends with what could not be done, or what was missing.
+    # Faults with a status of their own end with what could not be done, or with what was missing.
     ends = {(status, text.split()[-1]) for faults, status in code_faults().values() for text in faults if status > 1}
     assert ends == {(3, "opened"), (3, "read"), (3, "written"), (4, "memory")}
     others = [(status, end) for status, end in ends for code in (3, 4) if (end in texts[str(code)]) != (code == status)]
@@ -119,12 +119,12 @@ def test_exit_statuses() -> None:
 
 
 def unspaced(code: str) -> str:
-    """Code without what a layout chooses."""
+    """Return the code without the characters that its layout chooses."""
     return re.sub(r",(?=[\])])", "", re.sub(r"\s", "", code))
 
 
 def test_examples() -> None:
-    """Each library's example is also a test, which may first get an allocator."""
+    """The example of each library is also a test, which may first get an allocator."""
     tests = (CRATES / "vault_program_tests" / "src" / "examples.rt").read_text()
     bodies = dict(re.findall(r"^fn of_(\w+)\(.*?\{\n(.*?)^\}", tests, re.MULTILINE | re.DOTALL))
     tested = {
@@ -141,13 +141,13 @@ def test_examples() -> None:
 
 PAGES = sorted(PAGE.parent.glob("*.1"))
 DOCUMENTS = [README, ROOT / "CONTRIBUTING.md", *sorted((ROOT / "docs").glob("*.md")), *PAGES]
-# The options of other programs, which the documents name too.
+# Options of other programs that the documents also name.
 OF_GIT = {"--cached", "--clean", "--filter", "--global", "--merge", "--no-edit", "--no-verify", "--textconv"}
 OF_OTHERS = {"--hook-type", "--sample", "--strict", "--unshallow", "--vault-pass", "--wait"}
 OF_RT = {"--allow-holes", "--anew", "--list-axioms", "--only", "--test"}
-# Of newer releases of Ansible's tool than 2.14.
+# Options that Ansible's tool has only after release 2.14.
 OF_NEWER = {"--skip-tty-check"}
-# Stands for any option.
+# A placeholder for any option.
 ANY_OPTION = "--option"
 
 
@@ -157,7 +157,7 @@ def options_named(text: str) -> set[str]:
 
 @pytest.mark.parametrize("document", DOCUMENTS, ids=attrgetter("name"))
 def test_options(document: Path) -> None:
-    """Each that a document names is one of the program, of a companion, of Ansible's tool or of others."""
+    """Every option in a document belongs to the program, a companion, Ansible's tool or another known program."""
     of_companions = (each for name in COMPANIONS for each in companion_options(name))
     ours = described_options().union(*OF_ANSIBLE.values(), *of_companions)
     others = OF_GIT | OF_RT | OF_OTHERS | OF_NEWER | {ANY_OPTION}
@@ -174,7 +174,7 @@ def defaults_in(text: str) -> set[str]:
 
 
 def test_defaults() -> None:
-    """What the help of a companion says of a default, its page says, too."""
+    """A default in a companion's help is also on its page."""
     said = {(name, each) for name in COMPANIONS for each in defaults_in(companion_help(name))}
     in_pages = {(name, each) for name in COMPANIONS for each in defaults_in("".join(companion_page(name).values()))}
     assert len(said) > 0 and said <= in_pages
@@ -186,7 +186,7 @@ def constant(path: str, name: str) -> int:
 
 
 def least_glibc(program: str) -> str:
-    """The newest version of the C library of which the program takes a call."""
+    """Return the newest version of the C library that the program takes a symbol from."""
     needs("nm")
     listed = subprocess.run(["nm", "--dynamic", "--with-symbol-versions", program], capture_output=True, text=True)
     found = re.findall(r"@GLIBC_(\d+)\.(\d+)", listed.stdout)
@@ -195,7 +195,7 @@ def least_glibc(program: str) -> str:
 
 
 def test_figures(program: str) -> None:
-    """Each stands in a document, and is that of the code, wherever it stands."""
+    """Each figure is in a document, and agrees with the code everywhere."""
     longest = code_limits()["PLAINTEXT_LIMIT"] >> 20
     figures = {
         r"\*\*Status:\*\* ([\d.]+)\. ": version(),
@@ -208,7 +208,7 @@ def test_figures(program: str) -> None:
 
 
 def test_speed() -> None:
-    """The README's part of the time is that of docs/speed.md."""
+    """The README's fraction of the time agrees with docs/speed.md."""
     parts = {"a tenth": 10, "a fifteenth": 15, "a twentieth": 20, "a thirtieth": 30}
     [part] = re.findall(r"about (an? \w+) of its CPU time on small ones", README.read_text())
     speed = (ROOT / "docs" / "speed.md").read_text()
@@ -217,13 +217,13 @@ def test_speed() -> None:
 
 
 def texts_in_zsh(text: str) -> set[tuple[str, str]]:
-    """Options with what is said of them, of which several in braces share one text."""
+    """Return the options with their descriptions. Several options in braces share one description."""
     found = re.findall(r"(--[\w-]+|\{-[^}]*\})=?'?=?\[([^\]]*)\]", text)
     return {(name, said) for names, said in found for name in re.findall(r"--([a-z][\w-]+)", names.replace("{", "{--"))}
 
 
 def test_texts_of_completions() -> None:
-    """fish and zsh say the same of an option."""
+    """fish and zsh describe each option alike."""
     fish, zsh = ((ROOT / "completions" / f"ansible-vault.{shell}").read_text() for shell in ("fish", "zsh"))
     commands = re.findall(r"^ *complete .* -l ([\w-]+) .*-d '([^']*)'", fish.replace("\\\n", ""), re.MULTILINE)
     in_fish = {(name, text[:1].lower() + text[1:]) for name, text in commands}

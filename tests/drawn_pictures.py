@@ -1,4 +1,4 @@
-"""The arrows in docs/crates.svg and docs/companions.svg are those of the code. tools/pictures.py draws them."""
+"""The arrows in docs/crates.svg and docs/companions.svg agree with the code. tools/pictures.py draws them."""
 
 import html
 import re
@@ -13,7 +13,7 @@ ARROW = re.compile(r"<title>(\S+)->(\S+)</title>")
 
 
 def reached(uses: Uses) -> dict[str, set[str]]:
-    """What each uses, also through others."""
+    """Return everything that each name uses, directly or indirectly."""
 
     def below(name: str) -> set[str]:
         return {each for used in uses[name] for each in (used, *below(used))}

@@ -1,4 +1,4 @@
-"""How pytest ends by what `conftest.py` and `pytest.ini` say: skips, floors, threads, limits of time."""
+"""How pytest ends under `conftest.py` and `pytest.ini`: skips, floors, threads, time limits."""
 
 import os
 import re
@@ -25,7 +25,7 @@ LEFT_OUT = f"""def test_left_out():
 ENDLESS = """import time
     for row in range(3):
         with subtests.test(): time.sleep(600 if row else 0); assert row"""
-# The body of a test, options of pytest, its exit status, and the line of counts.
+# The body of a test, pytest's options, its exit status, and the line of counts.
 SAMPLES = {
     "it passes": ("pass", [], 0, "1 passed, 0 failed, 0 skipped"),
     "it fails": ("assert False", [], 1, "0 passed, 1 failed, 0 skipped"),
@@ -55,7 +55,7 @@ SAMPLES = {
 
 
 def run_sample(folder: Path, program: str, body: str, options: list[str]) -> subprocess.CompletedProcess[str]:
-    """In a copy of the tests."""
+    """Run pytest on a test with this body, in a copy of the tests."""
     shutil.copytree(ROOT / "tests", folder / "tests")
     shutil.copy(ROOT / "pytest.ini", folder)
     (folder / "tests" / "sample.py").write_text(f"def test_it(tmp_path, subtests):\n    {body}\n")
@@ -82,7 +82,7 @@ def test_ending(program: str, tmp_path: Path, body: str, options: list[str], sta
 
 
 def test_seed_of_commit(program: str, tmp_path: Path) -> None:
-    """It is 1 in a copy without git, and is printed."""
+    """The seed is 1 in a copy without git, and it is printed."""
     assert "\nseed: 1\n" in run_sample(tmp_path, program, "pass", []).stdout
     command = ["git", "-C", str(ROOT), "rev-parse", "--short=8", "HEAD"]
     commit = subprocess.run(command, capture_output=True, text=True).stdout

@@ -1,8 +1,8 @@
-"""Each allocation of the program's memory is refused in turn, until none is.
+"""Refuse each of the program's memory allocations in turn, until a run has no more.
 
-A run has to end with `out of memory`, no output, and the file of `--output` as it was; or with a prefix of its output,
-if the allocation was made for writing it. Today none is, since files are opened and written without allocations. If
-not several are refused, the library was not loaded into the program, which is a failure.
+A run must end with `out of memory`, no output, and the file of `--output` unchanged; or with a prefix of its output, if
+the allocation was for writing it. At present there is none of these, since files are opened and written without
+allocations. If fewer than two are refused, the library was not loaded into the program, which is a failure.
 """
 
 from collections.abc import Callable
@@ -34,7 +34,7 @@ class Run(NamedTuple):
 
     sample: Sample
     path: Path | None = None
-    # What the file has before the run; None: it is not there.
+    # The file's content before the run, or None if there is no file.
     before: bytes | None = None
 
     @property
@@ -48,7 +48,7 @@ class Run(NamedTuple):
             self.path.unlink(missing_ok=True)
 
     def content(self) -> bytes | None:
-        """What the file has now."""
+        """Return the file's content now, or None if there is no file."""
         return self.path.read_bytes() if self.path is not None and self.path.exists() else None
 
 
@@ -60,14 +60,14 @@ class Answer(NamedTuple):
 
 
 def answer_refusing(library: str, program: str, run: Run, number: int) -> tuple[Answer, bool]:
-    """The answer of a run whose allocation of this number, from 1, is refused, and whether it had one."""
+    """Return the answer of a run with the allocation of this number, from 1, refused, and whether there was one."""
     run.prepare()
     done, refused = run_refusing(library, [program, *run.words], run.sample.stdin, number)
     return Answer(done.returncode, done.stdout, done.stderr, run.content()), refused
 
 
 def is_outputs_own(answer: Answer, run: Run) -> bool:
-    """Whether a run reported that its output failed, and left a prefix of it."""
+    """Return whether a run reported that its output failed, and left a prefix of it."""
     status, written, message, content = answer
     if (status, message) != (Fault.NOT_WRITTEN.status, Fault.NOT_WRITTEN.line):
         return False
@@ -82,7 +82,7 @@ Refuse = Callable[[Run, Answer], None]
 
 @pytest.fixture
 def refuse_each(cases: Cases, tmp_path: Path, record_property: Record) -> Refuse:
-    """Compares the run with each allocation refused, and the run with all of them, which has this answer."""
+    """Return a check of a run with each allocation refused in turn, and with none, which must answer `whole`."""
     needs("cc")
     library = build_library(str(tmp_path), LIBRARY)
 

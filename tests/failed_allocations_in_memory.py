@@ -1,11 +1,11 @@
-"""Each command is run in memory, by `drive_in_memory` and by `run`, with each allocation refused in turn, until none
-is, by the program of crates/vault_allocation_failures.
+"""Run each command in memory, with `drive_in_memory` and with `run`, and refuse each allocation in turn, until there
+are no more. The program of crates/vault_allocation_failures makes the runs.
 
-A run ends in one of these ways: before its call; as without; out of memory, with no output; with a part of its output,
-which could not be written; as without, but with a part of its line. A run with output fails where the third or the
-fourth never comes, and a run that is refused where the third or the fifth never does. `run` is not called where the
-answer is out of memory, and allocates nothing itself: once it is called, a refused allocation is that of an output or
-of a message.
+A run ends in one of these ways: before its call; as without a refusal; out of memory, with no output; with part of its
+output, which could not be written; as without a refusal, but with part of its message. A run with output must end at
+least once in the third and the fourth way, and a refused run in the third and the fifth. `run` is not called if the
+answer is out of memory, and allocates nothing itself: after the call, a refused allocation belongs to an output or a
+message.
 """
 
 from collections import Counter
@@ -25,18 +25,18 @@ from model.vaults import ENVELOPE, seal, yaml_block
 pytestmark = pytest.mark.allocations
 
 PROGRAM = ROOT / "bin" / "vault_allocation_failures"
-# What stands at the path of `--output` before a run.
+# The content of the file of `--output` before a run.
 KEPT = b"kept\n"
 TO_KEPT = ["--output", "kept"]
 SALT = bytes(32)
-# What is in Ansible's vault.
+# The plaintext of Ansible's vault.
 TEXT = b"a" * 16
 
 BEFORE, WHOLE, MEMORY, OUTPUT, LINE = "before the call", "as without", "out of memory", "output", "line"
 
 
 class Left(NamedTuple):
-    """The status, and what the output, the message and the file `kept` hold."""
+    """The status, and the contents of the output, the message and the file `kept`."""
 
     status: int
     output: bytes = b""
@@ -48,7 +48,7 @@ class Run(NamedTuple):
     words: list[str]
     stdin: bytes
     whole: Left
-    # The ways in which a run with an allocation refused has to end at least once.
+    # The ways in which a run with a refused allocation must end at least once.
     ways: set[str]
 
     @property
@@ -57,7 +57,7 @@ class Run(NamedTuple):
 
 
 def commands() -> list[tuple[list[str], bytes, bytes, bytes, Fault]]:
-    """The words of each command, an input and what its output holds then, and an input that is refused."""
+    """Return the words of each command, an input with its output, and an input with its refusal."""
     vault = (FIXTURES / "format-1.1.vault").read_bytes()
     one = ["--vault-password-file", "one"]
     two = ["--vault-id", "a@two", "--vault-id", "b@one"]
@@ -87,7 +87,7 @@ def runs_of(call: str) -> list[Run]:
 
 
 def left_in(printed: bytes) -> tuple[Left, bool]:
-    """What the program prints of a run, and whether it made its call."""
+    """Return what the program prints about a run, and whether it made its call."""
     lengths, held = printed.split(b"\n", 1)
     status, output, message, kept, called = map(int, lengths.split())
     if len(held) != output + message + kept:
@@ -100,14 +100,14 @@ def is_part(part: bytes, whole: bytes) -> bool:
 
 
 def has_part(left: Left, whole: Left) -> bool:
-    """Whether the output holds a part of what it would hold, and nothing else is held."""
+    """Return whether only part of the output was written, and nothing elsewhere."""
     if whole.output:
         return is_part(left.output, whole.output) and left.kept == KEPT
     return is_part(left.kept, whole.kept) and left.output == b""
 
 
 def way_of(left: Left, whole: Left) -> str | None:
-    """The way in which a run with an allocation refused has ended; None where it is none of them."""
+    """Return the way in which a run with a refused allocation ended, or None if it is none of them."""
     if left == whole:
         return WHOLE
     if left == Left(Fault.MEMORY.status, message=Fault.MEMORY.line):
@@ -127,12 +127,12 @@ def library(tmp_path_factory: pytest.TempPathFactory) -> str:
 
 
 def way_of_refused(printed: bytes, run: Run, ways: Counter[str | None]) -> str | None:
-    """The way in which this run with an allocation refused has ended; None if it may not end so."""
+    """Return the way in which this run with a refused allocation ended, or None if it must not end so."""
     if printed == b"" and set(ways) <= {BEFORE, WHOLE}:
         return BEFORE
     left, called = left_in(printed)
     way = way_of(left, run.whole)
-    # `run` allocates nothing in its call but for its output and its message.
+    # In its call, `run` allocates nothing except for its output and its message.
     if run.words[0] == "run" and not (way in {OUTPUT, LINE} if called else way == MEMORY):
         return None
     return way

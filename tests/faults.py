@@ -1,8 +1,8 @@
-"""Fault injection: a system call that fails or transfers little, a signal, a limit of file size.
+"""Fault injection: system calls that fail or transfer few bytes, signals, and a limit of file size.
 
-Status, streams, files and modes are what they have to be: the output is untouched or a prefix of the whole, and no
-other file is there. Of the runs with a call that fails, one in --share is made, and one at least of each command,
-target, call and error; which ones goes by --seed.
+Status, streams, files and modes must be right: the output is untouched or a prefix of the whole, and no other file
+exists. Of the runs with a failing call, one in --share is made, which --seed chooses, and at least one for each
+command, target, call and error.
 """
 
 import signal
@@ -26,7 +26,7 @@ FILES = Target.NEW, Target.OLD
 # The commands, each with the targets of its output.
 TO_FILES = [(command, target) for command in OPTIONS for target in FILES if command != "view"]
 TARGETS = [*TO_FILES, *((command, Target.STREAM) for command in OPTIONS)]
-# How often each signal is sent to each long run: all in all, and in a share at least.
+# How often each signal is sent to each long run, and how often at least with --share.
 MOMENTS, FEWEST = 20, 2
 
 each_target = pytest.mark.parametrize("command, target", TARGETS)
@@ -36,7 +36,7 @@ Record = Callable[[str, object], None]
 
 @pytest.fixture(scope="module")
 def module_cases(program: str, tmp_path_factory: pytest.TempPathFactory) -> Cases:
-    """The runs write only in folders of their own, so that all of them can use the same files."""
+    """Each run writes only in a directory of its own, so that all can use the same files."""
     return Cases(program, tmp_path_factory.mktemp("faults"))
 
 

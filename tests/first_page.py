@@ -1,7 +1,7 @@
-"""Runs the commands of the README's section "Five minutes" one after the other, with a program as
-`ansible-vault` and the companions beside it, and compares what they print. `newcomer` types the other commands.
+"""Run the commands of the README's section "Five minutes" in order, with a program as `ansible-vault` and the
+companions beside it, and compare their output. `newcomer` types the other commands.
 
-`first_page.py PROGRAM` prints them, and fails if one prints something else than the README says.
+`first_page.py PROGRAM` prints them, and fails if one prints anything other than what the README says.
 """
 
 import os
@@ -17,7 +17,7 @@ from lib.readme import Step, steps
 
 
 def session(program: str, top: pathlib.Path) -> Iterator[tuple[Step, str]]:
-    """Each step with what it prints, run in a new folder below this one."""
+    """Run the steps in a new directory below `top`. Yield each with its output."""
     folder, tools = top / "folder", top / "tools"
     folder.mkdir()
     tools.mkdir()
@@ -44,7 +44,7 @@ def test_steps_are_compared_whole() -> None:
 
 
 def test_demo(program: str) -> None:
-    """`make demo` prints the session as the README has it."""
+    """`make demo` prints the session as the README shows it."""
     done = run_make(program, "demo")
     session = "\n".join(f"$ {step.command}\n{step.wanted}".strip("\n") for step in steps(README.read_text()))
     assert (done.returncode, done.stderr) == (0, ""), "make demo ends well"
@@ -52,7 +52,7 @@ def test_demo(program: str) -> None:
 
 
 def show(program: str) -> bool:
-    """Prints the session; whether it is that of the README."""
+    """Print the session, and return whether the README agrees."""
     agrees = True
     with tempfile.TemporaryDirectory() as top:
         for step, printed in session(program, pathlib.Path(top)):

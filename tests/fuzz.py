@@ -1,6 +1,6 @@
-"""Random requests to the program: output, files, message and status are those of the model.
+"""Random requests to the program: output, files, message and status agree with the model.
 
-Each is made from --seed and its own number: `pytest -m fuzz --seed SEED --first NUMBER --runs 1` makes one again.
+Each is made from --seed and its own number: `pytest -m fuzz --seed SEED --first NUMBER --runs 1` repeats one.
 """
 
 import shlex
@@ -14,9 +14,9 @@ from model.random_requests import make
 
 pytestmark = pytest.mark.fuzz
 
-# Each is a test, for as many processes of pytest-xdist.
+# Each part is one test, so that the processes of pytest-xdist can share the requests.
 PARTS = 4
-# How many requests a part makes at least, however long they take.
+# The least number of requests in a part, however long they take.
 FEWEST = 10
 
 

@@ -1,4 +1,4 @@
-"""What the tests' own helpers have to notice, so that a test which leans on one can fail."""
+"""What the tests' own helpers must notice, so that a test that relies on one can fail."""
 
 import runpy
 import subprocess
@@ -14,7 +14,7 @@ from lib.system_calls import calls_in
 from model.compared import differences
 from model.random_requests import Case
 
-# A program that answers one request, and others that differ from it in one thing.
+# A request, and programs that differ in one thing from the program that answers it.
 CASE = Case(["decrypt", "--vault-password-file", "right", "--output", "new"], {"right": b"right\n"}, b"no vault\n")
 DIFFERING = {
     "another file": '"$PROGRAM" "$@"; status=$?; touch other; exit $status',
@@ -54,7 +54,7 @@ def test_each_part_is_looked_for() -> None:
             ended("one of two", done, 0, *parts)
 
 
-# How pytest ends with a planted fault, and whether that catches the fault.
+# How pytest ends with a planted fault, and whether the fault is caught.
 ENDS = {
     "a test fails": (1, "FAILED tests/a.py::test_b - why\n", True),
     "no test fails": (0, "1 passed\n", False),
@@ -74,10 +74,10 @@ def test_planted_faults(program: str, status: int, output: str, is_caught: bool)
     assert not result_of(Path(program), fault | {"old": "not there"}).is_caught
 
 
-# As Ansible's tool does in a locale that is not UTF-8, and as it says what it is.
+# How Ansible's tool behaves in a locale that is not UTF-8, and how each tool identifies itself.
 STRICT = "case $LC_ALL in *UTF-8) ;; *) echo 'the locale encoding has to be UTF-8' >&2; exit 1 ;; esac; "
 THEIRS, OURS = "echo 'ansible-vault [core 2.14.18]'", f"echo 'ansible-vault {VERSION}'"
-# The tools on PATH, and which of them is Ansible's; None: none of them.
+# The tools on PATH, and the one that is Ansible's, or None.
 FOUND = [
     ({"ansible-vault": STRICT + THEIRS}, "ansible-vault"),
     ({"ansible-vault": OURS, "ansible-vault-original": THEIRS}, "ansible-vault-original"),
@@ -97,7 +97,7 @@ def test_ansible_is_found(
 
 @pytest.mark.parametrize("text", ["echo 'no module named ansible' >&2; exit 1", OURS])
 def test_ansible_that_fails(tmp_path: Path, monkeypatch: pytest.MonkeyPatch, text: str) -> None:
-    """It is not taken for missing, nor another tool for it."""
+    """A tool that fails does not count as missing, and another tool does not count as Ansible's."""
     monkeypatch.setenv("ANSIBLE_VAULT", script(tmp_path, "ansible-vault", text))
     with pytest.raises(RuntimeError, match="no module named ansible|not of Ansible's core"):
         ansible_vault()

@@ -1,7 +1,7 @@
-"""Runs the built program under limits of memory.
+"""Run the built program under limits of memory.
 
-Under each limit of address space a run ends with its whole output, or with `out of memory` and none; 20 MiB
-are enough for each. Its resident memory grows with its input, whether that is a file or a pipe.
+Under each limit of address space, a run ends with its whole output, or with `out of memory` and no output; 20 MiB are
+enough for each. Resident memory grows with the input, whether it is a file or a pipe.
 """
 
 import resource
@@ -18,16 +18,16 @@ from model.vaults import PLAINTEXT_LIMIT
 
 KIB = 1 << 10
 MIB = 1 << 20
-# The address space in which every run ends well.
+# The address space in which every run succeeds.
 ENOUGH = 20 * MIB
 # The peak resident memory of a run, in MiB, by the size of its plaintext.
 RESIDENT = {KIB: 3, MIB: 5, PLAINTEXT_LIMIT: 20}
-# Limits of address space that are tried for each run.
+# How many limits of address space to try for each run.
 STEPS = 20
 
 
 def in_memory(program: str, sample: Sample, amount: int) -> subprocess.CompletedProcess[bytes]:
-    """A run with so much address space."""
+    """Run the program with this much address space."""
 
     def restrict() -> None:
         resource.setrlimit(resource.RLIMIT_CORE, (0, 0))
@@ -38,7 +38,7 @@ def in_memory(program: str, sample: Sample, amount: int) -> subprocess.Completed
 
 @pytest.fixture(scope="module")
 def least_memory(program: str) -> int:
-    """The least address space, in whole pages, in which `--version` succeeds."""
+    """Return the least address space, in whole pages, in which `--version` succeeds."""
     version = Sample(["--version"], b"", b"")
     low, high = 1, 1 << 16
     while low < high:
@@ -58,8 +58,8 @@ def outcome(done: subprocess.CompletedProcess[bytes], sample: Sample) -> str:
 @each_command
 @pytest.mark.parametrize("size", RESIDENT)
 def test_memory(cases: Cases, subtests: SubTests, size: int, command: str, least_memory: int) -> None:
-    """Address space from where the program starts at all upward, to that in which every run ends well; and resident
-    memory."""
+    """Try address spaces from the least in which the program starts to one in which every run succeeds, and measure
+    resident memory."""
     sample = sample_of(cases, command, (TEXT * size)[:size])
     with subtests.test("address space"):
         amounts = [least_memory + (ENOUGH - least_memory) * step // STEPS for step in range(STEPS + 1)]
@@ -75,7 +75,7 @@ def test_memory(cases: Cases, subtests: SubTests, size: int, command: str, least
 
 @pytest.mark.parametrize("amount, fault", ((16 * MIB, Fault.MEMORY), (ENOUGH, Fault.SECRET_NOT_OPENED)))
 def test_reserved_first(cases: Cases, amount: int, fault: Fault) -> None:
-    """Room for the longest text is reserved before any file is looked for."""
+    """The program reserves room for the longest text before it looks for any file."""
     missing = Sample(["view", "--vault-password-file", cases.path()], b"", b"")
     done = in_memory(cases.program, missing, amount)
     assert (done.returncode, done.stderr) == (fault.status, fault.line)

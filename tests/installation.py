@@ -1,4 +1,4 @@
-"""Installs the program below a folder by `make install`, and takes it away again."""
+"""Install the program below a directory with `make install`, and uninstall it again."""
 
 import os
 import pathlib
@@ -15,7 +15,7 @@ from lib.needs import needs
 
 LOCAL_FILES = PREFIX_FILES | {"lib/ansible-vault/installed.sha256"}
 
-# Loads what bash-completion finds for the command.
+# Loads the completion that bash-completion finds for the command.
 BASH = "source {} && _completion_loader ansible-vault; complete -p ansible-vault"
 BASH_COMPLETION = pathlib.Path("/usr/share/bash-completion/bash_completion")
 
@@ -48,19 +48,19 @@ def test_found_by_fish(prefix: pathlib.Path) -> None:
     ask = 'complete -C "ansible-vault view --require"'
     offered = printed("fish", "-c", ask, XDG_DATA_DIRS=share)
     assert "--require-id-match" in offered, "fish finds its completion"
-    # fish looks for no completion of a command that is not there.
+    # fish looks for no completion of a missing command.
     path = f"{prefix / 'bin'}{os.pathsep}{os.environ['PATH']}"
     ask = 'complete -C "ansible-vault-rotate --dry"'
     offered = printed("fish", "-c", ask, XDG_DATA_DIRS=share, PATH=path)
     assert "--dry-run" in offered, "fish finds that of a companion"
 
 
-# Where zsh searches, and the function that it calls for a command with what is installed.
+# Prints where zsh searches, and the commands that it completes with the installed files.
 ZSH = "print -l $fpath; fpath=($0 $fpath); autoload -Uz compinit; compinit -u -D; print -l $_comps[(I)ansible-vault*]"
 
 
 def test_found_by_zsh(prefix: pathlib.Path) -> None:
-    """zsh searches the folders below /usr and /usr/local; what is installed below another prefix it does not find."""
+    """zsh searches directories below /usr and /usr/local. It does not find what is installed below another prefix."""
     needs("zsh")
     shown = printed("zsh", "-f", "-c", ZSH, str(prefix / "share/zsh/site-functions")).split()
     folders = {"/usr/local/share/zsh/site-functions", "/usr/share/zsh/vendor-completions"}
@@ -97,7 +97,7 @@ LINK = re.compile(r"\]\((?!https?:)([^)#]*)(?:#[^)]*)?\)")
 
 
 def dead_links(documents: pathlib.Path) -> list[tuple[pathlib.Path, str]]:
-    """Links of a document that lead to nothing that was installed, with the document."""
+    """Return the links whose target was not installed, with their documents."""
     links = [(page, target) for page in documents.rglob("*.md") for target in LINK.findall(page.read_text()) if target]
     return [(page, target) for page, target in links if not (page.parent / target).exists()]
 
@@ -110,7 +110,7 @@ def test_next_step(tmp_path: pathlib.Path, make: Make) -> None:
     assert make("install", f"DESTDIR={tmp_path}").stdout == "", "with DESTDIR it does not"
 
 
-# Stands for dpkg-query where a package owns one file.
+# In place of dpkg-query: a package owns one file.
 DPKG_QUERY = """\
 #!/bin/sh
 [ "$1" = --search ] && [ "$2" = "{owned}" ] && echo "ansible-core: $2"
@@ -119,7 +119,7 @@ DPKG_QUERY = """\
 
 @pytest.mark.parametrize("name", ["bin/ansible-vault", "share/man/man1/ansible-vault-edit.1"])
 def test_owned(tmp_path: pathlib.Path, make: Make, name: str) -> None:
-    """No file of a package is overwritten, whichever of ours it is."""
+    """No file of a package is overwritten, whichever of our files it conflicts with."""
     prefix, tools = tmp_path / "usr", tmp_path / "tools"
     tools.mkdir()
     (tools / "dpkg-query").write_text(DPKG_QUERY.format(owned=prefix / name))
@@ -135,7 +135,7 @@ def test_owned(tmp_path: pathlib.Path, make: Make, name: str) -> None:
 
 @pytest.mark.parametrize("name", ["bin/ansible-vault", "bin/ansible-vault-edit"])
 def test_not_replaced(tmp_path: pathlib.Path, make: Make, name: str) -> None:
-    """What another installer put at one of the paths, as pip does, stays unless the caller says otherwise."""
+    """A file that another installer, such as pip, put at one of the paths stays unless the caller says otherwise."""
     words = ["DESTDIR=", f"PREFIX={tmp_path}"]
     path = tmp_path / name
     path.parent.mkdir()
@@ -166,7 +166,7 @@ def test_replaced(tmp_path: pathlib.Path, make: Make) -> None:
 @pytest.mark.parametrize("replace", ["no", "yes"])
 @pytest.mark.parametrize("name", ["bin/ansible-vault", "bin/ansible-vault-edit"])
 def test_folders(tmp_path: pathlib.Path, make: Make, name: str, replace: str) -> None:
-    """A folder at a path is not replaced, and nothing is put into it."""
+    """A directory at a path is not replaced, and nothing is put into it."""
     path = tmp_path / name
     path.mkdir(parents=True)
     done = make("install", "DESTDIR=", f"PREFIX={tmp_path}", f"REPLACE={replace}")
@@ -185,7 +185,7 @@ def test_link_to_a_folder(tmp_path: pathlib.Path, make: Make) -> None:
     assert files_below(folder) == set(), "and the folder stays"
 
 
-# Stands for a tool that ends, and so the script that runs it, at the call of this number.
+# In place of a tool: the call with this number kills the script that runs the tool.
 ENDING = """\
 #!/bin/sh
 echo >> '{calls}'
@@ -196,7 +196,7 @@ exec {tool} "$@"
 
 @pytest.mark.parametrize("tool, number", [("mv", 1), ("mv", 2), ("mv", 12), ("install", 9), ("ln", 1), ("ln", 9)])
 def test_interrupted(tmp_path: pathlib.Path, make: Make, tool: str, number: int) -> None:
-    """After an installation that ended early another one is possible, and so is its removal."""
+    """After an interrupted installation, another one is possible, and so is uninstalling it."""
     tools, prefix, copy = (tmp_path / name for name in ("tools", "prefix", "copy"))
     words = ["DESTDIR=", f"PREFIX={prefix}"]
     environment = os.environ | {"PATH": f"{tools}{os.pathsep}{os.environ['PATH']}"}
@@ -212,7 +212,7 @@ def test_interrupted(tmp_path: pathlib.Path, make: Make, tool: str, number: int)
 
 
 def test_changed(tmp_path: pathlib.Path, make: Make) -> None:
-    """make uninstall leaves what it did not put there, and lists what was changed."""
+    """`make uninstall` leaves what it did not install, and lists what was changed."""
     words = ["DESTDIR=", f"PREFIX={tmp_path}"]
     make("install", *words)
     program, page = tmp_path / "bin/ansible-vault", tmp_path / "share/man/man1/ansible-vault-edit.1"
@@ -232,7 +232,7 @@ def test_changed(tmp_path: pathlib.Path, make: Make) -> None:
 
 
 def test_upgraded(tmp_path: pathlib.Path, make: Make) -> None:
-    """A second make install keeps in mind what the first one put there."""
+    """A second `make install` remembers what the first one installed."""
     words = ["DESTDIR=", f"PREFIX={tmp_path}"]
     make("install", *words)
     old = tmp_path / "lib/ansible-vault/older.py"

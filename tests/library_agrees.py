@@ -1,5 +1,5 @@
-"""Compares docs/library.md with the programs that it shows or names, whose tests run them, its table of calls with the
-crates, the table of the crates with crates.txt, and the paths that pages name with the files.
+"""docs/library.md agrees with the programs that it shows or names, which tests run, and its table of calls with the
+crates. The table of the crates agrees with crates.txt, and the paths on the pages with the files.
 """
 
 import re
@@ -18,14 +18,14 @@ CRATE_LINE = re.compile(r"^(\w+):(.*)$", re.MULTILINE)
 
 
 def test_programs() -> None:
-    """Each program is shown or named."""
+    """The page shows or names each program."""
     programs = {file.name for file in (ROOT / PROGRAMS).glob("*.rt")} - {"tests.rt"}
     assert len(programs) > 2
     assert programs - {*re.findall(r"\b(\w+\.rt)`", LIBRARY.read_text())} == set()
 
 
 def test_calls() -> None:
-    """Each call of the table is one that its crate offers."""
+    """The crate offers each call in the table."""
     rows = ROW.findall(LIBRARY.read_text())
     assert len(rows) > 10, "there is a table of calls"
     named = {(crate, call) for calls, crate in rows for call in re.findall(r"`(\w+)[\w:]*`", calls)}
@@ -39,7 +39,7 @@ def test_calls() -> None:
 
 
 def test_crate_lines() -> None:
-    """The lines to be copied are those of crates.txt."""
+    """The lines to copy agree with crates.txt."""
     ours = dict(CRATE_LINE.findall((ROOT / "crates.txt").read_text()))
     shown = dict(re.findall(r"^    (vault_\w+):(.*)$", LIBRARY.read_text(), re.MULTILINE))
     assert len(shown) > 3, "lines are shown"
@@ -49,7 +49,7 @@ def test_crate_lines() -> None:
 
 
 def test_crates() -> None:
-    """The table of the crates is that of crates.txt."""
+    """The table of the crates agrees with crates.txt."""
     page = (ROOT / "docs" / "architecture.md").read_text()
     table = page.partition("\n| Crate | What it does |")[2].partition("\n\n")[0]
     listed = re.findall(r"^\| `(\w+)` \|", table, re.MULTILINE)
@@ -58,15 +58,15 @@ def test_crates() -> None:
 
 PAGES = [*ROOT.glob("*.md"), ROOT / "tests" / "README.md", *sorted(ROOT.glob("docs/*.md")), *sorted(ROOT.glob("man/*"))]
 PAGES += [ROOT / "debian" / "control", ROOT / "debian" / "README.source"]
-# A path in quotes, and one of a folder at the top without them; the second may have this before it.
+# A path in quotes, or a path below a top-level directory without quotes, which BEFORE may precede.
 BEFORE = r"(?:/usr/share/doc/ansible-vault/|(?<![\w/.~$*`-]))"
 PATH = re.compile(rf"`([\w/.-]+)`|{BEFORE}((?:debian|docs|man|tests|tools)/[\w/.-]*\w)")
-# What stands for several.
+# Placeholders for several names.
 SEVERAL = re.compile(r"\b(FILE|NAME|CRATE)\b")
 
 
 def paths_in(page: Path) -> Iterator[tuple[str, str]]:
-    """Each path of ours that a page names, with the crate that it names last before it."""
+    """Yield each of our paths on a page, with the last crate that the page names before it."""
     crate = ""
     for quoted, word in PATH.findall(page.read_text()):
         if quoted.startswith("vault_") and "/" not in quoted:
@@ -77,7 +77,7 @@ def paths_in(page: Path) -> Iterator[tuple[str, str]]:
 
 @pytest.mark.parametrize("page", PAGES, ids=lambda page: str(page.relative_to(ROOT)))
 def test_paths(page: Path) -> None:
-    """Each is one of the crate, of another that it begins with, of the page's folder or of the repository."""
+    """Each path is below the crate, the directory `crates`, the page's directory or the repository."""
     folders = (ROOT, page.parent, ROOT / "crates")
     named = {(crate, word): (*folders, ROOT / "crates" / crate) for crate, word in paths_in(page)}
     missing = [each for each, places in named.items() if not any((place / each[1]).exists() for place in places)]

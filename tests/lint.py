@@ -1,4 +1,4 @@
-"""What tools/lint says of the scripts, the manual pages, the length of lines and the names; and what it looks at."""
+"""What tools/lint says of the scripts, the manual pages, the length of lines and the names; and what it checks."""
 
 import runpy
 import shutil
@@ -19,7 +19,7 @@ def test_lint() -> None:
 
 
 def test_each_script_is_looked_at() -> None:
-    """Those of make and zsh excepted, for which there is no checker."""
+    """Except the scripts for make and zsh, which have no checker."""
     lint = runpy.run_path(str(LINT))
     folders = (".ci", "bench", "companions", "debian", "tests", "tools")
     files = [file for folder in folders for file in (ROOT / folder).rglob("*") if file.is_file()]

@@ -1,4 +1,4 @@
-"""Runs the EXAMPLES of the manual pages as they stand there, and what the CAVEATS of the program's warn of."""
+"""Run the EXAMPLES of the manual pages as they are, and what the CAVEATS of the program's page warn of."""
 
 import pathlib
 import re
@@ -19,14 +19,14 @@ def repository(tmp_path: pathlib.Path, program: str) -> Repository:
 
 
 def examples(page: pathlib.Path = PAGE) -> dict[str, str]:
-    """The shell of each of the EXAMPLES of a manual page, by the first three words of the text before it."""
+    """Return the shell commands of each of a page's EXAMPLES, by the first three words of the text before them."""
     display = r"(?:\A|^\.Pp)\n((?:(?!\.Pp$).+\n)+?)\.Bd .*\n((?:.*\n)+?)\.Ed$"
     found = re.findall(display, sections(page.read_text())["EXAMPLES"], re.MULTILINE)
     return {" ".join(words.split()[:3]): shown(text) for words, text in found}
 
 
 def shown(text: str) -> str:
-    """What a display of the page shows, without the prompts."""
+    """Return what a display of the page shows, without the prompts."""
     for spelling, character in ((r"\(aq", "'"), (r"\(ha", "^"), (r"\e", "\\")):
         text = text.replace(spelling, character)
     return re.sub(r"^\$ ", "", text, flags=re.MULTILINE)
@@ -104,7 +104,7 @@ def test_cut_log(repository: Repository, path: str, left: bytes) -> None:
     assert (ran.returncode, ran.stderr, repository.get("log")) == (0, "", left)
 
 
-# Stands for an editor that has to be told to wait.
+# In place of an editor that must be told to wait.
 CODE = """\
 [ "$1" = --wait ] || exit 1
 shift
@@ -114,7 +114,7 @@ EXAMPLES = [(name, title) for name in COMPANIONS for title in examples(PAGE.with
 
 
 def example_repository(repository: Repository, password: str) -> str:
-    """What the examples of the companions' pages work on; and the editor."""
+    """Create what the examples on the companions' pages work on, and return the editor."""
 
     def vault(text: bytes) -> bytes:
         return seal(PASSWORDS[password], text, b"prod")
@@ -138,7 +138,7 @@ def example_repository(repository: Repository, password: str) -> str:
 
 @pytest.mark.parametrize("name, title", EXAMPLES)
 def test_companion_example(repository: Repository, name: str, title: str) -> None:
-    """It ends well, and says nothing on standard error; a password that is asked for is typed."""
+    """Each example ends as expected, and prints nothing on standard error. If it asks for a password, type it."""
     shell = examples(PAGE.with_name(f"{name}.1"))[title]
     editor = example_repository(repository, "old.pass" if name == "ansible-vault-rotate" else "prod.pass")
     if "prompt" in shell or "--ask-" in shell:

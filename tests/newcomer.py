@@ -1,5 +1,5 @@
-"""What somebody types who has nothing but a clone: the README's commands, in its order. `rt` is the real one, and
-nothing is copied into the clone, which these tests use one after the other. The other targets are in targets.py.
+"""What somebody types who has only a clone: the README's commands, in order. `rt` is the real one, and nothing is
+copied into the clone, which these tests use one after the other. The other targets are in targets.py.
 """
 
 import os
@@ -14,7 +14,7 @@ from lib.readme import commands, steps
 
 pytestmark = [pytest.mark.newcomer, pytest.mark.timeout(PROVING)]
 
-# What the README says and no test types, since these tests are a part of it.
+# A command of the README that no test types, since it runs these tests.
 GATE = ".ci/run"
 
 
@@ -29,7 +29,7 @@ def prefix(clone: Path) -> Path:
 
 
 def test_readme(clone: Path, prefix: Path) -> None:
-    """All that is outside of the session; `make install` goes below another prefix by a variable alone."""
+    """Run everything outside the session. A variable alone makes `make install` use another prefix."""
     words = [command for command in commands(README.read_text()) if command != GATE]
     printed = {command: typed(command, clone, PREFIX=str(prefix)) for command in words}
     assert [each for each in words if each.startswith("make")][:1] == words[:1], "the first builds the program"
@@ -39,7 +39,7 @@ def test_readme(clone: Path, prefix: Path) -> None:
 
 
 def test_session(clone: Path, prefix: Path, tmp_path: Path) -> None:
-    """With what was installed."""
+    """The session works with the installed program."""
     path = f"{prefix / 'bin'}{os.pathsep}{os.environ['PATH']}"
     session = steps(README.read_text())
     found = [(step, typed(step.command, tmp_path, PATH=path)) for step in session]

@@ -1,6 +1,6 @@
-"""Compares the table of options in the code with the manual page, the completions of each shell, the model and the
-program's own help, and says what is missing in each of them; and the options of each companion in its page and its
-help. `mandoc` and `groff` check the pages.
+"""The table of options in the code agrees with the manual page, the completions of each shell, the model and the
+program's own help; and the options of each companion agree in its page and its help. `mandoc` and `groff` check the
+pages.
 """
 
 import json
@@ -27,8 +27,8 @@ CHECKERS = {
     "groff": ["groff", "-ww", "-mdoc", "-T", "utf8", "-P", "-c"],
 }
 COLUMNS = 80
-# Warnings that are expected. The pages that a page refers to are not installed where the tests run, and its footer
-# names the program instead of the operating system.
+# Expected warnings. The pages that a page refers to are not installed where the tests run, and its footer names the
+# program instead of the operating system.
 EXPECTED = (
     "referenced manual not found",
     "outdated mandoc.db",
@@ -36,7 +36,7 @@ EXPECTED = (
     "operating system explicitly specified",
 )
 PAGES = sorted(PAGE.parent.glob("*.1"))
-# The sections of a companion's page, in their order, and those that not every page has.
+# The sections of a companion's page, in order, and the optional ones.
 SECTIONS = ["NAME", "SYNOPSIS", "DESCRIPTION", "OPTIONS", "ENVIRONMENT", "FILES", "EXIT STATUS", "EXAMPLES", "SEE ALSO"]
 SECTIONS += ["CAVEATS", "SECURITY CONSIDERATIONS"]
 FURTHER = {"ENVIRONMENT", "FILES", "CAVEATS", "SECURITY CONSIDERATIONS"}
@@ -49,7 +49,7 @@ def long(options: Iterable[str]) -> set[str]:
 
 
 def completed(name: str, command: str | None) -> set[str]:
-    """The options that a shell offers, after one dash and after two."""
+    """Return the options that a shell offers, after one dash and after two."""
     start = f"ansible-vault {command} " if command else "ansible-vault "
     return SHELLS[name](start + "-", ROOT) | SHELLS[name](start + "--", ROOT)
 
@@ -64,12 +64,12 @@ def test_completions(shell: str) -> None:
 
 
 def page_values(text: str, name: str) -> set[str]:
-    """What the page calls the value of an option, wherever it names the option beside its value."""
+    """Return the page's names for an option's value, wherever it names both."""
     return set(re.findall(rf"^\.(?:It|Op|Oc)?.*\bFl -{name}(?= |$)(?: Ar (\S+))?", text, re.MULTILINE))
 
 
 def test_table() -> None:
-    """The page and the model have what the table has."""
+    """The page and the model agree with the table."""
     table = {entry.option for entry in table_options()}
     assert len(table) > 10
     assert COMMON.union(*OPTIONS.values()) == table, "the model knows the table's options"
@@ -80,7 +80,7 @@ def test_table() -> None:
     assert values == {entry.constant: {entry.value_name.lower()} for entry in table_options()}, "and their values"
 
 
-# The end of a command line, by the value's name of an option, and the files that are offered.
+# The end of a command line, and the files that are offered, by the name of an option's value.
 VALUES = {
     "PATH": ("one", {"one.pass"}),
     "[LABEL@]SOURCE": ("one", {"one.pass"}),
@@ -93,7 +93,7 @@ VALUES = {
 @pytest.mark.parametrize("entry", table_options())
 @pytest.mark.parametrize("shell", SHELLS)
 def test_completed_values(shell: str, tmp_path: Path, entry: Entry) -> None:
-    """After an option a shell offers files where its value is a path, and none elsewhere."""
+    """After an option, a shell offers files if the option's value is a path, and none otherwise."""
     needs_shell(shell)
     (tmp_path / "one.pass").touch()
     commands = [command for command in OPTIONS if entry.option in OPTIONS[command] | COMMON]
@@ -145,7 +145,7 @@ def in_order(sets: list[set[str]]) -> list[list[str]]:
 
 
 def referred(text: str) -> list[set[str]]:
-    """The options that a page says are described by the shared page: those that it names behind its own."""
+    """Return the options that a page leaves to the shared page: the page names them after its own."""
     _, _, after = text.rpartition(".El\n")
     named = options_in(after) if f"Xr {SHARED} 1" in after else set()
     return [each for each in spellings(companion_page(SHARED)["OPTIONS"]) if each & named]
@@ -153,7 +153,7 @@ def referred(text: str) -> list[set[str]]:
 
 @pytest.mark.parametrize("name", COMPANIONS)
 def test_companion(name: str) -> None:
-    """The page of a companion beside its help."""
+    """The page of a companion agrees with its help."""
     page = companion_page(name)
     titles = [title for title in SECTIONS if title in page or title not in FURTHER]
     assert [*page] == titles, "its page has the sections of every companion's"
@@ -165,7 +165,7 @@ def test_companion(name: str) -> None:
     assert sorted(named - set(flat(described))) == [], "and no other"
     statuses = {int(status) for status in re.findall(r"^\.It (\d)$", page["EXIT STATUS"], re.MULTILINE)}
     assert statuses == companion_statuses(name), "its page has the exit statuses of its help"
-    # The hook puts them into settings, and reads none.
+    # The hook puts its options for secrets into git's settings, and does not read Ansible's.
     takes_secrets = "--vault-id" in flat(in_help) and name != "ansible-vault-hook"
     settings = {"ANSIBLE_VAULT_IDENTITY_LIST", "ANSIBLE_VAULT_PASSWORD_FILE", "ANSIBLE_CONFIG"}
     variables = set(re.findall(r"\bEv (\w+)", page.get("ENVIRONMENT", "")))
@@ -175,7 +175,7 @@ def test_companion(name: str) -> None:
 
 
 def test_variables() -> None:
-    """What the companions read of the environment is named by a page."""
+    """A page names each variable that the companions read from the environment."""
     code = "".join(path.read_text() for path in (ROOT / "companions").rglob("ansible*") if path.is_file())
     code += "".join(path.read_text() for path in (ROOT / "companions").rglob("*.py"))
     read = set(re.findall(r'environ(?:\.get\(|\[)"([A-Z_]+)"', code) + re.findall(r'"(ANSIBLE_[A-Z_]+)", "', code))
@@ -186,8 +186,8 @@ def test_variables() -> None:
 
 
 def test_references() -> None:
-    """The page of the program lists the companions, by the words of their pages, and each page that is referred
-    to is there."""
+    """The program's page lists the companions, in the words of their own pages, and each page that is referred to
+    exists."""
     items = re.findall(r"^\.It Xr (\S+) 1 Ta (.+)$", sections(PAGE.read_text())["COMPANIONS"], re.MULTILINE)
     described = {name: re.findall(r"^\.Nd (.+)$", companion_page(name)["NAME"], re.MULTILINE) for name in COMPANIONS}
     assert {name: [words] for name, words in items} == described, "the page lists the companions"
@@ -209,22 +209,22 @@ def test_page_as_it_is_shown(tool: str, page: Path) -> None:
     assert footer.startswith(start), "its footer has the program and the version"
 
 
-# Documents with commands of the companions.
+# Documents that contain commands of the companions.
 DOCUMENTS = [*PAGES, ROOT / "README.md", *sorted((ROOT / "docs").glob("*.md"))]
 COMMAND = re.compile(r"\b(ansible-vault-\w+)((?: +[^\s`|;&'\"<>()]+)*)")
 
 
 def shell_of(text: str) -> str:
-    """A document's text with its shell in single lines, and without the marks of a manual page."""
+    """Return a document's text with its shell commands on single lines, without the marks of a manual page."""
     return re.sub(r" (?:\\e|\\)\n +", " ", text)
 
 
-# What Ansible's tool has for each command, beside what the program has.
+# The options of Ansible's tool for each command, in addition to the program's.
 OF_SECRETS = {"--vault-pass-file", "-J", "--ask-vault-password", "--ask-vault-pass", "--verbose"}
 
 
 def test_alias(program: str) -> None:
-    """The table of ansible-vault-with has the options of each command's help, those with a value among them, and the
+    """The table of ansible-vault-with has the options in each command's help, agrees on which take a value, and has the
     options of Ansible's tool."""
     code = f"import sys; sys.path.insert(0, {str(ROOT / 'companions')!r})\n" + (
         "from ansible_vault_companions.alias.table import FLAG, OPTIONS, VALUE; import json\n"
@@ -243,7 +243,7 @@ def test_alias(program: str) -> None:
 
 @pytest.mark.parametrize("document", DOCUMENTS, ids=attrgetter("name"))
 def test_commands(document: Path) -> None:
-    """The options that a document gives to a companion are some of it, or of a command of the tool."""
+    """The options that a document gives to a companion belong to it, or to a command of the tool."""
     sets, unknown = page_sets(), []
     for name, words in COMMAND.findall(shell_of(document.read_text())):
         if name not in COMPANIONS:

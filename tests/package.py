@@ -1,5 +1,5 @@
-"""Builds the Debian package, twice the same, and installs, upgrades and removes it in a root of its own, beside a
-stand-in for Ansible's package.
+"""Build the Debian package, twice with the same bytes, and install, upgrade and remove it in a root of its own, beside
+a stand-in for Ansible's package.
 """
 
 import fcntl
@@ -30,7 +30,7 @@ def field(package: pathlib.Path, name: str) -> str:
 
 @pytest.fixture(scope="module")
 def package(program: str, tmp_path_factory: pytest.TempPathFactory) -> pathlib.Path:
-    """It is made once, for all processes that run these tests."""
+    """Build the package once, for all processes that run these tests."""
     needs("dpkg-deb", "dh")
     folder = tmp_path_factory.getbasetemp()
     folder = folder.parent if "PYTEST_XDIST_WORKER" in os.environ else folder
@@ -46,7 +46,7 @@ def package(program: str, tmp_path_factory: pytest.TempPathFactory) -> pathlib.P
 
 
 def test_contents(package: pathlib.Path, tmp_path: pathlib.Path) -> None:
-    """What the package holds and says of itself."""
+    """The package's contents, and what it says about itself."""
     assert field(package, "Version") == VERSION, "the package has the program's version"
     assert "libc6" in field(package, "Depends"), "the package depends on the C library"
     python = f"python3 (>= {'.'.join(map(str, OLDEST))})"
@@ -73,7 +73,7 @@ def test_lint(package: pathlib.Path) -> None:
 
 
 def test_changelog() -> None:
-    """The package's changelog is that of the project."""
+    """The package's changelog agrees with the project's."""
     made = printed(str(ROOT / "tools/debian-changelog"))
     assert (ROOT / "debian/changelog").read_text() == made, "debian/changelog is made from CHANGELOG.md"
     assert made.startswith(f"ansible-vault ({VERSION}) "), ("and names this version first", made[:80])
@@ -81,7 +81,7 @@ def test_changelog() -> None:
 
 @pytest.fixture
 def copy(tmp_path: pathlib.Path, program: str) -> pathlib.Path:
-    """A copy of the repository below a path with a space; its program is newer than its sources."""
+    """Copy the repository below a path with a space. Its program is newer than its sources."""
     needs("dpkg-deb", "dh")
     copy = tmp_path / "two words"
     shutil.copytree(ROOT, copy, symlinks=True, ignore=shutil.ignore_patterns("bin", "crates", ".git"))
@@ -94,8 +94,8 @@ def copy(tmp_path: pathlib.Path, program: str) -> pathlib.Path:
 
 @pytest.mark.parametrize("name", ["bin/ansible-vault", "built"])
 def test_made_again(copy: pathlib.Path, package: pathlib.Path, name: str) -> None:
-    """A directory with a space, another time, umask and zone make the same bytes, of the program that is named or was
-    built last: nothing is built anew."""
+    """A path with a space, and another date, umask and time zone, give the same bytes, from the program that is named
+    or was built last: nothing is built again."""
     (copy / "bin/ansible-vault").rename(copy / name)
     (copy.parent / "rt").write_text("#!/bin/sh\necho rt is run >&2\nexit 1\n")
     (copy.parent / "rt").chmod(0o755)
@@ -107,7 +107,7 @@ def test_made_again(copy: pathlib.Path, package: pathlib.Path, name: str) -> Non
 
 
 def test_program_of_another_machine(copy: pathlib.Path, program: str) -> None:
-    """The rules pack the program that is there, even if it is older than its sources, and build none."""
+    """The rules package the existing program, even if it is older than its sources, and build none."""
     (copy / "bin/processor").unlink()
     os.utime(copy / "bin/ansible-vault", (0, 0))
     variables = {name: value for name, value in os.environ.items() if name not in ("MAKEFLAGS", "CPU")}
@@ -119,10 +119,10 @@ def test_program_of_another_machine(copy: pathlib.Path, program: str) -> None:
 
 @pytest.mark.parametrize("command", ["make -s package", "make -s dist", "debian/rules override_dh_auto_install"])
 def test_newer_processor(copy: pathlib.Path, command: str) -> None:
-    """A package is for all processors: none is made of a program that was built for a newer one."""
+    """A package is for all processors, so none is made from a program for a newer one."""
     (copy / "bin/processor").write_text("x86-64-v3\n")
     (copy / "bin/ansible-vault").touch()
-    # Not what a `make` above gives, which may choose the processor.
+    # Not the variables of a `make` that runs this test: they may choose the processor.
     variables = {name: value for name, value in os.environ.items() if name not in ("MAKEFLAGS", "CPU")}
     done = subprocess.run(command.split(), cwd=copy, env=variables, capture_output=True, text=True)
     wanted = "bin/ansible-vault is built for x86-64-v3, and packages and archives are for all processors: make CPU=\n"
@@ -130,7 +130,7 @@ def test_newer_processor(copy: pathlib.Path, command: str) -> None:
     assert [*copy.glob("bin/*.deb"), *copy.glob("debian/ansible-vault")] == [], "no package is made of it"
 
 
-# Files of Ansible's package, as a stand-in has them.
+# The files of Ansible's package that the stand-in contains.
 THEIRS = {
     "usr/bin/ansible-vault": "#!/bin/sh\necho the other\n",
     "usr/bin/ansible-playbook": "#!/bin/sh\necho played\n",
@@ -144,7 +144,7 @@ OTHER = "/usr/bin/ansible-vault-original"
 
 
 class Beside:
-    """The package and Ansible's in a root of their own."""
+    """The package and Ansible's, in a root of their own."""
 
     def __init__(self, package: pathlib.Path, folder: pathlib.Path, program: str):
         self.package = package
@@ -158,12 +158,12 @@ class Beside:
         assert done.returncode == 0, (what, done.stdout + done.stderr)
 
     def theirs(self, version: str, mark: str = "") -> str:
-        """Ansible's package, each of its files with a mark at its end."""
+        """Build Ansible's package, with a mark at the end of each file."""
         files = {path: content + mark for path, content in THEIRS.items()}
         return str(stand_in(self.folder, "ansible-core", version, files))
 
     def check_both(self, when: str, mark: str = "") -> None:
-        """Our program has its name, all of theirs stands aside, and playbooks run."""
+        """Our program has its name, their files are diverted, and playbooks run."""
         output = self.root.run("/usr/bin/ansible-vault", "--version")
         assert output == f"ansible-vault {VERSION}\n", f"{when}: our program has the name"
         aside = [self.root.aside(f"/{path}") for path in BOTH_HAVE]
@@ -176,7 +176,7 @@ class Beside:
         assert self.root.run("/usr/bin/ansible-playbook") == "played\n", f"{when}: ansible-playbook runs"
 
     def check_theirs(self, when: str, mark: str = "") -> None:
-        """All is theirs, as if our package had never been there."""
+        """Everything is theirs, as if our package had never been installed."""
         found = {path: self.root.read(path) for path in THEIRS}
         assert found == {path: text + mark for path, text in THEIRS.items()}, f"{when}: their files are back"
         self.check_nothing_left(when)
@@ -213,7 +213,7 @@ def test_behind_theirs(beside: Beside) -> None:
 
 
 def test_upgrade_of_one_that_diverts_nothing(beside: Beside) -> None:
-    """As our first version, which had none of the files of Ansible's package."""
+    """The older version is like our first one, which had none of the files of Ansible's package."""
     older = stand_in(beside.folder, "ansible-vault", "0.1", {"usr/share/old": "old\n"})
     beside.do("an older version", "-i", str(older))
     beside.do("Ansible", "-i", beside.theirs("2.14"))
@@ -222,7 +222,7 @@ def test_upgrade_of_one_that_diverts_nothing(beside: Beside) -> None:
 
 
 def test_failed_unpacking(beside: Beside) -> None:
-    """A package has a file that ours has, too: ours cannot be unpacked, and leaves all as it was."""
+    """A package has one of our files: ours cannot be unpacked, and leaves everything as it was."""
     beside.do("Ansible", "-i", beside.theirs("2.14"))
     taken = "usr/lib/ansible-vault/ansible-vault-check"
     beside.do("a package in the way", "-i", str(stand_in(beside.folder, "in-the-way", "1", {taken: "taken\n"})))
@@ -242,7 +242,7 @@ def test_failed_unpacking(beside: Beside) -> None:
 
 
 def test_failed_upgrade(beside: Beside) -> None:
-    """A later version of ours has a file of a third package: the version that is installed stays as it was."""
+    """A later version of ours has a file of a third package: the installed version stays as it was."""
     beside.do("Ansible", "-i", beside.theirs("2.14"))
     beside.do("our package", "-i", str(beside.package))
     taken = "usr/share/in-the-way"

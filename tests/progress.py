@@ -1,7 +1,7 @@
-"""The tools that run the gate: tools/progress.py passes on the exit status and the counts of a command, keeps its log,
-prints it if the command fails, and has a line each minute; tools/mutants fails unless a goal rejects each mutant;
-.ci/run ends as `make check` does, with the counts of the gate and of the tests, and fails if it cannot install what
-they need; `make test` names what it lacks, and leaves out no test.
+"""The tools that run the gate. tools/progress.py passes on the exit status and the counts of a command, keeps its log,
+prints it if the command fails, and reports every minute. tools/mutants fails unless a goal rejects each mutant. .ci/run
+ends as `make check` does, with the counts of the gate and of the tests, and fails if it cannot install the packages
+that they need. `make test` names missing packages, and leaves out no test.
 """
 
 import os
@@ -27,7 +27,7 @@ def script(path: Path, shell: str) -> None:
 
 
 def with_tools(folder: Path) -> dict[str, str]:
-    """The environment, with the programs of a folder first on PATH."""
+    """Return the environment, with a directory of programs first on PATH."""
     kept = {name: value for name, value in os.environ.items() if name not in ("REQUIRE_ALL", "PARTIAL")}
     return kept | {"PATH": f"{folder}{os.pathsep}{os.environ['PATH']}"}
 
@@ -38,7 +38,7 @@ def printed(command: list[str], env: dict[str, str] | None = None) -> subprocess
 
 @pytest.mark.parametrize("status, count", [(0, "12 passed, 0 failed\n"), (1, "11 passed, 1 failed\n"), (2, "")])
 def test_progress(tmp_path: Path, status: int, count: str) -> None:
-    """The log is kept, and printed if the command fails; its counts stand once by themselves, at the end."""
+    """The log is kept, and printed if the command fails. Its counts appear once on a line of their own, at the end."""
     log = tmp_path / "log"
     command = ["sh", "-c", 'printf %s "$1"; exit "$2"', "sh", GATE + count, str(status)]
     done = printed([PROGRESS, str(log), *command])
@@ -58,7 +58,7 @@ sys.exit(main(sys.argv[2:]))
 
 
 def test_progress_each_minute(tmp_path: Path) -> None:
-    """The command goes on until its lines were reported."""
+    """The command runs until its lines are reported."""
     log, seen = tmp_path / "log", tmp_path / "seen"
     shell = f"printf '{GATE}'; until [ -e '{seen}' ]; do sleep 0.05; done"
     words = [sys.executable, "-c", IMPATIENT, PROGRESS, str(log), "sh", "-c", shell]
@@ -79,7 +79,7 @@ def test_progress_without_the_command(tmp_path: Path) -> None:
 BY_GOAL = "must-fail vault_aes/one.edit: refused, as it must be: note: src/laws.rt:58:1: it is not proved"
 BY_NAME = "must-fail vault_aes/two.edit: refused, as it must be (only because a proof file names it): proofs/x"
 MISSED = "must-fail vault_aes/two.edit: NOT REFUSED: why"
-# What rt says, its status, and how tools/mutants ends.
+# What rt prints, its status, and how tools/mutants ends.
 MUTANTS = {
     "each is rejected": ([BY_GOAL, "vault_aes: a note"], 0, (0, "1 passed, 0 failed")),
     "one for a lost name alone": ([BY_GOAL, BY_NAME], 0, (1, "1 passed, 1 failed")),
@@ -91,7 +91,7 @@ MUTANTS = {
 
 @pytest.mark.parametrize("said, status, end", MUTANTS.values(), ids=MUTANTS)
 def test_mutants(tmp_path: Path, said: list[str], status: int, end: tuple[int, str]) -> None:
-    """A stand-in for `rt` notes its words and the edits that it is to try."""
+    """A stand-in for `rt` records its words and the edits that it should try."""
     (tmp_path / "said").write_text("".join(f"rt: {line}\n" for line in said))
     notes = f"echo \"$*\" > '{tmp_path}/words'; ls crates/*/must-fail/* > '{tmp_path}/edits'"
     script(tmp_path / "rt", f"{notes}\ncat '{tmp_path}/said'\nexit {status}")
@@ -103,7 +103,7 @@ def test_mutants(tmp_path: Path, said: list[str], status: int, end: tuple[int, s
     assert (sorted(tried), len(tried) > 100) == (mutants, True), "the edits that rt is to try"
 
 
-# What `make check` prints of the gate and of the tests.
+# What `make check` prints about the gate and the tests.
 CHECK = """\
 12 passed, 0 failed
 skipped: tests/a.py::test_zsh: without zsh
@@ -111,7 +111,7 @@ skipped: tests/a.py::test_zsh: without zsh
 1 failed, 8 passed, 1 skipped in 0.10s
 """
 GATE_FAILS = "    11 passed, 1 failed\n  0:01  FAILED\n11 passed, 1 failed\n"
-# What `make check` prints, its status, whether the packages are installed by it, and how .ci/run ends.
+# What `make check` prints, its status, whether packages can be installed, and how .ci/run ends.
 RUNS = {
     "all pass": (CHECK.format(failed=0), 0, True, (0, "20 passed, 0 failed, 1 skipped")),
     "a test fails": (CHECK.format(failed=2), 2, True, (2, "20 passed, 2 failed, 1 skipped")),
@@ -119,7 +119,7 @@ RUNS = {
     "nothing is installed": (CHECK.format(failed=0), 0, False, (1, "20 passed, 1 failed, 1 skipped")),
     "nothing is installed and a test fails": (CHECK.format(failed=2), 2, False, (2, "20 passed, 3 failed, 1 skipped")),
 }
-# Finds packages in new lists alone.
+# Finds packages only after an update of the lists.
 APT = """\
 if [ "$1" = update ]; then touch '{lists}'; exit 0; fi
 if [ -e '{lists}' ] && {installs}; then exit 0; fi
@@ -127,7 +127,7 @@ echo "E: no package: $*"; exit 100"""
 
 
 def run_ci(folder: Path, check: str, status: int, installs: bool, query: str) -> subprocess.CompletedProcess[str]:
-    """.ci/run where these stand for `make`, `apt-get` and `dpkg-query`."""
+    """Run .ci/run with stand-ins for `make`, `apt-get` and `dpkg-query`."""
     for path in (".ci/run", "tools/missing_packages"):
         (folder / path).parent.mkdir(exist_ok=True)
         shutil.copy(ROOT / path, folder / path)
@@ -153,7 +153,7 @@ def test_ci(tmp_path: Path, check: str, status: int, installs: bool, end: tuple[
 
 
 def test_ci_with_all_installed(tmp_path: Path) -> None:
-    """Nothing is installed then: that takes root, and a network."""
+    """Nothing is installed then, since that takes root and a network."""
     done = run_ci(tmp_path, CHECK.format(failed=0), 0, False, 'shift 2; for each; do echo "$each installed"; done')
     assert (done.returncode, done.stdout.splitlines()[-1]) == (0, "20 passed, 0 failed, 1 skipped")
     assert not (tmp_path / "lists").exists()
@@ -161,7 +161,7 @@ def test_ci_with_all_installed(tmp_path: Path) -> None:
 
 @pytest.mark.parametrize("goal", ["test", "check"])
 def test_missing_packages(program: str, tmp_path: Path, goal: str) -> None:
-    """They are named in one line before a proof or a test; with PARTIAL=yes nothing is."""
+    """One line names them before any proof or test. With PARTIAL=yes, there is no such line."""
     script(tmp_path / "dpkg-query", "shift 2; printf '%s installed\\n' \"$@\" | grep -v -e zsh -e acl")
     (tmp_path / "rt").symlink_to("/bin/false")
     done = run_make(program, goal, "PYTEST=true", env=with_tools(tmp_path))
@@ -172,14 +172,14 @@ def test_missing_packages(program: str, tmp_path: Path, goal: str) -> None:
 
 
 def test_all_tests_are_run(program: str) -> None:
-    """`make test` leaves out none, and fails if a part has fewer than its floor."""
+    """`make test` leaves out no test, and fails if a part has fewer than its floor."""
     done = run_make(program, "-n", "test", "PARTIAL=yes")
     [command] = [line for line in done.stdout.splitlines() if "pytest" in line]
     assert " -m '' " in command and " --floors " in command
 
 
 def test_source_that_changes_during_the_gate(tmp_path: Path) -> None:
-    """It is newer than the program that `make check` took from the gate: `make test` builds that anew."""
+    """The source is newer than the program that `make check` took from the gate, so `make test` builds it again."""
     shutil.copy(ROOT / "Makefile", tmp_path)
     source, log = tmp_path / "crates/ansible_vault/src/main.rt", tmp_path / "log"
     built = [f"crates/{name}/out/{name}" for name in ("ansible_vault", "vault_allocation_failures")]

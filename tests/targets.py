@@ -13,7 +13,7 @@ from lib.readme import commands
 
 pytestmark = [pytest.mark.newcomer, pytest.mark.timeout(PROVING)]
 
-# Each target that has another way to be run here, and which: the gate itself, or a prerequisite of another target.
+# The targets that run in another way, and how: the gate itself, or a prerequisite of another target.
 RUN_BY_OTHERS = {
     "all": "demo",
     "check": ".ci/run",
@@ -53,7 +53,7 @@ def test_target(clone: Path, request: pytest.FixtureRequest, command: str, wante
 
 
 def test_dist_elsewhere(clone: Path, tmp_path: Path) -> None:
-    """What git does not track has no archive, also below a checkout."""
+    """`make dist` refuses sources that git does not track, even below a checkout."""
     unpacked = clone / "bin" / "unpacked"
     for folder in (tmp_path / "alone", unpacked):
         folder.mkdir()
@@ -70,7 +70,7 @@ def scripts() -> Iterator[str]:
 
 
 def test_all_are_typed() -> None:
-    """No target of the Makefile is left out, and no script is run by nothing."""
+    """Some test runs each target of the Makefile, and something runs each script."""
     [phony] = PHONY.findall((ROOT / "Makefile").read_text())
     typed_words = " ".join([*commands(README.read_text()), *SMALL, "make uninstall make clean"])
     goals = {*phony.split()} - {"\\", "FORCE"}

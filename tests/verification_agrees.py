@@ -1,5 +1,5 @@
-"""Compares docs/verification.md and docs/verification-reference.md with the code: each call, clause, definition, test
-and sign that they name; and what `tools/write_documents` writes into the documents.
+"""docs/verification.md and docs/verification-reference.md agree with the code: each call, clause, definition, test and
+symbol that they name, and what `tools/write_documents` writes into the documents.
 """
 
 import re
@@ -22,14 +22,14 @@ TEST = re.compile(r"`(tests/[\w/.]+|vault_\w+)`(?:: ((?:`\w+`(?:, )?)+))?")
 CODE = re.compile(r"`([^`]+)`")
 
 
-# Each of these functions finds what is wrong in a page.
+# The functions below find the mistakes in a page.
 
 
 @cache
 def contracts_of(call: str) -> list[str]:
-    """The contracts of the functions of a name, in the files of its crate and its type or module, if it has them."""
+    """Return the contracts of the functions with this name, in the files that mention each part of its path."""
     *path, name = call.split("::")
-    # Up to the body, or to the empty line after a method of a trait.
+    # Match up to the body, or to the empty line after a trait's method.
     contract = re.compile(rf"\bfn {name}\b.*?(?:^ *\{{|;\n\n)", re.MULTILINE | re.DOTALL)
     found = []
     for file, text in code().items():
@@ -39,7 +39,7 @@ def contracts_of(call: str) -> list[str]:
 
 
 def unproved(page: str) -> Iterator[str]:
-    """Calls without a contract, clauses that theirs do not have, and tests that are not there."""
+    """Yield calls without a contract, clauses that no contract of the call has, and tests that do not exist."""
     for proved, tests in CLAIM.findall(page):
         for call in filter(None, (CONTRACT.match(part.strip()) for part in proved.split(";"))):
             contracts = contracts_of(call[1])
@@ -59,7 +59,7 @@ def unproved(page: str) -> Iterator[str]:
 
 
 def undefined(page: str) -> Iterator[str]:
-    """Definitions that are not in the one listed file of the name."""
+    """Yield definitions that are not in the one listed file with this name."""
     for names, place in DEFINITIONS.findall(page):
         files = [str(file.relative_to(CRATES)) for file in definition_files() if str(file).endswith(f"/{place}")]
         yield from [] if len(files) == 1 else [f"listed files of the name {place}: {files}"]
@@ -68,7 +68,7 @@ def undefined(page: str) -> Iterator[str]:
 
 
 def unexplained(page: str) -> Iterator[str]:
-    """Signs beyond ASCII in a listed definition that the reference does not explain."""
+    """Yield symbols beyond ASCII in a listed definition that the reference does not explain."""
     explained = set("".join(CODE.findall(page)))
     for file in definition_files():
         lines = [line for line in file.read_text().splitlines() if not line.lstrip().startswith("--")]
@@ -76,14 +76,14 @@ def unexplained(page: str) -> Iterator[str]:
         yield from (f"{file.name}: {sign}" for sign in signs - explained)
 
 
-# The axioms of the C library and of the system, where a log is about the program.
+# The axioms of the C library and of the system, if a log is about the program.
 AXIOMS = re.compile(
     r"^axioms libc: .*\((\d+) of.*\naxioms os: .*\((\d+) of.*\n.*\n.*\nlinked .*=out/ansible_vault\.o,", re.MULTILINE
 )
 
 
 def test_axioms() -> None:
-    """Their numbers add up, and are those of the last builds; a build whose proof was kept does not log them."""
+    """Their numbers add up, and agree with the last builds. A build whose proof was kept does not log them."""
     found = {pair for log in (ROOT / "bin").glob("*.log") for pair in AXIOMS.findall(log.read_text())}
     numbers = r"`axioms=(\d+)`[^,]*, (\d+) of the C library and (\d+) of"
     [(total, library, system)] = re.findall(numbers, PAGE.read_text())
@@ -91,13 +91,13 @@ def test_axioms() -> None:
 
 
 def heading_links(text: str) -> set[str]:
-    """What a link to a heading of a page ends with."""
+    """Return the fragments of the links to a page's headings."""
     titles = re.findall(r"^#+ (.*)$", re.sub(r"^```.*?^```$", "", text, flags=re.MULTILINE | re.DOTALL), re.MULTILINE)
     return {re.sub(r"[^\w -]", "", title.lower()).replace(" ", "-") for title in titles}
 
 
 def dead_links(page: str, folder: Path = PAGE.parent) -> Iterator[str]:
-    """Those that lead to no file or heading."""
+    """Yield the links to a missing file or heading."""
     for path, heading in re.findall(r"\]\((?!http)([\w./-]*)(?:#([\w-]+))?\)", page):
         file = folder / path
         text = page if not path else file.read_text() if file.is_file() and heading else ""
@@ -109,7 +109,7 @@ CHECKS = [
     *((PAGE, check) for check in (unproved, undefined)),
     *((REFERENCE, check) for check in (unproved, undefined, unexplained)),
 ]
-# Changes that each break a page for a check: what is found, and what takes its place once.
+# Changes that each break a page for a check: what to find, and what to replace it with, once.
 BROKEN = [
     (PAGE, unproved, r"`Sink::begin`: `takes`", "`Sink::begin`: `took`"),
     (PAGE, unproved, r"`refused_leaves_outputs`", "`refused_leaves_nothing`"),
@@ -127,7 +127,7 @@ def test_written(page: Path) -> None:
     assert "in `none.rt`" not in page.read_text()
 
 
-# What is written anew where it is changed, and what it is changed to once.
+# Text that is written again if it changes: what to find, and what to change it to, once.
 CHANGED = [
     (PAGE, r"^password_of file =", "password_of bytes ="),
     (PAGE, r"\d+ lines of code", "12 lines of code"),
@@ -146,7 +146,7 @@ def test_written_anew(page: Path, old: str, new: str) -> None:
 
 
 def name_of(value: object) -> str | None:
-    """Of a page or a function."""
+    """Return the name of a page or a function."""
     return getattr(value, "__name__", getattr(value, "stem", None))
 
 
@@ -164,7 +164,7 @@ def test_links() -> None:
 
 @pytest.mark.parametrize(("page", "check", "old", "new"), BROKEN, ids=name_of)
 def test_broken_page(page: Path, check: Callable[[str], Iterable[str]], old: str, new: str) -> None:
-    """A page with a mistake is not taken."""
+    """The check finds the mistake in the page."""
     broken = re.sub(old, new, page.read_text(), count=1, flags=re.MULTILINE)
     assert broken != page.read_text(), "the page is changed"
     assert [*check(broken)] != []

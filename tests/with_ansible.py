@@ -1,7 +1,7 @@
-"""Runs the built program beside Ansible's own tool: what each writes the other reads, for one salt, password and
-label both write the same bytes, and both say what docs/coming-from-ansible.md says.
+"""The program and Ansible's own tool agree: each reads what the other writes, both write the same bytes for one salt,
+password and label, and both say what docs/coming-from-ansible.md says.
 
-Ansible's tool (Debian's package `ansible-core`) is found as `lib/ansible.py` says.
+`lib/ansible.py` finds Ansible's tool (Debian's package `ansible-core`).
 """
 
 import json
@@ -31,7 +31,7 @@ TEXTS = {f"{size} bytes": (b"key: value\n" * (size // 11 + 1))[:size] for size i
 STRINGS = {"plain": "a secret", "umlauts": "größe →", "lines": "first\nsecond\n", "sixteen": "a" * 16}
 RIGHT, NEW = b"the right password", b"the new one"
 PAGE = ROOT / "docs" / "coming-from-ansible.md"
-# Without anybody's settings for Ansible.
+# Without the caller's settings for Ansible.
 ENVIRONMENT = {name: value for name, value in os.environ.items() if not name.startswith("ANSIBLE_")}
 ENVIRONMENT["LC_ALL"] = "C.UTF-8"
 
@@ -42,7 +42,7 @@ def salt_of(vault: bytes) -> bytes:
 
 
 class Both:
-    """The two tools, with one password for a label or for none."""
+    """The two tools, with one password, for a label or for none."""
 
     def __init__(self, cases: Cases, ansible: str, label: str) -> None:
         self.cases = cases
@@ -54,7 +54,7 @@ class Both:
         self.choice = ["--encrypt-vault-id", label] if label else []
 
     def in_folder(self, command: list[str], **variables: str) -> subprocess.CompletedProcess[bytes]:
-        """Runs one of Ansible's tools where no file of settings is found."""
+        """Run one of Ansible's tools where it finds no configuration file."""
         folder = self.cases.folder
         environment = {**ENVIRONMENT, "HOME": str(folder), **variables}
         return subprocess.run(command, capture_output=True, timeout=SECONDS, cwd=folder, env=environment)
@@ -66,7 +66,7 @@ class Both:
         return done.stdout
 
     def changed_by_them(self, command: str, options: list[str], contents: list[bytes]) -> list[bytes]:
-        """Ansible's tool changes all the files in one run."""
+        """Change all the files in one run of Ansible's tool, and return their contents."""
         paths = [self.cases.file(content) for content in contents]
         self.theirs(command, *options, *paths)
         return [Path(path).read_bytes() for path in paths]
@@ -82,7 +82,7 @@ def both(cases: Cases, request: pytest.FixtureRequest) -> Both:
 
 
 def test_theirs_to_ours(both: Both, subtests: SubTests) -> None:
-    """Their vaults are decrypted here; encrypted here with their salts, they are the same bytes."""
+    """Our program decrypts their vaults, and with their salts, encrypts to the same bytes."""
     vaults = both.changed_by_them("encrypt", [*both.options, *both.choice], list(TEXTS.values()))
     for (name, text), vault in zip(TEXTS.items(), vaults):
         with subtests.test(name):
@@ -93,20 +93,20 @@ def test_theirs_to_ours(both: Both, subtests: SubTests) -> None:
 
 
 def test_ours_to_theirs(both: Both) -> None:
-    """Our vaults are decrypted there."""
+    """Their tool decrypts our vaults."""
     words = ["encrypt", *both.options]
     vaults = [both.cases.run(words, text, out=None) for name, text in TEXTS.items()]
     assert differing(both.changed_by_them("decrypt", both.options, vaults)) == []
 
 
 def differing(texts: list[bytes]) -> list[str]:
-    """The names of TEXTS that are not among these at their places."""
+    """Return the names of the TEXTS that differ from these."""
     return [name for name, text in zip(TEXTS, texts, strict=True) if text != TEXTS[name]]
 
 
 @pytest.mark.parametrize("name", ["größe", ""], ids=["named", "unnamed"])
 def test_blocks(both: Both, subtests: SubTests, name: str) -> None:
-    """Blocks of the same strings, with a name or without one."""
+    """Both make the same blocks, with a name or without one."""
     named = ["-n", name] if name else []
     shown = both.theirs("encrypt_string", *both.options, *both.choice, *named * len(STRINGS), *STRINGS.values())
     blocks = re.findall(rb"^\S.*\n(?: .*\n)+", shown.rstrip(b"\n") + b"\n", re.MULTILINE)
@@ -120,7 +120,7 @@ def test_blocks(both: Both, subtests: SubTests, name: str) -> None:
 
 
 def test_playbook_values(both: Both) -> None:
-    """Ansible reads our blocks as values of a file of variables."""
+    """Ansible reads our blocks as values in a file of variables."""
     tool = Path(both.ansible).parent / "ansible"
     needs(str(tool))
     words = ["encrypt_string", *both.options, "--name"]
@@ -135,7 +135,7 @@ def test_playbook_values(both: Both) -> None:
 
 @pytest.mark.parametrize("new_label", ("", "prod"))
 def test_rekeyed(both: Both, subtests: SubTests, new_label: str) -> None:
-    """Rekeyed here, decrypted and rekeyed back there, decrypted here."""
+    """Rekey here, decrypt and rekey back there, and decrypt here."""
     options = ["--new-vault-id", f"{new_label}@{both.new}"]
     new = by_id(both.new, new_label) if new_label else by_file(both.new)
     words = ["rekey", *both.options, *options]
@@ -150,7 +150,7 @@ def test_rekeyed(both: Both, subtests: SubTests, new_label: str) -> None:
 
 
 def test_fixed_salt(both: Both) -> None:
-    """Newer versions of Ansible's tool take a salt from the environment, older ones choose their own."""
+    """Newer versions of Ansible's tool take a salt from the environment; older ones choose their own."""
     text, salt = TEXTS["17 bytes"], "a salt of the environment"
     path = both.cases.file(text)
     both.theirs("encrypt", *both.options, *both.choice, path, ANSIBLE_VAULT_ENCRYPT_SALT=salt)
@@ -160,7 +160,7 @@ def test_fixed_salt(both: Both) -> None:
         both.cases.run(["encrypt", *both.options, "--salt", salt], text, out=vault)
 
 
-# What each row of the messages in docs/coming-from-ansible.md is about.
+# The command for each row of the messages in docs/coming-from-ansible.md.
 REFUSED = {
     "the password is wrong": "view --vault-password-file wrong vault",
     "the input is no vault": "view --vault-password-file right plain",
@@ -175,7 +175,7 @@ REFUSED = {
 }
 
 
-# What is said of a vault itself. Later releases of Ansible's tool name its file, and say one of them otherwise.
+# Messages about a vault itself. Later releases of Ansible's tool name its file, and word one of them differently.
 OF_A_VAULT = {"the password is wrong", "the input is no vault", "the vault is cut off", "the vault is not hexadecimal"}
 SAID_LATER = {"the input is no vault": "Input is not vault encrypted data..."}
 
@@ -188,7 +188,7 @@ def refused_files() -> dict[str, bytes]:
 
 
 def message_rows() -> dict[str, list[tuple[str, int]]]:
-    """What Ansible's tool and ours say, with their exit statuses, in the order of the page."""
+    """Return the messages of Ansible's tool and of ours, with their exit statuses, in the order of the page."""
     rows = re.findall(r"^\| (.+) \| `(.+)` \| (\d) \| `(.+)` \| (\d) \|$", PAGE.read_text(), re.MULTILINE)
     return {what: [(theirs, int(first)), (ours, int(second))] for what, theirs, first, ours, second in rows}
 
@@ -199,7 +199,7 @@ def test_rows_of_messages() -> None:
 
 
 def said_by_ansible(what: str, text: str) -> str:
-    """The text of the page as the release that is there says it."""
+    """Return the text of the page as the installed release words it."""
     if ansible_release() < (2, 19):
         return f"ERROR! {text}"
     names_file = ansible_release() >= (2, 22) and what in OF_A_VAULT

@@ -1,9 +1,9 @@
-"""Watches the calls that the built program makes of the system.
+"""Watch the system calls of the built program.
 
-Checked are: which paths are opened, in which order and how; how many bytes of each are read, and that none is
-read past its end; that standard input is not read if it is not needed; what is created, when and with which mode;
-how many bytes are written where; and that no other call is made. Calls of the loader are allowed if they open its
-cache, or a library of the program, for reading. The runs are in `watched`.
+The tests check which paths are opened, in which order and how; how many bytes of each are read, and that none is read
+past its end; that standard input is not read if it is not needed; what is created, when and with which mode; how many
+bytes are written where; and that no other call is made. The loader may open its cache and the program's libraries for
+reading. The runs are in `watched`.
 """
 
 import os
@@ -23,19 +23,19 @@ from watched.runs import GROUPS, Files
 OF_FILES = {"openat", "read", "write", "close", "statx", "fchmod", "ftruncate", "fsync"}
 OF_MEMORY = {"brk", "mmap", "munmap", "mremap"}
 OTHERS = {"rt_sigaction", "getrandom", "fcntl", "exit_group"}
-# How each stream is asked whether it is open.
+# How the program asks whether each stream is open.
 DUPLICATING = ["F_DUPFD_CLOEXEC"] * 3
-# What the loader reads besides libraries.
+# What the loader reads, apart from libraries.
 LISTS = {"/etc/ld.so.cache", "/etc/ld.so.preload"}
 READING, CREATING = {"O_RDONLY"}, {"O_WRONLY", "O_CREAT"}
-# What changes nothing here: no terminal becomes the program's own, no other program is started, and
-# folders give no bytes.
+# Flags that change nothing here: no terminal becomes the program's own, no other program is started, and directories
+# give no bytes.
 HARMLESS = {"O_NOCTTY", "O_CLOEXEC", "O_LARGEFILE", "O_DIRECTORY"}
 OWNER_ALONE = "0600"
 
 
 def check_loading(watched: Watched, allowed: set[str]) -> None:
-    """What is passed over."""
+    """Check the loader's calls, which the other checks skip."""
     opens = [opened_by(call) for call in watched.traced.loading if call.name == "openat"]
     others = [opened.path for opened in opens if os.path.normpath(opened.path) not in allowed]
     assert others == [], "the loader opens"
@@ -70,7 +70,7 @@ def check_reads(run: Run, watched: Watched, limits: dict[str, int]) -> None:
 
 
 def to_end(reads: list[tuple[int, int]], limit: int) -> bool:
-    """Whether it is asked up to its end or its limit, and no further."""
+    """Return whether the source is read to its end or its limit, and no further."""
     given, most = 0, 0
     for asked, got in reads:
         most = max(most, given + asked)
@@ -80,7 +80,7 @@ def to_end(reads: list[tuple[int, int]], limit: int) -> bool:
 
 
 def check_writes(run: Run, watched: Watched) -> None:
-    """A file is opened when all is read, made its owner's, emptied only then, written, and synced at last."""
+    """After all reading, a file is opened, made private, only then emptied, written, and finally synced."""
     calls = watched.writes
     names = [name for name, _ in groupby(call.name for call in calls)]
     if not run.created:
@@ -103,7 +103,7 @@ def check_writes(run: Run, watched: Watched) -> None:
 
 
 def check_lengths(run: Run, watched: Watched, target: int | None) -> None:
-    """How many bytes go where."""
+    """Check how many bytes go where."""
     traced = watched.traced
     lengths = {number: 0 for number in (target, STDOUT, STDERR)}
     for call in watched.writes:

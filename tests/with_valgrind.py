@@ -1,5 +1,5 @@
-"""The program under Valgrind's memcheck: for each command a run that succeeds, and one run for each refusal, with the
-model's answer. They are random requests, but for refusals that take a long input.
+"""Run the program under Valgrind's memcheck: one run of each command that succeeds, and one for each refusal, with the
+model's answer. They are random requests, except for refusals that need a long input.
 """
 
 import shlex
@@ -21,9 +21,9 @@ pytestmark = pytest.mark.valgrind
 
 SEED = "memcheck"
 REQUESTS = 4_000
-# Requests with more than this take long under memcheck.
+# Larger requests take long under memcheck.
 WORDS, BYTES = 14, 1 << 14
-# Valgrind brings an allocator of its own, which is refused nothing; `failed_allocations` refuses memory without it.
+# Valgrind has its own allocator, which never fails; `failed_allocations` refuses memory without Valgrind.
 WITHOUT_A_RUN = {Fault.MEMORY}
 READS_BESIDE = b"#include <stdlib.h>\nint main(void) { volatile char *room = malloc(1); return room[1]; }\n"
 
@@ -50,7 +50,7 @@ def name_of(case: Case, answered: Answer) -> str:
 
 
 def wanted_names() -> set[str]:
-    """Those of a success of each command, of each refusal, and of a command line that is none."""
+    """Return the names of each command's success, of each refusal, and of an invalid command line."""
     faults = {f"status {fault.status} {fault.line.decode().strip()}" for fault in set(Fault) - WITHOUT_A_RUN}
     return {f"{command} succeeds" for command in OPTIONS} | faults | {"status 2 "}
 
@@ -59,7 +59,7 @@ WANTED = sorted(wanted_names())
 
 
 def one_of_each() -> dict[str, Case]:
-    """The first small request for each answer, and the long ones."""
+    """Return the first small request for each answer, and the long ones."""
     found = {name_of(case, expected(case, bytes(SALT_LENGTH))): case for case in long_inputs()}
     for number in range(REQUESTS):
         if found.keys() >= set(WANTED):
@@ -72,7 +72,7 @@ def one_of_each() -> dict[str, Case]:
 
 
 def memcheck(program: str, case: Case) -> list[str]:
-    """What differs under memcheck, and what it has found."""
+    """Return the differences under memcheck, and the errors that it found."""
     with tempfile.NamedTemporaryFile("r") as log:
         command = ["valgrind", "--quiet", f"--log-file={log.name}", program]
         found = differences(case, command)

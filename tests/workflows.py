@@ -1,6 +1,4 @@
-"""Runs the shell of docs/workflows.md as it stands there. What the companions do otherwise is tested by
-`companion_cases`.
-"""
+"""Run the shell commands of docs/workflows.md as they are. `companion_cases` tests the rest of the companions."""
 
 import pathlib
 import re
@@ -35,7 +33,7 @@ SHORT_PLAYBOOK = """\
     - ansible.builtin.debug:
         msg: "{{ shared }}"
 """
-# Stands for the password manager: its entry has more than the password.
+# In place of the password manager. Its entry contains more than the password.
 PASS = """\
 [ "$*" = "show ansible/prod" ] || exit 1
 printf 'in production\\nuser: me\\n'
@@ -43,7 +41,7 @@ printf 'in production\\nuser: me\\n'
 
 
 def recipes() -> dict[str, str]:
-    """The shell below each heading of the document."""
+    """Return the shell commands below each heading of the document."""
     document = (ROOT / "docs" / "workflows.md").read_text()
     _, *parts = re.split(r"^## (.+)$", document, flags=re.MULTILINE)
     lines = {title: re.findall(r"^    (.*)$", text, re.MULTILINE) for title, text in zip(parts[::2], parts[1::2])}
@@ -51,14 +49,14 @@ def recipes() -> dict[str, str]:
 
 
 def shown_settings() -> str:
-    """The `ansible.cfg` of the document."""
+    """Return the `ansible.cfg` of the document."""
     document = (ROOT / "docs" / "workflows.md").read_text()
     [found] = re.finditer(r"^```ini\n(.*?)^```$", document, re.MULTILINE | re.DOTALL)
     return found[1]
 
 
 def check_differences(repository: Repository, shell: str) -> None:
-    """A file that is at first not encrypted, then under the old password, then under the new one."""
+    """At first the file is not encrypted, then it is under the old password, then under the new one."""
     name = "group_vars/all/vault.yml"
     repository.put(".gitattributes", MARKS.encode())
     texts = [f"db_password: {each}\n".encode() for each in ("first", "second", "third")]
@@ -78,7 +76,7 @@ def check_differences(repository: Repository, shell: str) -> None:
 
 
 def played(shown: str) -> list[str]:
-    """The messages of a playbook's tasks."""
+    """Return the messages of a playbook's tasks."""
     return re.findall(r'"msg": "(.*)"', shown)
 
 
@@ -191,7 +189,7 @@ def check_first_day(repository: Repository, shell: str) -> None:
 
 
 def merge_changes(repository: Repository, name: str, *texts: bytes, branch: str = "branch") -> None:
-    """Commits a vault in three versions: the base, theirs in a branch, and ours."""
+    """Commit a vault in three versions: the base, theirs on a branch, and ours."""
     steps = ((":", ":"), (f"git checkout -qb {branch}", "git checkout -q -"), (":", ":"))
     for text, (before, after) in zip(texts, steps, strict=True):
         repository.shell(before)

@@ -1,5 +1,5 @@
-"""Which files the contracts of the program need: those that declare its calls and types, and the definitions that
-their contracts name, directly or through what these import.
+"""Find the files that the program's contracts need: the declarations of its calls and types, and the definitions that
+their contracts name, directly or through imports.
 """
 
 import re
@@ -9,40 +9,40 @@ from pathlib import Path
 
 CRATES = Path(__file__).resolve().parent.parent / "crates"
 
-# The calls whose contracts are the theorem, and the other calls and types whose contracts the pages name. Of a module
-# `laws` each call counts.
+# The calls whose contracts are the theorem, and the other calls and types whose contracts the pages name. In a module
+# named `laws`, every call counts.
 THEOREM = ["fn drive_over", "fn reject_words"]
 OTHERS = [
     *("fn drive", "fn drive_in_memory", "fn run", "fn run_to_output", "fn load"),
     *("fn prepare_encrypt_in", "fn prepare_decrypt_in", "fn prepare_rekey_in"),
     *("trait System", "struct FileOutput", "struct ReadSource", "struct WriteSink", "struct TextMemory", "enum Access"),
 ]
-# Some names of a module, or the module under another name.
+# An import of some names of a module, or of the module under another name.
 IMPORT = re.compile(r"\buse Rattle\.(\w+)\.specs\.([\w.]+?)(?:\.\{([^}]*)\}| as (\w+))")
 
 
 @cache
 def code() -> dict[str, str]:
-    """The code of the program and its libraries, by its path below crates/."""
+    """Return the code of the program and its libraries, by path below crates/."""
     files = (file for file in sorted(CRATES.glob("*/src/**/*.rt")) if file.relative_to(CRATES).parts[0] in crates())
     return {str(file.relative_to(CRATES)): file.read_text() for file in files}
 
 
 @cache
 def crates() -> list[str]:
-    """The program and its libraries, each before those that it uses."""
+    """Return the program and its libraries, each before the libraries that it uses."""
     libraries, _, _ = (CRATES.parent / "crates.txt").read_text().partition("\n# tests")
     return re.findall(r"^(\w+):", libraries, re.MULTILINE)[::-1]
 
 
 def declared_in(path: str) -> set[str]:
-    """The functions and the definitions of a file."""
+    """Return the names of the functions and definitions in a file."""
     declared = re.compile(r"^\s*(?:pub\S* )*(?:fn|abbrev|unfoldable|record|data)(?: pub)? (\w+)", re.MULTILINE)
     return set(declared.findall((CRATES / path).read_text()))
 
 
 def file_with(item: str) -> str:
-    """The file that declares a function or a type."""
+    """Return the file that declares a function or a type."""
     declared = re.compile(rf"^(?:pub(?:\(crate\))? )?{item}\b", re.MULTILINE)
     found = [path for path, text in code().items() if declared.search(text)]
     assert len(found) == 1, f"{item} stands in {found}"
@@ -50,8 +50,8 @@ def file_with(item: str) -> str:
 
 
 def definitions_of(crate: str, module: str, names: str) -> Path | None:
-    """The file of this repository that an import takes its names from. What the prover makes of the code stands under
-    `declared`: constants and traits are read in the code; names of cases, which speak for themselves, are not.
+    """Return the file of this repository that an import takes its names from, or None. Names under `declared` come from
+    the prover: for constants and traits, return the code; names of cases explain themselves.
     """
     folder = CRATES / crate
     if not folder.is_dir():
@@ -62,16 +62,16 @@ def definitions_of(crate: str, module: str, names: str) -> Path | None:
             return None
         modules = [part for part in parts[1:] if part[0].islower()]
         return folder.joinpath("src", *modules).with_suffix(".rt")
-    # A type's cases are imported by the type's name after the module's.
+    # An import of a type's cases has the type's name after the module's.
     while not folder.joinpath("specs", *parts).with_suffix(".antt").is_file():
         parts.pop()
     return folder.joinpath("specs", *parts).with_suffix(".antt")
 
 
 def imported(text: str, used: str | None = None) -> Iterator[Path]:
-    """The files whose names a text imports; of code only those that its contracts use."""
+    """Yield the files whose names a text imports. With `used`, skip imports whose names it does not contain."""
     for crate, module, names, other_name in IMPORT.findall(text):
-        # Lemmas, which only proofs need, have a hyphen.
+        # Names with a hyphen are lemmas, which only proofs need.
         if names and all("-" in name for name in names.split(",")):
             continue
         words = set(re.findall(r"\w+", names or other_name))
@@ -81,15 +81,15 @@ def imported(text: str, used: str | None = None) -> Iterator[Path]:
 
 
 def named_by(item: str) -> Iterator[Path]:
-    """The files that the contract of a call names, or all contracts in the file of a type."""
+    """Yield the files that the contract of a call names, or all contracts in the file of a type."""
     text = code()[file_with(item)]
     contract = re.search(rf"^(?:pub(?:\(crate\))? )?{item}\b.*?^\{{", text, re.MULTILINE | re.DOTALL)
     yield from imported(text, contract[0] if contract and item.startswith("fn ") else None)
 
 
 def reached(items: list[str], laws: list[Path]) -> list[Path]:
-    """The files of these calls and types, and what their contracts name, directly or not: each after one that names
-    it. Of code a list holds the contracts of a trait or some constants, and not what these name.
+    """Return the files of these calls and types, and the files that their contracts name, directly or not, each after
+    one that names it. Code is needed only for a trait's contracts or for constants, so skip its imports.
     """
     found = dict.fromkeys([*(CRATES / file_with(item) for item in items), *laws])
     waiting = [file for item in items for file in named_by(item)]
@@ -104,7 +104,7 @@ def reached(items: list[str], laws: list[Path]) -> list[Path]:
 
 @cache
 def needed() -> tuple[list[Path], list[Path]]:
-    """The files that the theorem needs, and those that the other contracts need besides."""
+    """Return the files that the theorem needs, and the further files that the other contracts need."""
     theorem = reached(THEOREM, [])
     laws = sorted(CRATES.glob("*/src/laws.rt"))
     return theorem, [file for file in reached(OTHERS, laws) if file not in theorem]

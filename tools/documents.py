@@ -1,4 +1,4 @@
-"""What the documents take from the code: lists of files, places and code in docs/verification.md and
+"""Update what the documents take from the code: lists of files, places and code in docs/verification.md and
 docs/verification-reference.md, and the programs in docs/library.md.
 """
 
@@ -12,8 +12,8 @@ PAGE = ROOT / "docs" / "verification.md"
 REFERENCE = ROOT / "docs" / "verification-reference.md"
 LIBRARY = ROOT / "docs" / "library.md"
 
-# The code that is printed, in its order: a small contract with its definition, and the theorem; and in the reference
-# all that is trusted. Of a pattern, its groups or all.
+# The code that the pages print, in this order: a small contract with its definition, and the theorem; and in the
+# reference, all trusted code. If a pattern has groups, only the groups are printed.
 EXPLAINED = [
     r"^pub fn password_of\b.*?(?=^\{)",
     r"^unfoldable pub password_of\b.*?(?=^$)",
@@ -25,17 +25,17 @@ TRUSTED = [
     r"^const OWNER_ONLY.*\Z",
 ]
 
-# What is counted of the program and its libraries.
+# The files of the program and its libraries whose lines are counted.
 SIZES = {"Rust": "src/**/*.rt", "definitions": "specs/**/*.antt", "proofs": "proofs/**/*.antt"}
 BLOCK = re.compile(r"(^```(?:rust|antt)\n)(.*?)(^```$)", re.MULTILINE | re.DOTALL)
 # A call or a definition, and its file below crates/.
 PLACE = re.compile(r"`([\w:]+)` in `(\w+/[\w/]+\.(?:rt|antt))`")
-# What is to be read of code: contracts up to the body, or to the empty line after a method of a trait, ghost lines and
-# constants.
+# The code that a reader must read: contracts up to the body, or to the empty line after a trait's method, ghost lines
+# and constants.
 CONTRACTS = re.compile(
     r"^ *(?:pub(?:\(\w+\))? )?(?:fn .*?(?=^ *\{|;\n\n)|ghost (?!use).*?;\n|const .*?;\n)", re.MULTILINE | re.DOTALL
 )
-# The programs of docs/library.md, and where one is printed with the file that it is from.
+# The programs of docs/library.md, and how the page prints one, after the path of its file.
 PROGRAMS = "crates/vault_program_tests/src/library"
 LISTING = re.compile(r"(?<=\bFrom `)crates/\S+/(\w+\.rt)`:\n\n```rust\n(?:.*\n)*?```$", re.MULTILINE)
 
@@ -45,20 +45,20 @@ def length(file: Path) -> int:
 
 
 def to_read(file: Path) -> int:
-    """How many lines are to be read: of code the contracts, of definitions everything."""
+    """Return the number of lines to read: in code, only the contracts; in definitions, everything."""
     if file.suffix == ".antt":
         return length(file)
     return sum(len(part.splitlines()) for part in CONTRACTS.findall(file.read_text()))
 
 
 def about(pattern: str) -> str:
-    """How many lines the files of the program and its libraries have, in steps of 500."""
+    """Return how many lines these files of the program and its libraries have, in steps of 500."""
     lines = sum(length(file) for crate in crates() for file in (CRATES / crate).glob(pattern))
     return f"{round(lines / 500) * 500:,}"
 
 
 def listed(files: list[Path]) -> str:
-    """The files with their lengths, by crate."""
+    """Return the files with their lengths, by crate."""
     rows = []
     for crate in crates():
         mine = [file for file in files if file.is_relative_to(CRATES / crate)]
@@ -68,7 +68,7 @@ def listed(files: list[Path]) -> str:
 
 
 def names_of_kit(files: list[Path]) -> str:
-    """The names that definitions take from the kit, by the file that defines them."""
+    """Return the names that definitions take from the kit, by the file that defines them."""
     names: dict[str, set[str]] = {}
     for file in files:
         for crate, module, some, _ in IMPORT.findall(file.read_text() if file.suffix == ".antt" else ""):
@@ -84,7 +84,7 @@ def definition_files() -> list[Path]:
 
 
 def printed(pattern: str) -> str:
-    """The code of a pattern in the one file that has it, without comments, ghost lines and empty lines."""
+    """Return the code that matches a pattern in exactly one file, without comments, ghost lines and empty lines."""
     texts = [*code().values(), *(file.read_text() for file in definition_files())]
     (found,) = (found for text in texts if (found := re.search(pattern, text, re.MULTILINE | re.DOTALL)))
     lines = ("".join(found.groups()) or found[0]).splitlines()
@@ -92,7 +92,7 @@ def printed(pattern: str) -> str:
 
 
 def place(found: re.Match[str]) -> str:
-    """A place; if its file does not have the name, the only other that has it, or none."""
+    """Return a place. If its file lacks the name, use the only other file that has it, or `none.rt`."""
     name, path = found[1].split("::")[-1], found[2]
     files = [*code(), *(str(file.relative_to(CRATES)) for file in definition_files())]
     having = [file for file in files if name in declared_in(file)]
@@ -102,13 +102,13 @@ def place(found: re.Match[str]) -> str:
 
 
 def with_block(page: str, heading: str, block: str) -> str:
-    """The page with the indented lines below a heading replaced."""
+    """Return the page with the indented lines below a heading replaced."""
     section = re.compile(rf"(^### {heading}\n(?:(?!    ).*\n)*?)(?:    .*\n)+", re.MULTILINE)
     return section.sub(lambda found: found[1] + block, page)
 
 
 def written(page: str) -> str:
-    """A page with what it takes from the code."""
+    """Return a page, with everything that it takes from the code up to date."""
     theorem, others = needed()
     page = with_block(page, "For `drive_over`", listed(theorem))
     page = with_block(page, "For the other contracts", listed(others))
@@ -129,9 +129,9 @@ def listing(found: re.Match[str]) -> str:
 
 
 def written_library(page: str) -> str:
-    """docs/library.md with the programs as they are."""
+    """Return docs/library.md, with the programs up to date."""
     return LISTING.sub(listing, page)
 
 
-# How each page is written.
+# The function that updates each page.
 WRITTEN = {PAGE: written, REFERENCE: written, LIBRARY: written_library}

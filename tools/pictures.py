@@ -1,5 +1,5 @@
 #!/usr/bin/env -S python3 -B
-"""Draws docs/crates.svg and docs/companions.svg by Graphviz: which crates and which packages build on which."""
+"""Draw docs/crates.svg and docs/companions.svg with Graphviz: which crates and which packages build on which."""
 
 import ast
 import re
@@ -11,7 +11,7 @@ from pathlib import Path
 ROOT = Path(__file__).resolve().parent.parent
 SHARED = ROOT / "companions" / "ansible_vault_companions"
 PROVED, TESTED, TRUSTED = "#dff3e3", "#dbeafe", "#fff1d6"
-# What is proved but for a part.
+# Proved, except for one part.
 MOSTLY_PROVED = f"{PROVED};0.9:{TRUSTED}"
 COLOURS = {"ansible_vault": TRUSTED, "vault_cli": MOSTLY_PROVED, "vault_files": MOSTLY_PROVED}
 ABOUT = {
@@ -36,14 +36,14 @@ Uses = Mapping[str, Iterable[str]]
 
 
 def crates() -> dict[str, list[str]]:
-    """The crates that each uses, but for those of tests and of the kit."""
+    """Return the crates that each crate uses, without the crates of the tests and of the kit."""
     libraries = (ROOT / "crates.txt").read_text().partition("\n# tests")[0]
     lines = dict(re.findall(r"^(\w+):(.*)$", libraries, re.MULTILINE))
     return {crate: [name for name in lines[crate].split() if name in lines] for crate in lines}
 
 
 def imports(file: Path) -> set[str]:
-    """The packages of which a file of the companions imports something."""
+    """Return the companions' packages from which a file imports."""
     nodes = (node for node in ast.walk(ast.parse(file.read_text())) if isinstance(node, ast.ImportFrom))
     modules = {f"{node.module}." for node in nodes if node.module}
     return {path.name for path in packages() if any(f"{SHARED.name}.{path.name}." in module for module in modules)}
@@ -54,14 +54,14 @@ def packages() -> list[Path]:
 
 
 def companions() -> dict[str, set[str]]:
-    """The packages that each program and each package uses."""
+    """Return the packages that each program and each package uses."""
     programs = {path.name: imports(path) for path in sorted(SHARED.parent.glob("ansible-vault-*"))}
     below = {path.name: set().union(*map(imports, path.glob("*.py"))) - {path.name} for path in packages()}
     return programs | below
 
 
 def about(package: Path) -> str:
-    """The first line of its docstring."""
+    """Return the first line of a package's docstring."""
     docstring = ast.get_docstring(ast.parse((package / "__init__.py").read_text())) or ""
     return "<br/>".join(textwrap.wrap(docstring.partition("\n")[0].strip("."), 46))
 
@@ -76,7 +76,7 @@ def program_node(name: str) -> str:
 
 
 def drawn(title: str, nodes: Iterable[str], uses: Uses) -> str:
-    """The picture. What a user reaches through another gets no arrow."""
+    """Return the picture. A direct use gets no arrow if it is also an indirect one."""
     edges = (f'    "{user}" -> "{name}";' for user in uses for name in sorted(uses[user]))
     source = "\n".join(["digraph {", f'    label="{title}";{STYLE}', *nodes, *edges, "}"])
     reduced = subprocess.run(["tred"], input=source, capture_output=True, text=True, check=True).stdout

@@ -1,10 +1,10 @@
 #!/usr/bin/env python3
-"""Runs a command of the prover, and prints each minute how many crates are proved and what it said last.
+"""Run a command of the prover, and print every minute how many crates are proved and what the prover said last.
 
     tools/progress.py LOG COMMAND..
 
-LOG keeps all that the command writes, and is printed, indented, if it fails. The exit status is the command's, and so
-is the last line if it counts what passed.
+LOG keeps the command's output, and is printed, indented, if the command fails. The exit status is the command's. If the
+command's last line counts what passed, it is the last line here, too.
 """
 
 import re
@@ -14,16 +14,16 @@ import textwrap
 import time
 from pathlib import Path
 
-# Seconds between two lines.
+# Seconds between two lines of output.
 PAUSE = 60
 SAID = re.compile(r"^(?:rt|so far): (.*)$", re.MULTILINE)
-# As the gate and as a build say it.
+# How the gate and a build report a proved crate.
 PROVED = re.compile(r"^(?:rt: (\w+) proved|crate (\w+): modules .*)$", re.MULTILINE)
 COUNT = re.compile(r"\d+ passed, \d+ failed\Z")
 
 
 def state(log: str) -> str:
-    """How many crates are proved, and the last line of the prover itself."""
+    """Return how many crates are proved, and the last line of the prover itself."""
     said = SAID.findall(log) or ["nothing is said yet"]
     proved = {of_gate or of_build for of_gate, of_build in PROVED.findall(log)}
     return f"{len(proved)} crates are proved; {said[-1]}"

@@ -1,1 +1,1 @@
-"""The program, by topic."""
+"""Tests of the program, by topic."""

@@ -1,5 +1,5 @@
-"""Standard streams that are closed at the start: reading or writing one fails. No file changes except the output,
-which holds a prefix if a write fails.
+"""Standard streams that are closed at the start: reading or writing one fails. No file changes except the output, which
+contains a prefix if a write fails.
 """
 
 import concurrent.futures
@@ -24,14 +24,14 @@ from model.faults import Fault
 
 WORKERS = 4
 COMBINATIONS = [set(each) for count in range(4) for each in itertools.combinations(range(3), count)]
-# The stream that each name of `--output` stands for; without the option it is standard output.
+# The stream that each name of `--output` means. Without the option, it is standard output.
 STREAMS = {"/dev/stdin": 0, "/dev/stdout": 1, "/dev/stderr": 2, "/dev/fd/1": 1, "/proc/self/fd/1": 1}
 OLD = b"what stood here before\n"
 NEW_FILE, OLD_FILE = "new", "old"
 SIZE_LIMIT = 100
-# The write that fails, counted from 1, while those after it do not.
+# The write that fails, counted from 1. Later writes succeed.
 FAILING_WRITE = 1
-# What takes the number of a closed stream: the first that can be opened.
+# The first of these that can be opened takes the number of a closed stream.
 DIRECTORIES = ["/", "/proc", "/dev", "."]
 
 
@@ -52,7 +52,7 @@ class Left(NamedTuple):
 
 
 class Setting(NamedTuple):
-    """One run of a command, in a folder of its own."""
+    """One run of a command, in a directory of its own."""
 
     command: str
     closed: set[int]
@@ -66,7 +66,7 @@ class Setting(NamedTuple):
 
 
 def named(sample: Sample, path: str) -> Sample:
-    """The same with a FILE or a STRING."""
+    """Return the same sample with a FILE or a STRING."""
     if sample.command == "encrypt_string":
         words = [{"--stdin-name": "--name"}.get(word, word) for word in sample.words]
         return sample._replace(words=[*words, sample.stdin.decode()])
@@ -82,8 +82,8 @@ def to_output(output: str | None, command: str) -> list[str]:
 def run_closed(
     words: list[str], closed: set[int], folder: str, under: Sequence[str] = (), **others: Any
 ) -> subprocess.CompletedProcess[bytes]:
-    """In the folder, whose file `stdin` is standard input, under the words of a tool; both other streams
-    are pipes where nothing else is given."""
+    """Run in the directory, with its file `stdin` as standard input, under the words of a tool. The other two streams
+    are pipes unless `others` replaces them."""
     redirections = " ".join(f"{stream}>&-" for stream in closed)
     command = [*under, "sh", "-c", f'exec "$@" {redirections}', "sh", *words]
     given: dict[str, Any] = {"stdout": subprocess.PIPE, "stderr": subprocess.PIPE, **others}
@@ -92,13 +92,13 @@ def run_closed(
 
 
 def changed(before: dict[str, bytes], folder: str) -> dict[str, bytes | None]:
-    """The files that are others than before; None for one that is gone."""
+    """Return the files that have changed, with None for a file that is gone."""
     after = contents(Path(folder))
     return {path: after.get(path) for path in before | after if before.get(path) != after.get(path)}
 
 
 def run_sample(cases: Cases, setting: Setting, *words: str, text: bytes = TEXT, **others: Any) -> tuple[Sample, Left]:
-    """The sample of a command, with these words besides and its files in a folder of its own, and what it leaves."""
+    """Run the sample of a command, with more words, in a directory of its own. Return it and what it leaves."""
     with tempfile.TemporaryDirectory() as folder:
         sample = sample_of(Cases(cases.program, Path(folder)), setting.command, text)
         given, stdin = (named(sample, "given"), b"not asked") if setting.by_name else (sample, sample.stdin)
@@ -115,7 +115,7 @@ def failed(fault: Fault, closed: set[int]) -> Left:
 
 
 def wanted(setting: Setting, sample: Sample) -> Left:
-    """What the run has to leave."""
+    """Return what the run must leave."""
     path = setting.output or "/dev/stdout"
     stream = STREAMS.get(path)
     if 0 in setting.closed and not setting.by_name:
@@ -130,7 +130,7 @@ def wanted(setting: Setting, sample: Sample) -> Left:
 
 
 def compared(cases: Cases, setting: Setting) -> tuple[Left, Left]:
-    """What the run leaves, and what it should."""
+    """Return what the run leaves, and what it should leave."""
     sample, left = run_sample(cases, setting)
     return left, wanted(setting, sample)
 
@@ -161,7 +161,7 @@ def test_refused(cases: Cases, command: str, closed: set[int]) -> None:
 @each_closing
 @pytest.mark.parametrize("words, status", ((["--version"], 0), (["view", "--loud"], 2)), ids=["version", "mistake"])
 def test_texts(cases: Cases, words: list[str], status: int, closed: set[int]) -> None:
-    """A stream that is open gets what it gets in a run with all streams open."""
+    """An open stream gets the same text as in a run with all streams open."""
     whole = cases.done(words)
     with tempfile.TemporaryDirectory() as folder:
         (Path(folder) / "stdin").touch()
@@ -173,13 +173,13 @@ def test_texts(cases: Cases, words: list[str], status: int, closed: set[int]) ->
 
 
 def limited() -> None:
-    """No file may be longer than the limit, and the signal for that is ignored."""
+    """Limit the size of files, and ignore the signal for a file above the limit."""
     signal.signal(signal.SIGXFSZ, signal.SIG_IGN)
     resource.setrlimit(resource.RLIMIT_FSIZE, (SIZE_LIMIT, SIZE_LIMIT))
 
 
 def check_write_fault(cases: Cases, command: str, closed: set[int], path: str, **others: Any) -> None:
-    """A run whose output's write fails: the file holds a prefix, and nothing else changes."""
+    """Check a run whose output fails to be written: the file contains a prefix, and nothing else changes."""
     sample, left = run_sample(cases, Setting(command, closed, path, True), text=TEXT * 400, **others)
     found = left.changed.pop(path, None) or b""
     assert left == failed(Fault.NOT_WRITTEN, closed)
@@ -189,7 +189,7 @@ def check_write_fault(cases: Cases, command: str, closed: set[int], path: str, *
 @each_closing
 @each_to_output
 def test_limited_file(cases: Cases, command: str, closed: set[int]) -> None:
-    """SIGXFSZ is ignored."""
+    """SIGXFSZ is ignored, so the write fails."""
     check_write_fault(cases, command, closed, NEW_FILE, preexec_fn=limited)
 
 
@@ -204,7 +204,7 @@ def test_full_standard_output(cases: Cases, command: str, closed: set[int]) -> N
 
 @each_to_output
 def test_one_failing_write(cases: Cases, subtests: SubTests, command: str) -> None:
-    """A write fails, and the next one would not: the message does not come into the output."""
+    """One write fails, and the next one would not: the message must not go into the output."""
     needs("strace")
     inject = f"write:error=ENOSPC:when={FAILING_WRITE}"
     strace = ["strace", "-o", cases.path(), "-e", "trace=write", "-e", f"inject={inject}"]
@@ -214,7 +214,7 @@ def test_one_failing_write(cases: Cases, subtests: SubTests, command: str) -> No
 
 
 def refusing(directories: list[str]) -> list[str]:
-    """The words of strace under which these cannot be opened."""
+    """Return the words of strace that make opening these directories fail."""
     needs("strace")
     named = [word for path in directories for word in ("-P", path)]
     return ["strace", "-o", "/dev/null", *named, "-e", "trace=openat", "-e", "inject=openat:error=EACCES"]
@@ -222,7 +222,7 @@ def refusing(directories: list[str]) -> list[str]:
 
 @each_to_output
 def test_refused_directories(cases: Cases, subtests: SubTests, command: str) -> None:
-    """The next directory takes the number of a closed stream."""
+    """If a directory is refused, the next one takes the number of a closed stream."""
     for closed, count in itertools.product(COMBINATIONS[1:], range(1, len(DIRECTORIES))):
         under = refusing(DIRECTORIES[:count])
         with subtests.test(f"{closings(closed)}, {DIRECTORIES[:count]} refused"):
@@ -231,12 +231,12 @@ def test_refused_directories(cases: Cases, subtests: SubTests, command: str) -> 
 
 @each_command
 def test_without_directories(cases: Cases, subtests: SubTests, command: str) -> None:
-    """A run ends before it opens a file."""
+    """If all directories are refused, a run ends before it opens a file."""
     output, under = None if command == "view" else OLD_FILE, refusing(DIRECTORIES)
     for closed in COMBINATIONS[1:]:
         with subtests.test(closings(closed)):
             _, left = run_sample(cases, Setting(command, closed, output, True), under=under)
-            # strace says on standard error what it makes of a relative path.
+            # strace reports on standard error how it takes a relative path.
             message = b"".join(line for line in left.message.splitlines(True) if b"strace" not in line)
             fault = Fault.INPUT_NOT_READ if 0 in closed else Fault.NOT_WRITTEN
             assert left._replace(message=message) == failed(fault, closed)

@@ -1,5 +1,5 @@
-"""Messages are text without unprintable characters, whatever the arguments are. Only the parser's messages have words
-of the command line in them: all others are fixed lines.
+"""Messages contain no unprintable characters, whatever the arguments are. Only the parser's messages contain words of
+the command line; all others are fixed lines.
 """
 
 import itertools
@@ -15,11 +15,11 @@ from lib.texts import stored_mistakes
 
 # Control characters, zero-width spaces and joiners, separators, and characters that set the direction of text.
 UNPRINTABLE = re.compile("[\0-\x1f\x7f-\x9f\u200b-\u200f\u2028-\u202e\u2066-\u2069]")
-# All but 0, which no argument can hold.
+# All of them except 0, which no argument can contain.
 CONTROLS = [*filter(UNPRINTABLE.match, map(chr, itertools.chain(range(1, 0xA0), range(0x200B, 0x206A))))]
-# Their neighbours, and other characters, which are shown as they are.
+# Their neighbours, and other characters that are shown unchanged.
 PRINTABLE = " ~\xa0\xe9\u200a\u2010\u2027\u202f\u2065\u206a\U0001f600"
-# Lines with a word that the parser names in its message, at the place of `{}`.
+# Command lines with a word that the parser names in its message, in place of `{}`.
 LINES = ["{}", "--{}", "-{}", "view --require-id-match={}"]
 LINES += [f"{command} {rest}" for command in COMMANDS for rest in ("--{}", "--{}=x", "x {}", "-{}", "--vault-id{} y")]
 
@@ -37,7 +37,7 @@ def message_of(program: str, line: str, word: str) -> tuple[int, bytes, str]:
 @settings(max_examples=40, deadline=None)
 @given(word=st.text(st.sampled_from(CONTROLS) | st.sampled_from(PRINTABLE), min_size=1).map(lambda word: f"a{word}b"))
 def test_in_words(program: str, line: str, word: str) -> None:
-    """The message is that of the escaped word."""
+    """The message is the same as for the escaped word."""
     found = message_of(program, line, word)
     assert found == message_of(program, line, escaped(word))
     assert found[:2] == (2, b"") and not UNPRINTABLE.search(found[2].replace("\n", ""))
@@ -60,6 +60,6 @@ FORGED = {
 
 @pytest.mark.parametrize("word, shown", FORGED.items())
 def test_forged_lines(cases: Cases, word: str, shown: str) -> None:
-    """A line end in an argument begins no line of the message."""
+    """A line end in an argument starts no new line in the message."""
     message = stored_mistakes("view")["view x y"].replace("'y'", f"'{shown}'")
     cases.run(["view", "x", word], status=2, err=message.encode())

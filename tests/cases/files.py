@@ -1,4 +1,4 @@
-"""FILE and `--output`: every kind of path, and what a refusal leaves. That a call fails is for `faults.py`."""
+"""FILE and `--output`: every kind of path, and what a refusal leaves. `faults.py` makes calls fail."""
 
 import os
 import subprocess
@@ -16,13 +16,13 @@ from model.faults import Fault
 from model.vaults import ENVELOPE_LIMIT, MAGIC, SALT, seal
 
 NOT_ASKED = b"standard input is not asked"
-# The longest path that the system takes, in bytes, and the length of each name in it, which may be up to 255.
+# The longest path that the system accepts, in bytes, and the length of each name in it, which may be up to 255.
 LONGEST_PATH, NAME = 4_095, 200
 NAMES = ["line\nend", "\x1b]0;title\x07", "größe", "a;b@c", "longest"]
 
 
 def to_output(sample: Sample) -> list[str]:
-    """What a FILE makes necessary."""
+    """Return the options that a FILE requires."""
     return [] if sample.command == "view" else ["--output", "-"]
 
 
@@ -51,7 +51,7 @@ def test_inputs(cases: Cases, subtests: SubTests, command: str) -> None:
 
 @each_of_file
 def test_input_pipes(cases: Cases, command: str) -> None:
-    """FILE is a pipe of the file system, into which single bytes are written."""
+    """FILE is a named pipe, into which single bytes are written."""
     sample = sample_of(cases, command)
     path = cases.path()
     os.mkfifo(path)
@@ -68,7 +68,7 @@ def test_input_pipes(cases: Cases, command: str) -> None:
 
 
 def path_of(cases: Cases, name: str) -> str:
-    """Of a file of this name, or the longest that may be, in folders that are there."""
+    """Return the path of a file with this name, or the longest possible one, in existing directories."""
     if name != "longest":
         return str(cases.folder / name)
     folder = f"{cases.folder}/"
@@ -81,7 +81,7 @@ def path_of(cases: Cases, name: str) -> str:
 @pytest.mark.parametrize("name", NAMES)
 @pytest.mark.parametrize("command", COMMANDS)
 def test_names(cases: Cases, subtests: SubTests, command: str, name: str) -> None:
-    """A path that is as good as any other, in each of its roles."""
+    """An unusual path works as well as any other, in each of its roles."""
     sample, path = sample_of(cases, command), path_of(cases, name)
     place = Path(path)
     runs = []
@@ -150,7 +150,7 @@ def test_onto_the_input(cases: Cases, text: bytes, command: str) -> None:
 
 @each_to_output
 def test_refused_leaves_outputs(cases: Cases, subtests: SubTests, command: str) -> None:
-    """A refusal neither makes nor cuts the output, changes no mode, and leaves an output that is the input."""
+    """A refusal neither creates nor truncates the output, changes no mode, and leaves an output that is the input."""
     sample = sample_of(cases, command)
     inputs = [MAGIC, b"\n" * (ENVELOPE_LIMIT + 1)] if command != "decrypt" else [TEXT, seal(b"other", TEXT)]
     runs: list[tuple[str, list[str], bytes]] = [(f"input {stdin!r:.20}", [], stdin) for stdin in inputs]

@@ -1,4 +1,4 @@
-"""The mode of what `--output` names: a new file, one that is there, links, devices, pipes, sockets."""
+"""The mode of the output: a new file, an existing one, links, devices, pipes, sockets."""
 
 import os
 import socket
@@ -51,7 +51,7 @@ def test_masked_new_file(cases: Cases, command: str) -> None:
 @each_umask
 @each_to_output
 def test_old_files(cases: Cases, subtests: SubTests, command: str, umask: str) -> None:
-    """By name, by a link, which stays, and by one of two names, which both stay."""
+    """By name; through a link, which stays; and by one of two names, which both stay."""
     sample = sample_of(cases, command)
     for old in OLD_MODES:
         with subtests.test(oct(old)):
@@ -85,7 +85,7 @@ def test_pipes(cases: Cases, command: str) -> None:
 
 @each_to_output
 def test_sockets(cases: Cases, command: str) -> None:
-    """The system opens none of them for writing."""
+    """The system does not open sockets for writing."""
     sample = sample_of(cases, command)
     path = cases.path()
     with socket.socket(socket.AF_UNIX) as listener:
@@ -97,7 +97,7 @@ def test_sockets(cases: Cases, command: str) -> None:
 
 @each_to_output
 def test_of_another_owner(cases: Cases, command: str) -> None:
-    """A file whose mode cannot be changed is as it was; to test this, another user runs the program."""
+    """A file whose mode cannot be changed stays as it was. To test this, another user runs the program."""
     needs_root()
     program = cases.program_for_all()
     if program is None:

@@ -17,7 +17,7 @@ from model.options import COMMON, OPTIONS
 @pytest.mark.parametrize("words", (["--help"], ["-h"], ["--help", "--loud"], ["-h", "--version"]), ids=" ".join)
 @pytest.mark.parametrize("name", MISTAKES)
 def test_helps(cases: Cases, name: str, words: list[str]) -> None:
-    """The whole help is printed, also if a mistake follows --help."""
+    """The whole help is printed, even if a mistake follows --help."""
     cases.run([*([] if name == PROGRAM else [name]), *words], out=help_path(name).read_bytes())
 
 
@@ -47,7 +47,7 @@ def test_stored_mistakes(name: str) -> None:
 
 @pytest.mark.parametrize("name, mistake", [(name, each) for name in MISTAKES for each in MISTAKES[name]], ids=str)
 def test_mistakes(cases: Cases, name: str, mistake: Mistake) -> None:
-    """Each has the stored text, which names the word that is wrong."""
+    """Each mistake has the stored text, which names the wrong word."""
     text = stored_mistakes(name)[mistake.line]
     assert mistake.named in text
     cases.run(mistake.words, status=2, err=text.encode())

@@ -1,4 +1,4 @@
-"""The vaults of Ansible's tool in `fixtures`, in every layout. Damaged ones are compared with the model: `fuzz.py`."""
+"""The vaults of Ansible's tool in `fixtures`, in every layout. `fuzz.py` compares damaged ones with the model."""
 
 import pytest
 

@@ -1,6 +1,6 @@
 """What `encrypt`, `rekey` and `encrypt_string` write: sizes, lengths and lines worked out by hand, and salts.
 
-All else that they write, and what they refuse, is that of the model: `fuzz.py`.
+`fuzz.py` compares everything else that they write, and what they refuse, with the model.
 """
 
 import pytest
@@ -17,7 +17,7 @@ RIGHT = b"right"
 
 
 def with_salt(cases: Cases, salt: bytes = ZEROS) -> list[str]:
-    """Options for the password `right` and a salt file."""
+    """Return the options for the password `right` and a salt file."""
     return [*by_file(cases.file(b"right\n")), "--salt-file", cases.file(salt)]
 
 
@@ -36,7 +36,7 @@ def test_sizes(cases: Cases, subtests: SubTests) -> None:
 
 
 def encrypted(cases: Cases, options: list[str], text: bytes = b"") -> list[bytes]:
-    """The lines of an envelope."""
+    """Return the lines of an envelope."""
     return cases.run(["encrypt", *options], text, 0, None).split(b"\n")
 
 
@@ -57,7 +57,7 @@ def test_worked(cases: Cases) -> None:
 
 
 def test_worked_rekey(cases: Cases) -> None:
-    """An empty vault gets a new secret, which alone decrypts it then, and a salt of 32 bytes 01."""
+    """An empty vault gets a new secret, which alone decrypts it from then on, and a salt of 32 bytes 01."""
     one, two, ones = cases.file(b"one\n"), cases.file(b"two\n"), cases.file(b"\x01" * 32)
     words = ["rekey", *by_file(one), "--new-vault-id", f"Prod@{two}", "--salt-file", ones]
     vault = cases.run(words, seal(b"one", b""), 0, None)
@@ -82,7 +82,7 @@ def test_worked_salts(cases: Cases, salt: str, size: int, lengths: list[int]) ->
 
 
 def test_two_runs(cases: Cases) -> None:
-    """The salt is really read: each run has its own."""
+    """Each run really reads a salt of its own."""
     right = by_file(cases.file(b"right\n"))
     one, other = [cases.run(["encrypt", *right], TEXT, 0, None) for _ in range(2)]
     assert one != other
@@ -91,7 +91,7 @@ def test_two_runs(cases: Cases) -> None:
 
 
 def test_bytes_of_the_salt(cases: Cases, subtests: SubTests) -> None:
-    """All 32 are those of /dev/urandom, for which a library that is loaded before the program's opens a file."""
+    """All 32 bytes come from /dev/urandom, in place of which a preloaded library opens a known file."""
     needs("cc")
     library = build_library(str(cases.folder), "known_random")
     right, known = cases.file(b"right\n"), bytes(range(200, 232))

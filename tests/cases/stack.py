@@ -1,4 +1,4 @@
-"""Under a stack that is too small a run ends by a signal before it opens a file, so that each file is as it was.
+"""If the stack is too small, a signal ends a run before it opens a file, so each file stays as it was.
 
 Arguments and environment variables are on the stack, too. Each run has the file that it replaces as its FILE.
 """
@@ -20,11 +20,11 @@ PAGE = resource.getpagesize()
 # What a run needs besides its arguments and environment variables, and much more than every run here needs.
 STACK, ENOUGH = 64 * KIB, 512 * KIB
 POINTER = 8
-# What is tried below the least stack in which a run ends well: every page of so much.
+# Every page is tried from this far below the least stack in which a run succeeds.
 BELOW = 100 * KIB
 ABOVE = 64 * KIB
 ENVIRONMENT = [0, 40_000, 80_000, 120_000]
-# Of a path, and of the password files of a run.
+# The length of a path, and the number of a run's password files.
 LONGEST_PATH = 4_000
 MOST_FILES = 16
 
@@ -40,12 +40,12 @@ class Run(NamedTuple):
 
     @property
     def besides(self) -> int:
-        """What its arguments and environment variables take of the stack."""
+        """The space that its arguments and environment variables take on the stack."""
         texts = [*self.words, *(f"{name}={value}" for name, value in self.environment.items())]
         return sum(len(text) + 1 + POINTER for text in texts)
 
     def outcome(self, program: str, stack: int) -> str:
-        """Whether the run ended well, or by a signal with the file as it was; or what it left."""
+        """Return whether the run succeeded, or a signal ended it with the file as it was; otherwise, what it left."""
         self.path.write_bytes(self.before)
         status, left = self.status(program, stack), self.path.read_bytes()
         if status == 0 and left == self.after:
@@ -53,7 +53,7 @@ class Run(NamedTuple):
         return "untouched" if status < 0 and left == self.before else f"status {status}, {left[:80]!r}"
 
     def status(self, program: str, stack: int) -> int:
-        """The exit status, negative after a signal and where the system does not start the program."""
+        """Return the exit status, negative after a signal, and if the system does not start the program."""
         limits = (stack, resource.RLIM_INFINITY)
         try:
             return subprocess.run(
@@ -69,7 +69,7 @@ class Run(NamedTuple):
             return -errno.E2BIG
 
     def least(self, program: str) -> int:
-        """The least stack, in pages, in which the run ends well."""
+        """Return the least stack in which the run succeeds, in whole pages."""
         low, high = 1, ENOUGH // PAGE
         while low < high:
             middle = (low + high) // 2
@@ -81,7 +81,7 @@ class Run(NamedTuple):
 
 
 def in_place(cases: Cases, sample: Sample, environment: int) -> Run:
-    """The sample, whose FILE or STRING is replaced by what it writes."""
+    """Return a run of the sample whose output, if it has one, replaces its FILE, or a file with its STRING."""
     path, before = Path(cases.file(sample.stdin)), sample.stdin
     if sample.command == "encrypt_string":
         words = [*("--name" if word == "--stdin-name" else word for word in sample.words), sample.stdin.decode()]
@@ -98,7 +98,7 @@ def in_place(cases: Cases, sample: Sample, environment: int) -> Run:
 
 
 def with_long_words(run: Run, name: str, right: str) -> Run:
-    """The same with as many password files as a run may have, at long paths."""
+    """Return the run with as many password files as are allowed, at long paths."""
     padding = "/." * ((LONGEST_PATH - len(right)) // 2)
     long_path = str(Path(right).parent) + padding + "/" + Path(right).name
     chosen = ["--encrypt-vault-id", "default"] if name.startswith("encrypt") else []

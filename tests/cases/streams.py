@@ -1,4 +1,4 @@
-"""Standard streams of every kind: without end, slow, left by the other side, that do not wait, that append, sockets,
+"""Standard streams of every kind: endless, slow, abandoned by the other side, non-blocking, appending, sockets,
 terminals, and one pipe for both outputs. Full devices and closed streams are in `closed_streams.py`.
 """
 
@@ -24,13 +24,13 @@ from model.faults import Fault
 from model.vaults import ENVELOPE_LIMIT, HEADER, PLAINTEXT_LIMIT
 from shells import all_shown
 
-# The status, and what comes through each output; None for one that is not captured.
+# The status, and what comes through each output, or None if it is not captured.
 Found = tuple[int, bytes | None, bytes | None]
 LARGE = 1 << 20
 REFUSED = Fault.NO_SECRET_FITS
-# What ends the input on a terminal, at the start of a line.
+# Ends the input on a terminal, at the start of a line.
 END_OF_INPUT = b"\x04"
-# None stands for the refusal.
+# None means the refusal.
 each_or_refused = pytest.mark.parametrize("command", [*COMMANDS, None])
 
 
@@ -42,7 +42,7 @@ def check_run(cases: Cases, words: list[str], wanted: Found, **streams: Any) -> 
 
 @each_command
 def test_bounded_reading(cases: Cases, command: str) -> None:
-    """Of a file that is too long, one byte more than the limit is read."""
+    """From a file that is too long, a run reads one byte more than the limit."""
     sample = sample_of(cases, command)
     plain = sample.command.startswith("encrypt")
     limit = PLAINTEXT_LIMIT if plain else ENVELOPE_LIMIT
@@ -55,7 +55,7 @@ def test_bounded_reading(cases: Cases, command: str) -> None:
 
 
 def write_once_empty(pipe: IO[bytes], byte: bytes) -> bool:
-    """Whether the pipe was read empty in time, and the byte written."""
+    """Write the byte once the pipe is read empty. Return whether that happened in time."""
     end = time.monotonic() + SECONDS
     while struct.unpack("i", fcntl.ioctl(pipe, termios.FIONREAD, bytes(4)))[0]:
         if time.monotonic() > end:
@@ -69,7 +69,7 @@ def write_once_empty(pipe: IO[bytes], byte: bytes) -> bool:
 
 @each_command
 def test_bytes_read_alone(cases: Cases, command: str) -> None:
-    """Each is written once the one before it is read, so no read gets two."""
+    """Each byte is written once the one before it is read, so no read gets two."""
     sample = sample_of(cases, command)
     pipes = {"stdin": subprocess.PIPE, "stdout": subprocess.PIPE}
     with started([cases.program, *sample.words], **pipes, bufsize=0) as child:
@@ -81,7 +81,7 @@ def test_bytes_read_alone(cases: Cases, command: str) -> None:
 
 @each_command
 def test_leaving_reader(cases: Cases, command: str) -> None:
-    """The reader of the output goes away after its first byte."""
+    """The reader of the output leaves after its first byte."""
     sample = sample_of(cases, command, bytes(LARGE))
     with tempfile.TemporaryFile() as stdin:
         stdin.write(sample.stdin)
@@ -115,7 +115,7 @@ def test_non_blocking_output(cases: Cases, size: int, fault: Fault | None, comma
 
 @each_command
 def test_appending(cases: Cases, command: str) -> None:
-    """The output is appended to the file; as `--output /dev/stdout` it opens the file again, which truncates it."""
+    """The output is appended to the file. `--output /dev/stdout` opens the file again, which truncates it."""
     sample, path = sample_of(cases, command), cases.file(OLD)
     with open(path, "ab") as out:
         check_run(cases, sample.words, (0, None, b""), input=sample.stdin, stdout=out)
@@ -140,7 +140,7 @@ def test_sockets(cases: Cases, command: str) -> None:
 
 
 def sample_or_refused(cases: Cases, command: str | None) -> tuple[Sample, int, bytes]:
-    """A run with its status and its text, which goes to standard error if it is refused."""
+    """Return a run with its status and its text, which goes to standard error if the run is refused."""
     if command:
         sample = sample_of(cases, command)
         return sample, 0, sample.output
@@ -150,7 +150,7 @@ def sample_or_refused(cases: Cases, command: str | None) -> tuple[Sample, int, b
 
 @each_or_refused
 def test_terminal(cases: Cases, command: str | None) -> None:
-    """The text is typed, and so is its end; the terminal shows each line end as two bytes."""
+    """The text and its end are typed. The terminal shows each line end as two bytes."""
     sample, status, text = sample_or_refused(cases, command)
     controller, terminal = os.openpty()
     settings = termios.tcgetattr(terminal)
@@ -167,6 +167,6 @@ def test_terminal(cases: Cases, command: str | None) -> None:
 
 @each_or_refused
 def test_one_pipe(cases: Cases, command: str | None) -> None:
-    """Both outputs are one pipe: a run writes its output there or its line, and nothing else."""
+    """Both outputs are one pipe: a run writes its output or its message there, and nothing else."""
     sample, status, text = sample_or_refused(cases, command)
     check_run(cases, sample.words, (status, text, None), input=sample.stdin, stderr=subprocess.STDOUT)

@@ -1,4 +1,4 @@
-"""What a run finds around it: the program's name, and the environment, of which it reads nothing."""
+"""The surroundings of a run: the program's name, and the environment, of which it reads nothing."""
 
 import ctypes
 import os
@@ -14,12 +14,12 @@ from lib.subtests import SubTests
 from model.faults import Fault
 from model.vaults import seal, yaml_block
 
-# The words and standard input of a run, and its status with both outputs.
+# The words and standard input of a run, and its status and both outputs.
 Run = tuple[list[str], bytes, tuple[int, bytes, bytes]]
 NOT_UTF8 = b"error: an argument is not UTF-8\n"
 LOCALES = ["", "C", "tr_TR.UTF-8", "xx_YY.no-such", "/", "\udcff", "a" * 5_000]
 LOCALE_NAMES = ["LANG", "LC_ALL", "LC_CTYPE", "LC_MESSAGES", "LANGUAGE"]
-# What other programs read: this one's answers are the same.
+# Variables that other programs read. They do not change this one's answers.
 NOT_READ = {
     "CLICOLOR_FORCE": "1",
     "COLORTERM": "truecolor",
@@ -28,7 +28,7 @@ NOT_READ = {
     "RUST_BACKTRACE": "full",
     "TZ": "Nowhere/Never",
 }
-# What Ansible's tool takes where the command line has no secret, choice or salt; `{right}` is a password file.
+# What Ansible's tool uses if the command line has no secret, choice or salt; `{right}` is a password file.
 OF_ANSIBLE = {
     "ANSIBLE_VAULT_PASSWORD_FILE": "{right}",
     "ANSIBLE_VAULT_IDENTITY": "dev",
@@ -39,12 +39,12 @@ OF_ANSIBLE = {
     "ANSIBLE_CONFIG": "{config}",
 }
 CONFIG = "[defaults]\nvault_password_file = {right}\nvault_id_match = True\n"
-# The calls of the C library by which a program reads its environment.
+# The functions and variables of the C library that give a program its environment.
 READERS = {"getenv", "secure_getenv", "environ", "__environ", "_environ"}
 
 
 def test_without_words(cases: Cases) -> None:
-    """A program that is given no word at all, not even its name, answers as without a command."""
+    """Without any word, not even its name, the program answers as without a command."""
     library = ctypes.CDLL(None, use_errno=True)
     nothing = (ctypes.c_char_p * 1)(None)
     start = lambda: library.execve(os.fsencode(cases.program), nothing, nothing)
@@ -57,7 +57,7 @@ def test_without_words(cases: Cases) -> None:
 @each_command
 @pytest.mark.parametrize("name", ("", "-x", "a\nb", "view", "\udcff"))
 def test_program_names(cases: Cases, name: str, command: str) -> None:
-    """Another name changes nothing, but one that is not UTF-8 is refused as any argument is."""
+    """Another name changes nothing, but a name that is not UTF-8 is refused like any such argument."""
     sample = sample_of(cases, command)
     done = run_captured([name, *sample.words], sample.stdin, executable=cases.program)
     assert answer_of(done) == ((2, b"", NOT_UTF8) if name == "\udcff" else (0, sample.output, b""))
@@ -70,7 +70,7 @@ def variables_of_ansible(cases: Cases) -> dict[str, str]:
 
 
 def runs_that_lack_something(cases: Cases) -> list[Run]:
-    """Runs for which Ansible's tool would take a secret, a choice or a setting from its variables."""
+    """Return runs for which Ansible's tool would take a secret, a choice or a setting from its variables."""
     right, vault = cases.file(b"right\n"), seal(b"right", TEXT, b"dev")
     return [
         (["view"], vault, refusal(Fault.NO_SECRET_FITS)),
@@ -85,7 +85,7 @@ def runs_that_lack_something(cases: Cases) -> list[Run]:
 
 
 def test_environments(cases: Cases, subtests: SubTests) -> None:
-    """No variable is read."""
+    """The program reads no variable."""
     settings = [dict.fromkeys(LOCALE_NAMES, locale) for locale in LOCALES] + [NOT_READ | variables_of_ansible(cases)]
     runs: list[Run] = [(sample.words, sample.stdin, (0, sample.output, b"")) for sample in samples(cases)]
     runs += runs_that_lack_something(cases)

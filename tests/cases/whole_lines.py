@@ -1,5 +1,5 @@
-"""What goes out in one write: a message's line, and an envelope's header line with its first lines, so that the lines
-of several runs do not mix and `head -n 1` gets its line. A pipe of packets keeps what each write gave apart.
+"""What one write contains: a message's line, or an envelope's header line and its first lines. So the lines of several
+runs do not mix, and `head -n 1` gets its line. A pipe of packets keeps the writes apart.
 """
 
 import fcntl
@@ -19,7 +19,7 @@ PACKET, PIPE_SIZE = 4_096, 1 << 20
 
 
 def packets(words: list[str], stdin: bytes, stream: str) -> tuple[int, list[bytes]]:
-    """The status of a run, and what each of its writes gave to a stream."""
+    """Return the status of a run, and what each of its writes gave to a stream."""
     reader, writer = os.pipe2(os.O_DIRECT)
     fcntl.fcntl(writer, fcntl.F_SETPIPE_SZ, PIPE_SIZE)
     streams: dict[str, Any] = {"stdout": subprocess.DEVNULL, "stderr": subprocess.DEVNULL, stream: writer}

@@ -1,7 +1,6 @@
-"""Runs with injected faults: a system call that fails or transfers little, a signal, a limit.
+"""Runs with injected faults: a system call that fails or transfers few bytes, a signal, a limit.
 
-Their inputs are shared. Each run writes in a folder of its own, in which nothing may stand afterwards
-but its output.
+The runs share their inputs. Each run writes in a directory of its own, which must contain only its output afterwards.
 """
 
 import os
@@ -17,7 +16,7 @@ from lib.limits import SECONDS
 OUTPUT = "output"
 OLD = b"what stood here before\n" * 1_000
 OLD_MODE, OWNER_ONLY = 0o640, 0o600
-# In memory, where the system has it: thousands of files are made.
+# In memory if possible, since there are thousands of files.
 SCRATCH = "/dev/shm" if os.access("/dev/shm", os.W_OK) else None
 
 
@@ -30,7 +29,7 @@ class Target(Enum):
 
 
 class Left(NamedTuple):
-    """What a run leaves: its status, its streams, and each file in its folder with its mode."""
+    """What a run leaves: its status, its streams, and each file in its directory with its mode."""
 
     status: int
     output: bytes
@@ -43,8 +42,8 @@ class Left(NamedTuple):
 
 
 class Scenario(NamedTuple):
-    """A run with its whole output, and the status and line with which it ends; where it is refused, nothing is
-    written. `stdin` is the path of its standard input."""
+    """A run with its whole output, and the status and message with which it ends. A refused run writes nothing. `stdin`
+    is the path of its standard input."""
 
     name: str
     words: list[str]
@@ -61,11 +60,11 @@ class Scenario(NamedTuple):
             path.chmod(OLD_MODE)
 
     def untouched(self, status: int, message: bytes, mode: int = OLD_MODE) -> Left:
-        """What is left where the output was not emptied; an old file has the mode."""
+        """Return what is left if the output was not emptied. An old file has this mode."""
         return Left(status, b"", message, {OUTPUT: (OLD, mode)} if self.target is Target.OLD else {})
 
     def written(self, status: int, message: bytes, size: int, mode: int) -> Left:
-        """What is left where the output holds `size` bytes, and its file has the mode."""
+        """Return what is left if the output contains `size` bytes, and its file has this mode."""
         prefix = self.whole[:size]
         if self.target is Target.STREAM:
             return Left(status, prefix, message, {})
@@ -92,7 +91,7 @@ def files_in(folder: str) -> dict[str, tuple[bytes, int]]:
 
 
 def run(scenario: Scenario, command: list[str], environment: dict[str, str] | None = None) -> Left:
-    """The scenario's run by this command, which is the program and what stands before it."""
+    """Run the scenario with this command: the program, and the words before it."""
     with tempfile.TemporaryDirectory(dir=SCRATCH) as folder, open(scenario.stdin, "rb") as stdin:
         scenario.lay_out(folder)
         done = subprocess.run(

@@ -1,7 +1,7 @@
-"""Each call that a run makes of the system fails once, with each error that fits it.
+"""Make each system call of a run fail once, with each error that fits it.
 
-`strace` lets it fail. It counts the calls of a name from the program's start, those of the loader too; what a
-call is about, and what has come of the output before it, is known from a run without a failure.
+`strace` makes it fail. It counts the calls of a name from the program's start, including the loader's. A run without a
+failure shows what a call is about, and what has become of the output before it.
 """
 
 import tempfile
@@ -14,7 +14,7 @@ from fault_injection import OWNER_ONLY, Left, Scenario, Target, run
 from lib.system_calls import Call, own_calls, tracing
 from model.faults import Fault
 
-# All calls that allocate memory fail from this one on: after a single failure another one would succeed.
+# All calls that allocate memory fail from this one on: after a single failure, another one would succeed.
 NO_MORE_MEMORY = "ENOMEM from then on"
 ERRORS = {
     "openat": ["EINTR", "EAGAIN", "EIO", "EACCES", "EMFILE", "ENOMEM"],
@@ -30,14 +30,14 @@ ERRORS = {
     "mremap": ["ENOMEM", NO_MORE_MEMORY],
     "brk": ["ENOMEM", NO_MORE_MEMORY],
 }
-# Of a file that is created.
+# The errors for a file that is created.
 CREATING = [*ERRORS["openat"], "ENOSPC", "EDQUOT"]
-# What is made besides; none of it can fail for want of something.
+# Other calls, none of which can fail for lack of something.
 OTHERS = {"rt_sigaction", "getrandom", "munmap", "exit_group"}
 MEMORY = ("mmap", "mremap", "brk")
-# Where these are interrupted the library may try them again.
+# The library may try these again if they are interrupted.
 TRIED_AGAIN = ("openat", "fchmod", "ftruncate", "fsync")
-# The folder that takes the numbers of closed streams.
+# The directory that takes the numbers of closed streams.
 STAND_IN = "/"
 STDIN, STDERR = 0, 2
 SECRET = Fault.SECRET_NOT_OPENED, Fault.SECRET_NOT_READ
@@ -47,9 +47,9 @@ ROLES = {"--vault-password-file": SECRET, "--vault-id": SECRET, "--new-vault-id"
 
 
 class Step(NamedTuple):
-    """A call of a run; the ordinal that the next call of each name has, this one included; the path or the stream
-    that it concerns; and what was written before it: bytes of the output, None if that is as it was, the mode of
-    its file, and bytes of the message."""
+    """A call of a run; the ordinal of the next call of each name, this one included; the path or the stream that it
+    concerns; and what was written before it: the bytes of the output, or None if it is as it was, the mode of its file,
+    and the bytes of the message."""
 
     call: Call
     numbers: dict[str, int]
@@ -110,7 +110,7 @@ def steps(scenario: Scenario, loading: list[Call], own: list[Call]) -> Iterator[
 
 
 def fault_free(program: str, scenario: Scenario) -> list[Step]:
-    """The steps of a run without a failure."""
+    """Return the steps of a run without a failure."""
     with tempfile.NamedTemporaryFile() as log:
         path = Path(log.name)
         left = run(scenario, [*tracing(path), program])
@@ -122,7 +122,7 @@ def fault_free(program: str, scenario: Scenario) -> list[Step]:
 
 
 def fault_of(scenario: Scenario, step: Step) -> Fault:
-    """The fault that a run reports if it cannot continue after this call."""
+    """Return the fault that a run reports if it cannot continue after this call."""
     if step.call.name not in ("openat", "read") or "O_CREAT" in step.call.args:
         return Fault.NOT_WRITTEN
     values = [value.rpartition("@")[2] for value in scenario.words]
@@ -132,8 +132,8 @@ def fault_of(scenario: Scenario, step: Step) -> Fault:
 
 
 def wanted(refusal: Refusal) -> list[Left]:
-    """What may be left. A run may succeed without the memory that it is refused; a failure of close is ignored, and so
-    is one of fsync with EINVAL. A stream that cannot be asked whether it is open is taken for one that is closed."""
+    """Return what may be left. A run may succeed without the memory that it is refused. A failure of close is ignored,
+    and so is EINVAL from fsync. If the query whether a stream is open fails, the stream counts as closed."""
     scenario, step, error = refusal
     whole, memory = scenario.fault_free(), Fault.MEMORY
     if step.call.name in ("close", "fcntl") or step.about == STAND_IN or (step.call.name, error) == ("fsync", "EINVAL"):
@@ -150,8 +150,8 @@ def wanted(refusal: Refusal) -> list[Left]:
 
 
 def injections(step: Step, error: str) -> list[str]:
-    """The options of strace that make the call fail. The system refuses a `brk` by returning an address below the
-    one that was asked for: 0 will do."""
+    """Return the options of strace that make the call fail. The system refuses a `brk` by returning an address below
+    the requested one: 0 will do."""
     how = {"brk": "retval=0"}
     if error == NO_MORE_MEMORY:
         return [f"inject={name}:{how.get(name, 'error=ENOMEM')}:when={step.numbers[name]}+" for name in MEMORY]
@@ -160,7 +160,7 @@ def injections(step: Step, error: str) -> list[str]:
 
 
 def run_refused(program: str, refusal: Refusal) -> tuple[Left, bool]:
-    """What a run leaves, and whether strace made the call fail."""
+    """Return what a run leaves, and whether strace made the call fail."""
     step = refusal.step
     names = MEMORY if step.call.name in MEMORY else (step.call.name,)
     expressions = [f"trace={','.join(names)}", *injections(step, refusal.error)]
@@ -176,7 +176,7 @@ def refusals(program: str, scenarios: list[Scenario]) -> list[Refusal]:
 
 
 def some_of(every: list[Refusal], seed: int, share: int) -> list[Refusal]:
-    """One in `share`, and one of each kind at least, in an order that goes by the seed."""
+    """Return one in `share`, and at least one of each kind, in an order that depends on the seed."""
     random, kinds, chosen = Random(seed), set(), []
     for refusal in random.sample(every, len(every)):
         if refusal.kind not in kinds or random.randrange(share) == 0:
@@ -186,7 +186,7 @@ def some_of(every: list[Refusal], seed: int, share: int) -> list[Refusal]:
 
 
 def refused_calls(program: str, scenarios: list[Scenario], seed: int, share: int) -> tuple[int, int]:
-    """Returns how many runs were made, of how many."""
+    """Make a share of the runs. Return how many were made, and how many there are in all."""
     every, differing = refusals(program, scenarios), []
     chosen = some_of(every, seed, share)
     for refusal in chosen:

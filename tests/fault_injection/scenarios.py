@@ -1,4 +1,4 @@
-"""Each command over inputs of several sizes, from FILE and standard input, to each target."""
+"""Each command with inputs of several sizes, from FILE and standard input, to each target."""
 
 from typing import NamedTuple
 
@@ -14,7 +14,7 @@ SALT_TEXT = b"a salt"
 
 
 class Request(NamedTuple):
-    """A command with its options, what it reads and what it writes."""
+    """A command with its options, its input and its whole output."""
 
     words: list[str]
     input: bytes
@@ -22,7 +22,7 @@ class Request(NamedTuple):
 
 
 def requests(cases: Cases, text: bytes, salt: bytes) -> list[Request]:
-    """One of each command; a salt of 32 bytes comes from a file, and a shorter one is a text."""
+    """Return a request for each command. A salt of 32 bytes comes from a file, and a shorter one is a text."""
 
     def right() -> list[str]:
         return by_file(cases.file(b"right\n"))
@@ -40,7 +40,7 @@ def requests(cases: Cases, text: bytes, salt: bytes) -> list[Request]:
 
 
 def targets(request: Request) -> list[tuple[Target, list[str]]]:
-    """With the words that name each."""
+    """Return the targets of a request, with the words that name each."""
     to_file = ["--output", OUTPUT]
     if request.words[0] == "view":
         return [(Target.STREAM, [])]
@@ -48,7 +48,7 @@ def targets(request: Request) -> list[tuple[Target, list[str]]]:
 
 
 def inputs(cases: Cases, request: Request) -> list[tuple[str, list[str], str]]:
-    """The name, the words and the standard input of each way in which the input comes."""
+    """Return the name, the words and the standard input of each way to give the input."""
     path, other = cases.file(request.input), cases.file(b"not asked for")
     ways: list[tuple[str, list[str], str]] = [("standard input", [], path)]
     if request.words[0] != "encrypt_string":
@@ -70,12 +70,12 @@ def scenarios(cases: Cases, size: int, salt: bytes) -> list[Scenario]:
 
 
 def small_and_large(cases: Cases) -> list[Scenario]:
-    """The small ones have their salt from a file."""
+    """Return small and large scenarios. The small ones have their salt from a file."""
     return [*scenarios(cases, SIZES[0], SALT), *scenarios(cases, SIZES[1], SALT_TEXT)]
 
 
 def refused_scenarios(cases: Cases) -> list[Scenario]:
-    """Runs that are refused, or only explain something."""
+    """Return runs that are refused, or only explain something."""
     wrong, other = cases.file(b"wrong\n"), cases.file(b"not asked for")
     vault, fault = cases.file(seal(b"right", TEXT)), Fault.NO_SECRET_FITS
     decrypt = ["decrypt", *by_file(wrong), "--output", OUTPUT, vault]
@@ -93,6 +93,6 @@ def refused_scenarios(cases: Cases) -> list[Scenario]:
 
 
 def long_scenarios(cases: Cases) -> list[Scenario]:
-    """Of the longest plaintext, from FILE to files."""
+    """Return scenarios with the longest plaintext, from FILE to files."""
     made = scenarios(cases, PLAINTEXT_LIMIT, SALT_TEXT)
     return [scenario for scenario in made if scenario.target is not Target.STREAM and "FILE" in scenario.name]

@@ -1,4 +1,4 @@
-"""Reads and writes that carry less than they were asked for change no answer."""
+"""Reads and writes that transfer fewer bytes than requested change no answer."""
 
 import os
 import tempfile
@@ -9,14 +9,14 @@ from fault_injection import Left, Scenario, run
 from lib.preloaded import build_library
 
 LIBRARY = "short_transfers"
-# How many bytes a call carries at most: of small inputs, and of large ones.
+# The most bytes that a call transfers: for small inputs, and for large ones.
 SMALL_MOST, LARGE_MOST = (1, 100), (10, 10_000)
-# The outputs of large inputs have more bytes.
+# Outputs of large inputs have at least this many bytes.
 LARGE = 100_000
 
 
 def run_short(program: str, library: str, scenario: Scenario, most: int) -> tuple[Left, bool]:
-    """What a run leaves, and whether a call was cut short."""
+    """Return what a run leaves, and whether a call was cut short."""
     with tempfile.TemporaryDirectory() as folder:
         marker = Path(folder) / "cut_short"
         environment = {"LD_PRELOAD": library, "MOST_BYTES": str(most), "CUT_SHORT_MARKER": str(marker)}

@@ -1,5 +1,5 @@
-"""A signal ends a run that waits for its input, or for the reader of its output. It comes at some moment of a long
-run, too: the output's file is absent or old, a prefix or whole, and nothing else is there."""
+"""A signal ends a run that waits for its input, or for the reader of its output. It may also come at any moment of a
+long run: then the output's file is absent or old, a prefix or whole, and nothing else is there."""
 
 import signal
 import subprocess
@@ -15,14 +15,14 @@ from lib.limits import SECONDS
 from model.vaults import seal
 
 SIGNALS = signal.SIGTERM, signal.SIGINT, signal.SIGHUP
-# Between two looks at a run, in seconds.
+# Seconds between two looks at a run.
 PAUSE = 0.0002
-# More than a pipe takes.
+# More bytes than a pipe takes.
 MORE_THAN_A_PIPE = 1 << 21
 
 
 class Moment(NamedTuple):
-    """A time after the run has started, or after its output has begun."""
+    """A time after the start of the run, or after the start of its output."""
 
     in_output: bool
     seconds: float
@@ -51,7 +51,7 @@ def finish(child: subprocess.Popen[bytes], folder: str) -> Left:
 
 
 def state(scenario: Scenario, left: Left) -> str | None:
-    """What has come of the output; None where it is nothing that may come of it."""
+    """Return what has become of the output, or None if that must not happen."""
     if (left.output, left.message) != (b"", b""):
         return None
     if any(left.files == scenario.untouched(0, b"", mode).files for mode in (OLD_MODE, scenario.last_mode())):
@@ -65,7 +65,7 @@ def state(scenario: Scenario, left: Left) -> str | None:
 
 
 def measure(program: str, scenario: Scenario) -> tuple[int, str | None, float, float]:
-    """The status and output of a run without a signal, and for how many seconds it reads and then writes."""
+    """Return the status and output of a run without a signal, and for how many seconds it reads and then writes."""
     with tempfile.TemporaryDirectory(dir=SCRATCH) as folder:
         started_at = time.monotonic()
         child = start(program, scenario, folder)
@@ -78,7 +78,7 @@ def measure(program: str, scenario: Scenario) -> tuple[int, str | None, float, f
 
 
 def interrupt(program: str, scenario: Scenario, number: signal.Signals, moment: Moment) -> tuple[int, str | None]:
-    """How a run ends."""
+    """Return how a run ends after a signal at this moment."""
     with tempfile.TemporaryDirectory(dir=SCRATCH) as folder:
         child = start(program, scenario, folder)
         if moment.in_output:
@@ -90,7 +90,7 @@ def interrupt(program: str, scenario: Scenario, number: signal.Signals, moment: 
 
 
 def moments_of(program: str, scenario: Scenario, random: Random, count: int) -> list[Moment]:
-    """Random moments; every other one is while the output is written."""
+    """Return random moments. Every other one is while the output is written."""
     status, found, reading, writing = measure(program, scenario)
     assert (status, found) == (0, "whole"), f"{scenario.name}, no signal"
     moments = []
@@ -101,12 +101,12 @@ def moments_of(program: str, scenario: Scenario, random: Random, count: int) -> 
 
 
 def signal_while_blocked(cases: Cases, number: signal.Signals) -> None:
-    """It ends a run that cannot go on by itself."""
+    """The signal ends a run that cannot go on by itself."""
     secret, text = by_file(cases.file(b"right\n")), (TEXT * MORE_THAN_A_PIPE)[:MORE_THAN_A_PIPE]
     vault = cases.file(seal(b"right", text))
     pipes: dict[str, Any] = dict.fromkeys(("stdin", "stdout", "stderr"), subprocess.PIPE)
     reading = subprocess.Popen([cases.program, "encrypt", *secret], bufsize=0, **pipes)
-    # It has read of this when all is written.
+    # Once all of this is written, the run has read some of it.
     assert reading.stdin
     reading.stdin.write(text)
     assert send_signal(reading, number) == (-number, b"", b""), "where the input is waited for"
@@ -119,14 +119,14 @@ def signal_while_blocked(cases: Cases, number: signal.Signals) -> None:
 
 
 def send_signal(child: subprocess.Popen[bytes], number: signal.Signals) -> tuple[int, bytes, bytes]:
-    """Sends a signal, and then closes the streams, so that a run that ignores it ends, too."""
+    """Send a signal, and then close the streams, so that a run that ignores it ends, too."""
     child.send_signal(number)
     output, message = child.communicate(timeout=SECONDS)
     return child.returncode, output, message
 
 
 def signals(program: str, scenario: Scenario, seed: int, count: int) -> int:
-    """Each signal at `count` moments; returns how many runs were made."""
+    """Send each signal at `count` moments, and return how many runs were made."""
     moments = moments_of(program, scenario, Random(seed), count * len(SIGNALS))
     runs = list(zip([number for number in SIGNALS for _ in range(count)], moments))
     differing = []

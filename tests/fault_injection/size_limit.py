@@ -1,12 +1,12 @@
-"""A limit of file size ends a run by SIGXFSZ, which is at its default here; the output is its prefix. Where the
-signal is ignored the write fails: `hostile.py`."""
+"""A limit of file size ends a run with SIGXFSZ, which has its default action here; the output is a prefix. If the
+signal is ignored, the write fails: see `closed_streams.py`."""
 
 import signal
 from fault_injection import Left, Scenario, run
 
 
 def run_limited(program: str, scenario: Scenario, amount: int) -> Left:
-    """With SIGXFSZ at its default, as `subprocess` sets it, and no core dump, which would be a file of its own."""
+    """Run with SIGXFSZ at its default, as `subprocess` sets it, and no core dump, which would be another file."""
     return run(scenario, ["prlimit", f"--fsize={amount}", "--core=0", program])
 
 

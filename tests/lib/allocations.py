@@ -1,11 +1,11 @@
-"""Runs a program with one allocation of its memory refused."""
+"""Run a program with one of its memory allocations refused."""
 
 import os
 import subprocess
 
 from lib.limits import SECONDS
 
-# The library that wraps the allocator, and the descriptor to which it reports that it refused an allocation.
+# The library that wraps the allocator, and the descriptor on which it reports a refused allocation.
 LIBRARY = "refuse_allocation"
 REPORT_DESCRIPTOR = 3
 
@@ -13,7 +13,7 @@ REPORT_DESCRIPTOR = 3
 def run_refusing(
     library: str, words: list[str], stdin: bytes, number: int
 ) -> tuple[subprocess.CompletedProcess[bytes], bool]:
-    """A run of these words whose allocation of this number, from 1, is refused, and whether it had one."""
+    """Run the words, refusing the allocation with this number, from 1. Also return whether there was one."""
     reading, writing = os.pipe()
     with open(reading, "rb") as report:
         environment = {"LD_PRELOAD": library, "REFUSED_ALLOCATION": str(number)}

@@ -1,5 +1,5 @@
-"""Ansible's own tool: the first on PATH whose version says that it is Ansible's, or the path in the environment
-variable ANSIBLE_VAULT.
+"""Find Ansible's own tool: the path in the environment variable ANSIBLE_VAULT, or the first tool on PATH whose version
+says that it is Ansible's.
 """
 
 import functools
@@ -11,16 +11,16 @@ import subprocess
 from lib.limits import SECONDS
 from lib.locales import PLAIN
 
-# The second is its name where this project's package is installed.
+# Ansible's tool has the second name where this project's package is installed.
 NAMES = ("ansible-vault", "ansible-vault-original")
-# As its version begins. That of 2.10 does not say `core`, but names a file of settings in the second line.
+# The start of its version. Release 2.10 does not print `core`, but names a configuration file in the second line.
 VERSION = re.compile(r"ansible-vault (?:\[core |(?=.*\n  config file))(\d+)\.(\d+)")
 
 
 @functools.cache
 def release_of(path: str) -> tuple[int, int] | None:
-    """None for another tool. Fails if the tool does: one that is there and does not run is no reason to leave out a
-    test."""
+    """Return the release, or None if this is another tool. Raise RuntimeError if the tool fails, since a broken tool is
+    no reason to skip a test."""
     environment = os.environ | PLAIN
     done = subprocess.run([path, "--version"], capture_output=True, text=True, env=environment, timeout=SECONDS)
     if done.returncode != 0:
@@ -40,7 +40,7 @@ def ansible_vault() -> str | None:
 
 
 def ansible_release() -> tuple[int, int]:
-    """That of the tool which is found, such as (2, 14)."""
+    """Return the release of the tool that `ansible_vault` finds, such as (2, 14)."""
     path = ansible_vault()
     release = release_of(path) if path else None
     assert release, "a test asks for the release of a tool that it has"

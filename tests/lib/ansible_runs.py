@@ -1,7 +1,7 @@
-"""Runs Ansible's ansible-vault again and again: it is imported once, and each run is a fork.
+"""Run Ansible's ansible-vault many times: import it once, and fork for each run.
 
-Run by Ansible's own Python, with the path of the tool, it reads requests as lines of JSON and writes what became of
-them. `AnsibleRuns` is the other side.
+Run by Ansible's own Python, with the path of the tool, this script reads requests as lines of JSON and writes their
+results. `AnsibleRuns` starts it and talks to it.
 """
 
 import importlib
@@ -24,10 +24,10 @@ SETTINGS = [
 
 
 class AnsibleRuns:
-    """Ansible's tool in a process that waits for command lines."""
+    """A process that has imported Ansible's tool and waits for command lines."""
 
     def __init__(self, ansible: str, home: Path) -> None:
-        """The home is an empty folder, so that no settings are found."""
+        """Start the process. `home` is an empty directory, so Ansible finds no settings there."""
         interpreter = Path(ansible).resolve().read_bytes().partition(b"\n")[0].decode().removeprefix("#!").split()
         environment = {"HOME": str(home), "PATH": os.environ["PATH"], "LC_ALL": "C.UTF-8"}
         words = [*interpreter, "-B", __file__, ansible]
@@ -49,13 +49,13 @@ class AnsibleRuns:
         self.requests.flush()
 
     def end(self) -> tuple[int, bytes, str]:
-        """Status, standard output and standard error of the run that was begun."""
+        """Return the status, standard output and standard error of the run that `begin` started."""
         status, output, errors = json.loads(self.answers.readline())
         return status, output.encode("latin-1"), errors
 
 
 def use_settings(environment: dict[str, str]) -> None:
-    """Ansible reads its settings when it is imported; here it reads those of its tool again."""
+    """Read the tool's settings again, because Ansible reads them only on import."""
     from ansible import constants
     from ansible.config.manager import find_ini_config_file
 
@@ -107,7 +107,7 @@ def forked(request: list[Any]) -> list[Any]:
 
 def main() -> None:
     replies = os.fdopen(os.dup(1), "w")
-    # The folder of this file, which has another `ansible`.
+    # Remove this file's directory, which contains another module named `ansible`.
     sys.path.pop(0)
     importlib.import_module("ansible.cli.vault")
     for line in sys.stdin:

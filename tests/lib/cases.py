@@ -1,4 +1,4 @@
-"""Runs the program, with files in a folder of its own."""
+"""Run the program, with its files in a directory of their own."""
 
 import os
 import stat
@@ -13,7 +13,7 @@ from model.faults import Fault
 TEXT = b"secret: value\n"
 OLD = b"what stood here before\n" * 1_000
 READING = ("view", "decrypt")
-# The user and group that own nothing.
+# The IDs of `nobody` and its group, who own nothing.
 NOBODY = 65_534
 
 
@@ -42,7 +42,7 @@ def refusal(fault: Fault) -> tuple[int, bytes, bytes]:
 
 
 class Cases:
-    """Runs the program, with files in a folder of its own."""
+    """Runs the program and creates files for it in one directory."""
 
     def __init__(self, program: str, folder: Path) -> None:
         self.program = os.path.abspath(program)
@@ -50,20 +50,20 @@ class Cases:
         self.files = 0
 
     def path(self) -> str:
-        """A path at which nothing stands."""
+        """Return a new path, where no file exists yet."""
         self.files += 1
         return str(self.folder / f"file{self.files}")
 
     def file(self, content: bytes, mode: int = 0o644) -> str:
-        """The path of a new file."""
+        """Create a file, and return its path."""
         path = Path(self.path())
         path.write_bytes(content)
         path.chmod(mode)
         return str(path)
 
     def device(self, name: str) -> str:
-        """The path of a device node, a private one if it can be created: run by root, a faulty program would change
-        that of the system."""
+        """Return the path of a device node, a private one if it can be created: run by root, a faulty program could
+        change the system's own."""
         path = self.path()
         try:
             os.mknod(path, stat.S_IFCHR, os.stat(f"/dev/{name}").st_rdev)
@@ -74,7 +74,7 @@ class Cases:
         return path
 
     def program_for_all(self) -> str | None:
-        """A copy of the program that everybody may run; None if other users cannot reach the folder of the tests."""
+        """Copy the program for all users to run. Return None if other users cannot reach the tests' directory."""
         copy = self.file(Path(self.program).read_bytes(), 0o755)
         self.folder.chmod(0o755)
         try:
@@ -89,7 +89,7 @@ class Cases:
     def run(
         self, words: Sequence[str], stdin: bytes = b"", status: int = 0, out: bytes | None = b"", err: bytes = b""
     ) -> bytes:
-        """Compares the status and both streams, and returns the output, which is not compared if `out` is None."""
+        """Check the status and both streams, and return the output. If `out` is None, the output is not checked."""
         done = self.done(words, stdin)
         assert answer_of(done) == (status, done.stdout if out is None else out, err)
         return done.stdout
@@ -104,13 +104,13 @@ class Cases:
         self.read(options, stdin, refusal(fault))
 
     def read(self, options: Sequence[str], stdin: bytes, wanted: tuple[int, bytes, bytes]) -> None:
-        """Both commands that read have this answer."""
+        """Check that both commands that read give this answer."""
         found = {command: answer_of(self.done([command, *options], stdin)) for command in READING}
         assert found == dict.fromkeys(READING, wanted)
 
     def run_streams(self, words: Sequence[str], status: int, err: bytes | None = None, **streams: Any) -> None:
-        """Runs with these streams. Standard output is discarded by default; standard error is checked only if `err`
-        is given."""
+        """Run with these streams. Standard output is discarded by default. Standard error is checked only if `err` is
+        given."""
         to_err = subprocess.DEVNULL if err is None else subprocess.PIPE
         given: dict[str, Any] = {"stdout": subprocess.DEVNULL, "stderr": to_err}
         done = subprocess.run([self.program, *words], timeout=SECONDS, **given | streams)

@@ -1,4 +1,4 @@
-"""A clone of this repository that has nothing else, and what somebody types there."""
+"""A fresh clone of this repository, and the commands that somebody types there."""
 
 import os
 import subprocess
@@ -9,7 +9,7 @@ import pytest
 from lib.needs import needs, needs_checkout
 from lib.paths import ROOT
 
-# Seconds. Where `rt` has kept nothing of its own, as after the gate from nothing, the first build proves all anew.
+# Seconds. If `rt` has cached nothing, as after a gate from scratch, the first build proves everything again.
 PROVING = 3600
 
 
@@ -19,7 +19,7 @@ def git(*words: str, at: Path = ROOT) -> str:
 
 
 def cloned(tmp_path_factory: pytest.TempPathFactory) -> Path:
-    """It has what git tracks here, with the changes to it that are not committed yet."""
+    """Clone what git tracks here, including changes that are not committed yet."""
     needs("git", "rt")
     needs_checkout()
     folder = tmp_path_factory.mktemp("newcomer") / "ansible-vault"
@@ -30,7 +30,7 @@ def cloned(tmp_path_factory: pytest.TempPathFactory) -> Path:
 
 
 def typed(command: str, folder: Path, **variables: str) -> str:
-    """What a command prints in a shell that knows nothing of these tests; it has to end well."""
+    """Run a command in a shell without the variables of this test run, and return what it prints. It must succeed."""
     ours = ("MAKE", "PYTEST_", "REQUIRE_")
     kept = {name: value for name, value in os.environ.items() if not name.startswith(ours)}
     done = subprocess.run(

@@ -1,8 +1,8 @@
-"""What a run costs, in figures that are the same each time, whatever else the machine does: instructions by function,
-allocations of memory, and modules that Python imports.
+"""Count what a run costs, in figures that do not depend on what else the machine does: instructions by function, memory
+allocations, and modules that Python imports.
 
-Valgrind's callgrind counts the instructions. Standard input and output are files, since a pipe gives what it happens
-to hold. The C library chooses among its copying functions by the processor, so those for the newest are ruled out.
+Valgrind's callgrind counts the instructions. Standard input and output are files, since the size of a read from a pipe
+varies. The C library picks its copying functions by processor, so the ones for the newest processors are disabled.
 """
 
 import os
@@ -17,21 +17,21 @@ from typing import Any, NamedTuple
 from lib.limits import SECONDS
 
 ENVIRONMENT = {"GLIBC_TUNABLES": "glibc.cpu.hwcaps=-AVX512F,-AVX512VL,-AVX2,-AVX_Fast_Unaligned_Load,-ERMS,-FSRM"}
-# The library that counts allocations, and the descriptor to which it reports them.
+# The library that counts allocations, and the descriptor on which it reports them.
 LIBRARY = "count_allocations"
 REPORT_DESCRIPTOR = 3
-# The parts of a run, each with what the names of its functions begin with; what is left is the rest.
+# The parts of a run, and the prefixes of their functions' names. All other functions are the rest.
 PARTS: dict[str, str | tuple[str, ...]] = {
     "SHA-256": "sha2::block256::compress",
     "AES": "vault_aes::key::Key::block",
     "digits read": "vault_text::hexadecimal::",
-    # The lines of an envelope are inlined into what writes it.
+    # The code for the lines of an envelope is inlined into the function that writes it.
     "digits written": ("vault_text::writing::", "vault_cli::runs::write_or_report"),
 }
 REST, TOTAL = "the rest", "total"
-# What the compiler and the kit write into a program, and the processor that it asks for.
+# What the compiler and the kit write into a program, and the processor it is built for.
 BUILT_BY = re.compile(rb"Linker: (LLD [\d.]+)|(rattle logic=[0-9a-f]{16})|(x86-64-v\d)(?=, which)")
-# The parameters of a generic function, and the version of one of the C library.
+# The type parameters of a generic function, and the symbol version of a C library function.
 SUFFIX = re.compile(r"::<.*|@.*|'\d+$")
 
 
@@ -49,7 +49,7 @@ class Done(NamedTuple):
 
 
 def built_by(program: str) -> str:
-    """The compiler, the kit and the processor that a program was built by and for."""
+    """Return the compiler and the kit that built a program, and the processor it is built for."""
     found = {b"".join(each).decode() for each in BUILT_BY.findall(Path(program).read_bytes())}
     return ", ".join(sorted(found))
 
@@ -66,7 +66,7 @@ def run(command: list[str], stdin: bytes, environment: dict[str, str], **options
 
 
 def functions_of(profile: Path) -> Counter[str]:
-    """The instructions of each function itself, of a file that callgrind wrote without compressed names."""
+    """Count the instructions of each function itself, from a callgrind file without compressed names."""
     counts: Counter[str] = Counter()
     name, is_call = "", False
     with profile.open(errors="replace") as lines:
@@ -76,7 +76,7 @@ def functions_of(profile: Path) -> Counter[str]:
             elif line.startswith("calls="):
                 is_call = True
             elif line[:1].isdigit():
-                # Behind a call stands what it cost, which is counted where it was spent.
+                # The line after `calls=` is the cost of the call, which is counted in the called function.
                 counts[name] += 0 if is_call else int(line.split()[1])
                 is_call = False
     return counts
@@ -92,7 +92,7 @@ def count_instructions(command: list[str], stdin: bytes) -> tuple[Done, Counter[
 
 
 def parts_of(functions: Counter[str]) -> dict[str, int]:
-    """The instructions of each part, and of all."""
+    """Return the instructions of each part, and the total."""
     parts = dict.fromkeys([*PARTS, REST], 0)
     for name, count in functions.items():
         parts[part_of(name)] += count
@@ -104,7 +104,7 @@ def part_of(function: str) -> str:
 
 
 def count_allocations(library: str, command: list[str], stdin: bytes) -> tuple[Done, Allocations]:
-    """The library is built of `count_allocations.c`."""
+    """Run the command with `library`, which is built from `count_allocations.c`."""
     with tempfile.TemporaryFile() as report:
         done = run(
             command, stdin, {"LD_PRELOAD": library},
@@ -116,7 +116,7 @@ def count_allocations(library: str, command: list[str], stdin: bytes) -> tuple[D
 
 
 def imported_modules(script: Path) -> list[str]:
-    """The modules that Python imports until a companion has printed its help."""
+    """Return the modules that Python imports when a companion prints its help."""
     command = [sys.executable, "-ESB", "-X", "importtime", str(script), "--help"]
     nothing: dict[str, str] = {}
     done = subprocess.run(command, capture_output=True, text=True, env=nothing, timeout=SECONDS)

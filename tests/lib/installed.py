@@ -1,4 +1,4 @@
-"""What is installed: the files, and whether they work where they lie."""
+"""The files of an installation, and checks that they work where they are installed."""
 
 import os
 import pathlib
@@ -14,7 +14,7 @@ SHARED = {str(each.relative_to(ROOT / "companions")) for each in (ROOT / "compan
 NAMES = {"ansible-vault", *COMPANIONS}
 DOCUMENTS = {"README.md", "CHANGELOG.md", "CONTRIBUTING.md", "LICENSE", "debian/copyright", "tests/README.md"}
 DOCUMENTS |= {f"docs/{each.name}" for each in (ROOT / "docs").iterdir()}
-# Where Debian's tools look, below the prefix.
+# The paths, below the prefix, where Debian's tools look for these files.
 FILES = {
     *(f"bin/{name}" for name in NAMES),
     *(f"share/bash-completion/completions/{name}" for name in NAMES),
@@ -23,14 +23,14 @@ FILES = {
     *(f"lib/ansible-vault/{name}" for name in SHARED),
     *(f"share/doc/ansible-vault/{name}" for name in DOCUMENTS),
 }
-# What `make install` puts below a prefix, but for its sums.
+# What `make install` installs below a prefix, except for the checksums.
 PREFIX_FILES = FILES | {*(f"share/man/man1/{name}.1" for name in NAMES), "share/zsh/site-functions/_ansible-vault"}
 
 
 def run_make(
     program: str, *words: str, at: pathlib.Path = ROOT, env: dict[str, str] | None = None, **options: Any
 ) -> subprocess.CompletedProcess[str]:
-    """Runs make as a shell would, though this test may itself be run by make; it installs this program."""
+    """Run make as a shell would, even if make runs this test. It installs this program."""
     environment = dict(os.environ if env is None else env)
     environment.pop("MAKEFLAGS", None)
     named = [] if program == str(ROOT / "bin" / "ansible-vault") else [f"PROGRAM={program}"]
@@ -59,7 +59,7 @@ def check_program(program: pathlib.Path, where: str) -> None:
 
 
 def check_companions(program: pathlib.Path, where: str, secret: list[str]) -> None:
-    """Each runs and says what it is; and one calls the program beside it."""
+    """Check that each companion runs and prints its help, and that one calls the program beside it."""
     helps = {name: printed(str(program.with_name(name)), "--help", PATH=os.defpath) for name in COMPANIONS}
     silent = [name for name, text in helps.items() if not text.startswith(f"usage: {name}")]
     assert silent == [], f"the companions beside {where} that have no help"

@@ -1,13 +1,13 @@
-"""Which lines of the companions the tests run: with LINES_RUN in the environment, each run of a companion leaves a file
-of Python's `coverage` in that folder. `make coverage` adds them up.
+"""Record which lines of the companions the tests run. If LINES_RUN names a directory, each run of a companion leaves a
+data file of Python's `coverage` there. `make coverage` combines these files.
 """
 
 import os
 from pathlib import Path
 
 FOLDER = os.environ.get("LINES_RUN")
-# Takes the place of a companion and runs it. The interpreter's option -S hides the folder of packages; and what takes
-# the place of a process, or a signal, would end it before its lines are noted.
+# Replaces a companion, and runs it. The interpreter's option -S hides the directory of packages. Replacing the process,
+# or a signal, would end it before the lines are saved, so those calls save them first.
 NOTING = """\
 {interpreter}
 import atexit, os, sys
@@ -28,7 +28,7 @@ exec(compile({text!r}, {path!r}, "exec"))
 
 
 def note_lines(companions: Path) -> None:
-    """Changes copies of the companions, if it is asked for."""
+    """Wrap the copies of the companions in this directory, if LINES_RUN is set."""
     for path in companions.glob("ansible-vault-*") if FOLDER else []:
         text = path.read_text()
         interpreter = text.partition("\n")[0]

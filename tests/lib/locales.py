@@ -1,4 +1,4 @@
-"""The locale of the programs that tests run, whatever that of the caller is."""
+"""The locale of the programs that the tests run, whatever the caller's locale."""
 
 import os
 
@@ -6,5 +6,5 @@ PLAIN = {"LC_ALL": "C.UTF-8", "LANGUAGE": ""}
 
 
 def use_plain_locale() -> None:
-    """From now on, for all programs that this one runs."""
+    """Set the locale for every program that this process starts from now on."""
     os.environ.update(PLAIN)

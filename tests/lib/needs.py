@@ -1,4 +1,4 @@
-"""What a test needs of the machine. Without it the test is skipped, and with --require-all it fails."""
+"""Skip tests that need something this machine lacks. With --require-all, they fail."""
 
 import os
 import re
@@ -12,24 +12,24 @@ import pytest
 from lib.ansible import ansible_vault
 from lib.paths import ROOT
 
-# Where all is required, these are left out nevertheless: the first by another user than root, the second where root is
-# confined, and the third with another kit or Python than that of the stored counts.
+# The reasons to skip a test that --require-all accepts: the user is not root, root is confined, or the stored counts
+# are for another kit or Python.
 TAKES_ROOT = "it takes the rights of root"
 TAKES_MOUNTS = "it mounts, which root may not do in a container or a chroot"
 OF_ANOTHER_BUILD = "its counts are of another build"
-# The number of the capability to mount.
+# The number of the capability that allows mounting.
 CAP_SYS_ADMIN = 21
 
 
 def needs(*tools: str) -> None:
-    """Programs on PATH."""
+    """Skip the test unless all these programs are on PATH."""
     missing = [tool for tool in tools if not shutil.which(tool)]
     if missing:
         pytest.skip(f"without {', '.join(missing)}")
 
 
 def needs_tool(name: str) -> str:
-    """The path of a program on PATH."""
+    """Return the path of a program, or skip the test if it is not on PATH."""
     path = shutil.which(name)
     if path is None:
         pytest.skip(f"without {name}")
@@ -37,7 +37,7 @@ def needs_tool(name: str) -> str:
 
 
 def needs_checkout() -> None:
-    """A checkout of git, where git is installed."""
+    """Skip the test outside a git checkout, or without git."""
     needs("git")
     command = ["git", "-C", str(ROOT), "ls-files", "--error-unmatch", "Makefile"]
     if subprocess.run(command, capture_output=True).returncode != 0:
@@ -50,7 +50,7 @@ def needs_root() -> None:
 
 
 def is_confined() -> bool:
-    """Whether root has lost the right to mount, as in a container, or is in a chroot, where `/` is no mount point."""
+    """Return whether root may not mount, as in a container, or is in a chroot, where `/` is no mount point."""
     status = Path("/proc/self/status").read_text()
     [effective] = re.findall(r"^CapEff:\s+(\w+)$", status, re.MULTILINE)
     mounted = {line.split()[4] for line in Path("/proc/self/mountinfo").read_text().splitlines()}
@@ -58,7 +58,7 @@ def is_confined() -> bool:
 
 
 def needs_mounts(can_mount: bool) -> None:
-    """Skips the test if what it mounts could not be mounted."""
+    """Skip the test if it could not mount what it needs."""
     if not can_mount:
         pytest.skip(TAKES_MOUNTS if os.geteuid() == 0 else TAKES_ROOT)
 
@@ -69,7 +69,7 @@ def needs_pyyaml() -> None:
 
 
 def needs_ansible() -> str:
-    """The path of Ansible's own tool."""
+    """Return the path of Ansible's own tool, or skip the test without it."""
     path = ansible_vault()
     if path is None:
         pytest.skip("without Ansible's own ansible-vault (Debian's package ansible-core)")

@@ -1,6 +1,6 @@
-"""The options of each command and of each companion, as the manual pages and the help list them.
+"""The options of each command and companion, as the manual pages and the help list them.
 
-The key None stands for the program without a command.
+The key None means the program without a command.
 """
 
 import re
@@ -10,12 +10,12 @@ from functools import lru_cache
 from lib.paths import COMPANIONS, PAGE
 
 OPTION = re.compile(r"\bFl (-?[\w-]+)")
-# Options of Ansible's tool that ansible-vault-with has for a command, beyond those of the tool.
+# Options of Ansible's tool that ansible-vault-with accepts in addition to the program's own, by command.
 OF_ANSIBLE = {"encrypt_string": {"--prompt", "-p", "--show-input"}, "rekey": {"--encrypt-vault-id"}}
 
 
 def sections(text: str) -> dict[str, str]:
-    """The sections of the page by their titles."""
+    """Return the sections of the page, by title."""
     _, *parts = re.split(r"^\.Sh (.+)$", text, flags=re.MULTILINE)
     return dict(zip(parts[::2], parts[1::2]))
 
@@ -25,12 +25,12 @@ def options_in(text: str) -> set[str]:
 
 
 def spellings(text: str) -> list[set[str]]:
-    """The spellings of each option that the page describes."""
+    """Return the spellings of each option that the page describes."""
     return [options_in(line) for line in re.findall(r"^\.It (Fl .*)$", text, re.MULTILINE)]
 
 
 def page_sets() -> dict[str | None, set[str]]:
-    """The options of each command in the synopsis, in all their spellings, in the page's order."""
+    """Return the options of each command in the synopsis, with all their spellings. Keep the page's order."""
     page = sections(PAGE.read_text())
     described = spellings(page["DESCRIPTION"])
     sets: dict[str | None, set[str]] = {}
@@ -56,7 +56,7 @@ def help_options(text: str) -> set[str]:
 
 
 def help_of(text: str, option: str) -> str:
-    """What the help says after an option."""
+    """Return the help's text for an option."""
     found = re.search(rf"^ +(?:-\w, )?{option} (.*(?:\n {{12,}}\S.*)*)", text, re.MULTILINE)
     return " ".join(found[1].split()) if found else ""
 
@@ -72,13 +72,13 @@ def companion_help(name: str) -> str:
 
 
 def companion_options(name: str) -> list[set[str]]:
-    """The spellings of each option that a companion's help describes."""
+    """Return the spellings of each option in a companion's help."""
     lines = [line.strip().partition("  ")[0] for line in option_lines(name)]
     return [set(re.findall(r"(?<!\S)--?[A-Za-z][\w-]*", line)) for line in lines]
 
 
 def companion_values(name: str) -> dict[str, str]:
-    """What the help of a companion calls the value of each option that has one."""
+    """Return the names of the options' values in a companion's help."""
     found = re.findall(r"(?<=[ ,])(--[\w-]+) (\S*[A-Z.]+)(?=,|\n|  )", "\n".join(option_lines(name)) + "\n")
     return dict(found)
 
@@ -88,11 +88,11 @@ def option_lines(name: str) -> list[str]:
 
 
 def companion_statuses(name: str) -> set[int]:
-    """The exit statuses that a companion's help names."""
+    """Return the exit statuses that a companion's help names."""
     _, _, text = companion_help(name).partition("Exit status: ")
     return {int(status) for status in re.findall(r"(?:^|; )(\d)\b", " ".join(text.partition("\n\n")[0].split()))}
 
 
 def companion_page(name: str) -> dict[str, str]:
-    """The sections of a companion's manual page."""
+    """Return the sections of a companion's manual page."""
     return sections(PAGE.with_name(f"{name}.1").read_text())

@@ -1,4 +1,4 @@
-"""The table of options in the code."""
+"""The table of options in the source code."""
 
 import re
 from dataclasses import dataclass
@@ -15,7 +15,7 @@ ENTRY = re.compile(
 
 @dataclass(frozen=True)
 class Entry:
-    """An entry of the table under the name of its constant; a flag and a positional have no value's name."""
+    """An entry of the table, and the name of its constant. Flags and positional arguments have no value name."""
 
     constant: str
     name: str
@@ -32,7 +32,7 @@ class Entry:
 
 
 def entries() -> list[Entry]:
-    """The entries of the table, with each help in one line."""
+    """Return the entries of the table, with each help text on one line."""
     found = ENTRY.findall(TABLE.read_text())
     return [
         Entry(constant, name, value_name, re.sub(r"\\\n *", "", text)) for constant, name, value_name, text in found
@@ -44,5 +44,5 @@ def table_options() -> list[Entry]:
 
 
 def helps_of(name: str) -> set[str]:
-    """What the entries of a name say of it: those of one option may differ by the command."""
+    """Return the help texts of all entries with this name. An option's text may differ between commands."""
     return {entry.help for entry in entries() if entry.name == name}

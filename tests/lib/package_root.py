@@ -1,4 +1,4 @@
-"""A root of its own for dpkg: what is installed there, and Ansible's package as a stand-in."""
+"""A separate root directory for dpkg, and stand-ins for other packages, such as Ansible's."""
 
 import os
 import re
@@ -7,7 +7,7 @@ import subprocess
 import tempfile
 from pathlib import Path
 
-# What the maintainer scripts run.
+# The programs that the maintainer scripts run.
 TOOLS = ["/bin/sh", "/usr/bin/dpkg-divert"]
 FOLDERS = ["usr/bin", "var/lib/dpkg/updates", "var/lib/dpkg/info", "var/log", "etc", "tmp"]
 CONTROL = """\
@@ -20,7 +20,7 @@ Description: a stand-in
 
 
 def stand_in(folder: Path, name: str, version: str, files: dict[str, str]) -> Path:
-    """A package that has these files."""
+    """Build a package that contains these files."""
     with tempfile.TemporaryDirectory() as path:
         top = Path(path)
         top.chmod(0o755)
@@ -36,7 +36,7 @@ def write_files(top: Path, files: dict[str, str]) -> None:
 
 
 def later(package: Path, folder: Path, version: str, files: dict[str, str] | None = None) -> Path:
-    """The same package in another version, with these files, too."""
+    """Rebuild the package with another version, and with these files added."""
     with tempfile.TemporaryDirectory() as path:
         top = Path(path) / "package"
         subprocess.run(["dpkg-deb", "-R", str(package), str(top)], check=True)
@@ -56,7 +56,7 @@ def build_package(top: Path, folder: Path, control: str) -> Path:
 
 
 class Root:
-    """A folder that is the whole system for the packages in it."""
+    """A directory that is the whole system for the packages in it."""
 
     def __init__(self, path: str, program: str) -> None:
         self.path = Path(path)
@@ -82,7 +82,7 @@ class Root:
         return subprocess.run(command, capture_output=True, text=True, env={**os.environ, "LC_ALL": "C"})
 
     def run(self, *words: str) -> str:
-        """What a program of this root prints."""
+        """Run a program in this root, and return everything it prints."""
         done = subprocess.run(["chroot", str(self.path), *words], capture_output=True, text=True)
         return done.stdout + done.stderr
 
@@ -91,11 +91,11 @@ class Root:
         return file.read_text(errors="replace") if file.is_file() else None
 
     def aside(self, path: str) -> str:
-        """Where another package's file of this path stands."""
+        """Return where dpkg puts another package's file of this path."""
         return self.run("/usr/bin/dpkg-divert", "--truename", path).strip()
 
     def diverted(self) -> str:
-        """The paths whose files step aside."""
+        """Return dpkg's list of diverted paths."""
         return self.run("/usr/bin/dpkg-divert", "--list")
 
 

@@ -1,4 +1,4 @@
-"""Where things stand in the repository."""
+"""Paths in the repository."""
 
 import re
 from pathlib import Path
@@ -12,6 +12,6 @@ COMMAND_LINE = ROOT / "crates" / "vault_request" / "src" / "command_line.rt"
 
 
 def version() -> str:
-    """The program's version, from the one place where it stands."""
+    """Return the program's version, from the one place that defines it."""
     [found] = re.findall(r'^const VERSION: &str = "(.*)";$', COMMAND_LINE.read_text(), re.MULTILINE)
     return str(found)

@@ -1,4 +1,4 @@
-"""Libraries that are loaded before those of a program and stand in for some of their calls."""
+"""Libraries that are loaded before a program's own and replace some of their functions."""
 
 import os
 import subprocess
@@ -6,7 +6,7 @@ from pathlib import Path
 
 
 def build_library(folder: str, name: str) -> str:
-    """The library that is made of the C file of this name, which stands here."""
+    """Compile the C file with this name in this directory, and return the path of the library."""
     source = Path(__file__).resolve().parent / f"{name}.c"
     library = os.path.join(folder, f"{name}.so")
     subprocess.run(["cc", "-shared", "-fPIC", "-O1", "-o", library, str(source)], check=True)

@@ -1,4 +1,4 @@
-"""Processes that do not outlive their test, and named pipes that wait for nobody."""
+"""Processes that do not outlive their test, and named pipes that open without waiting."""
 
 import contextlib
 import errno
@@ -16,7 +16,7 @@ PAUSE = 0.001
 
 @contextlib.contextmanager
 def started(words: Sequence[str], **options: Any) -> Iterator[subprocess.Popen[Any]]:
-    """A process that is killed at the end, if it still runs."""
+    """Start a process, and kill it at the end if it is still running."""
     process = subprocess.Popen(words, **options)
     try:
         yield process
@@ -29,18 +29,18 @@ def started(words: Sequence[str], **options: Any) -> Iterator[subprocess.Popen[A
 
 
 def open_to_read(path: str) -> int:
-    """The reading end of a named pipe, which needs no writer."""
+    """Open the reading end of a named pipe, which needs no writer."""
     return os.open(path, os.O_RDONLY | os.O_NONBLOCK)
 
 
 def read_to_end(reader: int) -> bytes:
-    """What is in a pipe into which nobody writes any more; closes it."""
+    """Return what is left in a pipe that nobody writes to any more, and close it."""
     with open(reader, "rb") as pipe:
         return pipe.read()
 
 
 def open_to_write(path: str, process: subprocess.Popen[Any]) -> int | None:
-    """The writing end of a named pipe, once the process has opened it to read; None if the process ends before."""
+    """Open a named pipe for writing once the process reads from it. Return None if the process ends first."""
     end = time.monotonic() + SECONDS
     while time.monotonic() < end:
         has_ended = process.poll() is not None

@@ -1,4 +1,4 @@
-"""The commands of the README: those of its section "Five minutes", with what they print, and all others."""
+"""The commands of the README: the session in "Five minutes", with its output, and all other commands."""
 
 import re
 from typing import NamedTuple
@@ -7,7 +7,7 @@ SECTION = "\n## Five minutes\n"
 
 
 class Step(NamedTuple):
-    """A command as the README has it, in one line or several, and what it prints; dots stand for any text."""
+    """A command as the README shows it, on one or more lines, and its output, where dots match any text."""
 
     command: str
     wanted: str
@@ -18,15 +18,15 @@ class Step(NamedTuple):
 
 
 def sections(document: str) -> tuple[str, str]:
-    """The session, and all the rest."""
+    """Return the session, and the rest of the document."""
     before, _, rest = document.partition(SECTION)
     session, heading, after = rest.partition("\n## ")
     return session, before + "\n\n" + heading + after
 
 
 def commands(document: str) -> list[str]:
-    """Those outside of the session, without their comments. Steps of the session that are shown there, too, are left
-    out; behind a prompt stands a command, and else each line is one."""
+    """Return the commands outside the session, without comments, except those that the session shows, too. In a block
+    with prompts, only the lines after a prompt are commands; otherwise, each line is one."""
     session, rest = sections(document)
     found: list[str] = []
     for block in re.findall(r"(?<=\n\n)(?: {4}.*\n)+", rest):

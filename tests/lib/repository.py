@@ -1,5 +1,5 @@
-"""A repository of git, in which the shell of a document is run with the program as `ansible-vault` and its companions
-beside it.
+"""A git repository where the shell commands of a document run, with the program on PATH as `ansible-vault` and its
+companions beside it.
 """
 
 import os
@@ -15,21 +15,21 @@ from lib.paths import COMPANIONS
 from model.vaults import seal, yaml_block
 from shells import all_shown
 
-# One has what some shells' `echo` would interpret.
+# The last one contains characters that some shells' `echo` would interpret.
 PASSWORDS = {
     "old.pass": b"the old one",
     "new.pass": b"the new one",
     "prod.pass": b"in production",
     "ci.pass": rb"of \CI\t\\",
 }
-# As the document marks files.
+# The document's lines for .gitattributes.
 MARKS = "*.vault.yml diff=ansible-vault merge=ansible-vault\nvault.yml diff=ansible-vault merge=ansible-vault\n"
 SETTINGS = "[defaults]\nvault_identity_list = prod@~/.vault/prod.pass\n"
 
 
 class Repository:
-    """A folder under git, where `ansible-vault` is the program. The password files are in it, for the examples of the
-    manual page, and below the home folder."""
+    """A directory under git, where `ansible-vault` is the program. The password files are in it, for the examples of
+    the manual page, and in the home directory."""
 
     def __init__(self, path: pathlib.Path, program: str):
         self.folder = path / "repository"
@@ -66,7 +66,7 @@ class Repository:
         return oct(stat.S_IMODE((self.folder / name).stat().st_mode))
 
     def script(self, text: str, name: str = "script") -> str:
-        """The path of a program that runs this shell; it is on PATH."""
+        """Write a shell script that is on PATH, and return its path."""
         path = self.folder.parent / "tools" / name
         path.write_text(f"#!/bin/sh\n{text}\n")
         path.chmod(0o755)
@@ -81,7 +81,7 @@ class Repository:
         )
 
     def pasted(self, shell: str, password: str) -> str:
-        """What a terminal shows where the shell is pasted, and the password is typed when it is waited for."""
+        """Paste shell commands into a terminal, type the password when asked, and return what it shows."""
         controller, terminal = pty.openpty()
         process = subprocess.Popen(
             ["bash", "--norc", "--noprofile", "-i"],
@@ -104,7 +104,7 @@ class Repository:
 
 
 def wait_for_question(terminal: int) -> None:
-    """Until the shell reads a line and shows nothing of it; a line that is edited comes key by key."""
+    """Wait until the terminal reads whole lines without echo. While a shell edits a line, it reads key by key."""
     end = time.monotonic() + SECONDS
     while time.monotonic() < end:
         mode = termios.tcgetattr(terminal)[3]

@@ -1,8 +1,7 @@
-"""The peak resident memory of a run.
+"""Measure the peak resident memory of a run.
 
-The system reports it only while a process runs. So the output goes into a pipe that is already full: the run
-blocks on it when it has taken all its memory. Then the pipe is drained, and the figure is read again after each
-chunk.
+The system reports it only while a process runs. So the output goes into a pipe that is already full: the run blocks on
+it when it has taken all its memory. Then the pipe is drained, and the figure is read again after each chunk.
 """
 
 import fcntl
@@ -22,19 +21,19 @@ CHUNK_SIZE = 1 << 16
 class Run(NamedTuple):
     status: int
     output: bytes
-    # In KiB; 0 where the run ended before it wrote.
+    # In KiB; 0 if the run ended before it wrote.
     resident: int
 
 
 def full_pipe() -> tuple[int, int, int]:
-    """Both ends of a pipe, and how many bytes fill it up."""
+    """Return both ends of a full pipe, and how many bytes fill it."""
     reader, writer = os.pipe()
     size = fcntl.fcntl(writer, fcntl.F_SETPIPE_SZ, PIPE_SIZE)
     return reader, writer, os.write(writer, bytes(size))
 
 
 def status_field(process: int, name: str) -> str:
-    """The value of a field of /proc/PID/status; empty if there is no such field."""
+    """Return the value of a field of /proc/PID/status, or an empty string if it is missing."""
     lines = Path(f"/proc/{process}/status").read_text().splitlines()
     return next((line.partition(":")[2].strip() for line in lines if line.startswith(f"{name}:")), "")
 
@@ -44,7 +43,7 @@ def peak(process: int) -> int:
 
 
 def wait_for_sleep(process: int) -> None:
-    """Until it waits for the full pipe, or has ended."""
+    """Wait until the process blocks on the full pipe, or has ended."""
     end = time.monotonic() + SECONDS
     while status_field(process, "State")[:1] not in "SZ":
         if time.monotonic() > end:
@@ -53,7 +52,7 @@ def wait_for_sleep(process: int) -> None:
 
 
 def drain(reader: int, process: int, resident: int) -> tuple[bytes, int]:
-    """All that comes through the pipe, and the most memory that was seen on the way, and before."""
+    """Return everything that comes through the pipe, and the highest peak, `resident` included."""
     chunks = []
     while chunk := os.read(reader, CHUNK_SIZE):
         chunks.append(chunk)
@@ -63,7 +62,7 @@ def drain(reader: int, process: int, resident: int) -> tuple[bytes, int]:
 
 
 def run(command: list[str], text: bytes, path: str | None) -> Run:
-    """The run with the file at the path as its standard input, or with the text through a pipe."""
+    """Run the command with the file at `path` as its standard input, or with `text` through a pipe."""
     reader, writer, filler_length = full_pipe()
     stdin: Any = open(path, "rb") if path else subprocess.PIPE
     with started(command, stdin=stdin, stdout=writer, stderr=subprocess.DEVNULL) as child:
@@ -74,7 +73,7 @@ def run(command: list[str], text: bytes, path: str | None) -> Run:
             child.stdin.write(text)
             child.stdin.close()
         wait_for_sleep(child.pid)
-        # It cannot end before the pipe takes more.
+        # The process cannot end before the pipe takes more.
         resident = peak(child.pid)
         fcntl.fcntl(reader, fcntl.F_SETPIPE_SZ, CHUNK_SIZE)
         output, resident = drain(reader, child.pid, resident)

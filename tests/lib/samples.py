@@ -1,4 +1,4 @@
-"""One good run of each command, with what it writes."""
+"""One successful run of each command, with its output."""
 
 from functools import partial
 from typing import NamedTuple
@@ -13,7 +13,7 @@ SALT_WORDS = ["--salt", SALT_TEXT.decode()]
 
 
 COMMANDS = ["encrypt", "decrypt", "view", "rekey", "encrypt_string"]
-# Those with an option --output, those with a FILE, and those with both.
+# The commands with an option --output, those with a FILE, and those with both.
 TO_OUTPUT = [each for each in COMMANDS if each != "view"]
 OF_FILE = [each for each in COMMANDS if each != "encrypt_string"]
 IN_PLACE = [each for each in TO_OUTPUT if each in OF_FILE]
@@ -34,7 +34,7 @@ class Sample(NamedTuple):
 
 
 def sample_of(cases: Cases, command: str, text: bytes = TEXT) -> Sample:
-    """A run of the command over this plaintext."""
+    """Return a run of the command on this plaintext."""
     right, new = cases.file(b"right\n"), cases.file(b"new\n")
     given = by_file(right)
     vault, sealed = partial(seal, b"right", text), partial(seal, b"right", text, salt=SALT_TEXT)
@@ -56,5 +56,5 @@ def samples(cases: Cases, text: bytes = TEXT) -> list[Sample]:
 
 
 def wanted_mode(sample: Sample, old: int) -> str:
-    """That of an existing file: plaintext is for its owner alone."""
+    """Return the mode of an overwritten file: plaintext is for its owner alone."""
     return oct(0o600 if sample.command == "decrypt" else old)

@@ -1,4 +1,4 @@
-"""The fixture `subtests`: pytest's own from version 9 on, and before that of the plugin pytest-subtests."""
+"""The type of the fixture `subtests`, from pytest 9 or the plugin pytest-subtests."""
 
 from contextlib import AbstractContextManager
 from typing import Protocol
@@ -6,4 +6,4 @@ from typing import Protocol
 
 class SubTests(Protocol):
     def test(self, msg: str) -> AbstractContextManager[None]:
-        """A row of a test: if it fails, the test fails, and goes on."""
+        """Run one row of a test. If it fails, the test fails, but goes on."""

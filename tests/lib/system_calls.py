@@ -1,4 +1,4 @@
-"""The calls that a run makes of the system, as strace writes them down."""
+"""The system calls of a run, as strace logs them."""
 
 import re
 import subprocess
@@ -8,12 +8,12 @@ from typing import Any, NamedTuple
 from lib.limits import SECONDS
 
 LINE = re.compile(r"\d+ +\[([0-9a-f]+|\?+)\] (\w+)\((.*)\) += (\?|-?\d+|0x[0-9a-f]+)(?: (E[A-Z0-9]+))?")
-# The last line of a run, which is no call.
+# The last line of a run, which is not a call.
 ENDED = re.compile(r"\d+ +\[[?]+\] \+\+\+ ")
 PATH = re.compile(r'"([^"]*)"')
 # The loader's code is no longer than this.
 LOADER_LENGTH = 1 << 18
-# Called by the C library while it is loaded, not by the program.
+# The C library, not the program, makes these calls while it is loaded.
 OF_THE_LOADER = ("prlimit64",)
 
 
@@ -33,12 +33,12 @@ class Call(NamedTuple):
 
     @property
     def fd(self) -> int:
-        """The file descriptor, which is the first argument."""
+        """The first argument, a file descriptor."""
         return int(self.args.split(",")[0])
 
 
 class Traced(NamedTuple):
-    """A run that has ended; `loading` are the loader's calls, and `own` those of the program."""
+    """A finished run; `loading` are the loader's calls, and `own` the program's."""
 
     status: int
     output: bytes | None
@@ -48,8 +48,8 @@ class Traced(NamedTuple):
 
 
 def call_in(line: str) -> Call:
-    """A line that is not a complete call (an unfinished one, a signal) becomes a call whose name is the line, so that
-    no test overlooks it."""
+    """Return the call in a line. If a line is not a complete call (an unfinished one, a signal), the call's name is the
+    line, so that no test overlooks it."""
     found = LINE.match(line)
     if found is None:
         return Call(line, "", 0, "", 0)
@@ -63,7 +63,7 @@ def calls_in(log: str) -> list[Call]:
 
 
 def loaded(calls: list[Call]) -> int:
-    """The number of calls, `execve` included, before the first one of the program itself."""
+    """Return the number of calls before the first of the program itself, including `execve`."""
     loader = calls[1].address
     for number, call in enumerate(calls[1:], 1):
         is_loader = abs(call.address - loader) < LOADER_LENGTH or call.name in OF_THE_LOADER
@@ -73,8 +73,8 @@ def loaded(calls: list[Call]) -> int:
 
 
 def own_calls(log: Path, programs: int = 1) -> tuple[list[Call], list[Call]]:
-    """The loader's calls and those of the program itself. If a run executes several programs, one after the other,
-    these are the calls of the last."""
+    """Return the loader's calls and the program's own. If a run executes several programs, one after the other, return
+    the calls of the last."""
     calls = calls_in(log.read_text())
     started = [number for number, call in enumerate(calls) if call.name == "execve" and not call.error]
     calls = calls[started[programs - 1] :]
@@ -83,7 +83,7 @@ def own_calls(log: Path, programs: int = 1) -> tuple[list[Call], list[Call]]:
 
 
 def tracing(log: Path) -> list[str]:
-    """The start of a command line that logs the calls of a run."""
+    """Return the start of a command line that logs the calls of a run."""
     return ["strace", "-f", "-i", "-s", "0", "-o", str(log)]
 
 

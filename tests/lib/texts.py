@@ -1,9 +1,9 @@
-"""The stored texts of the parser, in `tests/texts`: for the program and for each command its help, and its
-answer to each command line that is a mistake, below the line itself.
+"""The stored texts of the parser, in `tests/texts`: the help of the program and of each command, and the answer to each
+invalid command line, below that line.
 
-The texts are clap's, and no outside source has them. They were stored as the program printed them and
-read over by eye, against the help of each option in `crates/vault_request`. `tests/store_texts PROGRAM`
-stores them anew; what it changes is to be read over again.
+The texts are clap's; no other source has them. They were stored as the program printed them and proofread against the
+help of each option in `crates/vault_request`. `tests/store_texts PROGRAM` stores them again; proofread whatever it
+changes.
 """
 
 import re
@@ -18,7 +18,7 @@ from model.options import OPTIONS
 
 FOLDER = ROOT / "tests" / "texts"
 PROMPT = "$ ansible-vault"
-# The name under which the texts of the program without a command stand.
+# The name of the texts for the program without a command.
 PROGRAM = "program"
 
 
@@ -34,8 +34,8 @@ class Mistake(NamedTuple):
 
 
 def of_program() -> list[Mistake]:
-    """No command, an unknown one and one that resembles a command; an unknown option, and a value for one that has
-    none."""
+    """Return mistakes without a command: none, an unknown and a misspelled command, an unknown option, and a value for
+    an option that takes none."""
     return [
         Mistake([], "subcommand"),
         Mistake(["show"], "show"),
@@ -46,7 +46,7 @@ def of_program() -> list[Mistake]:
 
 
 def of_command(command: str) -> list[Mistake]:
-    """An unknown option and one that resembles an option, a word too many, and an option without its value or twice."""
+    """Return an unknown and a misspelled option, a word too many, an option without its value, and one given twice."""
     twice = ["--output", "a", "--output", "b"] if "--output" in OPTIONS[command] else ["--require-id-match"] * 2
     mistakes = [
         (["--loud"], "--loud"),
@@ -59,7 +59,7 @@ def of_command(command: str) -> list[Mistake]:
 
 
 def of_several(command: str) -> list[Mistake]:
-    """Several mistakes in one line: the first one is named, but an unknown option before one that is given twice."""
+    """Return lines with several mistakes: the first is named, but an unknown option before one given twice."""
     twice = ["--output", "a", "--output", "b"]
     several = [
         ([*twice, "--loud"], "--loud"),
@@ -82,7 +82,7 @@ def mistakes_path(name: str) -> Path:
 
 
 def stored_mistakes(name: str) -> dict[str, str]:
-    """Each stored text by its line."""
+    """Return the stored texts, by command line."""
     parts = re.split(rf"^{re.escape(PROMPT)}(?: (.*))?\n", mistakes_path(name).read_text(), flags=re.MULTILINE)
     return {line or "": text[:-1] for line, text in zip(parts[1::2], parts[2::2])}
 
@@ -93,7 +93,7 @@ def printed(program: str, words: list[str]) -> str:
 
 
 def write(program: str) -> None:
-    """Stores what the program prints."""
+    """Store what the program prints."""
     FOLDER.mkdir(exist_ok=True)
     for name, mistakes in MISTAKES.items():
         words = [] if name == PROGRAM else [name]

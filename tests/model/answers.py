@@ -1,4 +1,4 @@
-"""What the tool answers, computed from its rules alone and without any code of the program.
+"""Compute the tool's answer from its rules alone, without any code of the program.
 
 Each step of the specification is a function, and `answer` runs them in order. A step that refuses raises `Refused`.
 """
@@ -36,8 +36,8 @@ class Payload(NamedTuple):
 
 @dataclass(frozen=True)
 class Answer:
-    """The output, None if it is not begun; its path, None for standard output; the text on standard error, None if it
-    is the parser's; the status."""
+    """The output (None if it is never begun), its path (None for standard output), the text on standard error (None if
+    it is the parser's), and the status."""
 
     output: bytes | None
     path: str | None
@@ -53,7 +53,7 @@ class Readable(Protocol):
 
 
 class Store(Protocol):
-    """Files: `open` raises CannotOpen, and reading what it gives raises OSError."""
+    """Files: `open` raises CannotOpen, and reading from what it returns raises OSError."""
 
     def open(self, path: str) -> Readable: ...
 
@@ -74,7 +74,7 @@ class HostFiles:
 
 
 class Descriptor:
-    """A file of the host, which may be a folder: it opens, and its reading fails."""
+    """A file of the host. A directory opens, too, but reading from it fails."""
 
     def __init__(self, descriptor: int) -> None:
         self.descriptor = descriptor
@@ -88,7 +88,7 @@ class Descriptor:
 
 
 def prefix_of(source: Readable, size: int, unread: Fault) -> bytes:
-    """What the source gives up to its end, and no more than that many bytes."""
+    """Read up to `size` bytes. Raise Refused with the fault `unread` if the source cannot be read."""
     pieces = []
     while size > 0:
         try:
@@ -142,7 +142,7 @@ def salt_of(request: Request, content: bytes) -> bytes:
 
 
 def unhex(digits: bytes) -> bytes | None:
-    """None where these are no pairs of digits; `bytes.fromhex` alone would skip spaces."""
+    """Decode pairs of digits, and return None for anything else. `bytes.fromhex` alone would skip spaces."""
     if len(digits) % 2 or digits.translate(None, string.hexdigits.encode()):
         return None
     return bytes.fromhex(digits.decode())
@@ -242,8 +242,8 @@ def rekeyed(new: Secret, salt: bytes, plaintext: bytes) -> bytes:
 
 
 def result(request: Request, contents: list[bytes], salt: bytes, source: Readable | None) -> bytes:
-    """The output. The source is read only if the passwords, the choice and the salt are valid; it is None if there is
-    a STRING."""
+    """Return the output. The source is read only if the passwords, the choice and the salt are valid. It is None if
+    there is a STRING."""
     passwords = [password(content) for content in contents]
     held = [Secret(file.label, word) for file, word in zip(request.files, passwords)]
     secrets = held[: len(request.secrets)]
@@ -261,7 +261,7 @@ def result(request: Request, contents: list[bytes], salt: bytes, source: Readabl
 
 
 def performed(request: Request, store: Store, stdin: Readable) -> bytes:
-    """Opens the files in their order, and then makes the output."""
+    """Open the files in their order, and return the output."""
     contents = []
     for file in request.files:
         source = opened(store, file.path, Fault.SECRET_NOT_OPENED)
@@ -280,7 +280,7 @@ def refusal(fault: Fault) -> Answer:
 
 
 def answer(words: list[str], store: Store, stdin: Readable) -> Answer:
-    """The answer to the words after the program's name, where the output can be written."""
+    """Return the answer to the words after the program's name, provided that the output can be written."""
     try:
         request = settle(parse(words))
         return Answer(performed(request, store, stdin), request.output, b"", 0)

@@ -1,4 +1,4 @@
-"""One request, run by the program and answered by the model."""
+"""Run a request with the program, and compare the result with the model's."""
 
 import io
 import os
@@ -19,7 +19,7 @@ FULL_DEVICE = "/dev/full"
 
 
 class CaseFiles(HostFiles):
-    """The files of a case and those of the host, with these bytes as the content of /dev/urandom."""
+    """The files of a case and of the host, with `salt` as the content of /dev/urandom."""
 
     def __init__(self, case: Case, salt: bytes) -> None:
         self.files: dict[str, bytes | None] = {**case.files, SALT_FILE: salt}
@@ -46,14 +46,14 @@ class CaseFiles(HostFiles):
 
 
 class Folder:
-    """It opens, and cannot be read."""
+    """A directory, which can be opened, but not read."""
 
     def read(self, size: int) -> bytes:
         raise IsADirectoryError
 
 
 def salt_in(output: bytes) -> bytes:
-    """The salt of an envelope or block, 32 bytes; some other bytes where there is none."""
+    """Return the 32 bytes of salt in an envelope or block, or 32 other bytes if there is none."""
     lines = [line.strip(b" ") for line in output.split(b"\n")]
     start = next((index for index, line in enumerate(lines) if line.startswith(b"$ANSIBLE")), 0)
     try:
@@ -87,7 +87,7 @@ def run(case: Case, program: list[str], folder: Path) -> subprocess.CompletedPro
 
 
 def differences(case: Case, program: list[str]) -> list[str]:
-    """Runs the case in a folder of its own, and lists where the result differs from the model's."""
+    """Run the case in a directory of its own, and list the differences between its result and the model's."""
     with tempfile.TemporaryDirectory() as name:
         folder = Path(name)
         case.lay_out(folder)

@@ -1,10 +1,10 @@
-"""The faults of the tool, with the line that each prints and its status."""
+"""The tool's faults, with the line that each prints and its exit status."""
 
 from enum import Enum
 
 
 class Fault(Enum):
-    """Number and text."""
+    """The number and the text of each fault."""
 
     TOO_LONG = 1, "input is longer than the limit"
     NOT_VAULT = 2, "input is not vault encrypted data"
@@ -63,7 +63,7 @@ class Fault(Enum):
 
 
 class Refused(Exception):
-    """The answer of a step that refuses."""
+    """A step of the specification refuses."""
 
     def __init__(self, fault: Fault) -> None:
         super().__init__(fault.name)

@@ -1,4 +1,4 @@
-"""From the words of a command line to a request, or to the fault that comes first."""
+"""Turn the words of a command line into a request, or raise the first fault."""
 
 from collections.abc import Iterator
 from dataclasses import dataclass, field
@@ -7,7 +7,7 @@ from model.faults import Fault, Refused
 
 COMMON = {"--vault-id", "--vault-password-file"}
 SALTS = {"--salt-file", "--salt"}
-# The options of each command besides the common ones.
+# The options of each command, in addition to the common ones.
 OPTIONS = {
     "encrypt": {"--encrypt-vault-id", "--output"} | SALTS,
     "decrypt": {"--output", "--require-id-match"},
@@ -26,12 +26,12 @@ DEFAULT_LABEL = "default"
 
 
 class NotParsed(Exception):
-    """The command line is invalid: a text on standard error, status 2."""
+    """The command line is invalid: the program prints a text on standard error, and its status is 2."""
 
 
 @dataclass
 class Matches:
-    """A command, the values under each option, and the words that stand alone."""
+    """A command, the values of each option, and the positional arguments."""
 
     command: str
     values: dict[str, list[str]] = field(default_factory=dict)
@@ -52,7 +52,7 @@ class SecretFile:
 
 @dataclass(frozen=True)
 class Request:
-    """What is to be done; a path that is None stands for a standard stream."""
+    """A valid request. A path that is None means a standard stream."""
 
     command: str
     secrets: list[SecretFile]
@@ -79,7 +79,7 @@ def add(matches: Matches, option: str, value: str) -> None:
 
 
 def split_word(word: str) -> tuple[str, str | None]:
-    """An option and the value in its own word, if there is one."""
+    """Split a word into an option and its value, which is None if the word contains none."""
     if not word.startswith("--"):
         option, rest = word[:2], word[2:]
         return {"-n": "--name"}.get(option, option), rest.removeprefix("=") if rest else None
@@ -88,7 +88,7 @@ def split_word(word: str) -> tuple[str, str | None]:
 
 
 def parse(words: list[str]) -> Matches:
-    """The matches of the words after the program's name."""
+    """Parse the words after the program's name."""
     if not words or words[0] not in OPTIONS:
         raise NotParsed("no command")
     matches = Matches(words[0])
@@ -170,7 +170,7 @@ def variable_name(matches: Matches, positional: str | None) -> str | None:
 
 
 def salts(matches: Matches) -> tuple[str | None, str | None]:
-    """The salt text and the path of the salt file."""
+    """Return the salt text and the path of the salt file."""
     text, path = matches.one("--salt"), matches.one("--salt-file")
     if text is not None and path is not None:
         raise Refused(Fault.SALT_CHOICE)

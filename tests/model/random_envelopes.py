@@ -1,4 +1,4 @@
-"""Random plaintexts and envelopes: whole ones in every layout that is read, and damaged ones."""
+"""Random plaintexts and envelopes: intact ones in every layout that the program reads, and damaged ones."""
 
 from random import Random
 
@@ -11,7 +11,7 @@ LIMIT_SIZES = [PLAINTEXT_LIMIT - 1, PLAINTEXT_LIMIT, PLAINTEXT_LIMIT + 1, PLAINT
 SALTS = [bytes(32), bytes(range(32)), b"", b"s", b"\n" * 8, bytes(range(64)), bytes(256)]
 WIDTHS = [1, 2, 3, 64, 79, 80, 81, 160, 1_000_000]
 LINE_ENDS = [b"\n", b"\r\n", b"\r", b"\n\n", b"\n\r"]
-# One in RARELY plaintexts has a size at the limit.
+# One in RARELY plaintexts has a size near the limit.
 RARELY = 800
 
 
@@ -35,7 +35,7 @@ def plaintext(random: Random) -> bytes:
 
 
 def respelled(random: Random, envelope: bytes) -> bytes:
-    """Another layout of the same envelope."""
+    """Return the same envelope in another layout."""
     header, _, body = envelope.partition(b"\n")
     digits = body.replace(b"\n", b"")
     width, end = random.choice(WIDTHS), random.choice(LINE_ENDS)
@@ -51,7 +51,7 @@ def respelled(random: Random, envelope: bytes) -> bytes:
 
 
 def other_header(random: Random, header: bytes) -> bytes:
-    """Another line that says the same, or where it has no label of its own, `default`."""
+    """Return another header line that means the same. Without a label, it may name `default`."""
     first, _, cipher, *label = header.split(b";")
     first += random.choice([b"", b"", b"X", b" ", b".0"])
     version = random.choice([b"1.1", b"1.2"])
@@ -66,7 +66,7 @@ def other_header(random: Random, header: bytes) -> bytes:
 
 
 def damaged(random: Random, envelope: bytes) -> bytes:
-    """One place changed, or cut off."""
+    """Change, remove or insert bytes at one place."""
     index = random.randrange(len(envelope))
     end = random.randrange(index, len(envelope)) + 1
     byte = bytes([random.choice(b"0aAfFgG \n\r;$\x00\x7f\x80\xff")])
@@ -109,7 +109,7 @@ def wrong_header(random: Random, envelope: bytes) -> bytes:
 
 
 def wrong_inside(random: Random, salt: bytes, tag: bytes, ciphertext: bytes, label: bytes) -> bytes:
-    """A well-formed body whose parts are none, or not those that were sealed."""
+    """Return a well-formed body whose parts are invalid, or not the sealed ones."""
     change = random.randrange(6)
     if change == 0:
         tag = tag[: random.choice([0, 16, 31])] + bytes(random.choice([0, 1]))
@@ -132,7 +132,7 @@ def wrong_inside(random: Random, salt: bytes, tag: bytes, ciphertext: bytes, lab
 
 
 def spliced(random: Random, one: bytes, other: bytes) -> bytes:
-    """The beginning of one and the end of another, or lines of one in another order."""
+    """Return the start of one envelope and the end of another, or one envelope with its lines in another order."""
     first, second = one.splitlines(keepends=True), other.splitlines(keepends=True)
     if random.random() < 0.5:
         return b"".join(first[: random.randrange(1, len(first) + 1)] + second[random.randrange(len(second)) :])
@@ -147,7 +147,7 @@ def badly_padded(random: Random) -> bytes:
 
 
 def envelope(random: Random, password: bytes, label: bytes) -> bytes:
-    """Mostly one that can be decrypted; `label` is empty for format 1.1."""
+    """Return an envelope, usually one that can be decrypted. `label` is empty for format 1.1."""
     salt = random.choice(SALTS)
     kind = random.random()
     if kind < 0.5:

@@ -1,4 +1,4 @@
-"""Random requests: the words of a command line, the files that it finds, and its standard input."""
+"""Random requests: the words of a command line, the files that exist, and the standard input."""
 
 from dataclasses import dataclass
 from pathlib import Path
@@ -47,7 +47,7 @@ SECRET_COUNTS = [0] * 3 + [1] * 12 + [2] * 4 + [3, 4] + [16, 17]
 
 @dataclass
 class Case:
-    """`files` has None for a folder."""
+    """A request; `files` maps directories to None."""
 
     words: list[str]
     files: dict[str, bytes | None]
@@ -96,14 +96,14 @@ class Maker:
         return self.random.choice([*NO_FILES, "-", "prompt", "/dev/zero"])
 
     def vault_id(self, path: str) -> tuple[str, str]:
-        """The value of an option, and its label."""
+        """Return the value of an option, and its label."""
         label = self.mostly(LABELS, BAD_LABELS, 0.98)
         if self.likely(0.1) and "@" not in path:
             return self.random.choice([path, "@" + path]), "default"
         return f"{label}@{'prompt' if self.likely(0.01) else path}", label
 
     def secret(self, id_option: str, file_option: str) -> tuple[str, bytes]:
-        """Adds an option; the label and password that it stands for, if it is a good one."""
+        """Add an option, and return its label and password, provided that it is valid."""
         path, label = self.password_path(), "default"
         if self.likely(0.7):
             value, label = self.vault_id(path)
@@ -173,7 +173,7 @@ class Maker:
         return random_envelopes.envelope(self.random, password, spelled_label.encode())
 
     def positional(self) -> tuple[str | None, bytes]:
-        """FILE or STRING, and the standard input."""
+        """Return FILE or STRING, and the standard input."""
         if self.command == "encrypt_string":
             string = self.random.choice(STRINGS) if self.likely(0.6) else None
             return string, self.content()
@@ -195,7 +195,7 @@ class Maker:
         return [option, value]
 
     def spoiled(self, groups: list[list[str]]) -> list[list[str]]:
-        """Words that are no command line."""
+        """Add words that make the command line invalid."""
         other = sorted({option for options in OPTIONS.values() for option in options} - OPTIONS[self.command])
         twice = sorted(OPTIONS[self.command] - FLAGS)
         wrong = [

@@ -10,8 +10,8 @@ import subprocess
 MAGIC = b"$ANSIBLE_VAULT"
 HEADER = MAGIC + b";1.1;AES256"
 
-# An envelope with no salt, a tag of 32 zero bytes and no ciphertext, as `format 1.1` spells it: the
-# inner text is LF, 64 digits 0, LF.
+# An envelope in format 1.1 with no salt, a tag of 32 zero bytes and no ciphertext. The inner text is LF, 64 digits 0,
+# LF.
 BODY = b"0a" + b"30" * 39 + b"\n" + b"30" * 25 + b"0a" + b"\n"
 ENVELOPE = HEADER + b"\n" + BODY
 
@@ -25,7 +25,7 @@ CACHED_LENGTH = 1 << 13
 
 
 def serialized(salt: bytes, tag: bytes, ciphertext: bytes, label: bytes = b"") -> bytes:
-    """An envelope, for the label `default` where none is given."""
+    """Return an envelope, in format 1.1 if there is no label."""
     header = MAGIC + b";1.2;AES256;" + label if label else HEADER
     inner = b"\n".join(part.hex().encode() for part in (salt, tag, ciphertext))
     digits = inner.hex().encode()
@@ -45,7 +45,7 @@ def padded(plaintext: bytes) -> bytes:
 
 @functools.lru_cache(maxsize=4096)
 def keys(password: bytes, salt: bytes) -> bytes:
-    """The cipher's key of 32 bytes, the tag's of 32, the first counter block."""
+    """Return the cipher's key of 32 bytes, the tag's of 32, and the first counter block."""
     return hashlib.pbkdf2_hmac("sha256", password, salt, 10_000, 80)
 
 
@@ -71,13 +71,13 @@ def tag_of(password: bytes, salt: bytes, ciphertext: bytes) -> bytes:
 
 
 def apply_keystream(password: bytes, salt: bytes, data: bytes) -> bytes:
-    """Encrypts or decrypts: in counter mode both are the same."""
+    """Encrypt or decrypt: in counter mode, both are the same."""
     derived = keys(password, salt)
     return counter_mode(derived[:32], derived[64:], data)
 
 
 def parts(password: bytes, padded_plaintext: bytes, salt: bytes = SALT) -> tuple[bytes, bytes, bytes]:
-    """Salt, tag and ciphertext; the padding need not be valid."""
+    """Return the salt, the tag and the ciphertext. The padding need not be valid."""
     ciphertext = apply_keystream(password, salt, padded_plaintext)
     return salt, tag_of(password, salt, ciphertext), ciphertext
 

@@ -17,8 +17,8 @@ HERE = pathlib.Path(__file__).resolve().parent
 COMPLETIONS = HERE.parent.parent / "completions"
 NAME = "ansible-vault"
 
-# Calls the function as readline does: with the words cut at `=` and `@` too, and with the text that
-# a match replaces, which keeps its `@`.
+# Calls the function as readline does: with words that are also split at `=` and `@`, and with the text that a match
+# replaces, which keeps its `@`.
 BASH = r"""
 source "$1"
 eval "$2"
@@ -33,7 +33,7 @@ printf '%s\n' "${COMPREPLY[@]}"
 
 
 def readline_words(line: str) -> list[str]:
-    """The line's words; the last one is that to be completed."""
+    """Return the line's words, of which the last is the one to complete."""
     words = []
     for word in line.split(" "):
         pieces = word.replace("=", "\0=\0").replace("@", "\0@\0").split("\0")
@@ -44,7 +44,7 @@ def readline_words(line: str) -> list[str]:
 
 
 def readline_text(line: str) -> str:
-    """What a match replaces."""
+    """Return the text that a match replaces."""
     word = line.split(" ")[-1].split("=")[-1]
     return "@" + word.split("@")[-1] if "@" in word else word
 
@@ -55,14 +55,14 @@ def printed(command: list[str], folder: pathlib.Path) -> set[str]:
 
 
 def bash(line: str, folder: pathlib.Path, alias: str = "") -> set[str]:
-    """What it offers for a line, after the definition of an alias, if there is one."""
+    """Return what bash offers for a line, after the definition of an alias if there is one."""
     script = str(COMPLETIONS / f"{NAME}.bash")
     command = ["bash", "--norc", "-c", BASH, "bash", script, alias, readline_text(line), *readline_words(line)]
     return printed(command, folder)
 
 
 def all_shown(terminal: int) -> bytes:
-    """What comes until the shell on the other side ends, or waits for the end of a word."""
+    """Return everything shown until the shell on the other side ends, or waits for the end of a word."""
     shown = b""
     while True:
         try:
@@ -76,7 +76,7 @@ def all_shown(terminal: int) -> bytes:
 
 
 def typed_in_bash(line: str, folder: pathlib.Path, alias: str = ":") -> list[str]:
-    """The arguments that a command gets whose line is typed on a terminal and ended by a tab."""
+    """Type a command line on a terminal and end it with a tab. Return the arguments that the command gets."""
     controller, terminal = pty.openpty()
     shell = subprocess.Popen(
         ["bash", "--norc", "--noprofile", "-i"], cwd=folder, stdin=terminal, stdout=terminal, stderr=terminal
@@ -95,7 +95,7 @@ def typed_in_bash(line: str, folder: pathlib.Path, alias: str = ":") -> list[str
 
 def fish(line: str, folder: pathlib.Path, alias: str = "") -> set[str]:
     script = COMPLETIONS / f"{NAME}.fish"
-    # What fish brings along for the other tool of this name is dropped first.
+    # First drop fish's own completion for the other tool of this name.
     text = 'complete -C "$argv[2] " >/dev/null; complete -e $argv[2]; source $argv[1]; eval "$argv[4]"; '
     text += 'complete -C "$argv[3]"'
     found = printed(["fish", "--no-config", "-c", text, str(script), line.split(" ")[0], line, alias], folder)
@@ -104,7 +104,7 @@ def fish(line: str, folder: pathlib.Path, alias: str = "") -> set[str]:
 
 @functools.cache
 def zsh_functions(completions: pathlib.Path) -> tempfile.TemporaryDirectory[str]:
-    """A folder with the completion by the name that zsh looks for, where it notes all the functions that it found."""
+    """Return a directory with the completion under zsh's name for it. zsh caches there which functions it found."""
     functions = tempfile.TemporaryDirectory()
     shutil.copy(completions / f"{NAME}.zsh", pathlib.Path(functions.name) / f"_{NAME}")
     return functions

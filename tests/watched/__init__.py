@@ -1,4 +1,4 @@
-"""Runs whose calls of the system are watched, and those calls, sorted."""
+"""Runs whose system calls are watched, and these calls, sorted."""
 
 import tempfile
 from pathlib import Path
@@ -8,15 +8,15 @@ from lib.system_calls import Call, Traced, trace
 from model.faults import Fault
 
 STDIN, STDOUT, STDERR = 0, 1, 2
-# What takes the numbers of closed streams.
+# This takes the numbers of closed streams.
 STAND_IN = "/"
 
 
 class Run(NamedTuple):
-    """What a run shall open for reading, each path once and in this order, and how many bytes of each it shall be
-    given; the path that it creates at last; how many bytes of output it writes, None for a text of the
-    parser's; what it shall be given of standard input, None where it is not to ask; how it ends; and the
-    streams that are closed before it starts."""
+    """What a run must do: the paths that it opens for reading, each once and in this order, with the number of bytes
+    that it gets from each; the path that it creates last; how many bytes of output it writes, or None for a text of the
+    parser's; what it gets from standard input, or None if it must not ask; how it ends; and the streams that are closed
+    before it starts."""
 
     name: str
     words: list[str]
@@ -46,14 +46,14 @@ def opened_by(call: Call) -> Opened:
 
 
 class Watched:
-    """The calls that a program itself has made, by what they concern."""
+    """The calls of a program itself, by what they concern."""
 
     def __init__(self, traced: Traced) -> None:
         self.traced = traced
         self.opened: list[Opened] = []
-        # Of each path, or stream, how much was asked for and given, one call after the other.
+        # How many bytes each read asked for and got, in order, by path or stream.
         self.reads: dict[int | str, list[tuple[int, int]]] = {}
-        # What creates a file or writes, in this order.
+        # The calls that create a file or write, in order.
         self.writes: list[Call] = []
         self.paths: dict[int, str] = {}
         for call in traced.own:
@@ -73,14 +73,14 @@ class Watched:
             self.writes.append(call)
 
     def stand_ins(self) -> list[Opened]:
-        """The files that were opened first of all to take numbers."""
+        """Return the files that were opened first, to take the numbers of closed streams."""
         count = 0
         while count < len(self.opened) and self.opened[count].path == STAND_IN:
             count += 1
         return self.opened[:count]
 
     def files(self) -> list[Opened]:
-        """All others."""
+        """Return all other opened files."""
         return self.opened[len(self.stand_ins()) :]
 
 

@@ -9,14 +9,13 @@ from model.vaults import ENVELOPE_LIMIT, HEADER, PLAINTEXT_LIMIT, SALT, seal, ya
 from watched import Run
 
 RANDOM = "/dev/urandom"
-# How many bytes are asked for at most: of a password file, of a salt.
+# The most bytes that a run asks for: from a password file, from a salt.
 PASSWORD_LIMIT, SALT_LENGTH = 4_097, 32
 SEALED, BLOCK = len(seal(b"one", TEXT)), len(yaml_block(seal(b"one", TEXT)))
 
 
 class Files:
-    """The inputs of the runs. `limits` says how much of each is asked for at most, where that is less than of
-    an envelope."""
+    """The inputs of the runs. `limits` says how many bytes of each may be asked for, if fewer than for an envelope."""
 
     def __init__(self, cases: Cases) -> None:
         self.cases = cases
@@ -24,7 +23,7 @@ class Files:
         self.plain, self.vault = cases.file(TEXT), cases.file(seal(b"one", TEXT))
         self.salt, self.short = cases.file(SALT + b"more"), cases.file(b"short")
         self.empty, self.missing = cases.file(b""), cases.path()
-        # Nothing is to be read of these.
+        # Nothing of these may be read.
         self.unread, self.unread_vault = cases.file(TEXT), cases.file(seal(b"one", TEXT))
         self.sizes = {path: len(Path(path).read_bytes()) for path in self.all()}
         self.limits = {self.one: PASSWORD_LIMIT, self.two: PASSWORD_LIMIT, self.empty: PASSWORD_LIMIT}
@@ -35,7 +34,7 @@ class Files:
         return [self.one, self.two, self.plain, self.vault, self.short, self.empty]
 
     def read(self, *paths: str) -> dict[str, int]:
-        """How much these give where they are read to the end, or as far as they are asked."""
+        """Return how many bytes these give if they are read to their end or their limit."""
         salts = {RANDOM: SALT_LENGTH, self.salt: SALT_LENGTH}
         return {path: {**self.sizes, **salts}.get(path, 0) for path in paths}
 
@@ -135,7 +134,7 @@ def missing_files(files: Files) -> list[Run]:
 
 
 def unread_files(files: Files) -> list[Run]:
-    """Passwords, the choice and the salt are refused before FILE is read, or standard input asked."""
+    """Bad passwords, choices and salts are refused before FILE or standard input is read."""
     one, read, to = by_file(files.one), files.read, ["--output", files.missing]
     both = [*by_id(files.one, "a"), *by_id(files.two, "b")]
     new = ["--new-vault-id", f"b@{files.two}"]
@@ -175,7 +174,7 @@ def unread_files(files: Files) -> list[Run]:
 
 
 def long_files(files: Files) -> list[Run]:
-    """At most one byte more than the limit is asked of FILE; a password file is asked for its limit and one byte."""
+    """A run asks FILE, and a password file, for at most one byte more than the limit."""
     one, read = by_file(files.one), files.read
     to, new = ["--output", files.missing], ["--new-vault-id", f"b@{files.two}"]
     plain, vault, password = files.cases.file(b""), files.cases.file(HEADER + b"\n"), files.cases.file(b"k" * 5_000)
@@ -204,7 +203,7 @@ def long_files(files: Files) -> list[Run]:
 
 
 def closed_streams(files: Files) -> list[Run]:
-    """Their numbers are taken before any file is opened, and none of what takes them is read or written."""
+    """Their numbers are taken before any file is opened, and nothing that takes them is read or written."""
     one, read = by_file(files.one), files.read
     encrypt, view = ["encrypt", *one, "--salt", "s"], ["view", *one, files.vault]
     opened, size = read(files.one, files.vault), len(seal(b"one", TEXT, salt=b"s"))
