@@ -139,7 +139,7 @@ def test_labels(place: Place, subtests: SubTests) -> None:
             with subtests.test(f"{name}: {file}"):
                 place.put(file, content)
                 done = edit(place, CHANGE, *words, file)
-                wrong = f"{EDIT}: {file}: {where[file]}its label is prod, but dev@{place.secret('prod')} decrypts it"
+                wrong = f"{EDIT}: {file}: {where[file]}its label is prod, but dev@{place.secret('prod')}, a secret"
                 told = [line.startswith(wrong) for line in done.stderr.splitlines()]
                 assert (done.returncode, told) == (0, [True] * is_told), done.stderr
                 envelope = b"".join(part.lstrip() for part in place.get(file).splitlines(True) if b"!vault" not in part)

@@ -171,7 +171,7 @@ def test_under_another_password(cases: Companions) -> None:
         for content in exchanged:
             place.put("a.yml", content)
             done = edit(place, "touch ../started", *both, "--resume", "a.yml")
-            ended(what, done, 1, "a.yml: --resume would not know which value gets which secret: ")
+            ended(what, done, 1, "a.yml: --resume cannot tell which value gets which secret, because ")
             assert (place.get("a.yml"), (place.path / "started").exists()) == (content, False)
         if what != "a value of two":
             place.put("a.yml", before)

@@ -68,7 +68,8 @@ def test_decrypted_blocks(place: Place, subtests: SubTests) -> None:
     for name, content in plain.items():
         with subtests.test(name):
             done = staged(place, "vars.yml", content)
-            refused("the hook", done, "vars.yml", why=IN_PART.format(name), hint=meant("vars.yml"))
+            why = IN_PART.format(name).replace("was", "were" if "," in name else "was")
+            refused("the hook", done, "vars.yml", why=why, hint=meant("vars.yml"))
     refused("the commit", commit(place), "vars.yml", why=IN_PART.format("f[]"), hint=meant("vars.yml"))
 
 

@@ -140,7 +140,7 @@ def test_other_tools(place: Place) -> None:
     theirs = '[ "$1" = --version ] && echo "ansible-vault [core 2.14.18]"; echo run >> ../runs'
     place.script(theirs, "tools/ansible-vault")
     done = place.run(CHECK, *place.by_file("old"), ".")
-    ended("Ansible's tool", done, 1, "is not the ansible-vault of the companions")
+    ended("Ansible's tool", done, 1, "is not the ansible-vault that the companions need")
     assert (place.path / "runs").read_text() == "run\n", "is asked its version alone"
     (place.tools / "ansible-vault").unlink()
     folders = os.pathsep.join(["/usr/sbin", str(place.tools)])

@@ -32,9 +32,9 @@ REFUSED = {
     "!vault 'a\n  b'": "b continues on further lines",
     "!vault >\n  a": "b is a folded scalar",
     "!vault\n  a": "b is below its tag",
-    "!vault [a]": "b is not a string",
-    "!vault {{ a }}": "b is not a string",
-    "!vault\n  b: c": "b is not a string",
+    "!vault [a]": "b is a list, a mapping or a key, not a string",
+    "!vault {{ a }}": "b is a list, a mapping or a key, not a string",
+    "!vault\n  b: c": "b is a list, a mapping or a key, not a string",
     "!vault |-\n  a\x01": "b has control characters",
     '!vault "\\q"': "it cannot be read as YAML: found unknown escape character",
     '!vault "\\ud800"': "it cannot be read as YAML: found invalid Unicode character escape code",
@@ -43,8 +43,8 @@ REFUSED = {
 MISPLACED = {
     "b: !vault |-\n  x\ny\n": "line 3: it cannot be read as YAML: could not find expected ':'",
     "b: !vault |-\n   x\n  y\n": "line 3: it cannot be read as YAML: did not find expected key",
-    "# b: !vault |-\n#   x\n": "line 1: within a comment or a string, `!vault` is not a tag",
-    "t: |\n  b: !vault |-\n    x\n": "line 2: `!vault` is not a tag within",
+    "# b: !vault |-\n#   x\n": "line 1: `!vault` within a comment or a string is not a tag",
+    "t: |\n  b: !vault |-\n    x\n": "line 2: `!vault` within a comment or a string is not a tag",
     "b: {c: !vault x}\n": "line 1: c is within brackets",
 }
 COPY = 'cp "$1" ../shown'
@@ -168,7 +168,7 @@ def test_lists(place: Place) -> None:
     assert texts(place.get("vars.yml"), "prod") == [None, b"zwei", None], "keeps its secret"
     place.put("vars.yml", content)
     done = edit(place, 'sed -i "s/one/eins/; s/^l:/l:\\n- !vault neu/" "$1"', *words, "--encrypt-vault-id", "prod")
-    ended("new or changed", done, 1, "may be new or changed")
+    ended("new or changed", done, 1, "may be a new value or a changed one")
 
 
 def test_equal_items(place: Place) -> None:

@@ -43,7 +43,7 @@ def test_blocks(cases: Companions, place: Place) -> None:
     content = block("old", b"one")
     place.put("vars.yml", content)
     place.environment["EDITOR"] = place.script("touch ../started", "editor")
-    ended("edit", place.run(EDIT, *old, "vars.yml"), 1, "vars.yml: PyYAML is missing, ", PACKAGE)
+    ended("edit", place.run(EDIT, *old, "vars.yml"), 1, "vars.yml: PyYAML, which reads YAML, is missing", PACKAGE)
     assert not (place.path / "started").exists(), "no editor is started"
     done = place.run(TEXTCONV, *old, "vars.yml")
     ended("textconv", done, 0, "secret: !vault |\n          one\n", PACKAGE)

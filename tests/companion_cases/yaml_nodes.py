@@ -122,4 +122,4 @@ def test_where_pyyaml_is(cases: Companions, place: Place) -> None:
     assert (done.returncode, done.stdout, done.stderr) == (0, "3\n", ""), "it is found"
     assert not (place.path / "imported").exists(), "nothing of the current folder is imported"
     program.write_text("import sys; sys.modules['yaml'] = None\n" + SHOW.format(companions=str(cases.companions)))
-    ended("it is missing", place.run(*words), 0, "PyYAML is missing", "python3-yaml")
+    ended("it is missing", place.run(*words), 0, "PyYAML, which reads YAML, is missing", "python3-yaml")

@@ -15,7 +15,7 @@ from ansible_vault_companions.yaml.values import Scan
 # Bytes that are not UTF-8, as `decoded` has them, and the null characters that UTF-16 and UTF-32 leave in a text.
 NO_UTF_8 = re.compile("[\0\udc80-\udcff]")
 
-HIDDEN = "within a comment or a string, `!vault` is not a tag, so what follows it would stay in plaintext"
+HIDDEN = "`!vault` within a comment or a string is not a tag, so what follows it would stay in plaintext"
 LIKE_A_TAG = "`{}` is not the tag `!vault`, so what follows it would stay in plaintext"
 NOT_UTF_8 = "it is no longer UTF-8; save it as UTF-8"
 MARKED = "it now begins with a byte order mark; save it as UTF-8 without one"
