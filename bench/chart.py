@@ -1,5 +1,5 @@
 #!/usr/bin/env -S /usr/bin/python3 -B
-"""Draw the processor time and memory of `view` against the size of the plaintext, as `commands.py` measured them.
+"""Draw the processor time of `view` against the size of the plaintext, as `commands.py` measured it.
 
 Usage: chart.py FILE.svg, with the points as JSON on standard input.
 """
@@ -39,31 +39,30 @@ def ticks_around(values: list[float]) -> list[int]:
     return [tick for tick in TICKS if low <= tick <= high]
 
 
-def draw(axes: Any, points: list[Point], quantity: str, title: str, unit: str) -> None:
+def draw(axes: Any, points: list[Point]) -> None:
     for tool, name in NAMES.items():
         mine = [point for point in points if point["tool"] == tool]
         if mine:
-            axes.plot([point["size"] for point in mine], [point[quantity] for point in mine], marker="o", label=name)
+            times = [point["milliseconds"] for point in mine]
+            axes.plot([point["size"] for point in mine], times, marker="o", label=name)
     sizes = sorted({point["size"] for point in points})
-    ticks = ticks_around([point[quantity] for point in points])
+    ticks = ticks_around([point["milliseconds"] for point in points])
     axes.set_xscale("log", base=2)
     axes.set_yscale("log")
     axes.set_xticks(sizes, [size_name(size) for size in sizes], rotation=45)
     axes.set_yticks(ticks, [f"{tick:,}" for tick in ticks])
     axes.set_ylim(ticks[0], ticks[-1])
     axes.minorticks_off()
-    axes.set_title(title)
+    axes.set_title("CPU time of view")
     axes.set_xlabel("size of the plaintext")
-    axes.set_ylabel(unit)
+    axes.set_ylabel("milliseconds")
     axes.grid(True, alpha=0.3)
     axes.legend()
 
 
 def main() -> None:
-    points = json.load(sys.stdin)
-    figure, (times, memory) = pyplot.subplots(1, 2, figsize=(10, 4.8))
-    draw(times, points, "milliseconds", "Processor time of view", "milliseconds")
-    draw(memory, points, "memory", "Memory of view, at most", "MiB")
+    figure, axes = pyplot.subplots(figsize=(6.4, 4.8))
+    draw(axes, json.load(sys.stdin))
     figure.tight_layout()
     figure.savefig(sys.argv[1], metadata={"Date": None})
 

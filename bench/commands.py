@@ -7,8 +7,8 @@ Each tool runs five times or more. The table shows the median, and the minimum a
 compares the medians, with the extremes of single turns in parentheses. It is of processor time, which other work on the
 machine affects least; a ratio of wall-clock times is printed only if both times agree. Below the times are the
 instructions of one run of this tool, as Valgrind counts them. The tests' own Python makes the vaults. Ansible's tool is
-found as `tests/lib/ansible.py` says. The last lines are the table of docs/speed.md. The chart shows time and memory of
-`view` against the size of the vault.
+found as `tests/lib/ansible.py` says. The last lines are the table of docs/speed.md. The chart shows the time of `view`
+against the size of the vault.
 """
 
 import argparse
@@ -220,7 +220,7 @@ def chart_points(rows: Rows, args: argparse.Namespace, measured: dict[str, dict[
     for name, size in (QUICK_CHART_SIZES if args.quick else CHART_SIZES).items():
         taken[size] = measure_in_turn(rows.view(name, size, rows.alone).tasks, args.runs)
     return [
-        {"size": size, "tool": tool, "milliseconds": spread(took.of(args.time)).median, "memory": took.memory}
+        {"size": size, "tool": tool, "milliseconds": spread(took.of(args.time)).median}
         for size, times in sorted(taken.items())
         for tool, took in times.items()
     ]
