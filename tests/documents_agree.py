@@ -169,6 +169,19 @@ def test_options_are_named() -> None:
     assert len(set().union(*(options_named(document.read_text()) for document in DOCUMENTS))) > 40
 
 
+# Variables that documents set, but that are none of make's.
+OF_PROGRAMS = {"EDITOR", "IFS", "REQUIRE_ALL"}
+
+
+def test_variables() -> None:
+    """Every variable that a document sets is one of the Makefile, of Ansible or of another program."""
+    makefile = (ROOT / "Makefile").read_text()
+    of_make = set(re.findall(r"^(?:[a-z]+: (?:export )?)?([A-Z_]+) [?:]?=", makefile, re.MULTILINE))
+    named = set(re.findall(r"\b([A-Z][A-Z_]+)=", "".join(document.read_text() for document in DOCUMENTS)))
+    assert len(named & of_make) > 8
+    assert {name for name in named - of_make - OF_PROGRAMS if not name.startswith("ANSIBLE_")} == set()
+
+
 def defaults_in(text: str) -> set[str]:
     return {each.strip() for each in re.findall(r"by default,? ([\w ]+)", " ".join(text.split()))}
 

@@ -5,6 +5,8 @@ import shutil
 import subprocess
 from pathlib import Path
 
+import pytest
+
 from lib.needs import needs, needs_checkout
 from lib.paths import ROOT
 
@@ -16,6 +18,11 @@ def test_lint() -> None:
     needs("pyflakes3", "mypy", "shellcheck", "mandoc")
     done = subprocess.run([str(LINT)], capture_output=True, text=True)
     assert (done.returncode, done.stderr) == (0, ""), done.stdout
+
+
+def test_missing_tool(capfd: pytest.CaptureFixture[str]) -> None:
+    assert not runpy.run_path(str(LINT))["passes"]("no-such-tool")
+    assert capfd.readouterr().out == "no-such-tool is not installed\n"
 
 
 def test_each_script_is_looked_at() -> None:

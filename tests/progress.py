@@ -48,6 +48,12 @@ def test_progress(tmp_path: Path, status: int, count: str) -> None:
     assert done.stdout.splitlines().count(count.strip()) == bool(count)
 
 
+def test_killed_command(tmp_path: Path) -> None:
+    """A command that a signal kills has failed, as when memory runs out."""
+    done = printed([PROGRESS, str(tmp_path / "log"), "sh", "-c", "kill -9 $$"])
+    assert done.returncode != 0 and "FAILED" in done.stdout
+
+
 # Runs tools/progress.py with shorter minutes.
 IMPATIENT = """
 import runpy, sys
