@@ -2,16 +2,19 @@
 
 import runpy
 import subprocess
+from collections.abc import Callable
 from pathlib import Path
 
 import pytest
 
 from companion_cases import ended
 from lib.ansible import ansible_vault
+from lib.cases import Cases, refusal
 from lib.installed import VERSION
 from lib.paths import ROOT
 from lib.system_calls import calls_in
 from model.compared import differences
+from model.faults import Fault
 from model.random_requests import Case
 
 # A request, and programs that differ in one thing from the program that answers it.
@@ -38,6 +41,32 @@ def test_differences(program: str, tmp_path: Path, monkeypatch: pytest.MonkeyPat
     monkeypatch.setenv("PROGRAM", program)
     assert differences(CASE, [script(tmp_path, "same", 'exec "$PROGRAM" "$@"')]) == []
     assert differences(CASE, [script(tmp_path, "differing", text)]) != []
+
+
+# A fault, and answers that differ from it in one part.
+FAULT = Fault.NOT_VAULT
+WRONG = [(FAULT.status + 1, b"", FAULT.line), (FAULT.status, b"output", FAULT.line), (FAULT.status, b"", b"another")]
+CHECKS: dict[str, Callable[[Cases], object]] = {
+    "run": lambda cases: cases.run(["view"], b"", FAULT.status, b"", FAULT.line),
+    "refused": lambda cases: cases.refused(["view"], FAULT),
+    "refuses": lambda cases: cases.refuses([], b"", FAULT),
+}
+
+
+def answering(folder: Path, status: int, output: bytes, message: bytes) -> Cases:
+    """Return cases whose program always gives this answer."""
+    (folder / "output").write_bytes(output)
+    (folder / "message").write_bytes(message)
+    text = f"cat {folder}/output; cat {folder}/message >&2; exit {status}"
+    return Cases(script(folder, "program", text), folder)
+
+
+@pytest.mark.parametrize("check", CHECKS.values(), ids=CHECKS)
+def test_each_part_of_an_answer(tmp_path: Path, check: Callable[[Cases], object]) -> None:
+    check(answering(tmp_path, *refusal(FAULT)))
+    for wrong in WRONG:
+        with pytest.raises(AssertionError):
+            check(answering(tmp_path, *wrong))
 
 
 def test_each_line_of_strace_is_a_call() -> None:
