@@ -153,7 +153,7 @@ def test_nothing_to_resume(place: Place) -> None:
 
 
 def test_under_another_password(cases: Companions) -> None:
-    """A resumed text never gets another password because somebody has exchanged the file meanwhile."""
+    """If somebody has exchanged the file meanwhile, the resumed text does not get that file's password."""
     needs_pyyaml()
     files = {
         "a vault": (sealed("prod", label="prod"), sealed("dev", label="prod"), sealed("dev", label="dev")),

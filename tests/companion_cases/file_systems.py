@@ -24,7 +24,7 @@ def injected(place: Place, fault: str, *words: str, **variables: str) -> Done:
 
 @pytest.mark.parametrize("fault, status", {"EIO": 1, "EINVAL": 0}.items())
 def test_folder_that_is_not_synced(place: Place, fault: str, status: int) -> None:
-    """A failed sync of a directory is reported, since the new entry may be lost. A file system may lack such syncs."""
+    """A failed sync of a directory is reported, since its new entry may be lost. Some file systems lack such syncs."""
     place.put("a.yml", sealed("old"))
     # The first sync is the file's.
     done = injected(place, f"fsync:error={fault}:when=2+", WITH, "rekey", *to_new(place), "a.yml")
@@ -65,7 +65,7 @@ def test_no_hard_links(place: Place, fault: str) -> None:
 
 @pytest.mark.parametrize("fault", NO_LINKS)
 def test_name_that_is_taken_where_there_are_no_hard_links(place: Place, fault: str) -> None:
-    """Even there, a new vault does not replace a file."""
+    """Even without hard links, a new vault does not replace a file."""
     none = f"""
 import errno
 def none(_, target):
@@ -101,7 +101,7 @@ MOUNTED = {
 
 @pytest.mark.parametrize("name", MOUNTED)
 def test_names_of_mount_points(place: Place, name: str) -> None:
-    """/proc/self/mountinfo escapes such a name. A file whose own name looks like the escaped one is no mount point."""
+    """/proc/self/mountinfo has escapes in names. A file whose own name looks like them is not a mount point."""
     lines = "".join(MOUNT.format(path) for path in ("/proc", f"{place.tree}/{MOUNTED[name]}"))
     mounts = f"""
 import builtins, io

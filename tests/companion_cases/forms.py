@@ -36,7 +36,7 @@ REPORTED = {
 
 
 def unreported(done: Done) -> list[str]:
-    """Return the files whose reason is in no line."""
+    """Return the files for which no message has the reason."""
     lines = done.stderr.splitlines()
     found = {name: [line for line in lines if f"./{name}:" in line] for name in REPORTED}
     return [name for name, (_, why) in REPORTED.items() if not any(why in line for line in found[name])]
@@ -64,7 +64,7 @@ def test_several_in_a_line(place: Place) -> None:
 
 
 def test_of_another_label(place: Place) -> None:
-    """An envelope in such a form is no fault if its label is not rotated."""
+    """An envelope in such a form is not an error if its label is not rotated."""
     place.put("a.yml", sealed("old"))
     place.put("b.yml", f'a: !vault "{OF_PROD}"\n'.encode())
     place.put("c.json", f'{{"a": {{"__ansible_vault": "{OF_PROD}"}}}}\n'.encode())

@@ -67,7 +67,7 @@ def test_each_commit(place: Place, subtests: SubTests) -> None:
 
 
 def test_merge_commits(place: Place) -> None:
-    """A merge is refused if it puts in plaintext what no parent has in plaintext."""
+    """A merge is refused if it puts a vault in plaintext that is encrypted in its parents."""
     under_git(place, "")
     first = committed(place, "vars.yml", sealed("old"))
     place.shell("git checkout -qb branch")
@@ -79,7 +79,7 @@ def test_merge_commits(place: Place) -> None:
 
 
 def test_cherry_picks(place: Place) -> None:
-    """git runs no hook for a cherry-pick, but --since checks it."""
+    """git runs no hook for a cherry-pick, nor with --no-verify, but --since checks these commits."""
     under_git(place, "")
     place.shell(f"{HOOK} --install")
     base = committed(place, "vars.yml", sealed("old"))

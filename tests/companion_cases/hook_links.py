@@ -60,7 +60,7 @@ def by_system(top: Path, name: str) -> str:
 
 def by_hook(top: Path, name: str) -> str:
     def entry(name: bytes) -> tuple[str, str]:
-        """Return an entry as git has it. Directories are no entries."""
+        """Return an entry as git has it. Directories are not entries."""
         path = top / os.fsdecode(name)
         if path.is_symlink():
             return LINK_MODE, os.readlink(path)

@@ -1,4 +1,4 @@
-"""ansible-vault-hook and plaintext in another place than the vault or the value was."""
+"""ansible-vault-hook finds plaintext even if it is not where the vault or the value was."""
 
 import os
 

@@ -124,7 +124,7 @@ replacing._write_beside, replacing.check_replaceable = full, lambda target: None
 
 
 def test_mounted_vaults(place: Place) -> None:
-    """No file can replace a mount point. Containers mount single files."""
+    """No file can replace a mount point, such as a single file that is mounted into a container."""
     unshared = ["unshare", "-m", "mount", "--make-rprivate", "/"]
     needs_mounts(subprocess.run(unshared, capture_output=True).returncode == 0)
     place.put("all.yml", sealed("old"))

@@ -16,7 +16,7 @@ MERGE = b"<<<<<<< HEAD\na: 1\n=======\na: 2\n>>>>>>> branch\n"
 
 @pytest.mark.usefixtures("git")
 def test_marked_files(place: Place, subtests: SubTests) -> None:
-    """A marked file that is no vault is a failure, even if it contains no envelope."""
+    """A marked file that is not a vault is a failure, even if it contains no envelope."""
     plain = {
         "a.vault.yml": (TEXT, "is not encrypted"),
         "deep/b.vault.yml": (b"", "is not encrypted"),
@@ -61,7 +61,7 @@ def test_several_repositories(place: Place) -> None:
 
 
 def test_some_labels(place: Place) -> None:
-    """For users who have only some of the secrets, envelopes with other labels are counted, and are no failure."""
+    """For users who have only some of the secrets, envelopes with other labels are counted, but are not failures."""
     place.put("a.yml", sealed("dev", label="dev"))
     place.put("b.yml", sealed("prod", label="prod"))
     place.put("c.yml", block("dev", label="dev") + block("old") + block("old", label="prod", name="x"))

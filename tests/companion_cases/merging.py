@@ -123,7 +123,7 @@ REFUSED = {
 
 
 NO_SIDE = "git can merge its lines, but the result has a value"
-# Versions whose lines git would merge: digits of an envelope within a text, and lines that are no YAML together.
+# Versions whose lines git would merge: digits of an envelope within a text, and lines that together are not YAML.
 WITHIN = [b"text: |\n  a: %s |\n%s\n" % (tag, lines_of(sealed("old", BASE), 4)) for tag in (b"!vault", b"vault")]
 QUOTED = block("old") + b"a: 1\nb: 1\nc: 1\nd: 1\ne: 1\n"
 REFUSED |= {

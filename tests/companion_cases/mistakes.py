@@ -174,7 +174,7 @@ def commands(stderr: str) -> list[str]:
 
 
 def test_put_back(place: Place, subtests: SubTests) -> None:
-    """The commands in the message correct a text that is no YAML, and put it into its file."""
+    """The commands in the message correct a text that is not YAML, and put it into its file."""
     needs_pyyaml()
     values = block("dev", b"one", "dev", "a") + block("prod", b"two", "prod", "b")
     both = [*place.by_id("dev", "dev"), *place.by_id("prod", "prod")]

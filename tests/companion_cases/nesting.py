@@ -91,7 +91,7 @@ def test_peak(place: Place, companion: str) -> None:
 
 
 def test_long_files(place: Place) -> None:
-    """A file that is no vault is shown for git, whatever its length, without reading it into memory."""
+    """git can show a file that is not a vault, whatever its length, and this takes no memory for its content."""
     length = reading.LIMIT + 5_000_001
     with open(place.tree / "long.yml", "wb") as file:
         file.write(b"a: 1\n")

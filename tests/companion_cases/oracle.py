@@ -134,7 +134,7 @@ def block(key: bytes, envelope: bytes, spaces: bytes = b"", tag: bytes = b"!vaul
 
 @lru_cache(maxsize=4096)
 def values(content: bytes) -> Values | None:
-    """Return the values, or None if the content is no YAML."""
+    """Return the values, or None if the content is not YAML."""
     if content.startswith(MAGIC):
         found = opened(content)
         return {tuple(line.split(": ")[:1]): ("", line) for line in (found.text.decode().splitlines() if found else [])}

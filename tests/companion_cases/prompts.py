@@ -38,7 +38,7 @@ def check_session(what: str, session: Session, *questions: str) -> None:
 
 @pytest.mark.parametrize("word", FORMS)
 def test_forms(place: Place, word: str) -> None:
-    """The options of Ansible's tool ask the same questions as there."""
+    """The options of Ansible's tool lead to the same questions here."""
     to_decrypt, _ = FORMS[word]
     place.put("a.yml", sealed("dev"))
     words = ["view", *filter(None, [word]), "a.yml"]

@@ -263,7 +263,7 @@ def blocks_of(content: bytes) -> list[Found]:
 
 
 def in_plaintext(content: bytes, tool: Model, known: dict[bytes, Value]) -> bytes:
-    """Return a result with what each block is known by in its place."""
+    """Return a result with what each block is known by in place of the block."""
 
     def shown(found: re.Match[bytes]) -> bytes:
         [each] = blocks_of(found[0])

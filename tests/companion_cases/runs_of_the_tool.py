@@ -76,7 +76,7 @@ def test_shown(place: Place, companion: str) -> None:
     place.put("a.yml", content)
     words = [companion, *place.by_file("old"), "a.yml"]
     assert derivations(place, *words, EDITOR="true") == [2, 0], "YAML"
-    # With a tab, it is no YAML.
+    # With a tab, it is not YAML.
     place.put("a.yml", content + b"d: 1\n\te: 2\n")
     if companion == TEXTCONV:
         assert derivations(place, *words) == [2, 0], "no YAML"

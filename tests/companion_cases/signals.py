@@ -31,7 +31,7 @@ AT_RUN = """
 count=1; mkdir -p ../counted; until mkdir ../counted/$count 2>/dev/null; do count=$((count + 1)); done
 [ $count -ne {number} ] || {{ {trap}kill -{signal} $PPID; sleep 0.1; }}
 """
-# Functions of the standard library that create, replace or remove files.
+# Functions of the standard library that create, change, replace or remove files.
 CALLS = ["os.replace", "os.unlink", "os.fsync", "os.fchmod", "tempfile.mkstemp", "tempfile.mkdtemp", "shutil.rmtree"]
 # The companion signals itself before or after a call.
 AT_CALL = """
@@ -158,7 +158,7 @@ RUNS_AND_CALLS += [(name, call) for name in (ROTATE, "merge", "rekey", "decrypt"
 
 
 def test_at_each_call(cases: Companions, subtests: SubTests) -> None:
-    """A signal comes before or after each call that creates, replaces or removes a file."""
+    """A signal comes before or after each of CALLS."""
     for number, (companion, call) in enumerate(RUNS_AND_CALLS):
         when, name = [("before", "SIGHUP"), ("after", "SIGTERM")][number % 2]
         place = cases.place()

@@ -206,7 +206,7 @@ def test_not_lost(place: Place, both: list[str]) -> None:
 
 
 def test_given(place: Place, both: list[str]) -> None:
-    """Input that is no value is refused, and so is a terminal, which would show it."""
+    """Input that cannot be a value is refused, and so is a terminal, which would show it."""
     words = [*both, "--value", "db_password", "vars.yml"]
     ended("a vault", set_to(place, sealed("dev"), *words), 1, "standard input is a vault")
     ended("two files", set_to(place, b"x", *words, "vars.yml"), 2, "--value takes one VAULT")

@@ -189,7 +189,7 @@ def stranger(place: Place, request: pytest.FixtureRequest) -> Stranger:
 
 
 def test_git_alone(stranger: Stranger) -> None:
-    """git starts the programs if no companion runs it; otherwise, the next test could not fail."""
+    """Without a companion, git starts these programs; otherwise, the next test could not fail."""
     for line in PLAIN:
         stranger.place.shell(line.format(missing=stranger.missing))
     assert STARTED - stranger.started() == set()

@@ -158,7 +158,7 @@ def merges_with(path: str) -> list[list[str]]:
 
 
 def test_waiting_pipes(place: Place, subtests: SubTests) -> None:
-    """A pipe is no vault. Opening it would wait forever, and ignore signals."""
+    """A pipe is not a vault. Opening it would wait forever, and ignore signals."""
     os.mkfifo(place.tree / "pipe")
     old = place.by_file("old")
     place.put("a.yml", sealed("old"))

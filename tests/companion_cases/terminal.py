@@ -31,7 +31,7 @@ class Session:
 
 
 def at_terminal(place: Place, words: list[str], *answers: tuple[str, bytes], **variables: str) -> Session:
-    """Run a program, wait for each question, and type the answer. The standard streams are no terminal."""
+    """Run a program, wait for each question, and type the answer. The standard streams are not the terminal."""
     controller, terminal = os.openpty()
     modes = place.path / "modes"
     with subprocess.Popen(

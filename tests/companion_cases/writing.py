@@ -51,7 +51,7 @@ def test_syncs(place: Place, subtests: SubTests) -> None:
 
 
 def test_unreadable_folders(place: Place) -> None:
-    """A directory that may be written but not read is no obstacle."""
+    """Files can be replaced in a directory that may be written but not read."""
     place.put("folder/a.yml", sealed("old"))
     for path in (place.tree / "folder", place.tree / "folder/a.yml"):
         if os.geteuid() == 0:

@@ -108,7 +108,7 @@ except nodes.NoPyYaml as fault:
 
 
 def test_where_pyyaml_is(cases: Companions, place: Place) -> None:
-    """PyYAML is found even though the companions start without packages, but never in the current directory. If it is
+    """PyYAML is found even though the companions start without `site`, but never in the current directory. If it is
     missing, a message names its package."""
     needs_pyyaml()
     for name in ("yaml", "sitecustomize", "usercustomize"):

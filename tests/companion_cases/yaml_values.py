@@ -122,7 +122,7 @@ class Generator:
 
 
 def composed(text: str) -> list[tuple[tuple[str, ...], str]] | None:
-    """Return the keys and the text of each value with the tag, as PyYAML composes them, or None if it is no YAML."""
+    """Return the keys and the text of each value with the tag, as PyYAML composes them, or None if it is not YAML."""
     import yaml
 
     found: list[tuple[tuple[str, ...], str]] = []
