@@ -1,6 +1,6 @@
-// The baseline of the benchmark of counter mode: AES-256 by tables in plain C. `counter_mode LEN
-// TIMES` enciphers LEN zero bytes in place under the zero key, TIMES times over, and prints the last
-// 16.
+// The baseline for the benchmark of counter mode: AES-256 with tables in plain C. `counter_mode LEN
+// TIMES` enciphers LEN zero bytes in place with an all-zero key, TIMES times over, and prints the
+// last 16 bytes.
 #include <stdint.h>
 #include <stdio.h>
 #include <stdlib.h>
@@ -18,7 +18,7 @@ static uint32_t rotated(uint32_t word, unsigned by) {
     return word >> by | word << (32 - by);
 }
 
-// 3 generates the field's units, and p and q run through them: q is the inverse of p.
+// 3 generates the field's nonzero elements. p and q run through them, and q is the inverse of p.
 static void make_s_box(void) {
     uint8_t p = 1, q = 1;
     do {

@@ -1,7 +1,7 @@
-"""The cases of the companions by topic, and what runs them.
+"""Tests of the companions, by topic, and the code that they share.
 
-Vaults are made by `model.vaults` or by Ansible's tool, and what the companions wrote is decrypted
-by `model.vaults`, so no result depends on the program itself.
+`model.vaults` or Ansible's tool makes the vaults, and `model.vaults` decrypts what the companions write, so no result
+depends on the program itself.
 """
 
 import compileall
@@ -24,26 +24,26 @@ COMPANIONS = ROOT / "companions"
 EDIT, ROTATE, CHECK, TEXTCONV, HOOK, WITH, MERGE = (
     f"ansible-vault-{name}" for name in ("edit", "rotate", "check", "textconv", "hook", "with", "merge")
 )
-# A run of a companion.
+# A finished run of a companion.
 Done = subprocess.CompletedProcess[str]
 NOBODY = 65_534
 TEXT = b"db_password: correct horse\n"
 # Passwords by the names of their files.
 PASSWORDS = {name: f"the password {name}".encode() for name in ("old", "new", "dev", "dev2", "prod", "prod2")}
-# What an editor makes of the text, and how; and the companion that runs it, which stands below a shell.
+# The edited text and the editor's command; the process ID of the companion, which starts the editor in a shell.
 CHANGED = TEXT.replace(b"correct", b"wrong")
 CHANGE = 'sed -i s/correct/wrong/ "$1"'
 ABOVE_EDITOR = "$(cut -d ' ' -f 4 /proc/$PPID/stat)"
-# The digits of an envelope, and a block.
+# Match the digits of an envelope, and a whole envelope.
 DIGITS = re.compile(rb"(?m)^( *)[0-9a-fA-F]{20,}(?=\r?$)")
 FOUND = re.compile(rb"(?m)^ *\$ANSIBLE_VAULT;1.*(?:\n *[0-9a-fA-F]+\r?$)+")
 SUMMARY = "{} rotated, {} under the new secret already, {} of other labels{}, {} failed"
 ENCRYPTED = re.compile(r"; what you saved is encrypted in (.+)\n")
-# Notes what a run of the program can be seen to be.
+# Notes what other processes can see of a run of the program, and its limit for core dumps.
 NOTE = "{ tr '\\0' '\\n' < /proc/$$/cmdline; tr '\\0' '\\n' < /proc/$$/environ; } >> ../seen; ulimit -c >> ../cores"
-# The first line of an envelope, with the password that decrypts it and the plaintext, or other content as it is.
+# The first line of an envelope, with its password and plaintext if they are known; or other content unchanged.
 Described = tuple[bytes, tuple[str, bytes] | None]
-# Names that a shell, an option or a line of text would break.
+# Names that need care in a shell, as an argument or in a line of text.
 AWKWARD = [
     "with a space.yml",
     "it's.yml",
@@ -63,7 +63,7 @@ def sealed(password: str, text: bytes = TEXT, label: str = "") -> bytes:
 
 
 def decrypted(password: str, envelope: bytes) -> bytes | None:
-    """The plaintext; None if the password is wrong."""
+    """Return the plaintext, or None if the password is wrong."""
     inner = bytes.fromhex(b"".join(envelope.split(b"\n")[1:]).decode())
     salt, tag, ciphertext = (bytes.fromhex(part.decode()) for part in inner.split(b"\n", 2))
     if not hmac.compare_digest(tag_of(PASSWORDS[password], salt, ciphertext), tag):
@@ -73,12 +73,12 @@ def decrypted(password: str, envelope: bytes) -> bytes | None:
 
 
 def block(password: str, text: bytes = TEXT, label: str = "", name: str = "secret") -> bytes:
-    """A block as Ansible's tool writes it."""
+    """Return a block as Ansible's tool writes it."""
     return yaml_block(sealed(password, text, label), name.encode())
 
 
 class Place:
-    """A tree of files, the companions beside the program, password files, and a folder for what runs."""
+    """A tree of files, with the companions and the program on PATH, password files, and a runtime directory."""
 
     def __init__(self, path: Path, program: Path, companions: Path) -> None:
         self.path = path
@@ -123,7 +123,7 @@ class Place:
         return oct(stat.S_IMODE((self.tree / name).stat().st_mode))
 
     def files(self) -> dict[str, bytes]:
-        """What each file of the tree holds."""
+        """Return the content of each file in the tree, except git's own."""
         found = {str(each.relative_to(self.tree)): each for each in self.tree.rglob("*")}
         return {name: path.read_bytes() for name, path in found.items() if path.is_file() and ".git/" not in name}
 
@@ -131,18 +131,18 @@ class Place:
         return sorted(str(each.relative_to(self.tree)) for each in self.tree.rglob("*"))
 
     def left(self) -> list[str]:
-        """What is left in the folder for what runs."""
+        """Return what is left in the runtime directory."""
         return sorted(str(each) for each in self.runtime.rglob("*"))
 
     def script(self, text: str, name: str = "script", interpreter: str = "/bin/sh") -> str:
-        """The path of a program that runs this text."""
+        """Write a program that runs this text, and return its path."""
         path = self.path / name
         path.write_text(f"#!{interpreter}\n{text}\n")
         path.chmod(0o755)
         return str(path)
 
     def wrap_tool(self, text: str, name: str = "ansible-vault") -> None:
-        """Wraps the program, or git, in a script that first runs this shell text."""
+        """Wrap the program, or git, in a script that first runs this shell text."""
         path = self.tools / name
         path.unlink(missing_ok=True)
         program = str(self.program) if name == "ansible-vault" else shutil.which(name)
@@ -173,14 +173,14 @@ class Place:
         )
 
     def as_nobody(self, *words: str) -> Done:
-        """As somebody who owns nothing, where root runs the tests; root may read and write everything."""
+        """Run as a user who owns nothing if root runs the tests, since root may read and write everything."""
         if os.geteuid() == 0:
             words = ("setpriv", f"--reuid={NOBODY}", f"--regid={NOBODY}", "--clear-groups", *words)
         return self.run(*words)
 
 
 def run_changed(place: Place, companion: str, change: str, words: list[str], **variables: str) -> Done:
-    """Runs a companion after this text of Python, which may change `files` and `replacing` of the package."""
+    """Run a companion after this Python text, which may change the modules `reading` and `replacing`."""
     text = f"""
 import os, runpy, signal, sys
 sys.argv = sys.argv[1:]
@@ -194,7 +194,7 @@ runpy.run_path(sys.argv[0], run_name="__main__")
 
 
 def copy_tools(program: str, folder: Path) -> None:
-    """Copies of the companions, compiled, and of the program, which everybody may read wherever the repository is."""
+    """Copy the program and the compiled companions. Every user may read the copies, wherever the repository is."""
     shutil.copytree(COMPANIONS, folder / "companions")
     note_lines(folder / "companions")
     compileall.compile_dir(folder / "companions", quiet=1)
@@ -203,7 +203,7 @@ def copy_tools(program: str, folder: Path) -> None:
 
 
 class Companions:
-    """Runs the companions and the program whose copies these are, in places of their own."""
+    """Makes places with these copies of the companions and the program, each in a directory of its own."""
 
     def __init__(self, copies: Path, folder: Path) -> None:
         self.folder = folder
@@ -219,24 +219,24 @@ class Companions:
 
 
 def ended(what: str, done: Done, status: int, *parts: str) -> None:
-    """The status, and that each part is printed, on either stream."""
+    """Check the status, and that each part is printed, on either stream."""
     output = done.stdout + done.stderr
     missing = [part for part in parts if part not in output]
     assert (done.returncode, missing) == (status, []), (what, output)
 
 
 def silent(what: str, done: Done) -> None:
-    """It ends well and prints nothing."""
+    """Check that the run succeeds and prints nothing."""
     assert (done.returncode, done.stdout, done.stderr) == (0, "", ""), what
 
 
 def edit(place: Place, editor: str, *words: str, **variables: str) -> Done:
-    """Edits by a script with this text."""
+    """Run an edit whose editor is a script with this text."""
     return place.run(EDIT, *words, EDITOR=place.script(editor, "editor"), **variables)
 
 
 def lines_of(envelope: bytes, spaces: int, end: bytes = b"\n") -> bytes:
-    """An indented envelope, without a final newline."""
+    """Return an indented envelope, without a final newline."""
     return end.join(b" " * spaces + line for line in envelope.splitlines())
 
 
@@ -245,7 +245,7 @@ def without_digits(data: bytes) -> bytes:
 
 
 def texts(data: bytes, password: str) -> list[bytes | None]:
-    """The plaintext of each block."""
+    """Return the plaintext of each block, or None if the password is wrong."""
     found = [re.sub(rb"[ \r]", b"", each) for each in FOUND.findall(data)]
     return [decrypted(password, each + b"\n") for each in found]
 
@@ -267,7 +267,7 @@ def wait_until(condition: Callable[[], object], what: str) -> None:
 
 
 def versions(place: Place, name: str, base: bytes, ours: bytes, other: bytes) -> list[str]:
-    """The arguments of a merge of three versions, of which ours alone stands in the tree."""
+    """Return the arguments for a merge of three versions, of which only ours is in the tree."""
     place.put(f"../versions/base-{name}", base)
     place.put(f"../versions/theirs-{name}", other)
     place.put(name, ours)
@@ -275,13 +275,13 @@ def versions(place: Place, name: str, base: bytes, ours: bytes, other: bytes) ->
 
 
 def envelope_of(content: bytes) -> bytes | None:
-    """That of a vault, or of a single block."""
+    """Return the envelope of a vault or of a single block, or None for other content."""
     envelope = b"".join(line.strip() + b"\n" for line in content.splitlines() if b"!vault" not in line)
     return envelope if envelope.startswith(b"$ANSIBLE_VAULT") else None
 
 
 def described(content: bytes, passwords: Iterable[str] = PASSWORDS) -> Described:
-    """By the first of the passwords that decrypts it."""
+    """Describe the content, with the first of the passwords that decrypts it."""
     envelope = envelope_of(content)
     if envelope is None:
         return content, None

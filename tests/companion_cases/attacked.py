@@ -1,6 +1,6 @@
-"""A repository of an owner, who knows the passwords dev and prod, and of a stranger, who knows dev alone and whose
-commits are merged. Whatever both do, nothing of prod's can be read with dev's passwords, what nobody changed stays as
-it was, what is merged is YAML, and nothing in the repository is run.
+"""A repository of an owner, who knows the passwords dev and prod, and merges the commits of a stranger, who knows only
+dev. Whatever the two do, dev's passwords decrypt no text of prod's, unchanged values stay as they were, each merge
+results in valid YAML, and no program of the repository is run.
 
 `--seed` chooses what they do.
 """
@@ -28,17 +28,17 @@ from model.vaults import MAGIC
 Done = subprocess.CompletedProcess[str]
 EXAMPLES = 52
 STEPS = 12
-# How often each is done at least.
+# The least number of times that each must happen.
 LEAST = {
     **{"examples": EXAMPLES, "steps": 300, "edit": 60, "rotate": 30, "merge": 25, "merge without a conflict": 15},
     **{"rebase": 8, "cherry-pick": 8, "rekey": 5, "revert": 5, "check": 5},
     **dict.fromkeys(MOVES, 2),
     **{"replace": 15, "relabel": 8, "copy": 8, "guess": 8},
 }
-# Values at several depths, of which two have the same keys, and how many columns are before each.
+# Values at several depths, two of them with the same key, and the indentation of each.
 LAYOUT = b"a: 1\n%sb: 1\ndb:\n%s  port: 1\nweb:\n    users:\n      -\n%s        c: 1\n      -\n%sd: 1\n"
 VALUES = [(b"first", 0), (b"second", 2), (b"password", 8), (b"password", 8)]
-# An editor that changes the text of some number.
+# An editor that replaces the text with this number, counted from 1.
 EDITOR = """awk -v n={} -v new={} '/text-[0-9]+/ && ++i == n {{ sub(/text-[0-9]+/, new) }} {{ print }}' "$1" > "$1.new"
 mv "$1.new" "$1"
 """
@@ -47,7 +47,7 @@ TAKING = {
     "cherry-pick": ["cherry-pick", "stranger"],
     "rebase": ["rebase", "--quiet", "stranger"],
 }
-# What the owner does. Before a merge it is most often an edit, of what the stranger has changed, too.
+# What the owner does. Before a merge, it is mostly an edit, often of a place that the stranger has changed.
 WORK = [*["edit"] * 4, *["rotate dev"] * 3, "rotate prod", "rekey", "revert", "check"]
 MEANWHILE = [*["edit"] * 12, *WORK]
 
@@ -58,9 +58,9 @@ class Attack(RuleBasedStateMachine):
         self.around, self.counts = surroundings, counts
         self.place = surroundings.place
         self.numbers = itertools.count(1)
-        # Which of its passwords each label has.
+        # The index of each label's current password.
         self.current = {DEV: 0, PROD: 0}
-        # What only prod's passwords may open.
+        # The texts that only prod's passwords may decrypt.
         self.secret: set[bytes] = set()
         # The places that the stranger has changed and the owner has not yet merged.
         self.touched: set[tuple[str, bytes, int]] = set()
@@ -78,7 +78,7 @@ class Attack(RuleBasedStateMachine):
         return done
 
     def look(self, is_conflict: bool = False) -> Tree:
-        """At what the owner has after a step."""
+        """Check what the owner has after a step, and return it."""
         after = read_tree(self.place.tree)
         is_by_driver = after.get(".gitattributes") == ATTRIBUTES and not is_conflict
         for name, content in after.items():
@@ -122,7 +122,7 @@ class Attack(RuleBasedStateMachine):
         how=st.sampled_from(["merge", "merge", "cherry-pick", "rebase"]),
     )
     def take(self, data: st.DataObject, moves: list[str], meanwhile: list[str], how: str) -> None:
-        """What the stranger has changed, after the owner has changed something else."""
+        """Take the stranger's changes, after the owner has changed something else."""
         base = self.seen
         theirs = self.attack(data, base, moves)
         for kind in meanwhile:
@@ -132,7 +132,7 @@ class Attack(RuleBasedStateMachine):
 
     @rule(data=st.data(), kind=st.sampled_from(WORK))
     def work(self, data: st.DataObject, kind: str) -> None:
-        """Of the owner alone."""
+        """Do something that involves only the owner."""
         name, *words = kind.split()
         getattr(self, name)(data, *words)
 
@@ -167,14 +167,14 @@ class Attack(RuleBasedStateMachine):
             self.run("git", "reset", "--quiet", "--hard")
             self.look()
 
-    # What the owner does.
+    # The owner's work.
 
     def edit(self, data: st.DataObject) -> None:
-        """One text of a file."""
+        """Change one text of a file."""
         before = self.seen
         near = [spot for spot in spots(before) if spot.place in self.touched]
         spot = data.draw(st.sampled_from([*near * 9, *spots(before)]), "what")
-        # A vault has up to three.
+        # A vault has up to three lines.
         in_vault = st.integers(1, 3)
         number = spots_of(spot.file, before[spot.file]).index(spot) + 1 if spot.key else data.draw(in_vault, "line")
         new = self.token(DEV)
@@ -192,7 +192,7 @@ class Attack(RuleBasedStateMachine):
         self.commit("edit" if changed else "edit of nothing")
 
     def changed(self, before: Tree, done: Done, names: list[str]) -> list[tuple[bytes, bytes]]:
-        """The envelopes of these files that are not as before, unlike all else."""
+        """Return the changed envelopes of these files, old and new. Nothing else may have changed."""
         after = read_tree(self.place.tree)
         assert before.keys() == after.keys(), ("other files", done)
         pairs: list[tuple[bytes, bytes]] = []
@@ -217,7 +217,7 @@ class Attack(RuleBasedStateMachine):
             is_due = label_of(old) == label and not is_false(old) and was and rotated == was._replace(name=new)
             is_nested = was and envelopes(was.text)
             assert is_due or is_nested, ("a rotation changes what has another password", old, now, done)
-        # git may join two vaults, which is one to a companion.
+        # git may have joined two vaults, which a companion takes for one.
         found = (envelopes(content)[: 1 if content.startswith(MAGIC) else None] for content in before.values())
         there = [old for each in found for old in each if label_of(old) == label]
         assert done.returncode or not any(map(is_false, there)), ("a rotation passes over a false label", done)
@@ -227,7 +227,7 @@ class Attack(RuleBasedStateMachine):
         return [".", *["../unpacked"] * data.draw(st.booleans(), "around")]
 
     def rekey(self, data: st.DataObject) -> None:
-        """A vault, for the label that it seems to have."""
+        """Rekey a vault, for the label in its first line."""
         whole = [spot for spot in spots(self.seen) if not spot.key and label_of(spot.envelope)]
         if whole:
             spot = data.draw(st.sampled_from(whole), "what")
@@ -247,7 +247,7 @@ class Attack(RuleBasedStateMachine):
         after = self.look(bool(done.returncode))
         self.abort("revert", done)
         if not done.returncode and ".gitattributes" not in after:
-            # That was the first commit.
+            # The revert took back the first commit.
             self.run("git", "reset", "--quiet", "--hard", "HEAD~1")
             self.look()
         self.counts.update(["revert", "steps"] * (not done.returncode))
@@ -269,7 +269,7 @@ def test_stranger(cases: Companions, pytestconfig: pytest.Config) -> None:
         stateful_step_count=STEPS,
         deadline=None,
         database=None,
-        # To find a shorter example takes minutes.
+        # Shrinking an example takes minutes.
         phases=[hypothesis.Phase.generate],
         report_multiple_bugs=False,
         suppress_health_check=list(hypothesis.HealthCheck),

@@ -1,5 +1,5 @@
-"""A repository that Ansible's tool made, rotated: that tool decrypts all of it, and a playbook prints what
-it printed before.
+"""The rotation of a repository that Ansible's tool made: afterwards, that tool decrypts all of it, and a playbook
+prints the same as before.
 """
 
 import re
@@ -27,12 +27,12 @@ PLAYBOOK = """\
 
 
 def secrets(place: Place, which: int, prefix: str = "") -> list[str]:
-    """The old or the new secrets of all labels."""
+    """Return the options for the old or the new secrets of all labels."""
     return [word for label, names in LABELS.items() for word in place.by_id(label, names[which], prefix)]
 
 
 def encrypted_strings(place: Place, ansible: str, label: str, texts: dict[str, str]) -> list[str]:
-    """The block of each variable, as Ansible's tool makes it."""
+    """Return the block of each variable, made by Ansible's tool."""
     choice = [*place.by_id(label, LABELS[label][0]), "--encrypt-vault-id", label]
     names = [word for name in texts for word in ("-n", name)]
     made = written_by_theirs(place, ansible, "encrypt_string", *choice, *names, *texts.values())
@@ -40,8 +40,8 @@ def encrypted_strings(place: Place, ansible: str, label: str, texts: dict[str, s
 
 
 def make_repository(place: Place, ansible: str) -> tuple[list[str], list[str]]:
-    """Vaults of each label, one of them with a block of another label within, and two files of blocks; their names,
-    and those of the variables."""
+    """Create vaults of each label, one of them around a block of another label, and two files of blocks. Return the
+    names of the files and of the variables."""
     files, names, labels = [], [], list(LABELS)
     for label, following in zip(labels, labels[1:] + labels[:1]):
         texts = {f"{label}_block{number}": f"block {number} of {label}" for number in range(3)}
@@ -80,13 +80,13 @@ def test_a_repository(place: Place, subtests: SubTests) -> None:
     assert len(files) == 19, "how many files the repository has"
     before = played(place, str(playbook), 0)
     assert len(before) == len(names) + 1, "the playbook reads each"
-    # Vaults, the whole file, blocks, and the vaults with a block within.
+    # The vaults, the whole file, the blocks, and the vaults with a block inside.
     total = 3 * FILES_OF_A_LABEL + 1 + 3 * 3 + 3 * 2
     done = place.run(ROTATE, *secrets(place, 0), *secrets(place, 1, "new-"), ".")
     ended("the rotation", done, 0, summary(total))
     assert played(place, str(playbook), 1) == before, "the playbook says the same"
     ended("the check", place.run(CHECK, *secrets(place, 1), "."), 0, f"{total} decrypted, 0 not")
-    # Blocks within a vault are not found if the vault cannot be decrypted.
+    # Blocks inside a vault are not found if the vault cannot be decrypted.
     counts = f"0 decrypted, {total - len(LABELS)} not"
     ended("the old secrets decrypt none", place.run(CHECK, *secrets(place, 0), "."), 1, counts)
     for label, (_, new) in LABELS.items():

@@ -1,4 +1,4 @@
-"""Blocks of YAML: what stands around them keeps every byte."""
+"""Blocks in YAML: every byte around them stays."""
 
 import os
 import re
@@ -10,7 +10,7 @@ from companion_cases import texts, to_new, without_digits
 
 LABELLED = lines_of(sealed("old", label="default"), 2)
 DEEP = b"".join(b" " * n + b"a:\n" for n in range(30))
-# What stands in a file, and how many blocks of it are rotated.
+# The content of a file, and how many of its blocks are rotated.
 FILES = {
     "no last line end": (b"a: !vault |\n" + BODY, 1),
     "a last line without an end": (b"a: !vault |\n" + BODY + b"\nb: 1", 1),
@@ -69,7 +69,7 @@ def test_mixed(place: Place) -> None:
     assert [texts(after, "new")[index] for index in (0, 3)] == [TEXT, TEXT], "the others are rotated"
 
 
-# A run of this command waits for another one.
+# Makes a run of this command wait until another one has started, and fail if none does.
 MEET = """\
 if [ "$1" = {} ]; then
     touch ../run.$$
@@ -79,7 +79,7 @@ fi"""
 
 
 def test_at_once(cases: Companions) -> None:
-    """Blocks of one file are decrypted and encrypted at once; a secret that is refused is reported once."""
+    """The blocks of a file are decrypted and encrypted concurrently. A refused secret is reported once."""
     wanted = [b"text %d" % number for number in range(8)]
     content = b"".join(block("old", text, name=f"n{number}") for number, text in enumerate(wanted))
     place = cases.place()

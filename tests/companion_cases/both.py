@@ -1,4 +1,4 @@
-"""The same command line by Ansible's tool and by ansible-vault-with, where no terminal is to be asked."""
+"""Runs of the same command line by Ansible's tool and by ansible-vault-with, with and without a terminal."""
 
 import os
 import re
@@ -20,7 +20,7 @@ def theirs(place: Place, ansible: str, *words: str, **variables: str) -> Done:
 
 
 def written_by_theirs(place: Place, ansible: str, *words: str) -> str:
-    """The output of a run that ends well."""
+    """Return the output of a run, which must succeed."""
     done = theirs(place, ansible, *words)
     assert done.returncode == 0, f"{ansible} {words[0]}: {done.stderr}"
     return done.stdout
@@ -32,13 +32,13 @@ def theirs_at_terminal(place: Place, ansible: str, words: list[str], *answers: t
 
 
 def line_for_ansible(line: str) -> str:
-    """What Ansible's tool is to have for the same, after its name. It needs a terminal to make a file, or this word."""
+    """Return the line for Ansible's tool, which since 2.19 creates a file only at a terminal, or with this option."""
     return re.sub("^create", "create --skip-tty-check", line) if ansible_release() >= (2, 19) else line
 
 
 @contextmanager
 def for_ansible(place: Place) -> Iterator[None]:
-    """Meanwhile Ansible's tool finds no program of ours, and has UTF-8."""
+    """Hide our programs from Ansible's tool meanwhile, and give it UTF-8."""
     before = place.environment
     place.environment = before | {"PATH": os.environ["PATH"], "LC_ALL": "C.UTF-8"}
     yield

@@ -1,4 +1,4 @@
-"""ansible-vault-check, the help of all, and what they say of themselves."""
+"""ansible-vault-check, and the help and version of every companion."""
 
 from itertools import product
 
@@ -56,7 +56,7 @@ def test_what_cannot_be_decrypted(place: Place) -> None:
 
 
 def test_slow_tool(place: Place) -> None:
-    """What is longer than a pipe is written whole, also if the tool reads it late."""
+    """An input that does not fit into a pipe is written completely, even if the tool reads it late."""
     place.put("a.yml", sealed("old", TEXT * 20_000))
     place.wrap_tool("sleep 1.5")
     ended("a long vault", place.run(CHECK, *place.by_file("old"), "a.yml"), 0, "1 decrypted, 0 not")

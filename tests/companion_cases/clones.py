@@ -1,4 +1,4 @@
-"""Files in every kind of clone, and what git does there: the check and the hook look at each as at any other."""
+"""The check and the hook in every kind of clone, and after every operation of git in which the merge driver fails."""
 
 import os
 from pathlib import Path
@@ -12,7 +12,7 @@ from ansible_vault_companions.git import repositories
 pytestmark = pytest.mark.usefixtures("git")
 
 MARKS = "*.vault.yml diff=ansible-vault\n*.yml merge=ansible-vault\n"
-# How each kind of clone comes to be at `clone`, from the repository beside it.
+# The commands that make each kind of clone at `../clone`, from the repository.
 CLONES = {
     "a repository": "git clone -q . ../clone",
     "a worktree": "git worktree add -q --detach ../clone",
@@ -52,7 +52,7 @@ def test_kinds(place: Place, clone: Path) -> None:
     ended("unmarked", place.shell(f"git add -A && {HOOK}", folder=str(clone)), 1, f"deep/a.vault.yml {WHOLE}")
 
 
-# Changes that the driver cannot merge, since it does not know the secret, and what git does with them.
+# Makes changes that the driver cannot merge, since it does not know the secret. Each operation meets them.
 FORK = """
 seal() { cp ../$1.yml a.yml && git add -A && git commit -qm change; }
 seal base && git branch base && git checkout -qb ours
@@ -84,7 +84,7 @@ NOT_MERGED = "is not merged: the merge driver failed, so the file has only your 
 
 @pytest.mark.parametrize("what", OPERATIONS)
 def test_failed_drivers(place: Place, what: str) -> None:
-    """What git would commit as ours is refused, whatever it does, until that is given up or is meant."""
+    """A file with only our side is refused after each operation, until the user resets it or commits on purpose."""
     under_git(place, MARKS)
     place.run("git", "config", "merge.ansible-vault.driver", f"{MERGE} {' '.join(place.by_file('old'))} %O %A %B %P")
     for name in ("base", "undone", "ours", "unknown1", "unknown2"):
@@ -106,7 +106,7 @@ def test_failed_drivers(place: Place, what: str) -> None:
 
 
 def test_two_merge_bases(place: Place) -> None:
-    """--since compares with each of them: what only one has encrypted may be in plaintext since."""
+    """--since compares with each merge base, since a file may be encrypted in only one of them."""
     under_git(place, "")
 
     def add(name: str, content: bytes) -> str:

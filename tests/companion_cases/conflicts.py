@@ -1,4 +1,4 @@
-"""Conflicts that git leaves without the merge driver, and conflicts in files whose lines end as a checkout wants it."""
+"""Conflicts that git leaves without the merge driver, and conflicts in files with CR LF, however git stores them."""
 
 import pytest
 
@@ -16,7 +16,7 @@ SET_UP = f"set up the merge driver (see `ansible-vault-merge --help`), and run `
 
 
 def envelopes(*labels: str) -> list[bytes]:
-    """Those of base, ours and theirs."""
+    """Return the envelopes of base, ours and theirs."""
     rows = zip((BASE, OURS, THEIRS), labels, SALTS)
     return [seal(PASSWORDS["old"], text, label.encode(), salt) for text, label, salt in rows]
 
@@ -25,7 +25,7 @@ def blocks(*labels: str) -> list[bytes]:
     return [b"z: 1\n" + yaml_block(each, b"a") + b"y: 1\n" for each in envelopes(*labels)]
 
 
-# Versions of a file, and how many conflicts they have for the driver.
+# The versions of a file, and how many conflicts the driver finds in them.
 FILES = {
     "a vault": (envelopes("", "", ""), 0),
     "a value": (blocks("", "", ""), 1),
@@ -37,7 +37,7 @@ FILES = {
 @pytest.mark.parametrize("what, versions, conflicts", [(what, *rest) for what, rest in FILES.items()])
 @pytest.mark.parametrize("style", ("merge", "diff3"))
 def test_without_driver(cases: Companions, style: str, what: str, versions: list[bytes], conflicts: int) -> None:
-    """All say what to do, and it merges the file."""
+    """Each companion prints the command that merges the file."""
     place = cases.place()
     secrets = [*place.by_file("old"), *place.by_id("dev", "old"), *place.by_id("prod", "old")]
     under_git(place, "*.yml merge=ansible-vault\n")
@@ -64,7 +64,7 @@ def test_without_driver(cases: Companions, style: str, what: str, versions: list
 
 @pytest.mark.parametrize("attributes", ("*.yml text eol=crlf\n", "*.yml -text\n"))
 def test_line_ends_of_a_checkout(cases: Companions, attributes: str) -> None:
-    """The hook finds the markers that an edit left, whether git stores the ends of lines as they are or others."""
+    """The hook finds the markers that an edit left, whether or not git converts the line ends."""
     place = cases.place()
     under_git(place, attributes)
     place.put("a.yml", sealed("old").replace(b"\n", b"\r\n"))

@@ -1,4 +1,4 @@
-"""What the tests of the companions use."""
+"""Fixtures for the tests of the companions."""
 
 import tempfile
 from collections.abc import Iterator
@@ -32,7 +32,7 @@ def place(cases: Companions) -> Place:
 
 @pytest.fixture(scope="session")
 def ansible_runs() -> Iterator[AnsibleRuns]:
-    """Ansible's tool. What a test compares without it comes before `request.getfixturevalue`, which may skip it."""
+    """Ansible's tool. A test does all it can without it before `request.getfixturevalue`, which may skip the test."""
     with tempfile.TemporaryDirectory(prefix="ansible-vault-home-") as home:
         with AnsibleRuns(needs_ansible(), Path(home)) as runs:
             yield runs

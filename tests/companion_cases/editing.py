@@ -1,4 +1,4 @@
-"""ansible-vault-edit: what an edit changes, what it leaves, and where the plaintext lies."""
+"""ansible-vault-edit: what an edit changes, what it leaves alone, and where the plaintext is."""
 
 import os
 from pathlib import Path
@@ -49,13 +49,13 @@ def test_where_the_plaintext_lies(place: Place, subtests: SubTests) -> None:
 
 
 def written(place: Place) -> tuple[int, int]:
-    """What a write to the vault would change."""
+    """Return the properties of the vault that a write would change."""
     about = (place.tree / "all.yml").stat()
     return about.st_ino, about.st_mtime_ns
 
 
 def test_what_stays(cases: Companions, subtests: SubTests) -> None:
-    """Whatever ends an edit, the vault stays as it was, and nothing is left."""
+    """If an edit fails or changes nothing, the vault stays as it was, and nothing is left."""
     vault = sealed("old")
     stops = {
         "true": (0, "nothing was changed"),
@@ -75,7 +75,7 @@ def test_what_stays(cases: Companions, subtests: SubTests) -> None:
 
 
 def test_refusals(place: Place, subtests: SubTests) -> None:
-    """The editor is not even started."""
+    """A refused edit does not even start the editor."""
     place.put("all.yml", sealed("old"))
     place.put("plain.yml", TEXT)
     place.put("damaged.yml", sealed("old")[:-9])
@@ -114,7 +114,7 @@ def test_read_only_folder(place: Place) -> None:
 
 
 def test_what_cannot_be_removed(place: Place) -> None:
-    """Plaintext that the editor has locked in is not passed over in silence."""
+    """Plaintext that cannot be removed, because the editor locked its directory, is reported."""
     place.tree.chmod(0o777)
     place.runtime.chmod(0o777)
     lock = 'mkdir "${1%/*}/locked"; cp "$1" "${1%/*}/locked"; chmod 0 "${1%/*}/locked"'
@@ -152,7 +152,7 @@ def test_labels(place: Place, subtests: SubTests) -> None:
 
 
 def test_editors(place: Place, subtests: SubTests) -> None:
-    """$VISUAL and $EDITOR are shell, as elsewhere."""
+    """$VISUAL and $EDITOR are shell commands, as in other programs."""
     script = place.script('printf "%s|" "$@" > ../words; sed -i s/correct/wrong/ "$3"', "an editor")
     calls = {
         "EDITOR": {"EDITOR": f"'{script}' --wait 'two words'"},
@@ -210,7 +210,7 @@ def test_new_vaults(place: Place) -> None:
 
 @pytest.mark.parametrize("name", ("repository/all.yml", "repository/deep/er/all.yml"))
 def test_conflict_markers(cases: Companions, name: str) -> None:
-    """A vault that is saved with git's conflict markers is noted, and the hook refuses it until they are gone."""
+    """A vault saved with git's conflict markers is noted, and the hook refuses it until they are gone."""
     needs("git")
     marked = "printf '<<<<<<< ours\\nx: 1\\n=======\\nx: 2\\n>>>>>>> theirs\\n'"
     still = "all.yml: it still has git's conflict markers; edit it again to remove them\n"
@@ -245,7 +245,7 @@ def test_command_line(place: Place, subtests: SubTests) -> None:
 
 
 def test_typed_password(place: Place) -> None:
-    """A password that can be read but once serves all runs of the program."""
+    """A password that can be read only once serves all runs of the program."""
     needs("bash")
     place.put("all.yml", sealed("old"))
     place.environment["EDITOR"] = place.script(CHANGE, "editor")

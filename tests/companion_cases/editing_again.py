@@ -1,4 +1,4 @@
-"""After an edit that cannot be put back the editor opens again, at a terminal, and --resume takes up what was kept."""
+"""At a terminal, the editor opens again after an edit that cannot be put back. --resume continues a kept edit."""
 
 from __future__ import annotations
 
@@ -14,7 +14,7 @@ from lib.needs import needs, needs_pyyaml
 
 AGAIN = "Open the editor again? (yes, no): "
 TYPO = 'new: !vault "more'
-# Each run of the editor notes what it sees; the first makes a mistake, and the second mends it.
+# Each run of the editor notes what it sees. The first makes a mistake, and the second corrects it.
 MENDS = f"""\
 cat "$1" >> ../seen
 if grep -q '^new' "$1"; then sed -i 's/"more/more/' "$1"; else echo '{TYPO}' >> "$1"; fi
@@ -78,7 +78,7 @@ ENDS = {
 
 @pytest.mark.parametrize("what", ENDS)
 def test_given_up(place: Place, what: str) -> None:
-    """What was typed is kept."""
+    """An edit that is given up is kept."""
     editor, answers, status, why = ENDS[what]
     session = at_terminal(place, editor, *answers)
     assert (session.returncode, kept(place), place.left()) == (status, [TYPED], []), session
@@ -87,7 +87,7 @@ def test_given_up(place: Place, what: str) -> None:
 
 
 def test_without_a_change(place: Place) -> None:
-    """Who takes the mistake back has changed nothing."""
+    """Taking the mistake back counts as no change."""
     editor = f"if grep -q new \"$1\"; then sed -i /new/d \"$1\"; else echo '{TYPO}' >> \"$1\"; fi"
     session = at_terminal(place, editor, (AGAIN, b"yes\n"))
     assert (session.returncode, "nothing was changed" in session.stderr, kept(place)) == (0, True, [])
@@ -95,7 +95,7 @@ def test_without_a_change(place: Place) -> None:
 
 
 def test_resumed(place: Place) -> None:
-    """By the command of the message; a text that is still wrong is kept again."""
+    """The command in the message resumes the edit. A text that is still wrong is kept again."""
     needs_pyyaml()
     place.put("vars.yml", block("old"), 0o640)
     done = edit(place, f"echo '{TYPO}' >> \"$1\"", *place.by_file("old"), "vars.yml")
@@ -113,7 +113,7 @@ def test_resumed(place: Place) -> None:
 
 @pytest.mark.parametrize("name", ("all.yml", "-rf x.yml"))
 def test_vaults(place: Place, name: str) -> None:
-    """Also after a failing editor, and where the vault is still to be made."""
+    """The edit of a vault is resumed after the editor failed, even if the vault does not exist yet."""
     for content in (sealed("old"), None):
         if content:
             place.put(name, content)
@@ -140,7 +140,7 @@ def test_newest(place: Place) -> None:
 
 
 def test_nothing_to_resume(place: Place) -> None:
-    """What somebody else has put there is none."""
+    """A copy that belongs to another user is not resumed."""
     place.put("all.yml", sealed("old"))
     if os.geteuid() == 0:
         place.put(".ansible-vault-saved-all.yml-abcdefgh", sealed("old", b"theirs"))
@@ -153,7 +153,7 @@ def test_nothing_to_resume(place: Place) -> None:
 
 
 def test_under_another_password(cases: Companions) -> None:
-    """A text never gets the password of a file that somebody has exchanged meanwhile."""
+    """If somebody has exchanged the file meanwhile, the resumed text does not get that file's password."""
     needs_pyyaml()
     files = {
         "a vault": (sealed("prod", label="prod"), sealed("dev", label="prod"), sealed("dev", label="dev")),

@@ -1,6 +1,6 @@
-"""What file systems lack or refuse when a new file takes the place of another: links, syncs of folders, attributes.
+"""What file systems lack or refuse when a new file replaces another: links, syncs of directories, attributes.
 
-The system's faults are injected by strace, or by a companion whose `os` is changed.
+The faults come from strace, or from changes to the Python modules of the companion.
 """
 
 import os
@@ -16,7 +16,7 @@ MOUNT = "36 35 98:0 / {} rw,noatime master:1 - ext3 /dev/root rw,errors=continue
 
 
 def injected(place: Place, fault: str, *words: str, **variables: str) -> Done:
-    """Runs a companion for which strace makes calls of the system fail."""
+    """Run a companion under strace, which makes system calls fail."""
     needs("strace")
     tracer = ["strace", "-f", "-qq", "-o", str(place.path / "trace"), "-e", f"inject={fault}"]
     return place.run(*tracer, str(place.tools / words[0]), *words[1:], **variables)
@@ -24,9 +24,9 @@ def injected(place: Place, fault: str, *words: str, **variables: str) -> Done:
 
 @pytest.mark.parametrize("fault, status", {"EIO": 1, "EINVAL": 0}.items())
 def test_folder_that_is_not_synced(place: Place, fault: str, status: int) -> None:
-    """A folder whose sync fails may lose its new entry, which is reported; a file system that has none is no fault."""
+    """A failed sync of a directory is reported, since its new entry may be lost. Some file systems lack such syncs."""
     place.put("a.yml", sealed("old"))
-    # The first is that of the file.
+    # The first sync is the file's.
     done = injected(place, f"fsync:error={fault}:when=2+", WITH, "rekey", *to_new(place), "a.yml")
     message = f"{WITH}: a.yml: Input/output error\n" if status else ""
     assert (done.returncode, done.stdout, done.stderr) == (status, "", message)
@@ -35,7 +35,7 @@ def test_folder_that_is_not_synced(place: Place, fault: str, status: int) -> Non
 
 
 def test_folder_that_cannot_be_read(place: Place) -> None:
-    """It cannot be opened to be synced, so all file systems are."""
+    """A directory that cannot be opened cannot be synced alone, so all file systems are."""
     needs("strace")
     place.put("folder/a.yml", sealed("old"))
     place.put("../traces/trace", b"")
@@ -54,7 +54,7 @@ def test_folder_that_cannot_be_read(place: Place) -> None:
 
 @pytest.mark.parametrize("fault", NO_LINKS)
 def test_no_hard_links(place: Place, fault: str) -> None:
-    """A file system may say in several ways that it has none; a new vault is made all the same."""
+    """A file system may report in several ways that it has no hard links. A new vault is created anyway."""
     editor = place.script('echo a > "$1"', "editor")
     done = injected(place, f"link,linkat:error={fault}", EDIT, *place.by_file("old"), "new.yml", EDITOR=editor)
     assert (done.returncode, done.stdout, done.stderr) == (0, "", "")
@@ -65,7 +65,7 @@ def test_no_hard_links(place: Place, fault: str) -> None:
 
 @pytest.mark.parametrize("fault", NO_LINKS)
 def test_name_that_is_taken_where_there_are_no_hard_links(place: Place, fault: str) -> None:
-    """A new vault takes the place of nothing there, either."""
+    """Even without hard links, a new vault does not replace a file."""
     none = f"""
 import errno
 def none(_, target):
@@ -101,7 +101,7 @@ MOUNTED = {
 
 @pytest.mark.parametrize("name", MOUNTED)
 def test_names_of_mount_points(place: Place, name: str) -> None:
-    """Such a name has escapes in /proc/self/mountinfo. A name that only looks like them is that of no mount point."""
+    """/proc/self/mountinfo has escapes in names. A file whose own name looks like them is not a mount point."""
     lines = "".join(MOUNT.format(path) for path in ("/proc", f"{place.tree}/{MOUNTED[name]}"))
     mounts = f"""
 import builtins, io
@@ -122,7 +122,7 @@ replacing.open = opened
 
 @pytest.mark.parametrize("command, password", {"rekey": "new", "decrypt": None}.items())
 def test_attributes_of_security_modules(place: Place, command: str, password: str | None) -> None:
-    """The system gives them to the new file: to set or remove them takes a right that the user need not have."""
+    """The system gives the new file these attributes. Setting or removing them takes a right that the user may lack."""
     labelled = """
 listed = os.listxattr
 os.listxattr = lambda target: [*listed(target), "security.selinux"]

@@ -1,6 +1,6 @@
-"""Runs companions in forks of one process, with the model of the tests in the place of the program: a run takes
-milliseconds, and no key is derived twice. What stands for a companion on PATH is a script that asks that process to run
-it, with its words and streams.
+"""Run companions in forks of one process, with the model of the tests in place of the program: a run takes
+milliseconds, and no key is derived twice. On PATH, a script replaces each companion. It asks the process to run the
+companion with the script's arguments and streams.
 """
 
 from __future__ import annotations
@@ -22,9 +22,9 @@ from companion_cases.oracle import LABEL_OF, SALTS, label_of, make
 from lib.paths import ROOT
 from model.vaults import MAGIC
 
-# In the environment: from which of the salts on they are taken.
+# The environment variable with the number of the first salt to use.
 STEP = "STEP"
-# The shell has streams of its own while it prints or reads.
+# Copies the streams first, since the shell redirects them while it prints or reads.
 ASKING = """exec 3<&0 4>&1 5>&2
 echo $$ > '{0}/asked' && read status < '{0}/answered' && exit "$status"
 """
@@ -32,7 +32,7 @@ NAMES = {password: name for name, password in PASSWORDS.items()}
 
 
 class Forks:
-    """The process, as long as it is needed."""
+    """The process, which runs during a `with` statement."""
 
     def __init__(self, place: Place, companions: Path) -> None:
         for name in ("asked", "answered"):
@@ -54,7 +54,7 @@ class Forks:
 
 
 def answer(words: list[str], data: bytes, number: int) -> tuple[int, bytes, bytes]:
-    """What the program does with a command line of a companion."""
+    """Return what the program answers to a command line of a companion: the status and both outputs."""
     given = [word.partition("=")[2].partition("@")[::2] for word in words if "vault-id=" in word]
     if not all(path for _, path in given):
         return 1, b"", b"ERROR! asking for a password"
@@ -78,7 +78,7 @@ def answer(words: list[str], data: bytes, number: int) -> tuple[int, bytes, byte
 
 
 def load(companions: Path) -> dict[str, CodeType]:
-    """The companions by their names. What any of them imports is there."""
+    """Return the companions by name, after importing everything that any of them imports."""
     import ansible_vault_companions
     from ansible_vault_companions import running
 
@@ -98,7 +98,7 @@ def load(companions: Path) -> dict[str, CodeType]:
 
 
 def run_for(process: str, companions: dict[str, CodeType]) -> None:
-    """A companion, in the place of the script that asks for it. It ends this process."""
+    """Run a companion for the script that asks for it. This ends the process."""
     os.chdir(f"/proc/{process}/cwd")
     variables = Path(f"/proc/{process}/environ").read_bytes().split(b"\0")[:-1]
     os.environb.clear()
@@ -115,7 +115,7 @@ def serve(folder: Path, companions: dict[str, CodeType]) -> None:
         make(name, b"", "", number)
     asked, answered = (os.open(folder / name, os.O_RDWR) for name in ("asked", "answered"))
     os.write(1, b"ready\n")
-    # It ends with its input, if not before.
+    # The loop ends when standard input does, unless the process is killed before.
     while 0 not in select.select([0, asked], [], [])[0]:
         process = os.read(asked, 100).decode().strip()
         child = os.fork()

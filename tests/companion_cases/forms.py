@@ -1,4 +1,4 @@
-"""In which forms an envelope may stand in a file, and that none is passed over in silence."""
+"""The forms that an envelope may have in a file. None is passed over in silence."""
 
 import time
 from collections.abc import Callable
@@ -13,7 +13,7 @@ from companion_cases import texts, to_new
 LINE = sealed("old").decode().replace("\n", "\\n")
 OF_PROD = sealed("prod", label="prod").decode().replace("\n", "\\n")
 COMMENT = b"".join(b"# " + line for line in block("old").splitlines(keepends=True))
-# What stands in a file, and the reason that is reported.
+# The content of a file, and the reason that is reported.
 REPORTED = {
     "quotes": (f'a: !vault "{LINE}"\n'.encode(), "in quotes or within a line"),
     "JSON": (f'{{"a": {{"__ansible_vault": "{LINE}"}}}}\n'.encode(), "encrypt the whole file"),
@@ -36,7 +36,7 @@ REPORTED = {
 
 
 def unreported(done: Done) -> list[str]:
-    """The files for which no line has the reason."""
+    """Return the files for which no message has the reason."""
     lines = done.stderr.splitlines()
     found = {name: [line for line in lines if f"./{name}:" in line] for name in REPORTED}
     return [name for name, (_, why) in REPORTED.items() if not any(why in line for line in found[name])]
@@ -54,7 +54,7 @@ def test_reported(place: Place) -> None:
 
 
 def test_several_in_a_line(place: Place) -> None:
-    """Each is looked at, with its own label."""
+    """Each envelope in a line counts, with its own label."""
     for name, order in (("a.json", (LINE, OF_PROD)), ("b.json", (OF_PROD, LINE))):
         place.put(name, "{{{}}}".format(", ".join(f'"x": "{line}"' for line in order)).encode())
     place.put("c.json", f'{{"x": "{LINE}", "y": "{LINE}"}}'.encode())
@@ -64,7 +64,7 @@ def test_several_in_a_line(place: Place) -> None:
 
 
 def test_of_another_label(place: Place) -> None:
-    """What is not to be rotated is no fault."""
+    """An envelope in such a form is not an error if its label is not rotated."""
     place.put("a.yml", sealed("old"))
     place.put("b.yml", f'a: !vault "{OF_PROD}"\n'.encode())
     place.put("c.json", f'{{"a": {{"__ansible_vault": "{OF_PROD}"}}}}\n'.encode())
@@ -80,7 +80,7 @@ def test_of_another_label(place: Place) -> None:
 
 
 def test_taken_as_blocks(place: Place) -> None:
-    """A block within another text is one, too."""
+    """A block within another text counts as a block."""
     text = b"script: |\n  x: !vault |\n" + lines_of(sealed("old"), 6) + b"\n  y: 1\n"
     place.put("vars.yml", text)
     ended("within a text", place.run(ROTATE, *to_new(place), "."), 0, "1 block rotated", summary(1))
@@ -96,7 +96,7 @@ def test_line_ends(place: Place) -> None:
     assert decrypted("new", after.replace(b"\r\n", b"\n")) == TEXT, "it is rotated"
 
 
-# Pieces of hostile files, of which each is repeated.
+# Each piece is repeated to make a hostile file.
 PIECES = [
     b"$ANSIBLE_VAULT;",
     b"$ANSIBLE_VAULT;1.1;AES256",
@@ -121,7 +121,7 @@ PIECES = [
 ]
 SMALL = 1 << 15
 TIMES = 8
-# The larger is eight times as long; with quadratic steps it would take 64 times as long.
+# The large file is eight times as long as the small one. In quadratic time, it would take 64 times as long.
 MOST = 24
 
 
@@ -129,7 +129,7 @@ Work = Callable[[bytes], object]
 
 
 def seconds(work: Work, data: bytes) -> float:
-    """Of the processor, so that others on the machine count for little."""
+    """Return the processor time, since other processes hardly affect it."""
     taken = []
     for _ in range(2):
         begun = time.process_time()
@@ -152,7 +152,7 @@ WORKS: dict[str, Work] = {
 @pytest.mark.parametrize("piece", PIECES, ids=lambda piece: repr(piece[:40]))
 @pytest.mark.parametrize("work", WORKS.values(), ids=WORKS)
 def test_linear_time(work: Work, piece: bytes) -> None:
-    """Eight times as long a file takes eight times as long, whatever it holds."""
+    """A file that is eight times as long takes eight times as long, whatever it contains."""
     small = (piece * (SMALL // len(piece) + 1))[:SMALL]
     times = [seconds(work, small), seconds(work, small * TIMES)]
     # Below a few milliseconds the clock says little.

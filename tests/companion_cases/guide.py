@@ -1,6 +1,6 @@
-"""The command lines of the Ansible Vault guide, by Ansible's tool and by the alias for ansible-vault-with.
+"""The command lines of the Ansible Vault guide, run by Ansible's tool and by the alias for ansible-vault-with.
 
-Each row of a table says what both do, or what Ansible's tool does instead, up to which release.
+Each row of a table says what both do, or what Ansible's tool does instead, and before which release.
 """
 
 import re
@@ -21,16 +21,16 @@ OLD, NEW, AGAIN = "Vault password: ", "New Vault password: ", "Confirm New Vault
 NEW_OF, AGAIN_OF = "New vault password ({}): ", "Confirm new vault password ({}): "
 LIST = "ANSIBLE_VAULT_IDENTITY_LIST='dev@dev-password, prod@multi_password_file'"
 DEV = "--vault-id dev@a_password_file"
-# Ansible's tool asks for strings by its standard streams.
+# Ansible's tool asks for strings through its standard streams.
 AT_TERMINAL = "--output new.yml < /dev/tty > /dev/tty 2>&1"
 VARIABLE = "Variable name (enter for no name): "
 STRING, SHOWN_STRING = "String to encrypt (hidden): ", "String to encrypt:"
-# No release comes after it.
+# Later than every release.
 NONE = (3, 0)
 
 
 class Instead(NamedTuple):
-    """What releases of Ansible's tool before this one say, and what is typed for them."""
+    """What releases of Ansible's tool before this one print, and what is typed for them."""
 
     before: tuple[int, int]
     says: str
@@ -38,13 +38,13 @@ class Instead(NamedTuple):
 
 
 class Row(NamedTuple):
-    """A line after `ansible-vault`, what is typed, and what it does."""
+    """A command line after `ansible-vault`, what it does, and what is typed."""
 
     line: str
     does: str
     # The password of the three files, which are plaintext without one.
     password: str = ""
-    # Questions, and what is typed: a password by its name, or a text.
+    # The questions, and what is typed for each: the name of a password, or a text.
     typed: list[tuple[str, str]] = []
     instead: Instead | None = None
     # What is typed for Ansible's tool if it asks more.
@@ -52,7 +52,7 @@ class Row(NamedTuple):
     before: str = ""
 
     def other(self) -> Instead | None:
-        """What the release that is there does instead."""
+        """Return what the installed release does instead, or None."""
         return self.instead if self.instead and ansible_release() < self.instead.before else None
 
     def for_ansible(self) -> "Row":
@@ -177,18 +177,18 @@ def run(place: Place, tool: str, row: Row) -> Session:
     return at_terminal(place, ["bash", "-c", text], *answers, EDITOR=editor)
 
 
-# The first line of a block with what it has; of other text an empty line.
+# The first line of a block, or an empty line for other text; and the described content.
 Block = tuple[bytes, Described]
 
 
 def outcome(place: Place, session: Session) -> tuple[bool, list[Block], dict[str, list[Block]]]:
-    """Success, what is written by its blocks, and each file that is no password file."""
+    """Return whether the run succeeded, the blocks of its output, and those of each file except password files."""
     files = {name: blocks(data) for name, data in place.files().items() if not (name in FILES or "client" in name)}
     return session.returncode == 0, blocks(session.stdout.strip().encode()), files
 
 
 def blocks(data: bytes) -> list[Block]:
-    """The first line and the plaintext of each block; of other text all of it."""
+    """Return the first line and the content of each block, or describe other text as a whole."""
     parts = re.split(rb"(?m)^(?=[^ \n]*:? ?!vault)", data) if b"!vault" in data else [data]
     return [(part.partition(b"\n")[0] if b"!vault" in part else b"", described(part)) for part in parts if part]
 
@@ -212,7 +212,7 @@ def test_lines(cases: Companions, row: Row) -> None:
 
 
 def test_prompt_beside_the_streams(place: Place) -> None:
-    """What is asked is asked at the terminal, even if no standard stream is one."""
+    """Questions are asked at the terminal, even if no standard stream is one."""
     place.put("a_password_file", PASSWORDS["dev"], 0o600)
     answers = [(VARIABLE, b"one\n"), (STRING, b"first\n")]
     session = at_terminal(place, [WITH, "encrypt_string", *DEV.split(), "--prompt"], *answers)

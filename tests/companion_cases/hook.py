@@ -40,7 +40,7 @@ def test_what_is_refused(place: Place, subtests: SubTests) -> None:
 
 
 def test_what_is_staged(place: Place) -> None:
-    """Not what stands in the folder."""
+    """The hook checks the staged content, not the files in the directory."""
     with_hook(place)
     place.put("a.vault.yml", TEXT)
     place.shell("git add -A")
@@ -61,7 +61,7 @@ def test_what_is_staged(place: Place) -> None:
 
 
 def test_links(place: Place) -> None:
-    """git keeps the name in a link, and no content."""
+    """git stores only the name that a link points to, and no content."""
     with_hook(place)
     place.put("all.vault.yml", sealed("old"))
     (place.tree / "link.vault.yml").symlink_to("all.vault.yml")
@@ -74,7 +74,7 @@ def test_links(place: Place) -> None:
 
 
 def test_blocks(place: Place) -> None:
-    """YAML with blocks is refused where only a vault will do."""
+    """YAML with blocks is refused if the attribute requires a vault."""
     with_hook(place)
     place.put("vars.vault.yml", b"plain: 1\n" + block("old"))
     silent("diff=ansible-vault", add_and_commit(place))
@@ -83,11 +83,11 @@ def test_blocks(place: Place) -> None:
 
 
 def test_leftovers(place: Place) -> None:
-    """What companions leave is not committed by `git add -A`."""
+    """Files that a failed companion left behind are refused, even though `git add -A` stages them."""
     with_hook(place)
     place.put("inner/a.yml", sealed("old"))
     silent("the vault", add_and_commit(place))
-    # It is killed where a new file is to get the name of the old one.
+    # It is killed when the new file would replace the old one.
     killed, words = "os.replace = lambda *_: os.kill(os.getpid(), 9)", ["decrypt", *place.by_file("old"), "inner/a.yml"]
     assert run_changed(place, WITH, killed, words).returncode == -9
     ended("an edit", edit(place, f"{CHANGE}; exit 1", *place.by_file("old"), "inner/a.yml"), 1, "is encrypted in")

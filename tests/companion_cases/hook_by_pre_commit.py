@@ -1,4 +1,4 @@
-"""ansible-vault-hook as the pre-commit framework runs it, and the files that it is given."""
+"""ansible-vault-hook as the pre-commit framework runs it, and with files as arguments."""
 
 import os
 import shlex
@@ -14,7 +14,7 @@ from lib.paths import ROOT
 pytestmark = pytest.mark.usefixtures("git")
 
 ATTRIBUTES = "*.vault.yml diff=ansible-vault\n"
-# The keys of a hook that this test knows how to heed.
+# The keys of a hook that this test takes into account.
 KNOWN = {"id", "name", "description", "entry", "language", "always_run", "pass_filenames", "require_serial", "stages"}
 KNOWN.add("minimum_pre_commit_version")
 
@@ -31,7 +31,7 @@ def definition() -> dict[str, Any]:
 
 
 def by_framework(place: Place, *names: str) -> Done:
-    """Runs the entry as pre-commit does, in the top folder, with the files of the commit, or with those named."""
+    """Run the entry as pre-commit does: in the top directory, with the files of the commit or the named ones."""
     hook = definition()
     listed = place.shell("git diff --staged --name-only --no-ext-diff -z --diff-filter=ACMRTUXB").stdout
     files = [name for name in names or listed.split("\0")[:-1] if not os.path.islink(place.tree / name)]

@@ -17,7 +17,7 @@ ATTRIBUTES = "*.vault.yml diff=ansible-vault\n"
 
 
 def test_every_file(place: Place) -> None:
-    """The second of the usual leaks: a pipeline that sees what no hook saw."""
+    """The second of the usual leaks: a pipeline checks commits that no hook saw."""
     under_git(place, ATTRIBUTES)
     committed(place, "a.vault.yml", sealed("old"))
     committed(place, "vars.yml", block("old"))
@@ -32,7 +32,7 @@ def test_every_file(place: Place) -> None:
     lines = [f"{HOOK}: deep/c.vault.yml is not encrypted", f"{HOOK}: vars.yml {IN_PART.format('secret')}"]
     lines.append(meant("vars.yml"))
     assert (done.returncode, done.stderr.splitlines()) == (1, lines), "each is refused"
-    # The commit counts, and neither the index nor the folder.
+    # Only the commit counts, not the index or the working tree.
     for name in names:
         place.put(name, sealed("old"))
     place.shell("git add -A")
@@ -44,7 +44,7 @@ def test_every_file(place: Place) -> None:
 
 
 def test_each_commit(place: Place, subtests: SubTests) -> None:
-    """Also one that a later commit takes back: history keeps it."""
+    """A leak counts even if a later commit takes it back, since history keeps it."""
     under_git(place, ATTRIBUTES)
     first = committed(place, "vars.yml", sealed("old"))
     silent("nothing since", place.run(HOOK, "--since", "HEAD"))
@@ -67,7 +67,7 @@ def test_each_commit(place: Place, subtests: SubTests) -> None:
 
 
 def test_merge_commits(place: Place) -> None:
-    """What a merge itself puts in plaintext, since no parent has it so."""
+    """A merge is refused if it puts a vault in plaintext that is encrypted in its parents."""
     under_git(place, "")
     first = committed(place, "vars.yml", sealed("old"))
     place.shell("git checkout -qb branch")
@@ -79,7 +79,7 @@ def test_merge_commits(place: Place) -> None:
 
 
 def test_cherry_picks(place: Place) -> None:
-    """git runs no hook for these; --since sees them."""
+    """git runs no hook for a cherry-pick, nor with --no-verify, but --since checks these commits."""
     under_git(place, "")
     place.shell(f"{HOOK} --install")
     base = committed(place, "vars.yml", sealed("old"))
@@ -99,7 +99,7 @@ def test_cherry_picks(place: Place) -> None:
 
 
 def test_shallow_clones(place: Place, subtests: SubTests) -> None:
-    """As pipelines have them: what was encrypted before is not there to be compared."""
+    """Pipelines often use shallow clones, which lack the earlier commits to compare with."""
     under_git(place, ATTRIBUTES)
     committed(place, "a.yml", sealed("old"))
     committed(place, "a.yml", TEXT)
@@ -117,7 +117,7 @@ def test_shallow_clones(place: Place, subtests: SubTests) -> None:
 
 
 def test_partial_clones(place: Place, subtests: SubTests) -> None:
-    """What such a clone lacks is not fetched, since the folder says from where, and by which program."""
+    """Missing objects are not fetched, since the clone's own settings name the source and the program."""
     under_git(place, ATTRIBUTES)
     for text in (b"one\n", b"two\n"):
         committed(place, "a.yml", sealed("old", text))
@@ -137,7 +137,7 @@ def test_partial_clones(place: Place, subtests: SubTests) -> None:
 @pytest.mark.parametrize("number", [signal.SIGINT, signal.SIGTERM])
 @pytest.mark.parametrize("command", ["check-attr", "cat-file"])
 def test_ended(place: Place, command: str, number: int) -> None:
-    """A signal ends it while git works, and nothing is left."""
+    """A signal ends the hook while git runs, and nothing is left."""
     under_git(place, ATTRIBUTES)
     committed(place, "a.vault.yml", sealed("old"))
     os.mkfifo(place.path / "never")
@@ -148,6 +148,6 @@ def test_ended(place: Place, command: str, number: int) -> None:
         wait_until((place.path / "started").exists, "git")
         process.send_signal(number)
         status = process.wait(SECONDS)
-    # What still waits goes on.
+    # Let the waiting git continue.
     os.close(os.open(place.path / "never", os.O_RDWR))
     assert (status, place.left()) == (-number, [])

@@ -19,7 +19,7 @@ DIFF, DRIVER = SETTINGS = ["diff.ansible-vault.textconv", "merge.ansible-vault.d
 
 
 def installs(what: str, done: Done, hooks: Path, told: str = "installed", which: str = THIS_ONE) -> None:
-    """It prints what it installed where, for which repositories, and what it did not."""
+    """Check that the output says what was installed where, for which repositories, and what was not."""
     lines = [*(f"{hooks}/{name}: {told}" for name in ("pre-commit", "pre-merge-commit")), which]
     found = done.stdout.splitlines()
     assert (done.returncode, found[:3], done.stderr) == (0, lines, ""), what
@@ -52,7 +52,7 @@ def test_installed(place: Place) -> None:
 
 
 def test_other_hooks(cases: Companions) -> None:
-    """One that is there stays; the line to add to it is reported."""
+    """An existing hook stays. The message contains the line to add to it."""
     place = cases.place()
     under_git(place, ATTRIBUTES)
     hook = place.tree / ".git/hooks/pre-commit"
@@ -86,7 +86,7 @@ def test_other_hooks(cases: Companions) -> None:
 
 
 def test_moved_programs(place: Place) -> None:
-    """git ignores a hook that is a link to nothing; a link to an earlier place of this program is replaced."""
+    """git ignores a hook that is a broken link. A link to an earlier location of this program is replaced."""
     under_git(place, ATTRIBUTES)
     old = place.path / "old" / HOOK
     old.parent.mkdir()
@@ -121,13 +121,13 @@ def test_for_every_repository(place: Place, variable: str, whose: str) -> None:
 
 
 def config(place: Place) -> list[str]:
-    """The settings of this clone for both drivers."""
+    """Return the settings of this clone for both drivers."""
     lines = place.shell("git config --local --list").stdout.splitlines()
     return sorted(line for line in lines if ".ansible-vault." in line)
 
 
 def test_drivers(place: Place) -> None:
-    """With secrets git diff and git merge work, and afterwards all is as it was."""
+    """With secrets, git diff and git merge work. After --uninstall, everything is as before."""
     under_git(place, f"*.vault.yml {MARKS}\n")
     place.put("a.vault.yml", sealed("old", b"one: 1\n2: 2\n3: 3\nfour: 4\n"))
     add_and_commit(place)
@@ -155,7 +155,7 @@ def test_drivers(place: Place) -> None:
 
 
 def test_settings_of_others(place: Place) -> None:
-    """They stay, whoever made them, and whether they were made before or after."""
+    """Settings that --install did not make stay, whether they came before or after it."""
     under_git(place, f"*.vault.yml {MARKS}\n")
     place.shell(f"git config {DIFF} 'cat --'")
     done = place.run(HOOK, "--install", *place.by_file("old"))
@@ -175,7 +175,7 @@ def test_settings_of_others(place: Place) -> None:
 
 
 def test_secrets_of_a_clone(place: Place, subtests: SubTests) -> None:
-    """What a clone could bring along is no secret of a setting."""
+    """A secret that a clone could bring along is not put into a setting."""
     under_git(place, ATTRIBUTES)
     for words in (["--vault-password-file", "pass"], ["--vault-id", "dev@pass"], ["--vault-id", "dev@prompt"]):
         with subtests.test(words[1]):
@@ -188,7 +188,7 @@ def test_secrets_of_a_clone(place: Place, subtests: SubTests) -> None:
 
 
 def test_home(place: Place) -> None:
-    """Its `~` is read as the companions read it, in whatever shell git runs."""
+    """The companions expand `~`, whichever shell git runs."""
     under_git(place, f"*.vault.yml {MARKS}\n")
     (place.secrets / "o@ld").symlink_to(place.secret("old"))
     done = place.run(HOOK, "--install", "--vault-id", "prod@~/secrets/o@ld", "--vault-password-file", "~/secrets/new")
@@ -200,7 +200,7 @@ def test_home(place: Place) -> None:
 
 
 def test_marks(place: Place) -> None:
-    """The lines that .gitattributes lacks are printed, and it stays as it is."""
+    """The lines that .gitattributes lacks are printed. The file stays as it is."""
     under_git(place, "*.vault.yml diff=ansible-vault\n")
     done = place.run(HOOK, "--install", *place.by_file("old"))
     assert done.stdout.splitlines()[5:] == [UNMARKED, f"  vault.yml {MARKS}"], "there is no vault yet"
@@ -221,7 +221,7 @@ def test_marks(place: Place) -> None:
 
 
 def test_submodules(place: Place) -> None:
-    """It has settings and hooks of its own."""
+    """A submodule has settings and hooks of its own."""
     under_git(place, ATTRIBUTES)
     place.shell("git init -q ../other && cd ../other && git commit -q --allow-empty -m x")
     place.shell("git -c protocol.file.allow=always submodule --quiet add ../other below")

@@ -1,4 +1,4 @@
-"""Where ansible-vault-hook follows a link to, beside where the system does."""
+"""ansible-vault-hook follows links to the same files as the system."""
 
 import os
 import stat
@@ -18,7 +18,7 @@ FILES = ["plain.yml", "..data/plain.yml", ".../..plain", "deep/er/plain.yml", "d
 TO_FOLDERS = {"across": "deep/er", "..data/back": ".."}
 FOLDERS = ["", "..data", "...", "deep", "deep/er"]
 LINKS = ["one", "..two", "three.yml", "four"]
-# What a target is made of: names that lead anywhere, or where it leads from the top folder by detours.
+# The parts of a target: random names; or detours from the top directory, and where they end.
 NAMES = ["..", "..", ".", "", "top", *LINKS, "plain.yml", "..data", "...", "..plain", "deep", "er", ".x", "nowhere"]
 ANYWHERE = st.lists(st.sampled_from(NAMES), min_size=1, max_size=6).map("/".join)
 DETOURS = [".", "", "deep/..", "..data/..", "deep/er/../..", "../top", "across/..", "..data/back", ".../."]
@@ -27,7 +27,7 @@ ENDS = [*FILES, *FILES, *LINKS, "er/plain.yml", "../plain.yml", "../topmost/plai
 THERE = st.tuples(st.lists(st.sampled_from(DETOURS), max_size=3), st.sampled_from(ENDS)).map(
     lambda each: "/".join([*each[0], each[1]])
 )
-# Where a target begins: at the link, at the top folder as seen from there, or at the root.
+# Where a target begins: at the link, at the top directory as seen from there, or at the root.
 STARTS = ["", "{above}", "{above}", "{above}", "{top}/", "{top}/", "/"]
 TARGETS = st.tuples(st.sampled_from(STARTS), st.one_of(ANYWHERE, THERE, THERE))
 TREES = st.dictionaries(st.sampled_from(LINKS), st.tuples(st.sampled_from(FOLDERS), TARGETS), min_size=1)
@@ -35,7 +35,7 @@ TREES = st.dictionaries(st.sampled_from(LINKS), st.tuples(st.sampled_from(FOLDER
 
 @pytest.fixture(scope="module")
 def top(tmp_path_factory: pytest.TempPathFactory) -> Path:
-    """A folder with files and links to folders, beside others."""
+    """A directory that contains files and links to directories, beside other files."""
     found = tmp_path_factory.mktemp("links").resolve() / "top"
     for name in FILES:
         (found / name).parent.mkdir(parents=True, exist_ok=True)
@@ -49,7 +49,7 @@ def top(tmp_path_factory: pytest.TempPathFactory) -> Path:
 
 
 def by_system(top: Path, name: str) -> str:
-    """The file below the folder that a link leads to; nothing if it leads elsewhere, and `nowhere` if to nothing."""
+    """Return the file below the directory that a link points to; "" if it is elsewhere, "nowhere" if there is none."""
     try:
         os.stat(top / name)
     except OSError:
@@ -60,7 +60,7 @@ def by_system(top: Path, name: str) -> str:
 
 def by_hook(top: Path, name: str) -> str:
     def entry(name: bytes) -> tuple[str, str]:
-        """As git has it: folders are no entries."""
+        """Return an entry as git has it. Directories are not entries."""
         path = top / os.fsdecode(name)
         if path.is_symlink():
             return LINK_MODE, os.readlink(path)
@@ -77,7 +77,7 @@ def check_links(top: Path, links: dict[str, str], counts: Counter[str]) -> None:
     try:
         for name in links:
             found, known = by_hook(top, name), by_system(top, name)
-            # What is nowhere today may be there in another clone.
+            # A target that is missing here may exist in another clone.
             assert found == known or known == "nowhere", (links, name)
             counts["nowhere" if known == "nowhere" else "below" if known else "elsewhere"] += 1
     finally:
@@ -103,7 +103,7 @@ def test_as_the_system(top: Path) -> None:
 
 def test_loops(top: Path) -> None:
     check_links(top, {"one": "..two", "..two": "one", "four": "four"}, Counter())
-    # As many as the system follows, and one more.
+    # As many links as the system follows, and one more.
     for count, wanted in ((40, "plain.yml"), (41, "")):
         links = {f"link{number}": f"link{number + 1}" for number in range(count)}
         links[f"link{count - 1}"] = "plain.yml"
@@ -119,7 +119,7 @@ def test_loops(top: Path) -> None:
 @pytest.mark.usefixtures("git")
 @pytest.mark.parametrize("path", ["..data", "folder/plain.yml", "folder/../deep/plain.yml", "{tree}/deep/plain.yml"])
 def test_commits(place: Place, path: str) -> None:
-    """A link in the place of a vault is refused, however it leads to plaintext."""
+    """A link in place of a vault is refused, however it leads to plaintext."""
     with_hooks(place)
     place.put("deep/plain.yml", TEXT)
     place.put("..data", TEXT)

@@ -1,4 +1,4 @@
-"""ansible-vault-hook and plaintext that is elsewhere than the vault or the value was."""
+"""ansible-vault-hook finds plaintext even if it is not where the vault or the value was."""
 
 import os
 
@@ -17,7 +17,7 @@ PASSWORD = block("old", name="password")
 
 
 def below(key: str, value: bytes) -> bytes:
-    """Lines of YAML as the value of a key."""
+    """Return the lines of YAML as the value of a key."""
     return f"{key}:\n".encode() + b"".join(b"  " + line for line in value.splitlines(keepends=True))
 
 
@@ -84,7 +84,7 @@ def test_no_leaks(place: Place) -> None:
 
 
 def test_without_pyyaml(cases: Companions, place: Place) -> None:
-    """Variables of a name are counted."""
+    """Without PyYAML, the variables of each name are counted."""
     hide_pyyaml(place, cases)
     with_hooks(place)
     silent("at first", again(place, "vars.yml", A + B))
@@ -115,7 +115,7 @@ def test_from_file_to_file(place: Place) -> None:
     silent("another value", add_and_commit(place))
 
 
-# Where a vault is before, and its plaintext after.
+# The path of a vault before, and of its plaintext afterwards.
 MOVES = {
     "to another folder": ("one/vault.yml", "two/vault.yml"),
     "to another name": ("one/vault.yml", "one/secrets.yml"),
@@ -139,7 +139,7 @@ def test_vaults(place: Place, what: str) -> None:
 
 
 def test_renamed_folders(place: Place) -> None:
-    """git finds the other files again, and so the folder."""
+    """git finds the other files again, which shows how the directory was renamed."""
     with_hooks(place)
     for number in range(3):
         place.put(f"host_vars/web/{number}.yml", f"number: {number}\n".encode() * 9)
@@ -151,7 +151,7 @@ def test_renamed_folders(place: Place) -> None:
 
 
 def test_no_moves(place: Place) -> None:
-    """What comes where a vault goes, and is none of it."""
+    """Files that appear when a vault goes, but do not contain its plaintext."""
     with_hooks(place)
     place.put("one/vault.yml", sealed("old"))
     silent("at first", again(place, "two/vault.yml", sealed("new")))
@@ -175,7 +175,7 @@ def test_no_moves(place: Place) -> None:
 
 
 def test_links(place: Place, subtests: SubTests) -> None:
-    """A link in the place of a vault, to what is in the repository."""
+    """A link in place of a vault is refused if it points to plaintext in the repository."""
     with_hooks(place)
     place.put("deep/plain.yml", TEXT)
     place.put("deep/other.yml", sealed("new"))
@@ -196,7 +196,7 @@ def test_links(place: Place, subtests: SubTests) -> None:
 
 
 def test_in_two_commits(place: Place) -> None:
-    """What no single commit does."""
+    """One commit removes a vault, and a later one adds its plaintext."""
     with_hooks(place)
     place.put("vars.yml", A)
     first = committed(place, "all.yml", sealed("old"))
@@ -224,7 +224,7 @@ def test_in_two_commits(place: Place) -> None:
 
 
 def test_ranges(place: Place) -> None:
-    """--since compares with where the branch began, whatever the other one has become since."""
+    """--since compares with the commit where the branch began, whatever has changed on the other branch since."""
     with_hooks(place)
     committed(place, "a.yml", TEXT)
     place.shell("git checkout -qb branch")
@@ -237,7 +237,7 @@ def test_ranges(place: Place) -> None:
 
 
 def moved(place: Place, plain: bytes) -> Done:
-    """A commit in which a file of plaintext moves and has this text, and an encrypted value goes elsewhere."""
+    """Commit a move of a plaintext file, which then has this text, and the removal of an encrypted value."""
     needs_pyyaml()
     place.put("a.yml", PASSWORD + b"x: 1\n")
     place.put("b.yml", b"password: plain\n")

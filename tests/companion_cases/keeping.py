@@ -1,4 +1,4 @@
-"""ansible-vault-edit where a step after the editor fails: what was typed is not lost."""
+"""ansible-vault-edit keeps what was typed if a step after the editor fails."""
 
 import os
 import re
@@ -17,7 +17,7 @@ PLAIN = re.compile(r"; what you saved is left in plaintext in (.+)\n\Z")
 
 
 def check_encrypted(what: str, place: Place, done: Done, why: str, folder: Path) -> None:
-    """The vault stays, and what was saved is in the file that the message names."""
+    """Check that an encrypted copy of what was saved is in the file that the message names. Then remove it."""
     ended(what, done, 1, why)
     found = ENCRYPTED.search(done.stderr)
     assert found is not None, (f"{what}: the message says where", done.stderr)
@@ -31,7 +31,7 @@ def check_encrypted(what: str, place: Place, done: Done, why: str, folder: Path)
 
 
 def check_plain(what: str, place: Place, done: Done, why: str, text: bytes) -> None:
-    """It is left in $TMPDIR, which stays when the user logs out, and not in the folder that goes then."""
+    """Check that the plaintext is left in $TMPDIR, and not in the runtime directory, which goes at logout."""
     ended(what, done, 1, why)
     found = PLAIN.search(done.stderr)
     assert found is not None, (f"{what}: the message says where", done.stderr)
@@ -45,7 +45,7 @@ def check_plain(what: str, place: Place, done: Done, why: str, text: bytes) -> N
 
 
 CHANGED_MEANWHILE = "all.yml: another program changed it meanwhile"
-# What keeps an edit from replacing the vault, with the reason, and what stands in its place then.
+# What keeps an edit from replacing the vault, the reason in the message, and the content in its place afterwards.
 STOPS = {
     "the editor fails": (f"{CHANGE}; exit 3", "the editor failed", sealed("old")),
     "a hard link": (f"{CHANGE}; ln all.yml ../second", "it has 2 names (hard links)", sealed("old")),
@@ -67,13 +67,13 @@ def test_replacing_fails(place: Place, what: str) -> None:
 
 
 def test_made_meanwhile(cases: Companions) -> None:
-    """A new vault never takes the place of one that came meanwhile, whenever it came."""
+    """A new vault never replaces a file that another program has created meanwhile."""
     place = cases.place()
     done = edit(place, 'echo a > "$1"; echo theirs > new.yml', *place.by_file("old"), "new.yml")
     ended("made while the editor runs", done, 1, "new.yml: another program changed it meanwhile", "is encrypted in")
     assert place.get("new.yml") == b"theirs\n", "it stays"
     place = cases.place()
-    # It comes between the last look at the folder and the end of it.
+    # The file appears after the last check that there is none.
     editor = place.script('echo a > "$1"; touch ../started', "editor")
     late = f"""
 read = reading.read
@@ -90,7 +90,7 @@ reading.read = late
 
 
 def test_full_and_read_only_folders(cases: Companions) -> None:
-    """Where nothing can be written beside the vault, it is kept in $TMPDIR."""
+    """If nothing can be written beside the vault, the copy is kept in $TMPDIR."""
     place = cases.place()
     temporary = place.path / "temporary"
     for folder in (place.tree, place.runtime, temporary):
@@ -124,7 +124,7 @@ replacing._write_beside, replacing.check_replaceable = full, lambda target: None
 
 
 def test_mounted_vaults(place: Place) -> None:
-    """No file can take the place of one that is mounted by itself, as containers have it."""
+    """No file can replace a mount point, such as a single file that is mounted into a container."""
     unshared = ["unshare", "-m", "mount", "--make-rprivate", "/"]
     needs_mounts(subprocess.run(unshared, capture_output=True).returncode == 0)
     place.put("all.yml", sealed("old"))
@@ -152,7 +152,7 @@ def test_sealing_fails(place: Place) -> None:
 
 @pytest.mark.parametrize("saved", (sealed("dev"), b"$ANSIBLE_VAULT\nsecret\n", b"$ANSIBLE_VAULT;1.1;AES256\n6162\n"))
 def test_saved_vaults(place: Place, saved: bytes) -> None:
-    """An editor that saves a vault leaves no plaintext, and what only begins like one is encrypted."""
+    """An editor that saves a vault leaves no plaintext. A text that only begins like a vault is encrypted."""
     place.put("all.yml", sealed("old"))
     place.put("../typed", saved)
     place.put("../left", left := saved + b"\n")
@@ -169,7 +169,7 @@ def test_saved_vaults(place: Place, saved: bytes) -> None:
 
 
 def test_what_the_editor_left(cases: Companions, subtests: SubTests) -> None:
-    """If the editor is ended or fails, its own files may hold what was typed and not saved. They are encrypted, too."""
+    """If the editor is ended or fails, its own files may contain unsaved text. They are encrypted, too."""
     leave = 'cd "${1%/*}"; printf typed > .all.yml.swp; : > empty; cp all.yml all.yml~; ln -s nowhere ".#all.yml"'
     signalled = f"kill -TERM {ABOVE_EDITOR}; sleep 9"
     ends = {
@@ -202,7 +202,7 @@ def test_what_the_editor_left(cases: Companions, subtests: SubTests) -> None:
 
 @pytest.mark.parametrize("name, editor", {"at once": ":", "after a while": f"{CHANGE}; sleep 3"}.items())
 def test_folders_that_go(cases: Companions, name: str, editor: str) -> None:
-    """What was saved before the folder of the plaintext went, as logging out may remove it, is not lost."""
+    """A saved text is not lost if the directory of the plaintext is removed, as logging out may do."""
     place = cases.place()
     place.put("all.yml", sealed("old"))
     done = edit(place, f'{editor}; rm -r "${{1%/*}}"', *place.by_file("old"), "all.yml")
@@ -215,7 +215,7 @@ def test_folders_that_go(cases: Companions, name: str, editor: str) -> None:
 
 
 def test_folder_and_tool_that_go(place: Place) -> None:
-    """If no encrypted copy can be made either, what was saved is written to $TMPDIR."""
+    """If no encrypted copy can be made either, the saved text is written to $TMPDIR."""
     place.put("all.yml", sealed("old"))
     place.wrap_tool('[ "$1" != encrypt ] || { echo "ERROR! out of memory" >&2; exit 4; }')
     done = edit(place, f'{CHANGE}; sleep 3; rm -r "${{1%/*}}"', *place.by_file("old"), "all.yml")
@@ -223,7 +223,7 @@ def test_folder_and_tool_that_go(place: Place) -> None:
 
 
 def test_earlier_copies(place: Place) -> None:
-    """The next edit names the copies that there are of the same vault."""
+    """The next edit of a vault names its earlier copies."""
     temporary = place.path / "temporary"
     temporary.mkdir()
     place.environment["TMPDIR"] = str(temporary)
@@ -247,7 +247,7 @@ def test_earlier_copies(place: Place) -> None:
 
 
 def test_no_other_place(place: Place) -> None:
-    """Where $TMPDIR takes nothing either, the plaintext stays in its folder."""
+    """If $TMPDIR cannot be written either, the plaintext stays in its directory."""
     place.put("all.yml", sealed("old"))
     (place.path / "file").touch()
     full = """
@@ -267,7 +267,7 @@ shutil.copytree = full
 
 
 def test_faults_of_its_own(place: Place) -> None:
-    """A fault that nobody thought of does not lose it either."""
+    """An unexpected exception loses no text, either."""
     broken = """
 from ansible_vault_companions.tool import layers
 encrypted, seen = layers.encrypted, []
@@ -286,7 +286,7 @@ layers.encrypted = broken
 
 
 def test_long_names(place: Place) -> None:
-    """The copies of files whose names are as long as can be have the ends of them."""
+    """If a file has the longest possible name, its copy has the end of that name."""
     name = "ö" * 120 + "all.yml"
     place.put(name, sealed("old"))
     left = 'printf typed > "${1%/*}/' + "ä" * 120 + '.save"'
@@ -297,7 +297,7 @@ def test_long_names(place: Place) -> None:
 
 
 def test_lost_passwords(place: Place) -> None:
-    """A password file that goes while the editor runs is needed no more."""
+    """A password file may be removed while the editor runs."""
     place.put("all.yml", sealed("old"))
     editor = f"{CHANGE}; rm {place.secret('old')}"
     silent("a password file that goes", edit(place, editor, *place.by_file("old"), "all.yml"))
@@ -306,7 +306,7 @@ def test_lost_passwords(place: Place) -> None:
 
 @pytest.mark.parametrize("attempt", range(3))
 def test_busy_helpers(cases: Companions, attempt: int) -> None:
-    """What the editor leaves running may write while the folder is removed."""
+    """A program that the editor leaves running may write while the directory is removed."""
     helper = '(while [ "$n" != 100 ] && mkdir "${1%/*}/$((n += 1))"; do :; done) > /dev/null 2>&1 &'
     place = cases.place()
     place.put("all.yml", sealed("old"))
@@ -316,7 +316,7 @@ def test_busy_helpers(cases: Companions, attempt: int) -> None:
 
 
 def test_warnings(place: Place) -> None:
-    """An editor that returns at once saves too late; editors and memory keep copies."""
+    """The companion warns of an editor that returns at once, and the help of copies that editors and memory keep."""
     place.put("all.yml", sealed("old"))
     late = '(sleep 0.1; echo late > "$1") 2> /dev/null > /dev/null &'
     done = edit(place, late, *place.by_file("old"), "all.yml")

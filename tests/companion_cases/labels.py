@@ -1,4 +1,4 @@
-"""Labels that anybody may have changed: rotate, check and the rekeying alias trust a secret only with its own label."""
+"""Labels that anybody may have changed: rotate, check and the alias's rekey trust a secret only with its own label."""
 
 import re
 from collections import Counter
@@ -13,7 +13,7 @@ from companion_cases import CHECK, ROTATE, TEXT, WITH, Companions, Place, block,
 from lib.subtests import SubTests
 
 DEFAULT = "default"
-# The vault around a block within a plaintext: its label, and its password.
+# The label and the password of the vault around a block within a plaintext.
 AROUND = ("around", "prod2")
 FORMS = ("file", "block", "within")
 # The new passwords of labels.
@@ -24,7 +24,7 @@ NEXT_STEP = re.compile(
 
 
 class Made(NamedTuple):
-    """An envelope, whose label is empty where its first line has none."""
+    """An envelope. Its label is empty if its first line has none."""
 
     label: str
     password: str
@@ -37,7 +37,7 @@ class Made(NamedTuple):
         return inner if self.form == "block" else sealed(AROUND[1], inner, AROUND[0])
 
     def texts(self, content: bytes, passwords: list[str]) -> list[bytes | None]:
-        """What each password makes of the envelope."""
+        """Decrypt the envelope with each password. None means that the password is wrong."""
         inner = decrypted(AROUND[1], content) if self.form == "within" else content
         assert inner is not None
         envelope = inner if self.form == "file" else envelope_of(inner.removeprefix(b"a: 1\n"))
@@ -46,7 +46,7 @@ class Made(NamedTuple):
 
 
 class Named(NamedTuple):
-    """A secret, with an empty label where none is given."""
+    """A secret. Its label is empty if none is given."""
 
     label: str
     password: str
@@ -76,7 +76,7 @@ class Case(NamedTuple):
         return [word for each in self.by_options for word in each.words(place)]
 
     def serves(self, made: Made, rotates: bool) -> bool | None:
-        """Whether a secret may decrypt an envelope; None where none can."""
+        """Return whether a secret may decrypt the envelope, or None if no secret can."""
         fitting = [each.own_label() for each in self.named() if each.password == made.password]
         if not fitting:
             return None
@@ -97,7 +97,7 @@ CASES = any_of.builds(
     any_of.lists(SECRETS, min_size=1, max_size=2),
     any_of.lists(SECRETS, max_size=1),
 )
-# A label that was changed, for a secret of an option and of a setting; a copied block; and a single secret.
+# A changed label, with secrets of options and of settings; a copied block; a single secret.
 DEV, PROD = Named("dev", "dev"), Named("prod", "prod")
 CHANGED = [Made("dev", "prod", "file"), Made("dev", "prod", "block"), Made("dev", "dev", "file")]
 EXAMPLES = [Case(CHANGED, [DEV, PROD], []), Case(CHANGED, [DEV], [PROD]), Case(CHANGED[:1], [PROD], [])]
@@ -105,7 +105,7 @@ EXAMPLES += [Case(CHANGED[:1], [Named("", "prod")], []), Case([Made("", "prod", 
 
 
 def with_cases(test: Callable[[Case], None], number: int) -> None:
-    """Runs a test with these cases and with random ones."""
+    """Run a test with these cases and with random ones."""
     for each in EXAMPLES:
         test = example(each)(test)
     checks = [HealthCheck.too_slow, HealthCheck.data_too_large]
@@ -114,7 +114,7 @@ def with_cases(test: Callable[[Case], None], number: int) -> None:
 
 
 def test_rotate(cases: Companions, pytestconfig: pytest.Config) -> None:
-    """Text is put under the new password of its label, or stays where it is and is named."""
+    """A text gets the new password of its label; otherwise, it stays, and its file is named."""
     seen: Counter[bool | None] = Counter()
 
     def rotate(case: Case) -> None:
@@ -145,7 +145,7 @@ def test_rotate(cases: Companions, pytestconfig: pytest.Config) -> None:
 
 
 def test_check(cases: Companions, pytestconfig: pytest.Config) -> None:
-    """What a secret of another label decrypts is a fault, and what the message says to do mends it."""
+    """It is a fault if a secret of another label decrypts an envelope. The advice in the message repairs it."""
     seen: Counter[bool | None] = Counter()
 
     def check(case: Case) -> None:
@@ -171,7 +171,7 @@ def test_check(cases: Companions, pytestconfig: pytest.Config) -> None:
     assert min(seen[True], seen[False], seen[None]) > 5, seen
 
 
-# How ansible-vault-with is given a vault to rekey, and where its answer is.
+# The ways to give ansible-vault-with a vault to rekey, and where its output is.
 REKEYED = {
     "in place": f"{WITH} rekey {{words}} v && cat v",
     "to another file": f"{WITH} rekey {{words}} --output out v && cat out",

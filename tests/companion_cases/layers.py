@@ -1,4 +1,4 @@
-"""The copy of a text with values of several secrets takes all of them to read."""
+"""Reading the copy of a text with values of several secrets takes all of these secrets."""
 
 import re
 
@@ -9,21 +9,21 @@ from lib.subtests import SubTests
 
 OF_DEV, OF_PROD = b"the word of dev\n", b"the word of prod\n"
 SHOWN = b"a: !vault |\n  the word of dev\nb: !vault |\n  the word of prod\n"
-# What no secret is chosen for, and what is no YAML.
+# A value for which no secret is chosen, and a text that is not YAML.
 UNFINISHED = {"a new value": "new: !vault more", "no YAML": 'c: !vault "more'}
 KEPT = re.compile(r"; what you saved is encrypted in (\S+), under 2 secrets in turn\n")
 NOTE = b"# The vault below is under another secret; ansible-vault-edit decrypts both.\n"
 
 
 def of_two(place: Place) -> list[str]:
-    """A file with values of two labels; and the options for both."""
+    """Write a file with values of two labels, and return the options for both."""
     values = block("dev", OF_DEV, "dev", "a") + block("prod", OF_PROD, "prod", "b")
     place.put("vars.yml", values)
     return [*place.by_id("dev", "dev"), *place.by_id("prod", "prod")]
 
 
 def copy_of(what: str, place: Place, line: str) -> str:
-    """The name of the copy that is kept if this line is added."""
+    """Add this line in an edit, and return the name of the copy that is kept."""
     secrets = of_two(place)
     before = place.get("vars.yml")
     done = edit(place, f"printf '%s\\n' '{line}' >> \"$1\"", *secrets, "vars.yml")
@@ -49,7 +49,7 @@ def test_under_each(cases: Companions, what: str, line: str) -> None:
 
 
 def test_edited_again(place: Place, subtests: SubTests) -> None:
-    """It takes both secrets to open, and stays under both."""
+    """Opening the copy takes both secrets, and an edit encrypts it with both again."""
     text = SHOWN + b"new: !vault more\n"
     name = copy_of("a copy", place, "new: !vault more")
     before = place.get(name)
@@ -93,7 +93,7 @@ def test_checked_and_rotated(place: Place) -> None:
 
 
 def test_by_password(cases: Companions) -> None:
-    """One password under two labels is one secret; a value that is new adds the one that is chosen for it."""
+    """One password under two labels is one secret. A new value adds the secret that is chosen for it."""
     typed = "printf '%s\\n' 'c: !vault \"more' >> \"$1\""
     place = cases.place()
     place.put("vars.yml", block("dev", TEXT, "dev", "a") + block("dev", TEXT, "other", "b"))

@@ -1,4 +1,4 @@
-"""ansible-vault-hook and what git had as a vault: plaintext in its place needs no mark to be refused."""
+"""ansible-vault-hook refuses plaintext in place of a vault that git had, even if the file is not marked."""
 
 import re
 
@@ -14,7 +14,7 @@ pytestmark = pytest.mark.usefixtures("git")
 
 
 def test_unmarked_vaults(place: Place, subtests: SubTests) -> None:
-    """The first of the usual leaks: a vault that was decrypted to be looked at, and is committed."""
+    """The first of the usual leaks: a vault was decrypted to read it, and is committed."""
     with_hooks(place)
     place.put("plain.yml", TEXT)
     silent("a vault", again(place, "group_vars/all.yml", sealed("old")))
@@ -74,7 +74,7 @@ def test_decrypted_blocks(place: Place, subtests: SubTests) -> None:
 
 
 def test_merges(cases: Companions) -> None:
-    """The third: what comes by a merge, clean or with a conflict, from either side."""
+    """The third of the usual leaks: a merge brings plaintext, with or without a conflict, from either side."""
     place = cases.place()
     with_hooks(place)
     again(place, "vars.yml", sealed("old"))
@@ -93,7 +93,7 @@ def test_merges(cases: Companions) -> None:
     again(place, "vars.yml", sealed("old"))
     place.shell("git checkout -q -")
     again(place, "other.yml", b"a: 1\n")
-    # Theirs is the vault, and what is committed in its place is plaintext.
+    # Only their side has the vault, and plaintext is committed in its place.
     place.shell("git merge --no-commit branch")
     done = again(place, "vars.yml", TEXT)
     refused("theirs in plaintext", done, "vars.yml", why=WHOLE, hint=meant("vars.yml"))
@@ -111,7 +111,7 @@ def test_merges(cases: Companions) -> None:
 
 
 def test_marked_content(place: Place, subtests: SubTests) -> None:
-    """What is marked needs the digits of an envelope, and neither conflict markers nor plaintext between them."""
+    """A marked file needs the digits of an envelope, without conflict markers or plaintext between them."""
     digits = sealed("old").partition(b"\n")[2]
     damaged = {
         "a bare header": b"$ANSIBLE_VAULT;1.1;AES256\n",
@@ -142,7 +142,7 @@ def test_marked_content(place: Place, subtests: SubTests) -> None:
 
 
 def test_plain_beside_vaults(place: Place) -> None:
-    """The usual layout has both in one folder: it is said what to do."""
+    """The usual layout has plaintext beside vaults in one directory. The message says what to do."""
     with_hooks(place, "group_vars/** diff=ansible-vault\n")
     place.put("group_vars/all/vault.yml", sealed("old"))
     place.put("group_vars/web/vars.yml", TEXT)

@@ -1,4 +1,4 @@
-"""What ansible-vault-check and ansible-vault-rotate leave out of a folder: by patterns, and what git does not track."""
+"""The files that ansible-vault-check and ansible-vault-rotate leave out: by patterns, or if git does not track them."""
 
 import os
 
@@ -10,7 +10,7 @@ from companion_cases.trees import found
 from lib.needs import needs
 
 FILES = ["a.yml", "b.txt", "tests/a.yml", "tests/fixtures/c.yml", "roles/tests/d.yml", "[x]/e.yml"]
-# What is left out by patterns, and what is found then.
+# The patterns of files to leave out, and the files that are still found.
 PATTERNS: dict[tuple[str, ...], list[str]] = {
     ("a.yml",): ["b.txt", "tests/fixtures/c.yml", "roles/tests/d.yml", "[x]/e.yml"],
     ("tests",): ["a.yml", "b.txt", "[x]/e.yml"],
@@ -35,7 +35,7 @@ def test_excluded(place: Place, patterns: tuple[str, ...]) -> None:
 
 
 def test_named(place: Place) -> None:
-    """A file that is a PATH is left out, too."""
+    """A file is left out even if it is given as a PATH."""
     for name in FILES:
         place.put(name, sealed("old"))
     left = found(place, "--exclude", "tests/*", "--exclude", "b.txt", *FILES)
@@ -52,7 +52,7 @@ def test_rotated(place: Place) -> None:
 
 
 def test_tracked(cases: Companions) -> None:
-    """Also in a repository within another one; a link is what it leads to."""
+    """--tracked covers a repository within another one. A link counts as the file that it points to."""
     needs("git")
     place = cases.place()
     under_git(place, "*.yml diff=ansible-vault\n")
@@ -76,7 +76,7 @@ def test_tracked(cases: Companions) -> None:
 
 
 def test_in_no_repository(place: Place) -> None:
-    """Nothing is tracked there, which is no good answer."""
+    """Outside of a repository, --tracked is refused, since it would find nothing."""
     needs("git")
     place.put("a.yml", sealed("old"))
     for words in ([CHECK, *place.by_file("old")], [ROTATE, *to_new(place)]):

@@ -1,4 +1,4 @@
-"""ansible-vault-check in a repository: files that are marked, and labels whose secret somebody has not."""
+"""ansible-vault-check in a repository: marked files, and labels for which the user has no secret."""
 
 import os
 import subprocess
@@ -16,7 +16,7 @@ MERGE = b"<<<<<<< HEAD\na: 1\n=======\na: 2\n>>>>>>> branch\n"
 
 @pytest.mark.usefixtures("git")
 def test_marked_files(place: Place, subtests: SubTests) -> None:
-    """One that is marked and is no vault is a failure, also where it holds nothing that is one."""
+    """A marked file that is not a vault is a failure, even if it contains no envelope."""
     plain = {
         "a.vault.yml": (TEXT, "is not encrypted"),
         "deep/b.vault.yml": (b"", "is not encrypted"),
@@ -47,7 +47,7 @@ def test_marked_files(place: Place, subtests: SubTests) -> None:
 
 @pytest.mark.usefixtures("git")
 def test_several_repositories(place: Place) -> None:
-    """Each file is marked by its own repository, and by none outside of any."""
+    """Only a file's own repository marks it. A file outside of any repository is not marked."""
     place.put("outside.vault.yml", TEXT)
     for name in ("one", "two"):
         place.shell(f"git init -q {name}")
@@ -61,7 +61,7 @@ def test_several_repositories(place: Place) -> None:
 
 
 def test_some_labels(place: Place) -> None:
-    """For those who have some of the secrets: what has another label is counted, and no failure."""
+    """For users who have only some of the secrets, envelopes with other labels are counted, but are not failures."""
     place.put("a.yml", sealed("dev", label="dev"))
     place.put("b.yml", sealed("prod", label="prod"))
     place.put("c.yml", block("dev", label="dev") + block("old") + block("old", label="prod", name="x"))
@@ -112,7 +112,7 @@ def test_names_of_variables(place: Place) -> None:
 
 
 def test_starts_of_the_tool(place: Place, subtests: SubTests) -> None:
-    """ansible-vault-textconv starts the tool once for each envelope, and each secret that is tried."""
+    """ansible-vault-textconv starts the tool once for each envelope and each secret that it tries."""
     needs("strace")
     files = {
         "one.yml": (sealed("old"), ["old"], 1),
@@ -147,7 +147,7 @@ def test_files_behind_dashes(place: Place, name: str) -> None:
 
 @pytest.mark.usefixtures("git")
 def test_the_repository_of_another_owner(place: Place) -> None:
-    """git refuses it and says what to do; no vault is counted for that."""
+    """git refuses it and says what to do. The refusal does not count as a vault."""
     if os.geteuid() != 0:
         pytest.skip("only root runs it as somebody else")
     under_git(place, ATTRIBUTES)

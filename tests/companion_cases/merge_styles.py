@@ -1,5 +1,5 @@
-"""What ansible-vault-merge makes of three versions is what `git merge-file` makes of their plaintexts, in each style of
-conflicts, and whatever the ends of the lines are.
+"""ansible-vault-merge merges three versions as `git merge-file` merges their plaintexts, in each conflict style, and
+with each kind of line end.
 """
 
 import re
@@ -38,18 +38,18 @@ TEXTS = {
     "no common base": (b"", b"a: 1\n" + FILLER, b"a: 2\n" + FILLER),
     "one side is empty": (b"a: 1\n", b"", b"a: 2\n"),
 }
-# What the sides of a conflict have in common stands outside of it, or within it in the style diff3. Below a value
-# that is a vault there is always such a line.
+# Lines that the sides of a conflict have in common are outside of it, or within it in the style diff3. There is always
+# such a line below a value that is a vault.
 COMMON = {"what both have": (b"a: 1\n", b"x: 1\na: 2\ny: 1\n", b"x: 1\na: 3\ny: 1\n")}
-# Of a whole vault the other styles are those of git, whatever the text.
+# For a whole vault, git itself applies the other styles, whatever the text.
 STYLED = COMMON | {name: TEXTS[name] for name in ("two conflicts", "a conflict of its end", "no common base")}
-# A value that is a vault, as the texts above have it.
+# A value of the texts above, which becomes a vault.
 VALUE = re.compile(rb"(?m)^([abc]): (\w+)")
 BLOCK = re.compile(rb"(?m)^(\w): !vault \|\r?\n((?: {10}\S+\r?(?:\n|\Z))+)")
 
 
 def by_git(place: Place, contents: list[bytes]) -> tuple[bytes, int]:
-    """What git makes of base, ours and theirs, with how many conflicts there are."""
+    """Merge base, ours and theirs with git. Return the result and the number of conflicts."""
     for name, content in zip(("base", "ours", "theirs"), contents):
         place.put(f"../plain/{name}", content)
     names = ["-L", "ours", "-L", "base", "-L", "theirs"]
@@ -59,8 +59,8 @@ def by_git(place: Place, contents: list[bytes]) -> tuple[bytes, int]:
 
 
 def merges(place: Place, plain_style: Texts, styled: Texts) -> Iterator[tuple[str, bytes, list[bytes], bytes, int]]:
-    """Each with its name, the end of its lines, its versions, and what git makes of them. Other ends and styles are of
-    conflicts alone."""
+    """Yield the name of each merge, its line end, its versions, git's result, and the number of conflicts. Only merges
+    with conflicts have other line ends and styles."""
     under_git(place, "")
     for style, end in STYLES:
         if style:
@@ -73,7 +73,7 @@ def merges(place: Place, plain_style: Texts, styled: Texts) -> Iterator[tuple[st
 
 
 def merged(place: Place, sides: list[bytes], conflicts: int) -> bytes:
-    """What the merge leaves, in a file that has this number of conflicts in its name."""
+    """Merge into a file that has the number of conflicts in its name, and return the result."""
     name = f"{len(place.files())} with {conflicts}.yml"
     done = place.run(MERGE, *place.by_file("old"), *versions(place, name, *sides))
     count = f"{conflicts} conflict{'s' if conflicts > 1 else ''}"
@@ -84,7 +84,7 @@ def merged(place: Place, sides: list[bytes], conflicts: int) -> bytes:
 
 
 def check_markers(place: Place) -> None:
-    """The check sees them where there are conflicts, and nowhere else."""
+    """Check that ansible-vault-check finds markers in the files with conflicts, and in no others."""
     lines = place.run(CHECK, *place.by_file("old"), ".").stderr.splitlines()
     found = [line.split(": ")[1].partition(":")[0] for line in lines if "conflict markers" in line]
     assert sorted(found) == sorted(f"./{name}" for name in place.files() if re.search("with [1-9]", name))
@@ -100,7 +100,7 @@ def test_of_vaults(place: Place, subtests: SubTests) -> None:
 
 
 def encrypted(content: bytes, end: bytes, salt: bytes) -> bytes:
-    """The same with blocks for values."""
+    """Return the content with blocks in place of the values."""
 
     def block(found: re.Match[bytes]) -> bytes:
         envelope = seal(PASSWORDS["old"], found[2], b"", salt)
@@ -110,7 +110,7 @@ def encrypted(content: bytes, end: bytes, salt: bytes) -> bytes:
 
 
 def with_plaintexts(content: bytes) -> bytes:
-    """The inverse: each block by its plaintext, with the line ending that the block's last line has, if any."""
+    """Return the content with plaintexts in place of the blocks. Each ends like the last line of its block."""
 
     def value(found: re.Match[bytes]) -> bytes:
         envelope = b"".join(line.strip() + b"\n" for line in found[2].splitlines())
@@ -121,7 +121,7 @@ def with_plaintexts(content: bytes) -> bytes:
 
 
 def test_of_values(place: Place, subtests: SubTests) -> None:
-    """Each has another envelope on each side."""
+    """Each value has a different envelope in each version."""
     needs("git")
     salts = [SALT, SALT[::-1], SALT[1:] + b"s"]
     for what, end, plain, wanted, conflicts in merges(place, TEXTS, TEXTS):
@@ -133,7 +133,7 @@ def test_of_values(place: Place, subtests: SubTests) -> None:
 
 
 def test_labels_of_values(place: Place, subtests: SubTests) -> None:
-    """One side gives a value another label, and both do."""
+    """One side or both sides give a value another label."""
 
     def value(label: bytes) -> bytes:
         return yaml_block(seal(PASSWORDS["old"], b"text", label), b"a") + b"z: 1\n"
@@ -155,7 +155,7 @@ def test_labels_of_values(place: Place, subtests: SubTests) -> None:
 
 @pytest.mark.parametrize("count", (0, 1, 2, 126, 127, 128, 255, 256, 257, 300))
 def test_counts(count: int) -> None:
-    """git tells up to 127 conflicts from each other and from a failure."""
+    """The exit status of git counts up to 127 conflicts, and tells them from a failure."""
     lines = b"%d %s\n" + FILLER + b"\n"
     versions = [b"".join(lines % (number, side) for number in range(count)) for side in (b"a", b"b", b"c")]
     found = merged_lines(*versions)

@@ -1,4 +1,4 @@
-"""ansible-vault-merge below git: two branches of a vault, and of YAML with values that are vaults."""
+"""ansible-vault-merge as git runs it: two branches change a vault, or values of YAML that are vaults."""
 
 from contextlib import contextmanager
 from typing import Iterator
@@ -22,7 +22,7 @@ TAKE_THEIRS = "sed -i '/^<<<</,/^====/d; /^>>>>/d' \"$1\""
 def branches(
     place: Place, base: dict[str, bytes], ours: dict[str, bytes], other: dict[str, bytes], *words: str
 ) -> Done:
-    """The merge of two branches, where the driver is configured."""
+    """Merge two branches, with the driver configured."""
     under_git(place, "*.yml merge=ansible-vault\n")
     secrets = " ".join(words or place.by_file("old"))
     place.run("git", "config", "merge.ansible-vault.driver", f"{MERGE} {secrets} %O %A %B %P")
@@ -82,7 +82,7 @@ def test_labels(place: Place) -> None:
 
 
 def test_rotated(place: Place) -> None:
-    """What one side put under a new secret stays under it."""
+    """What one side encrypted with a new secret stays encrypted with it."""
     words = [*place.by_file("old"), *place.by_file("new")]
     base = {"a.yml": sealed("old", BASE), "b.yml": block("old", b"1", name="b") + block("old", b"2", name="c")}
     other = {"a.yml": sealed("new", BASE), "b.yml": block("new", b"1", name="b") + block("new", b"2", name="c")}
@@ -93,7 +93,7 @@ def test_rotated(place: Place) -> None:
 
 
 def test_rotated_and_moved(cases: Companions, subtests: SubTests) -> None:
-    """The old envelope does not come back if the other side has moved it, or put it under another tag."""
+    """The old envelope does not come back if the other side has moved it, or given it another tag."""
     base = b"a: 1\nb: 1\n" + block("old", name="k") + b"y: 1\nz: 1\n"
     ours = base.replace(block("old", name="k"), block("new", name="k"))
     moves = {"a tag": (b"!vault", b"!Vault"), "a key": (b"k:", b"key:"), "a comment": (b"k:", b"# k: x\nt:")}
@@ -123,7 +123,7 @@ REFUSED = {
 
 
 NO_SIDE = "git can merge its lines, but the result has a value"
-# What git would merge by its lines: digits of an envelope within a text, and what is no YAML together.
+# Versions whose lines git would merge: digits of an envelope within a text, and lines that together are not YAML.
 WITHIN = [b"text: |\n  a: %s |\n%s\n" % (tag, lines_of(sealed("old", BASE), 4)) for tag in (b"!vault", b"vault")]
 QUOTED = block("old") + b"a: 1\nb: 1\nc: 1\nd: 1\ne: 1\n"
 REFUSED |= {
@@ -143,7 +143,7 @@ NEXT = "  correct that and run `git checkout --merge a.yml`, or take what you ne
 
 
 def not_merged(what: str, place: Place, secrets: list[str], contents: tuple[bytes, bytes, bytes], why: str) -> None:
-    """Ours stays to the byte, no other file is left, and the message says why, and how to go on."""
+    """Check that ours keeps every byte, no other file is left, and the message says why, and how to continue."""
     done = place.run(MERGE, *secrets, *versions(place, "a.yml", *contents))
     lines = done.stderr.splitlines()
     assert (done.returncode, done.stdout, len(lines), lines[1]) == (1, "", 2, NEXT), (what, lines)
@@ -161,7 +161,7 @@ def test_those_that_fail(cases: Companions, subtests: SubTests) -> None:
 
 OF_PROD = block("prod", b"old", "prod", "k") + b"z: 1\n"
 OUR_PROD = block("prod", b"new", "prod", "k") + b"z: 1\n"
-# Versions of which one is under a label that the secret of another label opens, or under none; and why it is refused.
+# Versions, one of which the secret of another label decrypts, or which have no labels; and why they are refused.
 FOREIGN = {
     "a vault of theirs": (
         (sealed("prod", BASE, "prod"), sealed("prod", OURS, "prod"), sealed("dev", b"x", "prod")),
@@ -195,7 +195,7 @@ FOREIGN = {
 
 
 def test_other_labels(cases: Companions, subtests: SubTests) -> None:
-    """No text of ours is put under the password of those who know that of dev, whatever the label is."""
+    """No text of ours is encrypted with the password of dev, whatever the label is."""
     for what, (contents, why) in FOREIGN.items():
         with subtests.test(what):
             place = cases.place()
@@ -204,14 +204,14 @@ def test_other_labels(cases: Companions, subtests: SubTests) -> None:
 
 
 def test_one_secret(place: Place) -> None:
-    """The only secret that is named opens every label."""
+    """If only one secret is named, it decrypts every label."""
     contents = [sealed("prod", text, "prod") for text in (BASE, OURS, THEIRS)]
     silent("the merge", place.run(MERGE, *place.by_file("prod"), *versions(place, "a.yml", *contents)))
     assert decrypted("prod", place.get("a.yml")) == OURS.replace(b"four: 4", b"four: IV")
 
 
 def test_values_without_labels(place: Place) -> None:
-    """What another label's secret opens is no new secret of a value, even if it has the same text."""
+    """An envelope under another label's secret does not give a value that secret, even if the text is the same."""
     base, ours = (block("prod", text, name="k") + b"z: 1\n" for text in (b"old", b"new"))
     theirs = block("dev", b"old", name="k") + b"z: 1\n"
     secrets = [*place.by_id("dev", "dev"), *place.by_id("prod", "prod")]
@@ -222,7 +222,7 @@ def test_values_without_labels(place: Place) -> None:
 
 
 def test_equal_values(place: Place) -> None:
-    """Values with one text keep their own envelopes and columns."""
+    """Values with the same text keep their own envelopes and columns."""
     needs_pyyaml()
     import yaml
 
@@ -238,7 +238,7 @@ def test_equal_values(place: Place) -> None:
 
 
 def test_what_is_decrypted(place: Place) -> None:
-    """What is the same in all versions is not."""
+    """A value that is the same in all versions is not decrypted."""
     values = [block("old", b"same", name=name) for name in "abcdef"]
     contents = [values, [block("old", b"I", name="a"), *values[1:]], values]
     place.wrap_tool('[ "$1" != view ] || echo >> ../runs')
@@ -249,7 +249,7 @@ def test_what_is_decrypted(place: Place) -> None:
 
 
 def test_what_fails(place: Place, subtests: SubTests) -> None:
-    """A file that is missing, a change meanwhile, the tool and git."""
+    """A file is missing, another program changes ours meanwhile, or the tool or git fails."""
     changes = [sealed("old", text) for text in (BASE, OURS, THEIRS)]
     words = [*place.by_file("old"), *versions(place, "a.yml", *changes)]
     for number in range(2, 5):
@@ -273,20 +273,20 @@ NOT_MERGED = "is not merged: the merge driver failed, so the file has only your 
 AGAIN = "  `git checkout --merge a.yml` merges it, or says why not; to keep ours, commit with --no-verify"
 
 
-# The status of `git merge` that gives up.
+# The status of `git merge` when it gives up.
 GIVEN_UP = 2
 
 
 @contextmanager
 def failed_merge(cases: Companions, *words: str, tool: str = "") -> Iterator[Place]:
-    """Where the driver has failed, with the hooks installed."""
+    """Yield a place where the driver has failed, with the hooks installed."""
     place = cases.place()
     if tool:
         place.wrap_tool(tool)
     ours, other = {"a.yml": sealed("old", OURS)}, {"a.yml": sealed("new", THEIRS)}
     done = branches(place, {"a.yml": sealed("old", BASE)}, ours, other, *words)
     if tool and done.returncode == GIVEN_UP:
-        # The driver is killed, and newer versions of git merge nothing then.
+        # The driver was killed. Newer versions of git then merge nothing.
         ended("git gives up", done, GIVEN_UP, "Merge with strategy ort failed")
         left = place.shell("git status --porcelain && git rev-parse --verify --quiet MERGE_HEAD")
         assert (left.returncode, left.stdout, place.get("a.yml")) == (1, "", ours["a.yml"]), "no merge is begun"
@@ -306,7 +306,7 @@ def refused_by_hook(what: str, done: Done) -> None:
     "what, name, tool", (("no secret", "old", ""), ("no file", "missing", ""), ("killed", "old", "kill -9 $PPID"))
 )
 def test_not_merged(cases: Companions, what: str, name: str, tool: str) -> None:
-    """The hook and the check refuse what the driver could not merge, which git commits as ours, without theirs."""
+    """The hook and the check refuse a file that the driver could not merge. git would commit ours without theirs."""
     secrets = ["--vault-password-file", f"../secrets/{name}"]
     with failed_merge(cases, *secrets, tool=tool) as place:
         both = [*place.by_file("old"), *place.by_file("new")]
@@ -324,7 +324,7 @@ def test_not_merged(cases: Companions, what: str, name: str, tool: str) -> None:
 
 
 def test_left_as_ours(cases: Companions) -> None:
-    """Where that is meant, and where the merge is given up."""
+    """The user may commit ours on purpose, or give up the merge."""
     secrets = ["--vault-password-file", "../secrets/old"]
     with failed_merge(cases, *secrets) as place:
         silent("what is meant", commit(place, "-a", "--no-verify"))
@@ -341,7 +341,7 @@ def test_left_as_ours(cases: Companions) -> None:
 
 
 def test_same_as_ours(place: Place) -> None:
-    """A result that is ours to the byte is merged."""
+    """A result that equals ours, byte for byte, counts as merged."""
     base, other = sealed("old", BASE), seal(PASSWORDS["old"], BASE, b"", SALT[::-1])
     ours = {"a.yml": sealed("old", OURS), "b.yml": block("old", b"1", name="b")}
     theirs = {"a.yml": other, "b.yml": block("old", b"2", name="b")}

@@ -1,4 +1,4 @@
-"""What is saved by mistake, in another encoding or behind a misspelt tag, brings no plaintext into YAML with blocks."""
+"""Saving in another encoding or with a misspelt tag, by mistake, brings no plaintext into YAML with blocks."""
 
 from __future__ import annotations
 
@@ -19,14 +19,14 @@ from companion_cases.yaml_values import Generator, composed, decrypt, encrypted,
 from lib.needs import needs, needs_pyyaml
 from lib.subtests import SubTests
 
-# Those that are of text; some are of Windows alone.
+# The encodings of text, except two that only Windows has.
 CODECS = sorted(
     name
     for name in {*encodings.aliases.aliases.values(), "utf-16", "utf-32", "utf-8-sig"}
     if name not in ("mbcs", "oem") and codecs.lookup(name)._is_text_encoding  # type: ignore[attr-defined]
 )
 BLOCK = b"a: !vault |\n  " + envelope(b"the first").replace(b"\n", b"\n  ") + b"\n"
-# Tags of others, and texts, that nobody is asked about.
+# Other tags, and texts, about which there is no question.
 OTHERS = ["!include x.yml", "!secret x", "!env_var X y", "!ENV x", "!Ref x", "!Sub x", "!GetAtt x.y", "!reference [a]"]
 OTHERS += ["!unsafe x", "!!str x", "!!binary eA==", "!python/name:x", "'wow! Vault'", "x != vault", "a vault"]
 OTHERS += ["vault x", "!vault x", "!vault-encrypted x", "!<!vault> x"]
@@ -61,7 +61,7 @@ def test_encodings() -> None:
 
 @pytest.mark.parametrize("codec", ["utf-16", "utf-16-le", "utf-16-be", "utf-32", "utf-8-sig", "latin-1", "cp037"])
 def test_saved_in_another(place: Place, codec: str) -> None:
-    """The file stays, and the copy has every byte that was saved."""
+    """The file stays, and the copy contains every byte that was saved."""
     needs_pyyaml()
     before = block("old", TEXT) + "# größe\n".encode()
     place.put("vars.yml", before)
@@ -75,7 +75,7 @@ def test_saved_in_another(place: Place, codec: str) -> None:
 
 
 def test_vaults_of_any_encoding(place: Place) -> None:
-    """A vault may have any bytes: it is encrypted as a whole."""
+    """A vault may contain any bytes, since it is encrypted as a whole."""
     place.put("all.yml", sealed("old"))
     silent("UTF-16", edit(place, 'printf "\\377\\376a\\0" > "$1"', *place.by_file("old"), "all.yml"))
     assert decrypted("old", place.get("all.yml")) == b"\xff\xfea\0"
@@ -83,7 +83,7 @@ def test_vaults_of_any_encoding(place: Place) -> None:
 
 @st.composite
 def misspelt(draw: st.DrawFn) -> str:
-    """The tag with one or two typing errors."""
+    """Return the tag with typing errors: up to two in its letters, and others around them."""
     letters = [*"vault", ""]
     places: list[list[int]] = [[], [0], [1], [2], [3], [4], [0, 2], [0, 3], [0, 4], [1, 3], [1, 4], [2, 4]]
     for place in draw(st.sampled_from(places)):
@@ -103,7 +103,7 @@ FORMS = ["{} {}", "'{} {}'", '"{} {}"', "|\n  {} {}", "# {} {}", "[{} {}]"]
 
 
 def test_misspelt() -> None:
-    """What is behind it is encrypted, or refused with the number of its line, which repeats no secret."""
+    """A text after a misspelt tag is encrypted or refused. The message has the line number, and repeats no secret."""
     needs_pyyaml()
     shown = showing()
     counts: Counter[str] = Counter()
@@ -139,7 +139,7 @@ def test_others(other: str) -> None:
 
 
 def test_what_was_there(subtests: SubTests) -> None:
-    """What is like a tag and stood in the file before stays, wherever its line goes."""
+    """A text that looks like a tag and was in the file before stays, wherever its line is moved."""
     needs_pyyaml()
     for line in (b"b: !Vault x\n", b"b: '!vault x'\n", b"# b: !vault x\n"):
         with subtests.test(f"{line!r}"):
@@ -150,7 +150,7 @@ def test_what_was_there(subtests: SubTests) -> None:
 
 
 def test_asked_at_a_terminal(place: Place) -> None:
-    """Whoever sits at a terminal may say that it is meant."""
+    """At a terminal, the user may confirm that a misspelt tag is intended."""
     needs("stty")
     needs_pyyaml()
     editor = place.script('printf "new: !Vault word\\n" >> "$1"', "editor")
@@ -174,7 +174,7 @@ def commands(stderr: str) -> list[str]:
 
 
 def test_put_back(place: Place, subtests: SubTests) -> None:
-    """The commands of the message mend a text that is no YAML, and put it into its file."""
+    """The commands in the message correct a text that is not YAML, and put it into its file."""
     needs_pyyaml()
     values = block("dev", b"one", "dev", "a") + block("prod", b"two", "prod", "b")
     both = [*place.by_id("dev", "dev"), *place.by_id("prod", "prod")]
@@ -199,7 +199,7 @@ def test_put_back(place: Place, subtests: SubTests) -> None:
 
 
 def test_put_in_its_place(place: Place) -> None:
-    """The commands of the message show what was saved, and put it into the vault."""
+    """The commands in the message show what was saved, and put it into the vault."""
     place.put("all.yml", sealed("old"), 0o640)
     done = edit(place, 'echo more > "$1"; exit 3', *place.by_file("old"), "all.yml")
     show, put = commands(done.stderr)

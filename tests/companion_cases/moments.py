@@ -1,4 +1,4 @@
-"""Signals at random moments, to a companion or to all of its group, once or twice: nothing that was saved is lost."""
+"""Signals at random moments, to a companion or to its process group, once or twice: nothing that was saved is lost."""
 
 import os
 import random
@@ -15,7 +15,7 @@ from lib.limits import SECONDS
 from lib.subtests import SubTests
 
 SEED = 1
-# How many moments of each run.
+# The number of moments for each run.
 OF_EDITS, OF_OTHERS = 15, 8
 SAVES = 6
 # Saves several times, and notes each save after it.
@@ -27,14 +27,14 @@ for number in $(seq {SAVES}); do
 done
 """
 SAVED = re.compile(rb"saved (\d)")
-# How long it saves, and how long after the first signal the second comes, at most, in seconds.
+# How long the editor saves, and the most time between the first signal and the second, in seconds.
 SAVING, SECOND = 0.4, 0.5
 
 
 def signalled(
     place: Place, words: list[str], chance: random.Random, seconds: float, begins: Callable[[], bool] = lambda: True
 ) -> int:
-    """The status of a run that is signalled within a time, which begins at once or later."""
+    """Signal a run within this time, which starts when `begins` is true, and return its exit status."""
     process = subprocess.Popen(
         words,
         cwd=place.tree,
@@ -64,7 +64,7 @@ def time_of(place: Place, words: list[str]) -> float:
 
 
 def to_edit(cases: Companions, is_vault: bool) -> tuple[Place, list[str]]:
-    """A place with a file, and the words that edit it."""
+    """Return a place with a file, and the command line that edits it."""
     place, text = cases.place(), b"saved 0\n"
     place.environment |= {"EDITOR": place.script(EDITOR, "editor"), "TMPDIR": str(place.path / "temporary")}
     (place.path / "temporary").mkdir()
@@ -73,14 +73,14 @@ def to_edit(cases: Companions, is_vault: bool) -> tuple[Place, list[str]]:
 
 
 def to_run(cases: Companions, name: str) -> tuple[Place, list[str]]:
-    """A place with files, and the words of this run."""
+    """Return a place with files, and the command line of this run."""
     place = cases.place()
     tree(place)
     return place, runs_of(place)[name]
 
 
 def read(content: bytes) -> bytes:
-    """The plaintext of a vault, or of the values in a file."""
+    """Return the plaintext of a vault, or of the values in a file."""
     if content.startswith(b"$ANSIBLE_VAULT"):
         return decrypted("old", content) or b""
     return b"".join(text or b"" for text in texts(content, "old"))
@@ -91,7 +91,7 @@ def last_save(text: bytes) -> int:
 
 
 def check_edit(place: Place, status: int) -> str:
-    """How an edit ended: in one of three ways."""
+    """Check what an edit left, and return in which of three ways it ended."""
     noted = place.path / "saved"
     wanted = int(noted.read_text()) if noted.exists() else 0
     files = place.files()

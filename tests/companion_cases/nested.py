@@ -1,4 +1,4 @@
-"""Blocks within the plaintext of a vault: ansible-vault-rotate and ansible-vault-check look at them, too."""
+"""ansible-vault-rotate and ansible-vault-check also process blocks within the plaintext of a vault."""
 
 from companion_cases import CHECK, ROTATE, TEXT, Companions, Place, block, decrypted, ended, sealed, summary, texts
 from companion_cases import to_new, without_digits
@@ -27,7 +27,7 @@ def test_inside_and_outside(place: Place) -> None:
 
 
 def test_inside_alone(place: Place) -> None:
-    """Where the vault has the new secret already, or has another label and its secret is given."""
+    """Only the block is rotated if the vault has the new secret already, or another label and its secret is given."""
     place.put("done.yml", sealed("new", INNER))
     place.put("prod.yml", sealed("prod", INNER, "prod"))
     place.put("unknown.yml", sealed("dev", INNER, "strange"))
@@ -49,7 +49,7 @@ def test_faults_within(cases: Companions) -> None:
     assert texts(within(place, "all.yml", "new"), "new") == [None, TEXT], "the others are rotated"
     place = cases.place()
     place.put("all.yml", sealed("old", block("old")))
-    # The block within it is encrypted, and then it is not.
+    # The block within it is encrypted. Encrypting the vault itself fails.
     fails = 'if [ -e ../one ]; then echo "ERROR! out of memory" >&2; exit 4; fi; touch ../one'
     place.wrap_tool(f'if [ "$1" = encrypt ]; then {fails}; fi')
     done = place.run(ROTATE, *to_new(place), ".")

@@ -1,4 +1,4 @@
-"""Deep YAML: what is read of it takes memory in proportion to the text, whatever it is made of."""
+"""Reading deeply nested YAML takes memory in proportion to the text, whatever the text consists of."""
 
 import gc
 import tracemalloc
@@ -18,13 +18,13 @@ from lib.needs import needs_pyyaml
 BYTES_PER_BYTE = 500
 SIZE = 10_000
 LARGE, MEGABYTES = 200_000, 100
-# Notes the most memory that a companion had, in kB.
+# Notes the peak memory of a companion, in kB.
 NOTE_PEAK = """
 import atexit
 status = lambda: [line for line in open("/proc/self/status") if line.startswith("VmHWM")]
 atexit.register(lambda: open("../peak", "w").write(status()[0].split()[1]))
 """
-# How a collection begins that has one value at most before the next one within it, and how it ends.
+# How a collection begins, with at most one value before the collection within it, and how it ends.
 LAYERS = {
     "- ": "",
     "? ": "",
@@ -38,7 +38,7 @@ LAYERS = {
 
 
 def nested(layers: list[str], size: int) -> str:
-    """A text of about this size, in which these collections are within each other in turn."""
+    """Return a text of about this size that nests these collections in turn."""
     count = size // sum(len(layer + LAYERS[layer]) for layer in layers)
     ends = "".join(LAYERS[layer] for layer in reversed(layers))
     return "".join(layers) * count + "x" + ends * count + "\n"
@@ -91,7 +91,7 @@ def test_peak(place: Place, companion: str) -> None:
 
 
 def test_long_files(place: Place) -> None:
-    """git shows a file that is no vault, whatever its length, and takes no memory for it."""
+    """git can show a file that is not a vault, whatever its length, and this takes no memory for its content."""
     length = reading.LIMIT + 5_000_001
     with open(place.tree / "long.yml", "wb") as file:
         file.write(b"a: 1\n")

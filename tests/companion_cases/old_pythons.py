@@ -1,4 +1,4 @@
-"""An older Python that is first on PATH is refused in one line."""
+"""If the first python3 on PATH is too old, the companions say so in one line."""
 
 import ast
 import subprocess
@@ -10,11 +10,11 @@ import pytest
 
 from companion_cases import COMPANIONS
 
-# The oldest that anybody still has. It knows no `from __future__ import annotations`.
+# The oldest version that anybody still has. It does not know `from __future__ import annotations`.
 ANCIENT = (3, 6)
 NAME = attrgetter("name")
 PROGRAMS = sorted(COMPANIONS.glob("ansible-vault-*"))
-# Runs a program as another Python would. Parts of the standard library may know that they are newer.
+# Runs a program as another Python would. The parts of the standard library imported here see the real version.
 AS_OTHER = """\
 import concurrent.futures, contextlib, runpy, sys
 if {version} < (3, 7):
@@ -34,7 +34,7 @@ def run_as(version: tuple[int, ...], path: Path) -> subprocess.CompletedProcess[
 
 @pytest.mark.parametrize("path", [*PROGRAMS, COMPANIONS / "ansible_vault_companions/__init__.py"], ids=NAME)
 def test_what_it_reads(path: Path) -> None:
-    """It can read as much as it needs for that line."""
+    """An old Python can parse everything that it needs to print that line."""
     tree = ast.parse(path.read_text(), feature_version=ANCIENT)
     assert "__future__" not in {each.module for each in ast.walk(tree) if isinstance(each, ast.ImportFrom)}
     modules = [each.module or "" for each in tree.body if isinstance(each, ast.ImportFrom)]

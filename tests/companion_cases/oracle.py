@@ -1,4 +1,4 @@
-"""What a repository holds, read without the companions: its envelopes, what opens them, and the values of its YAML."""
+"""Read a repository without the companions: its envelopes, what decrypts them, and the values of its YAML."""
 
 from __future__ import annotations
 
@@ -13,29 +13,29 @@ from typing import Any, NamedTuple
 from companion_cases import PASSWORDS, decrypted
 from model.vaults import MAGIC, SALT, seal
 
-# The labels, and the names of the passwords that each has in turn. A stranger knows those of dev.
+# The labels, and the names of the passwords that each has in turn. A stranger knows both passwords of dev.
 DEV, PROD = "dev", "prod"
 NAMES = {DEV: ("dev", "dev2"), PROD: ("prod", "prod2")}
 LABEL_OF = {name: label for label, names in NAMES.items() for name in names}
-# Few, since a key is derived for each, and several, so that the same text has several envelopes.
+# Only a few, since each takes a key derivation, but several, so that the same text has several envelopes.
 SALTS = [SALT[n:] + SALT[:n] for n in range(5)]
-# What texts are made of.
+# Texts consist of these.
 TOKEN = re.compile(rb"text-\d{4}")
 ENVELOPE = re.compile(rb"\$ANSIBLE_VAULT;1\.[12];AES256(?:;(?P<label>[\w-]+))?[ \r]*(?:\n[ \t]*[0-9a-f]+\r?(?=\n|\Z))+")
 # An envelope in YAML as the owner and the stranger write it.
 BLOCK = re.compile(
     rb"(?m)^(?P<spaces> *)(?P<key>[\w-]+): (?P<tag>![\w-]+) \|-?\n(?P<body> +\$ANSIBLE_VAULT[^\n]*\n(?: +[0-9a-f]+\n)+)"
 )
-# What each file holds, or LINK and where a link leads.
+# The content of each file, or LINK and the target of a link.
 Tree = dict[str, bytes]
 LINK = b"link to "
-# The tag and the text of each value, by its keys. A vault has the lines of its text.
+# The tag and the text of each value, by its keys. For a vault, the values are the lines of its text.
 Value = tuple[str, str]
 Values = dict[tuple[str, ...], Value]
 
 
 class Opened(NamedTuple):
-    """The name of the password that opens an envelope, and its text."""
+    """The name of the password that decrypts an envelope, and its text."""
 
     name: str
     text: bytes
@@ -46,7 +46,7 @@ class Opened(NamedTuple):
 
 
 class Spot(NamedTuple):
-    """Where an envelope stands: a whole file, or a value, which is one of several that have its key, from 1."""
+    """The place of an envelope: a whole file, or a value, with its number among values with the same key, from 1."""
 
     file: str
     key: bytes
@@ -66,20 +66,20 @@ def make(name: str, text: bytes, label: str, number: int) -> bytes:
 
 
 def with_label(envelope: bytes, label: str) -> bytes:
-    """Where none is given, in format 1.1."""
+    """Return the envelope with this label, or in format 1.1 if the label is empty."""
     header = f"$ANSIBLE_VAULT;1.2;AES256;{label}\n" if label else "$ANSIBLE_VAULT;1.1;AES256\n"
     return header.encode() + envelope.partition(b"\n")[2]
 
 
 def label_of(envelope: bytes) -> str:
-    """Empty where it has none."""
+    """Return the label of an envelope, or an empty string if it has none."""
     found = ENVELOPE.match(envelope)
     return (found["label"] or b"").decode() if found else ""
 
 
 @lru_cache(maxsize=4096)
 def envelopes(content: bytes) -> list[bytes]:
-    """All of them, without their indentation."""
+    """Return all envelopes, without their indentation."""
     return [re.sub(rb"[ \t\r]", b"", found[0]) + b"\n" for found in ENVELOPE.finditer(content)]
 
 
@@ -96,13 +96,13 @@ def opened(envelope: bytes) -> Opened | None:
 
 
 def is_false(envelope: bytes) -> bool:
-    """Whether the password that opens it is not one of its label, if it has one."""
+    """Return whether no password decrypts the envelope, or only one that belongs to another label than its own."""
     found = opened(envelope)
     return found is None or label_of(envelope) not in ("", found.label)
 
 
 def visible(content: bytes) -> set[bytes]:
-    """The tokens that somebody finds in it who knows the passwords of dev."""
+    """Return the tokens that somebody who knows the passwords of dev can read."""
     found = set(TOKEN.findall(content))
     for inner in map(opened, envelopes(content)):
         if inner and inner.label == DEV:
@@ -134,7 +134,7 @@ def block(key: bytes, envelope: bytes, spaces: bytes = b"", tag: bytes = b"!vaul
 
 @lru_cache(maxsize=4096)
 def values(content: bytes) -> Values | None:
-    """None where it is no YAML."""
+    """Return the values, or None if the content is not YAML."""
     if content.startswith(MAGIC):
         found = opened(content)
         return {tuple(line.split(": ")[:1]): ("", line) for line in (found.text.decode().splitlines() if found else [])}
@@ -159,8 +159,8 @@ def _below(node: Any, path: tuple[str, ...]) -> Iterator[tuple[tuple[str, ...], 
 
 
 def is_merged(*versions: Value | None) -> bool:
-    """Whether a tag or a text that one side alone has changed is as that side has it. The versions are base, ours,
-    theirs and what was found."""
+    """Return whether a tag or a text that only one side has changed is the same as on that side. The versions are base,
+    ours, theirs and the result."""
     there = [each for each in versions if each]
     parts: Iterable[Sequence[object]] = zip(*there) if len(there) == len(versions) else [versions]
     return all(
@@ -169,6 +169,6 @@ def is_merged(*versions: Value | None) -> bool:
 
 
 def read_tree(folder: Path) -> Tree:
-    """The files of a folder, without links."""
+    """Return the files of a directory, without links."""
     names = sorted(each.name for each in os.scandir(folder) if each.is_file(follow_symlinks=False))
     return {name: (folder / name).read_bytes() for name in names if name != ".git"}

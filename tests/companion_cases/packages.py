@@ -1,4 +1,4 @@
-"""The layers of the companions: what the docstring of each package says that it may import, and no more."""
+"""The layers of the companions: each package imports what its docstring permits, and nothing else."""
 
 import ast
 import re
@@ -20,7 +20,7 @@ def permitted(package: str) -> set[str]:
 
 
 def imported(file: Path) -> set[str]:
-    """The packages whose modules a module imports, also within its functions."""
+    """Return the packages whose modules a module imports, even within its functions."""
     found: set[str] = set()
     for node in ast.walk(ast.parse(file.read_text())):
         if isinstance(node, ast.ImportFrom) and (node.module or "").startswith(SHARED):
@@ -30,13 +30,13 @@ def imported(file: Path) -> set[str]:
 
 @pytest.mark.parametrize("package", PACKAGES)
 def test_imports(package: str) -> None:
-    """What is permitted is also needed."""
+    """A package imports exactly the permitted packages."""
     found = set().union(*map(imported, PACKAGES[package].glob("*.py")))
     assert found - {package} == permitted(package)
 
 
 def test_layers() -> None:
-    """Packages build on each other without a cycle, and the modules beside them build on none."""
+    """Packages import each other without a cycle, and the modules beside them import no package."""
     assert len(PACKAGES) > 4
     for package in PACKAGES:
         below, added = permitted(package), permitted(package)

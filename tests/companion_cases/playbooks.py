@@ -1,5 +1,5 @@
-"""ansible-playbook reads all that the companions write: files in place, edited values, merges, rekeyed files, and
-values of encrypt_string. Scripts and client scripts give both of them the passwords.
+"""ansible-playbook reads everything that the companions write: files in place, edited values, merges, rekeyed files,
+and values of encrypt_string. Both get the passwords from scripts and client scripts.
 """
 
 import json
@@ -26,10 +26,10 @@ SCRIPT = 'cat "$(dirname "$0")/secrets/new"'
 # The secrets of a client script, of a script and of a file.
 DEV, PROD = ["--vault-id", "dev@../keys-client"], ["--vault-id", "prod@../keys-client"]
 CI, OLD = ["--vault-id", "ci@../script"], ["--vault-password-file", "../secrets/old"]
-# Values of encrypt_string that a block of YAML could spoil.
+# Values of encrypt_string that a block in YAML could damage.
 STRINGS = ["word", "größe", " two\nlines ", "last\n", "# no comment", "a: b", "'quoted\"", "{\\}", "--x"]
 
-# The variables that a file has to have, with their texts.
+# The variables that a file must define, with their texts.
 Variables = dict[str, str]
 
 
@@ -42,7 +42,7 @@ def value(name: str, text: bytes) -> bytes:
 
 
 def merged(place: Place) -> Variables:
-    """Two branches of a vault and of values in YAML, with a conflict in each that is solved."""
+    """Merge two branches of vaults and of values in YAML, and resolve one conflict of each kind."""
     base = {
         "merged.yml": vault(b"merged_one: 1\nx: 0\ny: 0\nmerged_two: 2\n"),
         "merged_values.yml": value("merged_a", b"a") + value("merged_b", b"b") + b"plain: 1\n",
@@ -71,7 +71,7 @@ def merged(place: Place) -> Variables:
 
 
 def encrypted(place: Place) -> Variables:
-    """Files in place, two in a run, by a client script, and one each by a script and by a file."""
+    """Encrypt files in place: two in one run with a client script, one with a script, one with a password file."""
     runs = {"client": DEV, "second": DEV, "script": CI, "file": OLD}
     for name in runs:
         place.put(f"encrypted_{name}.yml", f"encrypted_{name}: by {name}\n".encode())
@@ -82,7 +82,7 @@ def encrypted(place: Place) -> Variables:
 
 
 def rekeyed(place: Place) -> Variables:
-    """In place by ansible-vault-with, and by ansible-vault-rotate, where values are rekeyed, too."""
+    """Rekey in place with ansible-vault-with, and with ansible-vault-rotate, which also rekeys values."""
     place.put("rekeyed.yml", sealed("old", b"rekeyed: in place\n"))
     place.put("rotated.yml", sealed("prod2", b"rotated: a vault\n", "prod"))
     place.put("rotated_value.yml", block("prod2", b"a value", "prod", "rotated_value"))
@@ -93,7 +93,7 @@ def rekeyed(place: Place) -> Variables:
 
 
 def edited(place: Place) -> Variables:
-    """A vault, a new vault, and values of which one is changed, one is new and one stays."""
+    """Edit a vault, a new vault, and values: one is changed, one is new, and one stays."""
     place.put("edited.yml", sealed("prod", b"edited: before\n", "prod"))
     values = block("dev", b"before", "dev", "edited_value") + block("prod", b"as it was", "prod", "edited_not")
     place.put("edited_values.yml", values)
@@ -107,7 +107,7 @@ def edited(place: Place) -> Variables:
 
 
 def strings(place: Place) -> Variables:
-    """Of encrypt_string, as an argument and by standard input."""
+    """Encrypt strings with encrypt_string, as an argument and from standard input."""
     texts: Variables = {}
     for number, text in enumerate(STRINGS):
         words = [DEV, CI, OLD][number % 3]
@@ -124,7 +124,7 @@ def strings(place: Place) -> Variables:
 
 
 def test_every_result(place: Place) -> None:
-    """Each by the secret of its label alone."""
+    """Only the secret of its own label decrypts each result."""
     playbook = Path(needs_ansible()).with_name("ansible-playbook")
     needs(str(playbook))
     place.script(CLIENT, "keys-client")

@@ -1,4 +1,4 @@
-"""Passwords that are typed at a terminal, beside Ansible's own tool."""
+"""Passwords typed at a terminal, compared with Ansible's own tool."""
 
 import pytest
 
@@ -31,14 +31,14 @@ def typed(password: str, *questions: str) -> list[tuple[str, bytes]]:
 
 
 def check_session(what: str, session: Session, *questions: str) -> None:
-    """Each question was asked, in its order, and no answer was shown."""
+    """Check that each question was asked, in this order, and no answer was shown."""
     assert session.shown == "".join(f"{question}\n" for question in questions), f"{what}: what is shown"
     assert session.echoes is True, f"{what}: the terminal echoes again"
 
 
 @pytest.mark.parametrize("word", FORMS)
 def test_forms(place: Place, word: str) -> None:
-    """The words of Ansible's tool ask what it asks."""
+    """The options of Ansible's tool lead to the same questions here."""
     to_decrypt, _ = FORMS[word]
     place.put("a.yml", sealed("dev"))
     words = ["view", *filter(None, [word]), "a.yml"]
@@ -67,7 +67,7 @@ def test_forms_to_encrypt(place: Place, word: str) -> None:
 
 
 def known(words: list[str]) -> list[str]:
-    """The words of every version of Ansible's tool; -J came with ansible-core 2.15."""
+    """Return the words that every version of Ansible's tool knows. -J came with ansible-core 2.15."""
     return ["--ask-vault-password" if word == "-J" else word for word in words]
 
 
@@ -85,7 +85,7 @@ def test_rekeyed(place: Place) -> None:
 
 
 def test_every_companion(place: Place) -> None:
-    """Once to decrypt, twice to encrypt."""
+    """A companion asks once to decrypt, and twice to encrypt."""
     place.put("a.yml", sealed("dev", label="dev"))
     word = ["--vault-id", "dev@prompt"]
     session = ask(place, CHECK, *word, ".", answers=typed("dev", OF_DEV))
@@ -117,7 +117,7 @@ def test_by_settings(place: Place) -> None:
     session = ask(place, WITH, "view", "a.yml", answers=typed("dev", OF_DEV))
     assert (session.returncode, session.stdout, session.stderr) == (0, TEXT.decode(), ""), "view"
     check_session("view", session, OF_DEV)
-    # A file of this name is none of it.
+    # A password file may have this name, and nothing is asked then.
     place.put("prompt", PASSWORDS["dev"])
     place.put("b.yml", sealed("dev"))
     done = place.run("setsid", "--wait", CHECK, "b.yml", ANSIBLE_VAULT_PASSWORD_FILE="prompt")
@@ -128,7 +128,7 @@ def test_by_settings(place: Place) -> None:
 
 
 def test_asked_by_settings(place: Place, subtests: SubTests) -> None:
-    """By the setting ask_vault_pass it is as with the option, after all other secrets."""
+    """The setting ask_vault_pass works like the option, after all other secrets."""
     place.put("a.yml", sealed("dev"))
     place.put("ansible.cfg", b"[defaults]\nask_vault_pass = yes\nvault_password_file = ../secrets/old\n")
     session = ask(place, WITH, "view", "a.yml", answers=typed("dev", ASKED))
@@ -144,7 +144,7 @@ def test_asked_by_settings(place: Place, subtests: SubTests) -> None:
 
 
 def test_what_is_typed(place: Place, subtests: SubTests) -> None:
-    """What is no password is refused by the name of the secret, and nothing is changed."""
+    """An invalid password is refused with the name of the secret, and nothing is changed."""
     refused = {
         "others": ([(NEW_OF_DEV, b"word\n"), (AGAIN_OF_DEV, b"world\n")], "the two passwords differ; try again"),
         "nothing": ([(NEW_OF_DEV, b"\n")], "you typed an empty password; try again"),
@@ -211,7 +211,7 @@ def test_no_terminal(place: Place, subtests: SubTests) -> None:
 
 
 def test_standard_input(place: Place, subtests: SubTests) -> None:
-    """Where the terminal is read, it is said so; and not where a file is, or a pipe."""
+    """A message says so if standard input is read from a terminal, and not if it is a file or a pipe."""
     reading = "Reading standard input. End it with Ctrl-D"
     place.put("a.yml", sealed("dev"))
     lines = {
@@ -233,7 +233,7 @@ def test_standard_input(place: Place, subtests: SubTests) -> None:
 
 
 def test_labels(place: Place) -> None:
-    """The label of a new value is asked for at the terminal, where several secrets could encrypt it."""
+    """If several secrets could encrypt a new value, a question at the terminal asks for its label."""
     question = "Label to encrypt new with (dev, prod): "
     editor = place.script('printf "new: !vault word\\n" >> "$1"', "editor")
     secrets = [*place.by_id("dev", "dev"), *place.by_id("prod", "prod")]
@@ -259,7 +259,7 @@ def test_labels(place: Place) -> None:
 @pytest.mark.parametrize("words", ([WITH, "view", "-J", "a.yml"], [CHECK, "-J", "."], [EDIT, "-J", "a.yml"]))
 @pytest.mark.parametrize("key, status", ((b"\x03", 130), (b"\x1c", 131)))
 def test_keys(place: Place, key: bytes, status: int, words: list[str]) -> None:
-    """The key for an interrupt ends the question, and the terminal is as it was."""
+    """The keys for an interrupt and for quitting end the question, and the terminal is as it was."""
     needs("stty")
     place.put("a.yml", sealed("dev"))
     session = ask(place, *words, answers=[(ASKED, key)])
@@ -270,7 +270,7 @@ def test_keys(place: Place, key: bytes, status: int, words: list[str]) -> None:
 
 
 def test_suspended(place: Place) -> None:
-    """Ctrl-Z has no effect on a question for a password: a shell would let it be shown after `fg`."""
+    """Ctrl-Z has no effect on a question for a password: after `fg`, a shell would let the terminal show it."""
     needs("stty")
     place.put("a.yml", sealed("dev"))
     session = ask(place, WITH, "view", "-J", "a.yml", answers=[(ASKED, b"\x1a" + PASSWORDS["dev"] + b"\n")])
@@ -279,7 +279,7 @@ def test_suspended(place: Place) -> None:
 
 
 def test_secrecy(place: Place) -> None:
-    """What is typed is in no word and no environment of a program."""
+    """A typed password is in no argument and no environment variable of a program."""
     place.put("a.yml", sealed("dev"))
     place.wrap_tool(NOTE)
     runs = ([WITH, "view"], [CHECK])

@@ -1,7 +1,7 @@
-"""Random merges of YAML, and all merges of vaults by few secrets, without a process for each envelope.
+"""Random merges of YAML, and all merges of vaults under a few secrets, without a process for each envelope.
 
-Values have few texts, so many of them are equal. A side may hold whatever somebody commits who knows one password:
-other labels, copied envelopes, guessed texts. What is merged is what git makes of the plaintexts.
+There are only a few texts, so many values are equal. A side may contain whatever somebody who knows one password can
+commit: other labels, copied envelopes, guessed texts. The result must be git's merge of the plaintexts.
 """
 
 import functools
@@ -28,7 +28,7 @@ from companion_cases import PASSWORDS, decrypted
 from lib.needs import needs, needs_pyyaml
 from model.vaults import SALT, seal
 
-# The label of each secret that is named. There are an old one and a new one of a label; and one that is not named.
+# The label of each named secret. Two labels have an old secret and a new one. One secret is not named.
 LABELS = {"dev": "dev", "prod": "prod", "prod2": "prod", "old": "default", "new": "default"}
 UNNAMED = "dev2"
 SALTS = [SALT, SALT[::-1], SALT[1:] + b"s"]
@@ -41,13 +41,13 @@ BLOCK = re.compile(rb"(?m)^((?:\w+:|  -) )!vault \|\n((?: +\S+\n)+)")
 # A value in a plaintext, with its number among equal ones.
 NUMBERED = re.compile(rb"(?m)^(?P<head>(?:\w+:|  -) )(?P<known>.*') (?P<number>\d+)$")
 EXAMPLES = 900
-# How many merges of each kind, and how many changes, are tried at least.
+# The least number of merges of each kind, and of changes of each kind.
 LEAST = {"merged": 100, "conflicts": 15, "refused": 8, "under a new secret": 4, "equal items": 60}
 LEAST |= dict.fromkeys(HONEST + HOSTILE, 8)
 
 
 class Value(NamedTuple):
-    """A value that is a vault; without a key it is an item of the list."""
+    """A value that is a vault. Without a key, it is an item of the list."""
 
     key: str
     text: bytes
@@ -70,7 +70,7 @@ class Value(NamedTuple):
         return self.label not in ("", LABELS.get(self.password, self.label))
 
     def known_by(self) -> bytes:
-        """What is the same where nothing was changed, whatever the envelope."""
+        """Return what stays the same if nothing is changed, whatever the envelope is."""
         closed = self.salt if self.password == UNNAMED else ""
         label, owner = self.label or "default", LABELS.get(self.password)
         return f"{label} {owner} {closed} {self.indentation} {self.text!r}".encode()
@@ -92,14 +92,14 @@ def document(values: list[Value], shown: list[bytes]) -> bytes:
 
 
 def plain(values: list[Value], numbers: list[int]) -> bytes:
-    """The plaintexts, with the number of each among equal ones, and a line that keeps two values apart."""
+    """Return the plaintexts, each with its number among equal ones, and with a line that separates it from the next."""
     pairs = zip(values, numbers)
     parts = [(value.head(), value.known_by(), number, value.key.encode()) for value, number in pairs]
     return document(values, [b"%s%s %d\n# %s\n" % each for each in parts])
 
 
 def numberings(known: list[bytes], envelopes: list[bytes]) -> list[list[int]]:
-    """Which of equal values each may be: in their order, and with the fewest envelopes that came, went or changed."""
+    """Return the ways to number equal values: in order, and with the fewest envelopes added, removed or changed."""
     ways: dict[int, list[list[int]]] = defaultdict(list)
     places, numbers = range(len(envelopes)), range(len(known))
     for count in range(min(len(known), len(envelopes)) + 1):
@@ -112,7 +112,7 @@ def numberings(known: list[bytes], envelopes: list[bytes]) -> list[list[int]]:
 
 
 def numbered(merge: Merge) -> Iterator[list[list[int]]]:
-    """The numbers of all values in each version, in every way: equal ones are told apart by their envelopes alone."""
+    """Yield the numbers of all values in each version, in every way. Only their envelopes tell equal values apart."""
     known: dict[tuple[str, bytes], list[bytes]] = {}
     ways = []
     for version, values in enumerate(merge):
@@ -139,7 +139,7 @@ def secret_of(name: str) -> Secret:
 
 
 class Model(Tool):
-    """In the place of the program, by the model of the tests."""
+    """Replaces the program by the model of the tests."""
 
     def __init__(self) -> None:
         self.salts = itertools.cycle(SALTS)
@@ -166,7 +166,7 @@ class Model(Tool):
 
 
 def by_git(folder: Path, contents: list[bytes]) -> tuple[bytes, int]:
-    """What git makes of base, ours and theirs, with how many conflicts there are."""
+    """Merge base, ours and theirs with git. Return the result and the number of conflicts."""
     names = ["base", "ours", "theirs"]
     for name, content in zip(names, contents):
         (folder / name).write_bytes(content)
@@ -176,7 +176,7 @@ def by_git(folder: Path, contents: list[bytes]) -> tuple[bytes, int]:
 
 
 class Wanted(NamedTuple):
-    """What a merge may be: a plaintext, and the blocks that may stand for each of its values."""
+    """A possible merge: a plaintext, the number of conflicts, and the possible blocks for each value."""
 
     text: bytes
     conflicts: int
@@ -184,7 +184,7 @@ class Wanted(NamedTuple):
 
 
 def wanted(folder: Path, merge: Merge, numbers: list[list[int]]) -> Wanted:
-    """What no side, or one alone, has touched is to be there to the byte."""
+    """Return the wanted merge. A value that at most one side has touched must keep every byte."""
     text, conflicts = by_git(folder, [plain(*each) for each in zip(merge, numbers)])
     pairs = [zip(values, each) for values, each in zip(merge, numbers)]
     at = [{(value.head(), value.known_by(), number): value.block() for value, number in each} for each in pairs]
@@ -205,13 +205,13 @@ def random_value(draw: st.DrawFn, key: str) -> Value:
 
 
 def rekeyed(value: Value) -> Value:
-    """Under another secret of its label, where there is one."""
+    """Return the value under another secret of its label, if there is one."""
     others = [name for name, label in LABELS.items() if label == LABELS.get(value.password) and name != value.password]
     return value._replace(password=others[0] if others else value.password)
 
 
 def changed(kind: str, value: Value, other: Value, new: Value) -> list[Value]:
-    """What takes the place of a value."""
+    """Return what replaces a value."""
     anew = value._replace(salt=(value.salt + 1) % len(SALTS))
     added = new._replace(key=value.key and f"{value.key}{new.text[:1].decode()}", text=value.text)
     ways: dict[str, list[Value]] = {
@@ -235,7 +235,7 @@ def random_merge(draw: st.DrawFn, counts: Counter[str]) -> Merge:
     keys = ["a", "b", "c", ITEM, ITEM, ITEM][draw(st.integers(0, 3)) :][: draw(st.integers(1, 6))]
     base = [draw(random_value(key)) for key in keys]
     if draw(st.booleans()):
-        # The items of the list are equal, and their envelopes may differ.
+        # Make the items of the list equal. Their envelopes may differ.
         base = [value if value.key else base[keys.index(ITEM)]._replace(salt=value.salt) for value in base]
     sides: list[list[Value]] = []
     for kinds in (HONEST, HONEST + HOSTILE * draw(st.sampled_from([0, 2]))):
@@ -263,7 +263,7 @@ def blocks_of(content: bytes) -> list[Found]:
 
 
 def in_plaintext(content: bytes, tool: Model, known: dict[bytes, Value]) -> bytes:
-    """A result with what each block is known by."""
+    """Return a result with what each block is known by in place of the block."""
 
     def shown(found: re.Match[bytes]) -> bytes:
         [each] = blocks_of(found[0])
@@ -279,7 +279,7 @@ def in_plaintext(content: bytes, tool: Model, known: dict[bytes, Value]) -> byte
 
 
 def check_new(merge: Merge, tool: Model, found: Found) -> None:
-    """A text is encrypted under another password if the other side has put the value under it, by its label."""
+    """Check that a text is under another password only if the other side has put the value under it, by its label."""
     assert found.envelope in tool.made, "an envelope that no side has"
     secret, text = tool.opened(found.envelope)
     before, ours, theirs = ([value for value in values if value.key == found.key] for values in merge)
@@ -299,8 +299,8 @@ def _has_digits_of(value: Value, before: Value) -> bool:
 
 
 def could_take_back(merge: Merge) -> bool:
-    """Whether a side has put a value under another secret, whose old digits the other has under another label or key,
-    or in a list: without a conflict, these would be all that is left of it."""
+    """Return whether one side has put a value under another secret, and the other side has its old digits under another
+    label or key, or in a list. Without a conflict, only these digits would be left of the value."""
     for side, other in ((merge.ours, merge.theirs), (merge.theirs, merge.ours)):
         for value, before in itertools.product(side, merge.base):
             is_rekeyed = value.key == before.key and value.password != before.password
@@ -312,7 +312,7 @@ def could_take_back(merge: Merge) -> bool:
 
 
 def check_merge(folder: Path, merge: Merge) -> list[str]:
-    """What kinds of merges it was."""
+    """Check a merge, and return of which kinds it was."""
     import yaml
 
     tool = Model()
@@ -372,7 +372,7 @@ VAULTS = [
 
 
 def test_of_vaults(tmp_path: Path, monkeypatch: pytest.MonkeyPatch) -> None:
-    """Each text of the result was under its password on its side, or all are under secrets of one label."""
+    """Each text of the result was under this password on its side, or all versions are under secrets of one label."""
     needs("git")
     monkeypatch.chdir(tmp_path)
     for words in (["init", "-q"], ["config", "merge.conflictStyle", "diff3"]):
@@ -405,7 +405,7 @@ def test_of_vaults(tmp_path: Path, monkeypatch: pytest.MonkeyPatch) -> None:
 
 
 def test_of_one_value() -> None:
-    """We change its text, and they encrypt it again: it is under a new secret where all three have one label."""
+    """We change the text, and they encrypt it again. It gets the new secret if all three versions have one label."""
     needs("git")
     needs_pyyaml()
     moved = 0

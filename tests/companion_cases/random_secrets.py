@@ -1,6 +1,7 @@
-"""Random settings, options, labels and vaults: ansible-vault-with chooses the secrets that Ansible's tool chooses.
+"""Random settings, options, labels and vaults: ansible-vault-with chooses the same secrets as Ansible's tool.
 
-Where a page says that it does not, Ansible's tool is run without what does not count, or a refusal is expected.
+Where a manual page says that it does not, Ansible's tool runs without what does not count here, or a refusal is
+expected.
 """
 
 import shutil
@@ -19,11 +20,10 @@ from lib.limits import SECONDS
 from lib.subtests import SubTests
 
 SEED = 62
-# How long command lines are compared, in seconds, where their number is not given; and how many at least, of all kinds
-# and of each.
+# How long to compare command lines, in seconds, if their number is not given; the least number in all, and per kind.
 SHARE, LEAST, LEAST_OF_EACH = 20, 40, 3
 LABELS = ["default", "dev", "prod", "stage"]
-# Names of password files, of which two are not usable, and of scripts.
+# The names of password files, of two that are not usable, and of scripts.
 FILES = [*PASSWORDS, *PASSWORDS]
 UNUSABLE = ["none", "empty"]
 SCRIPTS = ["script-dev", "keys-client"]
@@ -42,20 +42,20 @@ ABBREVIATED = {
 class Named(NamedTuple):
     """A secret, as settings or options name it."""
 
-    # Empty where none is given.
+    # Empty if none is given.
     label: str
     folder: str
     name: str
 
     def is_usable(self) -> bool:
-        """Whether there is a password; the client has some labels."""
+        """Return whether there is a password. The client has only some labels."""
         return self.name not in UNUSABLE and (self.name != "keys-client" or self.label in PASSWORDS)
 
     def is_relative(self) -> bool:
         return self.folder.startswith("..")
 
     def for_old_releases(self) -> "Named":
-        """For those that know no variables in a path."""
+        """Return the secret for releases that do not expand variables in a path."""
         return self._replace(folder=self.folder.replace("$HOME", "~"))
 
     def text(self) -> str:
@@ -79,7 +79,7 @@ class Settings(NamedTuple):
         return self._replace(identities=kept, password_file=self.password_file if is_left else None)
 
     def for_old_releases(self) -> "Settings":
-        """What counts for releases that refuse a secret which is not there beside others."""
+        """Return what counts for releases that do not skip a missing secret beside others."""
         kept = [each.for_old_releases() for each in self.identities if each.is_usable()]
         is_left = self.password_file and self.password_file._replace(label="default").is_usable()
         return self._replace(identities=kept, password_file=self.password_file if is_left else None)
@@ -108,7 +108,7 @@ class Line(NamedTuple):
     paths: list[Named]
     new: list[str]
     new_label: str
-    # Of --encrypt-vault-id.
+    # The argument of --encrypt-vault-id.
     label: str
     arguments: list[str]
 
@@ -123,7 +123,7 @@ class Line(NamedTuple):
 
 
 class Case(NamedTuple):
-    """All that is made at random."""
+    """Everything that is chosen at random."""
 
     line: Line
     place: str
@@ -151,7 +151,7 @@ def random_secret(random: Random, secrets: Path, is_setting: bool) -> Named:
 def random_settings(random: Random, secrets: Path) -> Settings:
     identities = [random_secret(random, secrets, True) for _ in range(random.choice([0, 1, 2, 2, 3]))]
     if random.random() < 0.08:
-        # More than the tool takes at once.
+        # More secrets than the tool takes at once.
         wrong = [Named(random.choice(LABELS), str(secrets), "wrong") for _ in range(random.randint(15, 20))]
         identities = [*wrong, *identities]
     password_file = random_secret(random, secrets, True) if random.random() < 0.3 else None
@@ -190,7 +190,7 @@ def random_case(random: Random, secrets: Path) -> Case:
     file = random_settings(random, secrets) if place != "variables" else NOTHING
     named = [*file.identities, *variables.identities, *line.ids, *line.paths]
     usable = [each.name for each in named if each.name in PASSWORDS]
-    # Most can be decrypted.
+    # Most vaults can be decrypted.
     password = random.choice(usable if usable and random.random() < 0.8 else list(PASSWORDS))
     label = random.choice([each.label for each in named if each.name == password] + LABELS)
     vault = sealed(password, TEXT, "" if label == "default" else label)
@@ -198,7 +198,7 @@ def random_case(random: Random, secrets: Path) -> Case:
 
 
 def with_settings(case: Case, home: Path, tree: Path) -> dict[str, str]:
-    """Makes the file of settings, and returns the variables."""
+    """Write the file of settings, and return the variables."""
     variables = case.variables.variables()
     path = tree / "ansible.cfg"
     if case.place == "home":
@@ -212,7 +212,7 @@ def with_settings(case: Case, home: Path, tree: Path) -> dict[str, str]:
         path.parent.mkdir(exist_ok=True)
         file = case.file
         if file.password_file and file.password_file.is_relative():
-            # It begins in the folder of the file.
+            # The path is relative to the directory of the file.
             folder = "secrets" if case.place == "home" else "../secrets"
             file = file._replace(password_file=file.password_file._replace(folder=folder))
         path.write_bytes(file.file())
@@ -220,12 +220,12 @@ def with_settings(case: Case, home: Path, tree: Path) -> dict[str, str]:
 
 
 def what_counts(case: Case) -> Case | None:
-    """The case without what does not count here but counts for Ansible's tool; None where it is refused here."""
+    """Return the case without what counts only for Ansible's tool, or None if the case is refused here."""
     line = case.line
     if not all(each.is_usable() for each in (*line.ids, *(path._replace(label="default") for path in line.paths))):
         return None
     if (line.ids or line.paths) and case.place != "named by a relative path":
-        # Nothing in the current folder names a secret.
+        # Nothing in the current directory may name a secret.
         variables = case.variables.without_relative_paths()
         case = case._replace(variables=variables, file=without_folder(case))
     if line.command != "rekey":
@@ -233,17 +233,17 @@ def what_counts(case: Case) -> Case | None:
     case = heeding_label(case)
     label = line.label or case.variables.encrypt or case.file.encrypt
     if not line.new:
-        # Here it is asked for; Ansible's tool takes the password file of the settings.
+        # Here, a question asks for it. Ansible's tool takes the password file of the settings.
         return case if label else None
     if line.label not in ("", line.new_label):
         return None
-    # The new secret of the options counts before the label of the settings.
+    # The new secret of the options takes precedence over the label of the settings.
     variables, file = (settings._replace(encrypt="") for settings in (case.variables, case.file))
     return case._replace(line=line._replace(label=""), variables=variables, file=file)
 
 
 def heeding_label(case: Case) -> Case:
-    """If there are several secrets, only those of its label are tried here, as Ansible's tool does by a setting."""
+    """If there are several secrets, only those of its label are tried here. Ansible's tool does so by a setting."""
     identities = case.variables.identities or case.file.identities
     password_files = [each for each in (case.variables.password_file or case.file.password_file,) if each]
     named = [*case.line.ids, *case.line.paths, *identities, *password_files]
@@ -252,19 +252,19 @@ def heeding_label(case: Case) -> Case:
 
 
 def without_folder(case: Case) -> Settings:
-    """The settings of the file, if it is not that of the folder, without relative paths, except for the password file,
-    whose path begins in the folder of the file."""
+    """Return the settings of the file, unless it is in the current directory. Relative paths are left out, except the
+    password file's, which begins in the directory of the settings."""
     if "folder" in case.place:
         return NOTHING
     return case.file.without_relative_paths()._replace(password_file=case.file.password_file)
 
 
-# Whether a run succeeds, what it writes, and the files that are not as they were.
+# Whether a run succeeds, its output, and the files that have changed.
 Outcome = tuple[bool, Described | None, dict[str, Described]]
 
 
 class Both:
-    """Two equal trees, in which both tools run."""
+    """Two equal trees, one for each tool."""
 
     def __init__(self, place: Place, ansible: AnsibleRuns) -> None:
         self.place = place
@@ -276,7 +276,7 @@ class Both:
         (place.secrets / "wrong").write_bytes(b"no password\n")
 
     def outcome(self, case: Case) -> tuple[Outcome, Outcome | None, str]:
-        """What ours did, what theirs did if it is to be the same, and the messages."""
+        """Return what our tool did, what theirs did if both must do the same, and the messages."""
         counted = what_counts(case)
         if counted and ansible_release() < (2, 14):
             counted = counted.for_old_releases()
@@ -323,7 +323,7 @@ def outcome_of(case: Case, tree: Path, status: int, output: bytes) -> Outcome:
 def test_command_lines(
     place: Place, ansible_runs: AnsibleRuns, subtests: SubTests, pytestconfig: pytest.Config
 ) -> None:
-    """Prints how many were compared."""
+    """Compare random command lines, and print how many there were."""
     most = pytestconfig.getoption("--comparisons")
     random, counts = Random(SEED), {"succeed in both": 0, "refused by both": 0, "refused only here, as documented": 0}
     end = time.monotonic() + SHARE

@@ -1,4 +1,4 @@
-"""What is recognised for what it is: a password in another file, a script, and the tool behind links."""
+"""The companions recognise the same password in another file, a script, and the tool behind links."""
 
 import os
 
@@ -9,7 +9,7 @@ from companion_cases import CHECK, PASSWORDS, ROTATE, Place, sealed, summary
 
 @pytest.mark.parametrize("around", [b"%s", b"%s\n", b"%s\r\n", b"  %s\t\n\n"])
 def test_same_password_in_another_file(place: Place, around: bytes) -> None:
-    """Ansible takes a password without the white space around it, so this file holds the same secret."""
+    """Ansible strips the white space around a password, so this file contains the same secret."""
     place.put("a.yml", sealed("dev", label="dev"))
     before = place.files()
     (place.secrets / "again").write_bytes(around % PASSWORDS["dev"])
@@ -20,7 +20,7 @@ def test_same_password_in_another_file(place: Place, around: bytes) -> None:
 
 @pytest.mark.parametrize("mode", [0o700, 0o610, 0o601, 0o755])
 def test_script_that_somebody_may_execute(place: Place, mode: int) -> None:
-    """As for Ansible, it is a script if its owner, its group or others may execute it."""
+    """As with Ansible, a password file is a script if its owner, its group or others may execute it."""
     place.put("a.yml", sealed("dev"))
     os.chmod(place.script("cat ../secrets/dev"), mode)
     done = place.run(CHECK, "--vault-password-file", "../script", "a.yml")
@@ -32,7 +32,7 @@ def test_script_that_somebody_may_execute(place: Place, mode: int) -> None:
 
 @pytest.mark.parametrize("holder", ["first", "second", "third", "last"])
 def test_chain_of_links(place: Place, holder: str) -> None:
-    """The tool is beside the companion, or beside any link that leads to it, relative or not."""
+    """The tool is found beside the companion, or beside any link that leads to it, relative or absolute."""
     place.put("a.yml", sealed("old"))
     links = [place.path / name / CHECK for name in ("first", "second", "third", "last")]
     for link in links:

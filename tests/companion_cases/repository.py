@@ -1,4 +1,4 @@
-"""A tree under git."""
+"""Helpers for a tree under git."""
 
 from companion_cases import HOOK, Done, Place
 
@@ -24,18 +24,18 @@ def add_and_commit(place: Place) -> Done:
 
 
 def refused(what: str, done: Done, *names: str, why: str = "is not encrypted", hint: str = "") -> None:
-    """Each name with the reason, and with the hint below it."""
+    """Check that each name is refused with this reason, and with the hint below it."""
     lines = [line for name in names for line in (f"ansible-vault-hook: {name} {why}", hint) if line]
     assert (done.returncode, done.stderr.splitlines()) == (1, lines), what
 
 
 def unmarking(name: str) -> str:
-    """The hint for a file that stands beside a vault."""
+    """Return the hint for a file beside a vault."""
     return f"  encrypt it, or unmark it with a line at the end of .gitattributes: /{name} !diff !ansible-vault"
 
 
 def meant(name: str) -> str:
-    """The hint for plaintext that may be meant."""
+    """Return the hint for plaintext that may be intended."""
     return f"  if that is intended, commit with --no-verify, or add to .gitattributes: /{name} -ansible-vault"
 
 
@@ -51,14 +51,14 @@ def again(place: Place, name: str, content: bytes) -> Done:
 
 
 def staged(place: Place, name: str, content: bytes) -> Done:
-    """What the hook says of this; nothing is committed."""
+    """Stage this content, and run the hook without a commit."""
     place.put(name, content)
     place.shell("git add -A")
     return place.run(HOOK)
 
 
 def committed(place: Place, name: str, content: bytes) -> str:
-    """The commit that has this, whatever a hook says."""
+    """Commit this content, whatever a hook says, and return the commit."""
     place.put(name, content)
     place.shell("git add -A && git commit -qm change --no-verify")
     return place.shell("git rev-parse HEAD").stdout.strip()

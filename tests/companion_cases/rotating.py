@@ -8,7 +8,7 @@ from lib.subtests import SubTests
 
 
 def labelled_tree(place: Place) -> None:
-    """Vaults of three labels and a file of blocks of two."""
+    """Write vaults of three labels, and a file with blocks of two."""
     place.put("all.yml", sealed("old"))
     place.put("dev/vars.yml", sealed("dev", label="dev"))
     place.put("prod/vars.yml", sealed("prod", label="prod"))
@@ -18,7 +18,7 @@ def labelled_tree(place: Place) -> None:
 
 
 def test_by_label(place: Place) -> None:
-    """A label that is not named keeps its secret, to the byte."""
+    """Envelopes whose label is not named keep every byte."""
     labelled_tree(place)
     before = place.files()
     old = [*place.by_file("old"), *place.by_id("dev", "dev"), *place.by_id("prod", "prod")]
@@ -40,7 +40,7 @@ def test_by_label(place: Place) -> None:
 
 
 def test_default_is_a_label(place: Place) -> None:
-    """A new password without a label takes no vault of another label with it."""
+    """A new password without a label rotates no vault of another label."""
     labelled_tree(place)
     old = [*place.by_file("old"), *place.by_file("dev"), *place.by_file("prod")]
     done = place.run(ROTATE, *old, *place.by_file("new", "new-"), ".")
@@ -49,7 +49,7 @@ def test_default_is_a_label(place: Place) -> None:
 
 
 def test_again(place: Place, subtests: SubTests) -> None:
-    """What is under the new secret already is left as it is, whether the old secrets decrypt it or not."""
+    """An envelope that is under the new secret already stays as it is, whether or not the old secrets decrypt it."""
     place.put("one.yml", sealed("new"))
     place.put("two.yml", sealed("old"))
     place.put("blocks.yml", block("new") + block("old", name="b"))
@@ -64,7 +64,7 @@ def test_again(place: Place, subtests: SubTests) -> None:
 
 
 def test_nothing(place: Place) -> None:
-    """A new secret whose label nothing has may be a slip."""
+    """A new secret with a label that nothing has may be a mistake, so the status is 1."""
     why = "ansible-vault-rotate: no vault or block has the label "
     ended("an empty tree", place.run(ROTATE, *to_new(place), "."), 1, summary(0), f"{why}default\n")
     place.put("plain.yml", TEXT)
@@ -119,7 +119,7 @@ def test_wrong_passwords(place: Place, subtests: SubTests) -> None:
 
 
 def test_unreadable(cases: Companions) -> None:
-    """What cannot be read may be a vault under an old secret; what cannot be written stays."""
+    """A file that cannot be read may be a vault under an old secret. A file that cannot be written stays."""
     place = cases.place()
     place.put("closed.yml", sealed("old"), 0o000)
     place.put("folder/a.yml", sealed("old"))
@@ -188,7 +188,7 @@ def test_dry_run(place: Place) -> None:
 
 
 def test_documents(cases: Companions, subtests: SubTests) -> None:
-    """What an old secret decrypts in a document is not rotated, and counted; an example is neither."""
+    """An envelope in a document is counted, but not rotated, if an old secret decrypts it. An example is ignored."""
     left = "it is in a document and was not rotated; to ignore documents, add --skip-documents\n"
     line = sealed("old").decode().replace("\n", "\\n")
     prose = {
@@ -224,7 +224,7 @@ def test_changed_meanwhile(place: Place) -> None:
 
 
 def test_closed_output(place: Place) -> None:
-    """Where nobody reads on, the files are whole, and nothing is left."""
+    """If the reader of the output goes away, each file is whole, and nothing is left."""
     for number in range(12):
         place.put(f"{number}.yml", sealed("old"))
     done = place.shell(f"{ROTATE} --jobs 1 {' '.join(to_new(place))} . | :; echo ${{PIPESTATUS[0]}}", "bash")

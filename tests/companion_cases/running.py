@@ -14,7 +14,7 @@ from lib.needs import needs, needs_ansible
 from lib.option_sets import OF_ANSIBLE, help_options, page_sets
 from lib.subtests import SubTests
 
-# Command lines with a secret, as the tool has them too; and what is read.
+# Command lines that the tool takes, too, if a secret is added; and their standard input.
 SAME = [
     (["view", "a.yml"], b""),
     (["view"], sealed("old")),
@@ -45,9 +45,9 @@ SAME = [
     (["encrypt_string", ""], b""),
     (["decrypt", "--output", "/dev/full", "a.yml"], b""),
 ]
-# The status of the tool for what it does not read.
+# The tool's status for an invalid command line.
 WRONG_COMMAND_LINE = 2
-# Command lines that have no secret.
+# Command lines without a secret.
 BARE = [["strange"], ["strange", "--help"], ["rekey", "--vault-id", "--help"]]
 
 
@@ -58,7 +58,7 @@ def prepare(place: Place) -> None:
 
 
 def run(place: Place, words: list[str], data: bytes) -> tuple[int, bytes, bytes, dict[str, bytes]]:
-    """Status, output, message, and the files that are there then."""
+    """Return the status, the output, the message, and the files that are there afterwards."""
     prepare(place)
     where = place.environment
     done = subprocess.run(words, cwd=place.tree, env=where, input=data, capture_output=True, timeout=SECONDS)
@@ -71,7 +71,7 @@ def run(place: Place, words: list[str], data: bytes) -> tuple[int, bytes, bytes,
 @pytest.mark.parametrize("option", ["--vault-password-file={}", "--vault-id=default@{}"])
 @pytest.mark.parametrize("words, data", SAME, ids=lambda value: repr(value)[:60])
 def test_the_answers_of_the_tool(place: Place, words: list[str], data: bytes, option: str) -> None:
-    """Output, message, status and files are the same, wherever the secret stands."""
+    """Output, message, status and files are the same, wherever the secret is in the command line."""
     option, (command, *others) = option.format(place.secret("old")), words
     wanted = run(place, ["ansible-vault", command, option, *others], data)
     pair = option.split("=")
@@ -91,7 +91,7 @@ ADDED = {"-J", "--ask-vault-password", "--ask-vault-pass", "--vault-pass-file"}
 
 @pytest.mark.parametrize("command", [command for command in page_sets() if command])
 def test_help(place: Place, command: str) -> None:
-    """It describes what this program takes, and not what the tool alone takes."""
+    """The help describes what this program takes, and not what only the tool takes."""
     done = place.run(WITH, "-v", command, "-h")
     assert (done.returncode, done.stderr) == (0, "")
     assert help_options(done.stdout) == page_sets()[command] | ADDED | OF_ANSIBLE.get(command, set())
@@ -137,7 +137,7 @@ def test_command_lines(place: Place, subtests: SubTests) -> None:
 
 
 def test_in_place(place: Place) -> None:
-    """Several files, under names that a shell or an option would break."""
+    """Several files are replaced, even with awkward names."""
     names = [*AWKWARD, "folder/a.yml"]
     for number, name in enumerate(names):
         place.put(name, TEXT * number, 0o640 if number % 2 else 0o600)
@@ -191,7 +191,7 @@ def test_links_and_acls(place: Place) -> None:
 
 
 def test_those_that_fail(place: Place) -> None:
-    """They stay as they are, and the others go on; the status is the highest."""
+    """Files that fail stay as they are, and the others are still processed. The status is the highest."""
     prepare(place)
     (place.tree / "folder").mkdir()
     before = place.files()
@@ -218,9 +218,9 @@ def test_those_that_fail(place: Place) -> None:
 
 
 def test_changed_meanwhile(place: Place) -> None:
-    """What somebody else wrote while the tool ran is not overwritten."""
+    """What another program wrote while the tool ran is not overwritten."""
     prepare(place)
-    # Not before the run that looks at the command line alone.
+    # The run with a prompt only checks the command line.
     place.wrap_tool('case "$*" in *=prompt*) ;; decrypt*) echo other > a.yml ;; esac')
     done = place.run(WITH, "decrypt", *place.by_file("old"), "a.yml")
     ended("a change", done, 1, f"{WITH}: a.yml: another program changed it meanwhile")
@@ -229,7 +229,7 @@ def test_changed_meanwhile(place: Place) -> None:
 
 
 def test_several_views(place: Place) -> None:
-    """Each begins on a line of its own, and those that are refused do not stop the others."""
+    """Each text begins on a line of its own, and a file that is refused does not stop the others."""
     prepare(place)
     place.put("b.yml", sealed("old", b"no line end"))
     place.put("-c.yml", sealed("old", b""))
@@ -266,7 +266,7 @@ def test_several_edits(place: Place) -> None:
 
 
 def test_several_strings(place: Place, subtests: SubTests) -> None:
-    """What is refused is refused before anything is written."""
+    """Strings are refused before anything is written."""
     secret = place.by_id("dev", "dev")
     encrypt = [WITH, "encrypt_string", *secret]
     lines = {
@@ -323,7 +323,7 @@ def test_abbreviations(place: Place, subtests: SubTests) -> None:
 
 
 def test_what_messages_advise(place: Place) -> None:
-    """A command that works."""
+    """The command that the message advises works."""
     place.put("plain.yml", TEXT)
     done = place.run(EDIT, *place.by_file("old"), "plain.yml")
     ended("an edit of plaintext", done, 1, "it is not a vault")
@@ -378,7 +378,7 @@ HABITS = [
 
 
 def test_habits(cases: Companions) -> None:
-    """What Ansible's users type does what Ansible's tool does, by an alias."""
+    """With an alias, what users of Ansible type does the same as with Ansible's tool."""
     ansible = needs_ansible()
     needs("bash")
     results: dict[str, dict[str, tuple[bool | str, dict[str, Described]]]] = {WITH: {}, ansible: {}}
@@ -425,7 +425,7 @@ LINES = [
 
 @pytest.mark.parametrize("line", LINES)
 def test_streams(place: Place, line: str) -> None:
-    """The tool has the streams and the place of the companion: its endings are the same."""
+    """The tool replaces the companion's process and keeps its streams, so it ends in the same way."""
     needs("bash")
     prepare(place)
     place.put("long.yml", sealed("old", TEXT * 20_000))

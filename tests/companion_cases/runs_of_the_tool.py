@@ -1,7 +1,7 @@
-"""How many keys each companion derives, which is what its runs cost: one for each envelope and secret that is tried,
-and one for each envelope that is made, however often an envelope stands in the files.
+"""The number of keys that each companion derives, which determines its cost: one for each envelope and secret that it
+tries, and one for each new envelope, however often an envelope is in the files.
 
-Each run of the program over something derives one key, so these runs are counted.
+Each run of the program on some input derives one key, so the tests count these runs.
 """
 
 import pytest
@@ -10,12 +10,12 @@ from companion_cases import CHECK, EDIT, MERGE, ROTATE, TEXT, TEXTCONV, Place, b
 from companion_cases import summary, to_new
 from lib.needs import needs, needs_pyyaml
 
-# Notes the command where there is anything to derive a key for, which is not so when a secret alone is looked at.
+# Notes the command if there is any input to derive a key for. A run that only checks a secret has none.
 NOTED = 'cat > "$0.$$"; [ -s "$0.$$" ] && echo "$1" >> ../runs; exec < "$0.$$"; rm "$0.$$"'
 
 
 def derivations(place: Place, *words: str, status: int = 0, parts: tuple[str, ...] = (), **variables: str) -> list[int]:
-    """How often a run decrypts, and how often it encrypts."""
+    """Return how often a run decrypts, and how often it encrypts."""
     place.wrap_tool(NOTED)
     runs = place.path / "runs"
     runs.write_text("")
@@ -25,7 +25,7 @@ def derivations(place: Place, *words: str, status: int = 0, parts: tuple[str, ..
 
 
 def three(place: Place) -> None:
-    """Two vaults and a block, of which each stands twice or more."""
+    """Write three envelopes, two vaults and a block, in seven places."""
     for name in ("a.yml", "b.yml", "c.yml"):
         place.put(name, sealed("old"))
     place.put("d.yml", sealed("old", b"another"))
@@ -54,7 +54,7 @@ def test_rotate(place: Place) -> None:
 
 
 def test_rotate_within(place: Place) -> None:
-    """A vault with a block that stands in another file, too; and copies of both."""
+    """Two files contain the same vault, and its block is in a third file, too."""
     for name in ("a.yml", "b.yml"):
         place.put(name, sealed("old", block("old", b"one")))
     place.put("c.yml", block("old", b"one"))
@@ -62,7 +62,7 @@ def test_rotate_within(place: Place) -> None:
 
 
 def test_equal_texts(place: Place) -> None:
-    """What has the same text in envelopes of its own gets envelopes of its own: nobody is to see that it is equal."""
+    """Equal texts in different envelopes get different envelopes, so that nobody can see that they are equal."""
     for name in ("a.yml", "b.yml"):
         place.put(name, sealed("old", TEXT) if name == "a.yml" else sealed("old", TEXT, "default"))
     assert derivations(place, ROTATE, *to_new(place), ".", parts=(summary(2),)) == [2, 2]
@@ -76,7 +76,7 @@ def test_shown(place: Place, companion: str) -> None:
     place.put("a.yml", content)
     words = [companion, *place.by_file("old"), "a.yml"]
     assert derivations(place, *words, EDITOR="true") == [2, 0], "YAML"
-    # Behind a tab it is no YAML.
+    # With a tab, it is not YAML.
     place.put("a.yml", content + b"d: 1\n\te: 2\n")
     if companion == TEXTCONV:
         assert derivations(place, *words) == [2, 0], "no YAML"
@@ -96,7 +96,7 @@ def test_edit(place: Place) -> None:
 
 
 def test_merge(place: Place) -> None:
-    """What is made is decrypted once more before it takes the place of anything."""
+    """A new envelope is decrypted once more before it replaces anything."""
     needs("git")
     needs_pyyaml()
     texts = {"base": b"a: 1\n\nb: 1\n", "ours": b"a: 2\n\nb: 1\n", "theirs": b"a: 1\n\nb: 2\n"}

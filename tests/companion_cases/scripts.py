@@ -1,4 +1,4 @@
-"""Password files that are programs, beside Ansible's own tool."""
+"""Password files that are programs, compared with Ansible's own tool."""
 
 import os
 from pathlib import Path
@@ -13,7 +13,7 @@ from lib.subtests import SubTests
 
 # Records its arguments, and writes the password.
 RECORDING = 'echo "$0" "$@" > ../started; cat ../secrets/dev'
-# Options that name scripts, and the arguments that each is given.
+# Options that name scripts, and the arguments that each script gets.
 STARTS = {
     "--vault-password-file=../script": "",
     "--vault-id=../script": "",
@@ -91,7 +91,7 @@ def test_those_that_fail(place: Place, subtests: SubTests, text: str, part: str)
 
 
 def test_clients_that_fail(place: Place, subtests: SubTests) -> None:
-    """What a client writes to standard error is shown only if it fails; that of another script is always shown."""
+    """A client's standard error is shown only if it fails. The standard error of other scripts is always shown."""
     place.put("a.yml", sealed("dev"))
     words = [CHECK, "--vault-id", "dev@../keys-client", "a.yml"]
     messages = {
@@ -127,7 +127,7 @@ def test_what_cannot_be_run(place: Place) -> None:
 
 
 def test_standard_input(place: Place, subtests: SubTests) -> None:
-    """A script may ask at the terminal by its standard input. If that is anything else, it is the companion's."""
+    """A script may ask at the terminal through its standard input. Any other input is left to the companion."""
     place.put("a.yml", sealed("dev"))
     place.script("printf 'Which? ' > /dev/tty; read -r word; echo \"$word\"", "asking")
     words = ["sh", "-c", 'exec "$@" < /dev/tty', "sh", WITH, "view", "--vault-password-file", "../asking", "a.yml"]
@@ -145,7 +145,7 @@ def test_standard_input(place: Place, subtests: SubTests) -> None:
 
 
 def test_secrecy(place: Place) -> None:
-    """What a script writes is in no word and no environment of a program, and in no file."""
+    """The password that a script writes is in no argument or environment of a program, and in no file."""
     place.put("a.yml", sealed("dev"))
     place.wrap_tool(NOTE)
     place.script("cat ../secrets/dev", "script")
@@ -171,7 +171,7 @@ def test_secrecy(place: Place) -> None:
     assert holding == [], "and none is written"
 
 
-# Its waits are not interrupted by a signal: another thread takes it.
+# Another thread takes the signal, so it does not interrupt what the companion waits for.
 BESIDE_A_THREAD = """
 import threading
 threading.Thread(target=threading.Event().wait, daemon=True).start()
@@ -181,7 +181,7 @@ signal.pthread_sigmask(signal.SIG_BLOCK, [signal.SIGTERM])
 
 @pytest.mark.parametrize("change", ["", BESIDE_A_THREAD], ids=["alone", "beside a thread"])
 def test_signals(place: Place, change: str) -> None:
-    """A signal ends the script, too, and the companion as it would have ended it."""
+    """A signal ends the script, too, and then the companion, as it would without a script."""
     place.put("a.yml", sealed("dev"))
     place.script("sleep 600 & echo $! > ../sleeping; kill -TERM $PPID; wait")
     done = run_changed(place, CHECK, change, ["--vault-password-file", "../script", "a.yml"])

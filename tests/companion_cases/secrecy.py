@@ -1,4 +1,4 @@
-"""Where secrets are not to be seen: in the words and the environment of programs, and on disks."""
+"""Secrets must not appear in the arguments and the environment of programs, or on disks."""
 
 import os
 import re
@@ -38,7 +38,7 @@ def test_words_and_environment(place: Place) -> None:
 
 
 def test_written_files(place: Place, subtests: SubTests) -> None:
-    """No plaintext is written but below the private folder of an edit."""
+    """Plaintext is written only below the private directory of an edit."""
     needs("strace")
     place.environment["EDITOR"] = place.script('echo "db: changed" > "$1"', "editor")
     old = place.by_file("old")
@@ -56,21 +56,21 @@ def test_written_files(place: Place, subtests: SubTests) -> None:
             assert [line for line in lines if not any(f'"{start}' in line for start in allowed)] == []
 
 
-# Texts of three versions, which merge without a conflict and with one.
+# The texts of three versions that merge without a conflict, and of three that merge with one.
 MERGED = [b"one: horse\nx: 1\ny: 2\ntwo: horse\n", b"one: staple\nx: 1\ny: 2\ntwo: horse\n"]
 MERGED += [b"one: horse\nx: 1\ny: 2\ntwo: battery\n"]
 CONFLICT = [b"one: horse\n", b"one: staple\n", b"one: battery\n"]
 HIDDEN = ["horse", "staple", "battery"]
-# Calls by which a program is started, or something is written or created.
+# System calls that start a program, write something, or create something.
 STARTED = "execve"
 WRITING = "write,pwrite64,writev,sendfile,copy_file_range,splice"
 CREATING = "openat,open,creat,mkdir,mkdirat,memfd_create"
-# Where plaintext may be written in every run.
+# Where every run may write plaintext.
 IN_MEMORY = {"pipe:[]", "/memfd:version"}
 
 
 def runs_over_plaintext(place: Place) -> dict[str, tuple[list[str], int]]:
-    """Merges, and files in place; with the status of each."""
+    """Return merges and runs in place, with the exit status of each."""
 
     def vaults(name: str, texts: list[bytes]) -> list[str]:
         return versions(place, name, *(sealed("old", text) for text in texts))
@@ -94,7 +94,7 @@ def runs_over_plaintext(place: Place) -> dict[str, tuple[list[str], int]]:
 
 
 def writes_of(lines: list[str], hidden: list[str]) -> set[str]:
-    """Where a text was written that is to be hidden, without what is random."""
+    """Return where a hidden text was written, without the random parts of paths."""
     pattern = re.compile(rf"(?:{WRITING.replace(',', '|')})\(\d+<(.*?)>(?:\(deleted\))?, (.*)")
     written = [found.groups() for found in map(pattern.search, lines) if found]
     paths = {path for path, data in written if any(word in data for word in hidden)}
@@ -102,8 +102,8 @@ def writes_of(lines: list[str], hidden: list[str]) -> set[str]:
 
 
 def test_merges_and_files_in_place(place: Place, subtests: SubTests) -> None:
-    """No process is given plaintext or a password. Plaintext is written to memory alone, and by `decrypt` to a new
-    file for its owner alone."""
+    """No process gets plaintext or a password in its arguments or environment. Plaintext is written only to memory, and
+    by `decrypt` to a new file for its owner only."""
     needs("strace", "git")
     beside, trace = f"{place.tree}/.ansible-vault-", place.path / "trace"
     passwords, seen = [each.decode() for each in PASSWORDS.values()], set()
@@ -134,7 +134,7 @@ def test_merges_and_files_in_place(place: Place, subtests: SubTests) -> None:
 
 
 def test_other_tools(place: Place) -> None:
-    """A program of this name that is not the one meant gets no password."""
+    """Another program with the name of the tool gets no password."""
     place.put("a.yml", sealed("old"))
     (place.tools / "ansible-vault").unlink()
     theirs = '[ "$1" = --version ] && echo "ansible-vault [core 2.14.18]"; echo run >> ../runs'

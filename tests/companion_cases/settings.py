@@ -1,4 +1,4 @@
-"""Secrets that Ansible's settings name, beside Ansible's own tool."""
+"""Secrets that Ansible's settings name, compared with Ansible's own tool."""
 
 import pytest
 
@@ -12,7 +12,7 @@ OPEN = ("old", "dev", "prod")
 LIST = "[defaults]\nvault_identity_list = {}\n"
 FILE = "[defaults]\nvault_password_file = {}\n"
 BOTH = "[defaults]\nvault_identity_list = dev@../secrets/dev\nvault_password_file = ../secrets/old\n"
-# Variables, files below the folder above the tree, and the passwords that are found.
+# Variables, files below the tree's parent directory, and the passwords that are found.
 VARIABLES = {
     "a list": ({"IDENTITY_LIST": "dev@{0}/dev, prod@{0}/prod"}, {}, {"dev", "prod"}),
     "a list with quotes": ({"IDENTITY_LIST": "\"dev@{0}/dev\",'{0}/prod'"}, {}, {"dev", "prod"}),
@@ -50,7 +50,7 @@ FILES = {
 def test_variables_and_files(
     place: Place, request: pytest.FixtureRequest, settings: dict[str, str], files: dict[str, str], wanted: set[str]
 ) -> None:
-    """The secrets that they name open the same vaults as with Ansible's tool."""
+    """The secrets that variables and files name decrypt the same vaults as with Ansible's tool."""
     for name in OPEN:
         place.put(f"{name}.yml", sealed(name, f"{name}\n".encode()))
     for name, content in files.items():
@@ -70,7 +70,7 @@ def test_variables_and_files(
 
 
 def by_settings(place: Place) -> None:
-    """A tree whose default secret is `old`, by its settings, as is the vault in it."""
+    """Write settings whose default secret is `old`, and a vault under this secret."""
     place.put("ansible.cfg", FILE.format("../secrets/old").encode())
     place.put("a.yml", sealed("old"))
 
@@ -92,7 +92,7 @@ def test_every_companion(place: Place) -> None:
 
 
 def test_options_come_first(place: Place) -> None:
-    """Where an option names a secret, the settings of the folder are not looked at, and no fault of them counts."""
+    """If an option names a secret, settings in the current directory are not read, and their faults do not count."""
     by_settings(place)
     done = place.run(CHECK, *place.by_file("dev"), "a.yml")
     ended("another secret", done, 1, "a.yml: default: no secret decrypts this vault")
@@ -100,7 +100,7 @@ def test_options_come_first(place: Place) -> None:
     ended("settings with a fault", place.run(CHECK, *place.by_file("old"), "a.yml"), 0, "1 decrypted")
 
 
-# The files of a clone that is not trusted, and variables, which name its script; and whether it runs beside options.
+# Settings and variables that name a script of an untrusted clone, and whether the script runs beside options.
 STRANGE: dict[str, tuple[str, dict[str, str], bool]] = {
     "a password file": (FILE.format("./script"), {}, False),
     "a list": (LIST.format("old@./script, ./script"), {}, False),
@@ -115,8 +115,8 @@ STRANGE: dict[str, tuple[str, dict[str, str], bool]] = {
 
 @pytest.mark.parametrize("what", STRANGE)
 def test_what_is_not_trusted(place: Place, subtests: SubTests, what: str) -> None:
-    """Beside options, no companion runs a script of the current folder or encrypts with a secret that it names, unless
-    ANSIBLE_CONFIG names its file."""
+    """Beside options, no companion runs a script of the current directory or encrypts with a secret that the directory
+    names, unless ANSIBLE_CONFIG names its settings."""
     file, variables, runs = STRANGE[what]
     place.environment["EDITOR"] = place.script('echo more >> "$1"', "editor")
     # As a shell sets it.
@@ -148,7 +148,7 @@ def test_what_is_not_trusted(place: Place, subtests: SubTests, what: str) -> Non
 
 
 def test_beside_options(place: Place, subtests: SubTests) -> None:
-    """One's own settings count beside options, as with Ansible; so does a file of the folder that is named."""
+    """The user's own settings count beside options, as with Ansible. So does the current directory's file if named."""
     label = "vault_encrypt_identity = prod\n"
     settings = LIST.format("dev@~/secrets/dev, prod@~/secrets/prod")
     (place.path / ".ansible.cfg").write_text(settings + label)
@@ -174,7 +174,7 @@ def test_beside_options(place: Place, subtests: SubTests) -> None:
 
 
 def test_matching_labels(place: Place, subtests: SubTests) -> None:
-    """By vault_id_match a secret decrypts only what has its label."""
+    """With vault_id_match, a secret decrypts only envelopes with its label."""
     place.put("a.yml", sealed("dev", label="prod"))
     place.put("b.yml", sealed("dev", label="dev"))
     secret = place.by_id("dev", "dev")
@@ -194,7 +194,7 @@ def test_matching_labels(place: Place, subtests: SubTests) -> None:
 
 
 def test_many_secrets(place: Place) -> None:
-    """More than the tool takes at once are tried one after the other."""
+    """More secrets than the tool takes at once are tried one after the other."""
     (place.secrets / "wrong").write_text("no password\n")
     wrong = ", ".join(f"w{number}@../secrets/wrong" for number in range(33))
     variables = {"ANSIBLE_VAULT_IDENTITY_LIST": f"{wrong}, dev@../secrets/dev"}
@@ -215,7 +215,7 @@ def test_many_secrets(place: Place) -> None:
 
 
 def test_faults(place: Place, subtests: SubTests) -> None:
-    """What cannot be read is named, and nothing is done without it."""
+    """Settings that cannot be read are named, and nothing is done without them."""
     malformed = {
         b"no section\n": "ansible.cfg: File contains no section headers",
         b"[defaults]\nvault_password_file = a\nvault_password_file = b\n": "ansible.cfg: While reading from",
@@ -240,7 +240,7 @@ def test_faults(place: Place, subtests: SubTests) -> None:
 
 
 def test_missing_secrets(place: Place, subtests: SubTests) -> None:
-    """A secret of the settings that cannot be had is skipped with a warning, if there is another one."""
+    """A secret of the settings that is unavailable is skipped with a warning if there is another one."""
     listed = "dev@../secrets/dev, prod@../secrets/none, old@../secrets/failing, new@../secrets/empty"
     place.put("a.yml", sealed("dev", label="dev"))
     place.script("exit 4", "secrets/failing")
@@ -296,7 +296,7 @@ def test_the_label_to_encrypt_with(place: Place) -> None:
 
 
 def test_world_writable_folders(place: Place) -> None:
-    """A configuration file in a world-writable folder is ignored with a warning."""
+    """A configuration file in a world-writable directory is ignored with a warning."""
     by_settings(place)
     place.tree.chmod(0o777)
     warning = f"{place.tree}/ansible.cfg is ignored, since its folder is world-writable"

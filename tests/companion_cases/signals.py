@@ -1,4 +1,4 @@
-"""Signals at each step: nothing is lost, nothing is left, and the end is that of the signal."""
+"""Signals at each step: nothing is lost, nothing is left, and the companion ends by the signal."""
 
 import fcntl
 import os
@@ -21,17 +21,17 @@ from lib.limits import SECONDS
 from lib.subtests import SubTests
 from model.vaults import seal, yaml_block
 
-# The copy of what was saved, and the message that names it.
+# The start of the name of a saved copy, and the message that names the copy.
 COPY = ".ansible-vault-saved-a.yml-"
 TOLD = re.compile(
     r"a\.yml: signal (\d+) ended the edit;(?: what the editor left .*-before;)? what you saved is encrypted in (.+)\n"
 )
-# Signals the companion before the run of the program of this number, which then dies by it or goes on.
+# Signals the companion before the program's run with this number, which then dies by the signal or continues.
 AT_RUN = """
 count=1; mkdir -p ../counted; until mkdir ../counted/$count 2>/dev/null; do count=$((count + 1)); done
 [ $count -ne {number} ] || {{ {trap}kill -{signal} $PPID; sleep 0.1; }}
 """
-# Calls of the library by which files come and go.
+# Functions of the standard library that create, change, replace or remove files.
 CALLS = ["os.replace", "os.unlink", "os.fsync", "os.fchmod", "tempfile.mkstemp", "tempfile.mkdtemp", "shutil.rmtree"]
 # The companion signals itself before or after a call.
 AT_CALL = """
@@ -48,7 +48,7 @@ def signalling(*words, **options):
     return done
 setattr(module, name, signalling)
 """
-# A signal comes when a program has been started, and is not yet known to run.
+# A signal comes after a program has started, but before the companion knows that it runs.
 AT_START = """
 import subprocess
 class Late(subprocess.Popen):
@@ -61,12 +61,12 @@ subprocess.Popen = Late
 
 
 def two_blocks(password: str, text: bytes) -> bytes:
-    """The same text in two envelopes, since an envelope is decrypted once wherever it stands."""
+    """Return the same text in two envelopes, since equal envelopes are decrypted only once."""
     return b"x: 1\n" + block(password, text) + yaml_block(seal(PASSWORDS[password], text, b"", bytes(32)), b"c")
 
 
 def tree(place: Place) -> None:
-    """A vault and a file of blocks; and versions to merge, by which ours are put under the new secret."""
+    """Write a vault, a file of blocks, and versions of both. Merging these puts ours under the new secret."""
     vault, blocks = sealed("old"), two_blocks("old", TEXT)
     versions(place, "a.yml", sealed("old", CHANGED), vault, sealed("new", CHANGED))
     versions(place, "b.yml", two_blocks("old", CHANGED), blocks, two_blocks("new", CHANGED))
@@ -99,7 +99,7 @@ def runs_of(place: Place) -> dict[str, list[str]]:
 
 
 def check_whole(what: str, place: Place) -> None:
-    """Each vault is the old one or the new one, or its plaintext for the owner alone; and no other file is there."""
+    """Check that each vault is the old or the new one, or plaintext for its owner only, and that no file is left."""
     vault = place.get("a.yml")
     is_vault = vault.startswith(b"$ANSIBLE_VAULT")
     texts = {decrypted("old", vault), decrypted("new", vault)} if is_vault else {vault}
@@ -114,7 +114,7 @@ def check_whole(what: str, place: Place) -> None:
 
 
 def check_saved(what: str, place: Place, errors: str | None, wanted: bytes = CHANGED) -> None:
-    """What an editor saved is in the vault or, encrypted, in a copy that the message names; which is then removed."""
+    """Check that a saved text is in the vault, or encrypted in a copy that the message names. Remove that copy."""
     for before in place.tree.glob(f"{COPY}*-before"):
         before.unlink()
     copies = [place.tree / name for name in place.names() if name.startswith(COPY)]
@@ -131,7 +131,7 @@ def check_saved(what: str, place: Place, errors: str | None, wanted: bytes = CHA
 
 @pytest.mark.parametrize("companion", RUNS)
 def test_at_each_run(cases: Companions, subtests: SubTests, companion: str) -> None:
-    """Before each run of the program, or of git, which dies by the signal, or goes on in spite of it."""
+    """A signal comes before each run of the program or of git, which dies by the signal or continues in spite of it."""
     for number in range(1, 20):
         place = cases.place()
         tree(place)
@@ -158,7 +158,7 @@ RUNS_AND_CALLS += [(name, call) for name in (ROTATE, "merge", "rekey", "decrypt"
 
 
 def test_at_each_call(cases: Companions, subtests: SubTests) -> None:
-    """Before and after each call by which files come and go."""
+    """A signal comes before or after each of CALLS."""
     for number, (companion, call) in enumerate(RUNS_AND_CALLS):
         when, name = [("before", "SIGHUP"), ("after", "SIGTERM")][number % 2]
         place = cases.place()
@@ -192,9 +192,9 @@ def test_interrupted_then_finished(place: Place) -> None:
 
 @pytest.mark.parametrize("name, status", (("INT", 0), ("QUIT", 0), ("TERM", None), ("HUP", None), ("USR1", None)))
 def test_while_the_editor_runs(place: Place, name: str, status: int | None) -> None:
-    """The signals of a terminal's keys are the editor's. The others end it, and what it saved is kept."""
+    """The signals of a terminal's keys are left to the editor. Other signals end it, and what it saved is kept."""
     tree(place)
-    # One that the companion has to end waits for what never comes.
+    # An editor that the companion has to end waits for input that never comes.
     os.mkfifo(place.path / "never")
     waits = ": < ../never; " if status is None else ""
     text = f"{CHANGE}; touch ../saved; kill -{name} {ABOVE_EDITOR}; {waits}touch ../survived"
@@ -210,7 +210,7 @@ def test_while_the_editor_runs(place: Place, name: str, status: int | None) -> N
     check_whole(name, place)
 
 
-# An interactive shell at the terminal, with control of jobs.
+# An interactive shell at the terminal, with job control.
 SHELL = "PS1='ready> ' exec bash --norc --noediting -i < /dev/tty > /dev/tty 2>&1"
 
 
@@ -238,8 +238,8 @@ WRITERS = {"itself": LAST, "a child": f"({LAST}; sleep {SECONDS} & touch ../read
 
 @pytest.mark.parametrize("who", WRITERS)
 def test_last_words(place: Place, who: str) -> None:
-    """What an editor writes when it is asked to end is awaited, also if it is asked twice: a terminal that is closed
-    and its shell both send a signal."""
+    """The companion waits for what an editor writes when it is asked to end, even if it is asked twice: a closed
+    terminal and its shell both send a signal."""
     tree(place)
     os.mkfifo(place.path / "never")
     twice = f"kill -TERM {ABOVE_EDITOR}; sleep 0.1; kill -TERM {ABOVE_EDITOR}"
@@ -275,7 +275,7 @@ def test_children_of_threads(place: Place) -> None:
 
 
 def begun_edit(place: Place) -> subprocess.Popen[str]:
-    """An edit in a session of its own, whose messages are to be read."""
+    """Start an edit in a session of its own, with a pipe for its messages."""
     return subprocess.Popen(
         [EDIT, *place.by_file("old"), "a.yml"],
         cwd=place.tree,
@@ -290,7 +290,7 @@ def begun_edit(place: Place) -> subprocess.Popen[str]:
 
 @pytest.mark.parametrize("send", (os.kill, os.killpg))
 def test_half_a_save(place: Place, send: Callable[[int, int], None]) -> None:
-    """If the editor is ended while it saves, the save before is kept, too."""
+    """If the editor is ended while it saves, the previous save is kept, too."""
     words = "text = open(sys.argv[1], 'w'); text.write('{}'); text.flush(); "
     first = f'import sys, time; {words.format("the first of two")}'
     second = f"time.sleep(3); {words.format('half')}open('../saved', 'w'); time.sleep({SECONDS})"
@@ -310,7 +310,7 @@ def test_half_a_save(place: Place, send: Callable[[int, int], None]) -> None:
 
 @pytest.mark.parametrize("when", ("while the editor runs", "after it"))
 def test_signals_to_all(place: Place, when: str) -> None:
-    """Signals to the companion and to the program that encrypts do not end the rescue."""
+    """Signals to the companion and to the program that encrypts do not stop them from keeping the text."""
     again = "kill -HUP $PPID; kill -TERM $PPID; kill -TERM $$; kill -HUP $$; kill -INT $$"
     tree(place)
     place.wrap_tool(f'[ "$1" != encrypt ] || {{ {again}; }}')
@@ -328,7 +328,7 @@ LEADERS = {"the companion leads the session": (), "a shell does": ("sh", "-c", '
 
 @pytest.mark.parametrize("what, leader", LEADERS.items())
 def test_closed_terminals(place: Place, what: str, leader: tuple[str, ...]) -> None:
-    """The message can reach nobody, and the name of the copy says whose it is."""
+    """Nobody can read the message, but the name of the copy says to which vault it belongs."""
     tree(place)
     os.mkfifo(place.path / "never")
     editor = f"{CHANGE}; echo {ABOVE_EDITOR} > ../companion; touch ../saved; : < ../never"
@@ -358,7 +358,7 @@ def test_closed_terminals(place: Place, what: str, leader: tuple[str, ...]) -> N
 
 @pytest.mark.parametrize("what, pause", (("another signal", 0.1), ("one signal", SECONDS)))
 def test_stubborn_programs(place: Place, what: str, pause: float) -> None:
-    """What does not end by a signal is killed: by another one, or after a while."""
+    """A program that does not end by a signal is killed at the next signal, or after a while."""
     tree(place)
     stubborn = f"{CHANGE}; touch ../saved; trap '' TERM; echo $$ > ../started; exec sleep {2 * SECONDS}"
     place.environment["EDITOR"] = place.script(stubborn, "editor")
@@ -380,7 +380,7 @@ def test_stubborn_programs(place: Place, what: str, pause: float) -> None:
 
 
 def test_signals_at_the_start(place: Place) -> None:
-    """One that comes when a program is started, and is not yet known to run, reaches it all the same."""
+    """A signal reaches a program even if it comes before the companion knows that the program runs."""
     tree(place)
     place.environment["EDITOR"] = place.script("sleep 5; touch ../survived", "editor")
     done = run_changed(place, EDIT, AT_START, [*place.by_file("old"), "a.yml"])
@@ -390,7 +390,7 @@ def test_signals_at_the_start(place: Place) -> None:
 
 
 def test_ignored_signals(place: Place) -> None:
-    """What is ignored from the beginning, as by nohup, stays ignored."""
+    """A signal that is ignored from the beginning, as with nohup, stays ignored."""
     tree(place)
     place.wrap_tool(AT_RUN.format(number=4, trap="", signal="HUP"))
     done = place.shell(f"trap '' HUP; {ROTATE} {' '.join(to_new(place))} --jobs 1 .")

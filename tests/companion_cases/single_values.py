@@ -1,4 +1,4 @@
-"""One value of YAML for a script: `ansible-vault-textconv --value` writes it, `ansible-vault-edit --value` sets it."""
+"""One value of YAML for scripts: `ansible-vault-textconv --value` writes it, `ansible-vault-edit --value` sets it."""
 
 from __future__ import annotations
 
@@ -30,7 +30,7 @@ FILE = (
     + b"  plain: text # why\n  nothing:\n'a.b \"c\"':\n- "
     + block("dev", b"", "dev", "x").replace(b"\n ", b"\n   ")
 )
-# What is typed, and the value.
+# The path as it is typed, and the value.
 VALUES = {
     "db_password": b"correct horse",
     "app.users[0].pw": ANY_BYTES,
@@ -38,7 +38,7 @@ VALUES = {
     '"a.b \\"c\\""[0].x': b"",
 }
 HERE = '; encrypted here: db_password, app.users[0].pw, "a.b \\"c\\""[0].x'
-# What leads to none, and why.
+# Paths that lead to no value, and why.
 NO_VALUES = {
     "pw": f"there is no value pw{HERE}",
     "app.users.pw": "there is no value app.users.pw",
@@ -51,7 +51,7 @@ NO_VALUES = {
 
 @pytest.fixture
 def both(place: Place) -> list[str]:
-    """The options for both secrets, and a file with values of both."""
+    """Write a file with values of two secrets, and return the options for both."""
     needs_pyyaml()
     place.put("vars.yml", FILE, 0o640)
     return [*place.by_id("dev", "dev"), *place.by_id("prod", "prod")]
@@ -69,7 +69,7 @@ def set_to(place: Place, text: bytes, *words: str) -> subprocess.CompletedProces
 
 @pytest.mark.parametrize("path", VALUES)
 def test_written(place: Place, both: list[str], path: str) -> None:
-    """Every byte, and no more."""
+    """Every byte of the value is written, and nothing else."""
     assert shown(place, *both, "--value", path, "vars.yml") == (0, VALUES[path], "")
 
 
@@ -103,7 +103,7 @@ def test_within_a_vault(place: Place, both: list[str]) -> None:
 
 
 def test_below_a_commit(place: Place, both: list[str]) -> None:
-    """It stays out of git's message, too."""
+    """A single value stays out of git's commit message, too."""
     place.put("COMMIT_EDITMSG", b"")
     words = ["sh", "-c", '"$@" 7>> COMMIT_EDITMSG', "sh", TEXTCONV, *both, "--value", "db_password", "vars.yml"]
     done = place.run(*words)
@@ -113,7 +113,7 @@ def test_below_a_commit(place: Place, both: list[str]) -> None:
 @pytest.mark.parametrize("text", (b"", b"new", b"new\n", ANY_BYTES, b"!vault |\n", b"$ANSIBLE_"))
 @pytest.mark.parametrize("path", VALUES)
 def test_set(place: Place, both: list[str], path: str, text: bytes) -> None:
-    """It keeps label and secret, and all else every byte."""
+    """The value keeps its label and secret, and everything else keeps every byte."""
     silent("it is set", set_to(place, text, *both, "--value", path, "vars.yml"))
     assert shown(place, *both, "--value", path, "vars.yml") == (0, text, "")
     others = {each: value for each, value in VALUES.items() if value != VALUES[path]}
@@ -129,7 +129,7 @@ def test_as_it_was(place: Place, both: list[str]) -> None:
 
 
 def test_moved(place: Place, both: list[str]) -> None:
-    """To the label that is named, which need not be its own, and whether or not a secret decrypts it."""
+    """--encrypt-vault-id moves a value to another label, whether or not a secret decrypts it."""
     words = ["--encrypt-vault-id", "prod", "--value", "db_password", "vars.yml"]
     silent("moved", set_to(place, b"correct horse", *both, *words))
     assert place.get("vars.yml").count(b";prod\n") == 2, "the label"
@@ -158,7 +158,7 @@ NEW = {
 
 @pytest.mark.parametrize("path", NEW)
 def test_new(place: Place, both: list[str], path: str) -> None:
-    """Only under a secret that is named."""
+    """A new value is encrypted only with a secret that --encrypt-vault-id names."""
     ended("no secret", set_to(place, b"new", *both, "--value", path, "vars.yml"), 1, "--encrypt-vault-id")
     assert place.get("vars.yml") == FILE, "the file stays"
     words = ["--encrypt-vault-id", "prod", "--value", path, "vars.yml"]
@@ -178,7 +178,7 @@ REFUSED = {
 
 @pytest.mark.parametrize("path", REFUSED)
 def test_refused(place: Place, both: list[str], path: str) -> None:
-    """Before standard input is read."""
+    """A path is refused before standard input is read."""
     os.mkfifo(place.path / "never")
     words = [EDIT, *both, "--encrypt-vault-id", "prod", "--value", path, "vars.yml"]
     ended("it", place.run("sh", "-c", '"$@" <> ../never', "sh", *words), 1, REFUSED[path])
@@ -186,7 +186,7 @@ def test_refused(place: Place, both: list[str], path: str) -> None:
 
 
 def test_not_lost(place: Place, both: list[str]) -> None:
-    """What cannot be put back is in an encrypted copy, and the message has what puts it back."""
+    """A text that cannot be put back is in an encrypted copy, and the message has the command that puts it back."""
     words = [*both, "--value", "db_password", "vars.yml"]
     place.wrap_tool('[ "$1" = encrypt ] && echo "# theirs" >> vars.yml')
     done = set_to(place, b"typed", *words)
@@ -206,7 +206,7 @@ def test_not_lost(place: Place, both: list[str]) -> None:
 
 
 def test_given(place: Place, both: list[str]) -> None:
-    """What is no value, and a terminal that would show it."""
+    """Input that cannot be a value is refused, and so is a terminal, which would show it."""
     words = [*both, "--value", "db_password", "vars.yml"]
     ended("a vault", set_to(place, sealed("dev"), *words), 1, "standard input is a vault")
     ended("two files", set_to(place, b"x", *words, "vars.yml"), 2, "--value takes one VAULT")
@@ -222,13 +222,13 @@ def test_given(place: Place, both: list[str]) -> None:
 
 def leaves(data: bytes) -> Iterator[tuple[str, bool, str | None, str]]:
     for node in nodes(data, extend=typed):
-        # An alias may stand for the value.
+        # An alias may refer to the value.
         tag, text = (None, "") if node.style == "*" else (node.tag, node.text)
         yield "".join(node.path), node.is_key, tag, text
 
 
 def test_anything() -> None:
-    """In random YAML a value that is set is read again, and all others are as before."""
+    """In random YAML, a value that is set is read back, and all others are as before."""
     needs_pyyaml()
     counts: Counter[str] = Counter()
     for number in range(150):

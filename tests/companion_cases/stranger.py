@@ -1,4 +1,4 @@
-"""What somebody may commit who knows the passwords of dev, and whose branch is merged."""
+"""The changes of somebody who knows the passwords of dev, and whose branch is merged."""
 
 from __future__ import annotations
 
@@ -22,14 +22,14 @@ class Stranger:
         self.tree = tree
         self.numbers = numbers
         self.data = data
-        # What is no secret any longer.
+        # Texts that are no longer secret.
         self.guessed: set[bytes] = set()
 
     def choose(self, what: str, several: list[T]) -> T:
         return self.data.draw(st.sampled_from(several), what)
 
     def spot(self, where: str = "where") -> Spot:
-        """Those of a file that has several are not chosen more often for that."""
+        """Choose a file, and then a spot in it, so that a file with several spots is not chosen more often."""
         file = self.choose("file", sorted({spot.file for spot in spots(self.tree)}))
         return self.choose(where, spots_of(file, self.tree[file]))
 
@@ -42,7 +42,7 @@ class Stranger:
         self.tree[spot.file] = content[: spot.start] + text + content[spot.end :]
 
     def add(self, envelope: bytes) -> None:
-        """As a file, or beside a value: above or below it, and in its column or another one."""
+        """Add an envelope as a file, or above or below a value, in its column or a deeper one."""
         beside = self.spot("beside")
         if not beside.key:
             self.tree[self.new_name("note")] = envelope
@@ -59,8 +59,8 @@ class Stranger:
         return with_label(spot.envelope, self.choose("label", LABELS))
 
     def own(self, spot: Spot, is_guess: bool) -> bytes:
-        """An envelope that the stranger can make, of a text that is guessed or another one, most often with the label
-        of what is there."""
+        """Return an envelope that the stranger can make, with a guessed text or another one, and mostly with the label
+        of the envelope that is there."""
         found = opened(spot.envelope)
         text = found.text if is_guess and found else b"text-%04d" % next(self.numbers)
         self.guessed |= set(TOKEN.findall(text))
@@ -101,17 +101,17 @@ class Stranger:
         self.tree[".gitattributes"] += self.choose("attributes", ATTRIBUTES) + b"\n"
 
     def nest(self) -> None:
-        """Within a text of YAML, or within the text of a vault."""
+        """Put an envelope into a text in YAML, or into the plaintext of a vault."""
         inner = block(b"x", self.relabelled(self.spot("what")), b"  ")
         vault = make(DEV, inner, DEV, next(self.numbers))
         self.tree[self.new_name("nested")] = self.choose("within", [b"x: |\n" + inner, vault])
 
     def settings(self) -> None:
-        """Whatever a companion might run, if it believed them."""
+        """Add settings that name a script. A companion that trusted them would run it."""
         self.tree["ansible.cfg"] = b"[defaults]\nvault_identity_list = dev@../canary, prod@../canary\n"
 
 
-# Those that matter more are there more often.
+# The more important moves are listed more often.
 MOVES = [
     *["relabel", "copy", "guess", "link"] * 3,
     *["replace"] * 5,

@@ -1,4 +1,4 @@
-"""A folder that a stranger made starts nothing: neither its settings of git, nor its attributes, nor its hooks."""
+"""A directory that a stranger made starts no program, be it by its git settings, its attributes or its hooks."""
 
 import os
 from pathlib import Path
@@ -10,8 +10,8 @@ from companion_cases.repository import AUTHOR
 
 pytestmark = pytest.mark.usefixtures("git")
 
-# Settings of git whose values are programs, from git-config(1) and from the pages that it refers to. The subsection of
-# a filter and of a driver is the stranger's, in whose attributes it stands.
+# Settings of git whose values are programs, from git-config(1) and the pages that it refers to. The stranger chooses
+# the subsections of filters and drivers, since the attributes name them.
 PROGRAMS = [
     "browser.x.cmd",
     "commit.template",
@@ -53,7 +53,7 @@ PROGRAMS = [
     "uploadpack.packObjectsHook",
     "web.browser",
 ]
-# Settings under which git starts more of them.
+# Settings that make git start more of these programs.
 OTHERS = {
     "core.repositoryFormatVersion": "1",
     "extensions.partialClone": "origin",
@@ -80,7 +80,7 @@ HOOKS = [
     "sendemail-validate",
 ]  # fmt: skip
 ATTRIBUTES = "* filter=x merge=ansible-vault ident\n*.yml diff=ansible-vault\n*.dat filter=y\n"
-# What git alone does over the same folder, and what of it starts by that.
+# Commands of git in the same directory, without a companion, and the programs that they start.
 PLAIN = [
     "git check-attr --cached diff a.yml",
     "git hash-object a.yml other.dat",
@@ -101,7 +101,7 @@ USED |= {"ls-tree", "merge-base", "read-tree", "rev-list", "rev-parse"}
 
 
 class Stranger:
-    """A folder with all of these, and programs that note their own start."""
+    """A directory with all of these, and programs that note their own start."""
 
     def __init__(self, place: Place, hooks_path: bool) -> None:
         self.place = place
@@ -135,7 +135,7 @@ class Stranger:
         for name in ("b.yml", "plain.txt", "other.dat"):
             place.put(name, TEXT)
         place.shell("git add c.yml && git -c core.fsmonitor=true update-index --fsmonitor")
-        # git gets an object that is missing from a promisor.
+        # git fetches a missing object from the promisor.
         self.missing = self.git("rev-parse", "HEAD~3:gone.yml")
         os.unlink(place.tree / ".git/objects" / self.missing[:2] / self.missing[2:])
 
@@ -171,14 +171,14 @@ class Stranger:
         return [f'[{section} "{subsection}"]' if dot else f"[{section}]", f'\t{key} = "{value}"']
 
     def started(self) -> set[str]:
-        """What has started since this was asked last."""
+        """Return what has started since the last call."""
         found = set(self.notes.read_text().split()) if self.notes.exists() else set()
         self.notes.unlink(missing_ok=True)
         return found
 
 
 def test_one_place() -> None:
-    """git is started by one module alone, so that what it could start is switched off in each run."""
+    """Only one module starts git. It switches off what git could start in each run."""
     modules = [*COMPANIONS.glob("ansible-vault-*"), *COMPANIONS.glob("*/**/*.py")]
     assert [path.name for path in modules if '"git"' in path.read_text()] == ["commands.py"]
 
@@ -189,7 +189,7 @@ def stranger(place: Place, request: pytest.FixtureRequest) -> Stranger:
 
 
 def test_git_alone(stranger: Stranger) -> None:
-    """Else the next test could not fail."""
+    """Without a companion, git starts these programs; otherwise, the next test could not fail."""
     for line in PLAIN:
         stranger.place.shell(line.format(missing=stranger.missing))
     assert STARTED - stranger.started() == set()
@@ -215,7 +215,7 @@ def test_companions(stranger: Stranger) -> None:
         [MERGE, *old, "../base", "../ours", "../theirs", "a.yml"],
         [ROTATE, *old, *place.by_file("new", "new-"), "."],
     ]
-    # The hook looks at the commits of a clone that is not partial.
+    # The hook checks commits only in a clone that is not partial.
     whole = ["sed", "-i", "/promisor/d; /partialClone/d", ".git/config"]
     for words in [*runs, whole, *(words for words in runs if words[0] == HOOK)]:
         done = place.run(*words, EDITOR=marks)

@@ -1,4 +1,4 @@
-"""What a companion inherits: standard streams that are closed, full or gone, and signals that are ignored."""
+"""Companions that inherit standard streams that are closed, full or abandoned, or signals that are ignored."""
 
 import os
 import signal
@@ -14,7 +14,7 @@ UNWRITTEN = "standard output cannot be written: {}\n"
 
 
 def tree(place: Place) -> dict[str, str]:
-    """A vault, and for each companion that writes to standard output its command line."""
+    """Write a vault, and return a command line for each companion that writes to standard output."""
     place.put("a.yml", sealed("old"))
     place.environment["EDITOR"] = place.script(CHANGE, "editor")
     return {
@@ -59,7 +59,7 @@ def test_readers_that_go(place: Place, subtests: SubTests) -> None:
 
 
 def test_closed_inputs(place: Place, subtests: SubTests) -> None:
-    """Neither the password's memory nor a file gets the number of a stream."""
+    """Neither the password in memory nor a file gets the number of a closed stream."""
     needs("bash")
     tree(place)
     typed = f"--vault-password-file <(cat {place.secret('old')})"
@@ -82,7 +82,7 @@ def test_closed_inputs(place: Place, subtests: SubTests) -> None:
 
 
 def test_ignored_children(place: Place) -> None:
-    """Whoever starts a companion may ignore SIGCHLD; a status is not taken for 0 then."""
+    """The parent of a companion may ignore SIGCHLD. The companion must not take a failure for status 0 then."""
     tree(place)
 
     def ignoring(*words: str) -> Done:
@@ -113,7 +113,7 @@ def test_ignored_children(place: Place) -> None:
 
 
 def test_ignored_interrupts(place: Place) -> None:
-    """SIGINT that is ignored from the beginning, as in the background of a script, stays ignored."""
+    """If SIGINT is ignored from the beginning, as in the background of a script, it stays ignored."""
     tree(place)
     place.wrap_tool("kill -INT $PPID; sleep 0.05")
     done = place.shell(f"trap '' INT; {ROTATE} {' '.join(to_new(place))} .")
@@ -126,9 +126,9 @@ def test_ignored_interrupts(place: Place) -> None:
 
 
 def test_all_ending_signals(cases: Companions, subtests: SubTests) -> None:
-    """Every signal that would end a program is noted, so that the plaintext goes and what was saved is kept."""
+    """Every signal that would end a program is caught, so the plaintext is removed and what was saved is kept."""
     not_ending = {"KILL", "STOP", "CHLD", "CONT", "URG", "WINCH", "TSTP", "TTIN", "TTOU"}
-    # A fault of Python itself would come again at once; what Python ignores stays ignored.
+    # A fault of Python itself would recur at once. Signals that Python ignores stay ignored.
     others = {"SEGV", "BUS", "FPE", "ILL", "PIPE", "XFSZ"}
     wanted = signal.valid_signals() - {getattr(signal, f"SIG{name}") for name in not_ending | others}
     place = cases.place()
@@ -153,12 +153,12 @@ def test_all_ending_signals(cases: Companions, subtests: SubTests) -> None:
 
 
 def merges_with(path: str) -> list[list[str]]:
-    """The arguments of merges in which one version has this path."""
+    """Return the arguments of merges in which one version has this path."""
     return [[path if place == number else "a.yml" for place in range(3)] + ["a.yml"] for number in range(3)]
 
 
 def test_waiting_pipes(place: Place, subtests: SubTests) -> None:
-    """A pipe is no vault; opening it would wait for ever, deaf to signals."""
+    """A pipe is not a vault. Opening it would wait forever, and ignore signals."""
     os.mkfifo(place.tree / "pipe")
     old = place.by_file("old")
     place.put("a.yml", sealed("old"))

@@ -1,4 +1,4 @@
-"""What each example of attacked.py begins with: secrets, a repository, and a file and a folder of somebody else."""
+"""The start of each example in attacked.py: secrets, a repository, and a file and a directory of somebody else."""
 
 import shutil
 import subprocess
@@ -8,7 +8,7 @@ from companion_cases.oracle import DEV, LINK, NAMES, Tree, make
 from companion_cases.repository import AUTHOR
 
 ATTRIBUTES = b"*.yml merge=ansible-vault\n"
-# Makes a folder in which whatever git starts leaves a mark, and in which a file seems to be still to be merged.
+# Makes a repository in which each program that git starts leaves a mark, and a file seems to await a merge.
 PLANT = """
 git add -A && git commit -qm plain && git rev-parse HEAD > .git/MERGE_HEAD
 blob=$(git hash-object a.yml) && echo "$blob $blob 612e796d6c" > .git/ansible-vault-conflicts
@@ -19,7 +19,7 @@ mkdir hooks && cp "$CANARY" hooks/post-index-change && git config core.hooksPath
 
 
 class Surroundings:
-    """What all examples share."""
+    """The files and secrets that all examples share."""
 
     def __init__(self, place: Place) -> None:
         self.place = place
@@ -46,7 +46,7 @@ class Surroundings:
         self.outside.write_bytes(make("dev", b"text-0000", DEV, 0))
 
     def commit(self, branch: str, tree: Tree, *parents: str) -> None:
-        """Without a working tree."""
+        """Commit a tree without using a working tree of git."""
         lines = [f"commit refs/heads/{branch}", "committer a <a@b> 1 +0000", "data 1", "x"]
         lines += [f"from refs/heads/{parent}^0" for parent in parents]
         stream = "\n".join([*lines, "deleteall", ""]).encode()

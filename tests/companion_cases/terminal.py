@@ -1,4 +1,4 @@
-"""Runs a program at a terminal of its own, and answers what it asks there."""
+"""Run a program at a terminal of its own, and answer its questions there."""
 
 import fcntl
 import os
@@ -13,25 +13,25 @@ from companion_cases import Place
 from lib.limits import SECONDS
 
 CHUNK_SIZE = 4096
-# The session leader: when it exits the terminal is hung up, so it writes the terminal's modes to $MODES before.
+# The session leader. When it exits, the terminal is hung up, so it first writes the terminal's modes to $MODES.
 LEADER = 'trap : INT QUIT; "$@"; status=$?; stty -a < /dev/tty > "$MODES"; exit $status'
 
 
 @dataclass
 class Session:
-    """What became of a run; the status is that of a shell."""
+    """The result of a run, with the status as a shell reports it."""
 
     returncode: int
     stdout: str
     stderr: str
     # What the terminal showed, without the carriage returns that it adds.
     shown: str
-    # Whether it still shows what is typed.
+    # Whether the terminal still shows what is typed.
     echoes: bool
 
 
 def at_terminal(place: Place, words: list[str], *answers: tuple[str, bytes], **variables: str) -> Session:
-    """Runs a program, waits for each question and types what answers it. The standard streams are no terminal."""
+    """Run a program, wait for each question, and type the answer. The standard streams are not the terminal."""
     controller, terminal = os.openpty()
     modes = place.path / "modes"
     with subprocess.Popen(
@@ -52,7 +52,7 @@ def at_terminal(place: Place, words: list[str], *answers: tuple[str, bytes], **v
                 shown = _shown_until(controller, shown, question.encode())
                 os.write(controller, answer)
         except AssertionError:
-            # It would wait for an answer for ever.
+            # The program would wait for an answer forever.
             os.killpg(program.pid, signal.SIGKILL)
             raise
         output, errors = program.communicate(timeout=SECONDS)
@@ -63,7 +63,7 @@ def at_terminal(place: Place, words: list[str], *answers: tuple[str, bytes], **v
 
 
 def _shown_until(controller: int, shown: bytes, question: bytes) -> bytes:
-    """All that was shown, once what came after `shown` ends with the question."""
+    """Wait until the output after `shown` ends with the question, and return all output."""
     end, place = time.monotonic() + SECONDS, len(shown)
     while not shown[place:].endswith(question):
         ready = select.select([controller], [], [], max(0, end - time.monotonic()))[0]
@@ -75,7 +75,7 @@ def _shown_until(controller: int, shown: bytes, question: bytes) -> bytes:
 
 
 def _chunk(controller: int) -> bytes:
-    """What is shown next; nothing once the last program at the terminal has ended."""
+    """Return what is shown next, or nothing after the last program at the terminal has ended."""
     try:
         return os.read(controller, CHUNK_SIZE)
     except OSError:

@@ -1,4 +1,4 @@
-"""ansible-vault-textconv, alone and below git."""
+"""ansible-vault-textconv, alone and as git runs it."""
 
 import os
 import re
@@ -39,7 +39,7 @@ def test_alone(place: Place, subtests: SubTests) -> None:
 
 
 def test_as_it_is(place: Place, subtests: SubTests) -> None:
-    """What cannot be decrypted is shown as it is, with the reason, and git continues."""
+    """A file that cannot be decrypted is shown as it is, with the reason, and git continues."""
     files = {
         "unknown.yml": (sealed("dev"), f"no secret decrypts this vault (no label; tried {place.secret('old')})"),
         "plain.yml": (TEXT, "it is not a vault and has no block"),
@@ -73,7 +73,7 @@ def test_as_it_is(place: Place, subtests: SubTests) -> None:
 
 
 def test_differences(place: Place) -> None:
-    """A file that is at first plaintext, then under the old password, then under the new one."""
+    """A file is plaintext first, then under the old password, and then under the new one."""
     needs("git")
     with_driver(place, *place.by_file("new"), *place.by_file("old"))
     texts = [f"password: {each}\n".encode() for each in ("first", "second", "third")]
@@ -87,7 +87,7 @@ def test_differences(place: Place) -> None:
 
 
 def test_awkward_names(place: Place, subtests: SubTests) -> None:
-    """No name ends the differences of the others."""
+    """No name cuts off the differences of the other files."""
     needs("git")
     with_driver(place, *place.by_file("old"))
     for name in AWKWARD:
@@ -103,7 +103,7 @@ def test_awkward_names(place: Place, subtests: SubTests) -> None:
 
 
 MESSAGE = "shown as it is: its plaintext would stay in git's file COMMIT_EDITMSG"
-# How a commit comes to have its differences below the message.
+# Ways to make git put the differences below the message of a commit.
 VERBOSE = {
     "commit -v": "git commit -v",
     "an amendment": "git commit -qm one && git commit --amend -v",
@@ -123,7 +123,7 @@ VERBOSE = {
 
 @pytest.mark.parametrize("line", VERBOSE.values(), ids=VERBOSE)
 def test_messages(place: Place, line: str) -> None:
-    """git keeps the differences that stand below a message, so they have no plaintext."""
+    """git keeps the differences below a message in a file, so they contain no plaintext."""
     needs("git")
     with_driver(place, *place.by_file("old"))
     place.shell("git symbolic-ref HEAD refs/heads/main")
@@ -156,7 +156,7 @@ def test_untouched_differences(place: Place) -> None:
     ended("an unknown vault", done, 0, "+password: second", "shown as it is: no secret decrypts this vault")
 
 
-# How a git that is set up for all clones names the secret, other settings, and whether a script of the clone is run.
+# How git's settings for all clones name the secret, other settings, and whether a script of the clone runs.
 SETTINGS_OF_ALL_CLONES = [
     ("", {}, True),
     ("--vault-password-file {home}/secrets/old", {}, False),
@@ -172,9 +172,9 @@ SETTINGS_OF_ALL_CLONES = [
 def test_clones_of_others(
     place: Place, subtests: SubTests, words: str, variables: dict[str, str], is_run: bool
 ) -> None:
-    """A clone whose `ansible.cfg` names a script, and which has an executable file named as a password file: as the
-    manual page says, neither `git diff` nor `git merge` runs them, where options or ANSIBLE_CONFIG name the secret by
-    an absolute path."""
+    """The `ansible.cfg` of a clone names a script, and the clone contains an executable file with the name of a
+    password file. As the manual page says, neither `git diff` nor `git merge` runs them if options or ANSIBLE_CONFIG
+    name the secret by an absolute path."""
     needs("git")
     under_git(place, "*.yml diff=ansible-vault merge=ansible-vault\n")
     place.environment["GIT_CONFIG_GLOBAL"] = str(place.path / "config")

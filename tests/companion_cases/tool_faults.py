@@ -1,4 +1,4 @@
-"""What the companions do about each fault of the tool: by its text, as the table of faults has it."""
+"""The companions recognise the faults of the tool by their texts, which the table of faults lists."""
 
 import json
 import re
@@ -18,7 +18,7 @@ print(json.dumps({text: kind.__name__ for text, kind in KINDS.items()}))
 
 
 def test_texts() -> None:
-    """Each is in the table, and those of a secret are there without exception."""
+    """The companions know only texts of the table, and every text about a secret."""
     words = ["/usr/bin/env", "python3", "-B", "-c", KINDS, str(COMPANIONS)]
     kinds = json.loads(subprocess.run(words, capture_output=True, check=True).stdout)
     texts = ROW.findall(FORMATS.read_text())

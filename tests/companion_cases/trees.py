@@ -1,4 +1,4 @@
-"""Which files are found below a path, by ansible-vault-rotate and ansible-vault-check alike."""
+"""The files that both ansible-vault-rotate and ansible-vault-check find below a path."""
 
 import os
 from pathlib import Path
@@ -13,7 +13,7 @@ from companion_cases import AWKWARD, CHECK, ROTATE, TEXT, Place, block, decrypte
 
 
 def found(place: Place, *paths: str) -> list[str]:
-    """The places that ansible-vault-check names."""
+    """Return the places that ansible-vault-check names."""
     done = place.run(CHECK, *place.by_file("old"), *place.by_file("new"), *paths)
     return sorted(line.split(": ")[0] for line in done.stdout.splitlines()[:-1])
 
@@ -68,7 +68,7 @@ def test_links(place: Place) -> None:
 
 
 def test_checked_links(place: Place) -> None:
-    """The check follows links to files, and those to folders only where they are the path."""
+    """The check follows links to files. It follows a link to a directory only if the link itself is a path."""
     place.put("tree/all.yml", sealed("old"))
     place.put("shared/vault.yml", sealed("old"))
     place.put("elsewhere/deep.yml", sealed("old"))
@@ -89,7 +89,7 @@ def test_hard_links(place: Place) -> None:
 
 
 def test_once(place: Place) -> None:
-    """A file is looked at once, however often the paths lead to it."""
+    """A file is processed once, however often the paths lead to it."""
     place.put("a/one.yml", sealed("old"))
     (place.tree / "link").symlink_to("a")
     done = place.run(ROTATE, *to_new(place), ".", "a", "a/one.yml", "link", str(place.tree))
@@ -113,9 +113,9 @@ def test_what_is_looked_at(place: Place) -> None:
 
 
 def test_long_files(place: Place) -> None:
-    """A block is found wherever it stands, also across the pieces that are read."""
+    """A block is found wherever it is, even across the chunks that are read."""
     filler = b"# " + b"a" * 61 + b"\n"
-    # The first byte of the envelope, and of a piece, has the same place where this is 36.
+    # With 36, the envelope begins at the first byte of a chunk.
     shifts = (0, 22, 28, 35, 36, 60)
     for shift in shifts:
         place.put(f"{shift}.yml", b"#" * shift + b"\n" + filler * 16383 + block("old") + filler)
@@ -124,7 +124,7 @@ def test_long_files(place: Place) -> None:
 
 
 def test_what_has_no_end(place: Place) -> None:
-    """Of a file no more is read than a vault can have: of one on the disk, and of one of the system's."""
+    """No more bytes are read than a vault can contain, from a file on the disk or from one of the system's."""
     with open(place.tree / "image", "wb") as file:
         file.truncate(1 << 40)
     (place.tree / "pages.yml").symlink_to("/proc/self/pagemap")
@@ -143,7 +143,7 @@ def test_what_has_no_end(place: Place) -> None:
 
 
 def test_pieces(tmp_path: Path, monkeypatch: pytest.MonkeyPatch) -> None:
-    """A file is read in pieces, and what an envelope begins with may lie in two of them."""
+    """A file is read in chunks, and the start of an envelope may be split between two of them."""
     path = tmp_path / "a.yml"
     in_two = set()
 

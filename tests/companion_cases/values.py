@@ -1,4 +1,4 @@
-"""ansible-vault-edit on YAML with values that are vaults; PyYAML reads what the editor is shown."""
+"""ansible-vault-edit on YAML with values that are vaults. PyYAML reads the text that the editor gets."""
 
 import re
 
@@ -13,7 +13,7 @@ SHOWN = ["", "x", "x\n", "x\n\n", "\n", "\n\n", " x", " x\ny", "\n x\n", "\tx", 
 SHOWN += ["# x", "x: 'y", "größe\n", "- a\n- b\n", "<<<<<<< x\n", "---\n", "\n\n x\n\n\n", "!vault |\n  x"]
 CLOSED = {b"\0": "control characters", b"\xff": "not UTF-8", b"a\r\nb": "control", "\u2028".encode(): "control"}
 CLOSED[b"$ANSIBLE_VAULT;1.1;AES256\n"] = "itself a vault"
-# What may be typed after the key, and the text that it stands for.
+# What may be typed after the key, and the text that it means.
 TYPED = {
     "!vault secret": b"secret",
     "!vault it's # why": b"it's",
@@ -25,7 +25,7 @@ TYPED = {
     "!vault |2+\n   a\n\n": b" a\n\n\n",
     "!vault &x secret": b"secret",
 }
-# What may be typed after the key of a block, and why it is refused.
+# What is refused if it is typed after the key of a block, and why.
 REFUSED = {
     "!vault": "b is missing after `!vault`",
     "!vault a\n  b": "b continues on further lines",
@@ -39,7 +39,7 @@ REFUSED = {
     '!vault "\\q"': "it cannot be read as YAML: found unknown escape character",
     '!vault "\\ud800"': "it cannot be read as YAML: found invalid Unicode character escape code",
 }
-# Plaintext that stands where it would not be encrypted.
+# Plaintext in a place where it would not be encrypted.
 MISPLACED = {
     "b: !vault |-\n  x\ny\n": "line 3: it cannot be read as YAML: could not find expected ':'",
     "b: !vault |-\n   x\n  y\n": "line 3: it cannot be read as YAML: did not find expected key",
@@ -52,7 +52,7 @@ COPY = 'cp "$1" ../shown'
 
 @pytest.mark.parametrize("end", [b"", b"\n", b"\n\n\n", b"\n  # a comment\n", b"\n\nz: 1\n"])
 def test_shown_literals(place: Place, end: bytes) -> None:
-    """Each is a literal by PyYAML, too, and what is not changed keeps every byte."""
+    """PyYAML reads each text as a literal, too, and what is not changed keeps every byte."""
     needs_pyyaml()
     import yaml
 
@@ -97,7 +97,7 @@ def test_what_changes(place: Place) -> None:
 
 
 def typed(place: Place, content: bytes, forms: list[str]) -> Done:
-    """Each text is typed in a file of its own, which has this content and is named by its number."""
+    """Type each text into a file of its own, which has this content and the number of the text as its name."""
     for number, text in enumerate(forms):
         place.put(f"{number}.yml", content)
         place.put(f"../typed/{number}.yml", text.encode())
@@ -126,7 +126,7 @@ def test_refused_forms(place: Place) -> None:
 
 
 def test_closed(place: Place) -> None:
-    """What YAML cannot show stays encrypted, and a comment says so for the time of the edit."""
+    """A text that YAML cannot show stays encrypted, and a comment says so during the edit."""
     plain = [b"x: 1\n" + block("old", text, name="a") + block("old", b"b", name="b") for text in CLOSED]
     files = {f"{number}.yml": content for number, content in enumerate(plain)}
     for name, content in files.items():
@@ -159,7 +159,7 @@ def test_shown_by_git(place: Place) -> None:
 
 
 def test_lists(place: Place) -> None:
-    """Items of a list are known by their texts and places."""
+    """The texts and places of items identify them in a list."""
     items = [("dev", b"one"), ("prod", b"two"), ("dev", b"three")]
     content = b"l:\n" + b"".join(b"- " + block(name, text, name, "").removeprefix(b": ") for name, text in items)
     words = [*place.by_id("dev", "dev"), *place.by_id("prod", "prod"), "vars.yml"]
@@ -172,7 +172,7 @@ def test_lists(place: Place) -> None:
 
 
 def test_equal_items(place: Place) -> None:
-    """A value of a list that stays keeps its envelope, even if another one had the same text under another secret."""
+    """An unchanged item of a list keeps its envelope, even if another item had the same text under another secret."""
     first, second = (lines_of(sealed(name, b"same", label=name), 4) for name in ("old", "prod"))
     place.put("list.yml", b"users:\n- !vault |\n" + first + b"\n- !vault |\n" + second + b"\n")
     words = [*place.by_id("old", "old"), *place.by_id("prod", "prod"), "list.yml"]

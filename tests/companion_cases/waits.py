@@ -17,7 +17,7 @@ from companion_cases import wait_until
 from companion_cases.signals import merge_of, tree
 from lib.limits import SECONDS
 
-# Each folder has another one below it, where the companion signals itself.
+# Each directory contains another one, and the companion signals itself in each.
 ENDLESS_FOLDERS = """
 def walk(path, **options):
     while True:
@@ -25,7 +25,7 @@ def walk(path, **options):
         yield path, [], []
 os.walk = walk
 """
-# What a program does first that runs until it is signalled.
+# Makes a program wait until it is signalled.
 WAITS = "exec 2> /dev/null; : > ../started; : < ../never"
 PIPE_SIZE = 4096
 
@@ -50,7 +50,7 @@ def started(
 
 
 def end(process: subprocess.Popen[str], number: int, never: Path | None = None) -> None:
-    """Ends it by a signal, and what survives it by what it reads."""
+    """End the process by a signal, and a program that survives it by the end of its input."""
     process.send_signal(number)
     assert process.wait(SECONDS) == -number, "it ends by the signal"
     if never:
@@ -68,7 +68,7 @@ def test_endless_folders(place: Place) -> None:
 @pytest.mark.parametrize("number", (signal.SIGINT, signal.SIGTERM))
 @pytest.mark.parametrize("companion", (CHECK, ROTATE))
 def test_while_files_are_searched(place: Place, companion: str, number: int) -> None:
-    """Files that take minutes to read, as long as no signal comes."""
+    """Without a signal, reading these files takes minutes."""
     first = place.tree / "0.img"
     with open(first, "wb") as file:
         file.truncate(1 << 40)
@@ -100,7 +100,7 @@ def test_while_git_runs(place: Place, git: None, companion: str, number: int) ->
 
 @pytest.mark.parametrize("number", (signal.SIGINT, signal.SIGTERM))
 def test_while_input_is_awaited(place: Place, number: int) -> None:
-    """Standard input that nobody writes."""
+    """Nobody writes to standard input."""
     words = [WITH, "encrypt_string", *place.by_file("old"), "--stdin-name", "a", "word", "--name", "b"]
     with started(place, words, stdin=subprocess.PIPE) as process:
         wait_until(lambda: reads_input(process), "the read")
@@ -108,12 +108,12 @@ def test_while_input_is_awaited(place: Place, number: int) -> None:
 
 
 def reads_input(process: subprocess.Popen[str]) -> bool:
-    """Whether it is in the call that reads standard input: the numbers of the call and of the descriptor."""
+    """Return whether it is reading standard input, by the numbers of the system call and of the descriptor."""
     return Path("/proc", str(process.pid), "syscall").read_text().split()[:2] == ["0", "0x0"]
 
 
 def written(place: Place) -> dict[str, list[str]]:
-    """Command lines with more output than a pipe takes."""
+    """Return command lines with more output than a pipe can take."""
     for number in range(40):
         place.put(f"{'a' * 200}{number}.yml", sealed("old"))
     place.put("long.txt", sealed("old", TEXT * 1000))
@@ -139,12 +139,12 @@ def test_while_nobody_reads(place: Place, companion: str, number: int) -> None:
 
 
 def waiting(reader: int) -> int:
-    """How many bytes are in a pipe."""
+    """Return the number of bytes in a pipe."""
     count = array.array("i", [0])
     fcntl.ioctl(reader, termios.FIONREAD, count)
     return count[0]
 
 
 def is_asleep(process: subprocess.Popen[str]) -> bool:
-    """Whether it is in the call that writes standard output."""
+    """Return whether it is in the system call that writes standard output."""
     return Path("/proc", str(process.pid), "syscall").read_text().split()[:2] == ["1", "0x1"]

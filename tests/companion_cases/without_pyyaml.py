@@ -1,4 +1,4 @@
-"""A machine without PyYAML: what needs no YAML works, and what needs it names the package."""
+"""Without PyYAML, everything that needs no YAML works, and the rest names the missing package."""
 
 import shutil
 
@@ -10,7 +10,7 @@ PACKAGE = "python3-yaml"
 
 
 def hide_pyyaml(place: Place, cases: Companions) -> None:
-    """Puts copies of the companions beside a module of its name that is none."""
+    """Replace the companions by copies beside a module `yaml` that cannot be imported."""
     folder = place.path / "without"
     shutil.copytree(cases.companions, folder)
     (folder / "yaml.py").write_text("raise ModuleNotFoundError\n")
@@ -37,7 +37,7 @@ def test_vaults(cases: Companions, place: Place) -> None:
 
 
 def test_blocks(cases: Companions, place: Place) -> None:
-    """What is searched by its header needs no YAML; what is edited does."""
+    """Finding blocks by their headers needs no PyYAML, but editing them does."""
     hide_pyyaml(place, cases)
     old = place.by_file("old")
     content = block("old", b"one")

@@ -12,7 +12,7 @@ from lib.subtests import SubTests
 
 
 def traced(place: Place, companion: str, *words: str) -> list[str]:
-    """What was done to the new file and its folder, in its order."""
+    """Return what was done to the new file and its directory, in order."""
     trace = place.path / "trace"
     tracer = ["strace", "-f", "-y", "-o", str(trace), "-e", "trace=write,fsync,rename,link,linkat"]
     assert place.run(*tracer, str(place.tools / companion), *words).returncode == 0, "the status"
@@ -28,7 +28,7 @@ def traced(place: Place, companion: str, *words: str) -> list[str]:
 
 
 def test_syncs(place: Place, subtests: SubTests) -> None:
-    """The whole new file is on the disk before it has the name, and the folder before all is said to be well."""
+    """The whole new file is on the disk before it gets its name, and the directory is before the run succeeds."""
     needs("strace")
     place.environment["EDITOR"] = place.script('echo a > "$1"', "editor")
     place.put("plain.yml", TEXT)
@@ -44,14 +44,14 @@ def test_syncs(place: Place, subtests: SubTests) -> None:
     }
     for what, words in runs.items():
         place.put("a.yml", before)
-        # The first sync of an edit is that of `check_replaceable`.
+        # `check_replaceable` makes the first sync of an edit.
         wanted = [*(["synced"] if words[0] == EDIT else []), "written", "synced", "named", "folder synced"]
         with subtests.test(what):
             assert traced(place, *words) == wanted
 
 
 def test_unreadable_folders(place: Place) -> None:
-    """A folder that may be written and not be read is no obstacle."""
+    """Files can be replaced in a directory that may be written but not read."""
     place.put("folder/a.yml", sealed("old"))
     for path in (place.tree / "folder", place.tree / "folder/a.yml"):
         if os.geteuid() == 0:
@@ -69,7 +69,7 @@ def test_unreadable_folders(place: Place) -> None:
 
 
 def test_access_control_lists(place: Place) -> None:
-    """A file that is replaced keeps its ACL, and inherits no entry of the folder's default ACL."""
+    """A file that is replaced keeps its ACL, and inherits no entry of the directory's default ACL."""
     needs("setfacl")
 
     def acl(name: str) -> list[str]:
@@ -88,7 +88,7 @@ def test_access_control_lists(place: Place) -> None:
 
 
 def test_full_disks(place: Place, subtests: SubTests) -> None:
-    """Where the new file cannot be written whole, all stays, and nothing is left beside it."""
+    """If the new file cannot be written completely, everything stays, and nothing is left beside it."""
     long = TEXT * 4000
     place.put("a.yml", sealed("old", long))
     merge = versions(place, "b.yml", sealed("old", long), sealed("old", long), sealed("old", long + TEXT))
@@ -120,7 +120,7 @@ def test_dry_runs(place: Place, subtests: SubTests) -> None:
 
 
 def test_no_hard_links(place: Place) -> None:
-    """On a file system that has none a new vault is made all the same, and takes the place of nothing."""
+    """On a file system without hard links, a new vault is created anyway, and replaces nothing."""
     none = "def none(*words): raise PermissionError(1, 'no links')\nos.link = none\n"
     editor = place.script('echo a > "$1"', "editor")
     done = run_changed(place, EDIT, none, [*place.by_file("old"), "new.yml"], EDITOR=editor)
@@ -131,7 +131,7 @@ def test_no_hard_links(place: Place) -> None:
 
 
 def test_named_paths(cases: Companions, subtests: SubTests) -> None:
-    """What is named and is neither a file nor a folder is a failure, as is a link that cannot be followed."""
+    """A named path that is neither a file nor a directory is a failure, as is a link that cannot be followed."""
     place = cases.place()
     place.put("a.yml", sealed("old"))
     os.mkfifo(place.tree / "pipe")
@@ -159,7 +159,7 @@ def test_named_paths(cases: Companions, subtests: SubTests) -> None:
 
 @pytest.mark.parametrize("words", (["--vault-password-file", "../long"], ["--vault-id", "dev@../long"]))
 def test_long_passwords(place: Place, words: list[str]) -> None:
-    """A truncated password decrypts no vault."""
+    """A password that is too long is refused. If it were truncated, it would decrypt the vault."""
     long = b"p" * 4097
     (place.path / "long").write_bytes(long)
     (place.secrets / "dev").write_bytes(long[:4096])
@@ -174,7 +174,7 @@ def test_long_passwords(place: Place, words: list[str]) -> None:
 
 
 def test_prose(place: Place) -> None:
-    """Prose shows blocks that are not meant, whatever its ending."""
+    """Blocks in prose are only examples, whatever the suffix of the file is."""
     for name in ("a.md", "b.rst", "c.adoc", "d.html", "e.ADOC"):
         place.put(name, block("dev"))
     place.put("f.yml", block("old"))

@@ -1,4 +1,4 @@
-"""What the companions read of YAML: each node with its keys, its tag and its bytes, with libyaml and without."""
+"""What the companions read from YAML: each node with its keys, its tag and its bytes, with libyaml and without."""
 
 import os
 import sys
@@ -12,7 +12,7 @@ from lib.needs import needs_pyyaml
 
 ENVELOPE = "$ANSIBLE_VAULT;1.1;AES256\n6162\n"
 BLOCK = "!vault |\n   $ANSIBLE_VAULT;1.1;AES256\n   6162\n"
-# The values of each text: their paths, and the characters that are theirs.
+# The values of each text: their paths and their characters.
 READ = {
     "a: 1\n'b c': \"x\"\n": [(("a",), "1"), (("b c",), '"x"')],
     f"a:\n  b: {BLOCK}": [(("a", "b"), BLOCK)],
@@ -33,7 +33,7 @@ READ = {
     ],
     "": [],
 }
-# The columns of the collections in which these values are.
+# The column of the collection that contains the value `x`.
 COLUMNS = {
     "a: x\n": 0,
     "- - x\n": 2,
@@ -56,13 +56,13 @@ REFUSED = {
 
 
 def as_bytes(text: str) -> bytes:
-    """Surrogates stand for bytes that are no UTF-8."""
+    """Encode a text. Its surrogates become bytes that are not UTF-8."""
     return text.encode(errors="surrogatepass")
 
 
 @pytest.fixture(params=["libyaml", "PyYAML"])
 def loader(request: pytest.FixtureRequest, monkeypatch: pytest.MonkeyPatch) -> None:
-    """libyaml, if PyYAML has it, or PyYAML's own."""
+    """Use libyaml, if PyYAML has it, or PyYAML's own loader."""
     needs_pyyaml()
     import yaml
 
@@ -108,8 +108,8 @@ except nodes.NoPyYaml as fault:
 
 
 def test_where_pyyaml_is(cases: Companions, place: Place) -> None:
-    """It is found where the companions start without packages, but never in the current folder; and its package is
-    named where it is missing."""
+    """PyYAML is found even though the companions start without `site`, but never in the current directory. If it is
+    missing, a message names its package."""
     needs_pyyaml()
     for name in ("yaml", "sitecustomize", "usercustomize"):
         place.put(f"{name}.py", b"open('../imported', 'w')\n")

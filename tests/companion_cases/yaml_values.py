@@ -1,5 +1,5 @@
-"""Random YAML: its values with the tag `!vault` are those that PyYAML composes, and those that are shown, changed and
-encrypted again are, too. No envelope is decrypted here: one holds the digits of its plaintext."""
+"""Random YAML: PyYAML composes the same values with the tag `!vault`, even after they are shown, changed and encrypted
+again. No envelope is decrypted here: each contains the digits of its plaintext."""
 
 from __future__ import annotations
 
@@ -33,7 +33,7 @@ PLAINTEXTS = ["word", "größe\n", "two\nlines\n\n", " x", "", "# x", "!vault |\
 PIECES = ["a", "b:", "c: ", "- ", "  ", "    ", "\n", "\n", "\n", "\r\n", "\r", "\x85", "\u2028", "\t", "# x\n"]
 PIECES += ["!vault ", "!vault ", "!vault |\n", "|", "|-\n", "|2+\n", ">", "'", '"', "[", "]", "{", "}", ", ", "&x "]
 PIECES += ["? ", ": ", "---\n", "...\n", "x y", "  6162\n", "ü", "<<: ", "!<!vault> ", "!!map ", "$ANSIBLE_VAULT;"]
-# Of a file with a conflict: the values, and what each has.
+# A file with a conflict, and the keys and the text of each value in it.
 CONFLICT = b"""\
 a: !vault one
 <<<<<<< ours
@@ -64,7 +64,7 @@ def decrypt(text: bytes) -> tuple[Secret, bytes]:
 
 
 class Hexadecimal(Tool):
-    """Runs no program."""
+    """Encrypts to the digits of the plaintext, and runs no program."""
 
     def __init__(self) -> None:
         pass
@@ -74,7 +74,7 @@ class Hexadecimal(Tool):
 
 
 class Generator:
-    """Makes mappings and lists of scalars, some of which are blocks, in any depth."""
+    """Generates nested mappings and lists of scalars, some of which are blocks."""
 
     def __init__(self, number: int) -> None:
         self.random = random.Random(f"{SEED} {number}")
@@ -84,7 +84,7 @@ class Generator:
         text = "# größe\n---\n".join(documents)
         text = self.random.choice(("", "", "\ufeff", "# first\n", "%YAML 1.1\n---\n")) + text
         ends = self.random.choice(LINE_ENDS)
-        # A file may end without an end of its line.
+        # The last line of a file may have no line end.
         return text.replace("\n", ends).removesuffix(self.random.choice(("", ends)))
 
     def collection(self, depth: int, column: int) -> str:
@@ -96,7 +96,7 @@ class Generator:
         return "".join(items)
 
     def node(self, depth: int, column: int) -> str:
-        """What follows a key or a dash, with the end of its line."""
+        """Return what follows a key or a dash, with the line end."""
         kind = self.random.random()
         if depth and kind < 0.3:
             head = self.random.choice(("", "", " &y", "  # why"))
@@ -122,7 +122,7 @@ class Generator:
 
 
 def composed(text: str) -> list[tuple[tuple[str, ...], str]] | None:
-    """The keys and the text of each value with the tag, as PyYAML composes them; None where it is no YAML."""
+    """Return the keys and the text of each value with the tag, as PyYAML composes them, or None if it is not YAML."""
     import yaml
 
     found: list[tuple[tuple[str, ...], str]] = []
@@ -142,7 +142,7 @@ def composed(text: str) -> list[tuple[tuple[str, ...], str]] | None:
                 walk(value, (*path, key.value if isinstance(key, yaml.ScalarNode) else ""))
 
     try:
-        # All at once, since the nodes of a later document could have the ids of those that are gone.
+        # Keep all documents, since the nodes of a later one could get the ids of nodes that are gone.
         loader = getattr(yaml, "CSafeLoader", yaml.SafeLoader)
         for document in [*yaml.compose_all(text, loader)]:  # type: ignore[no-untyped-call]
             walk(document, ())
@@ -160,7 +160,7 @@ def scanned(data: bytes) -> list[tuple[tuple[str, ...], str]]:
 
 
 def test_anything() -> None:
-    """Whatever PyYAML composes is read in the same way."""
+    """The companions read whatever PyYAML composes in the same way."""
     needs_pyyaml()
     generator = random.Random(SEED)
     texts = ["".join(generator.choices(PIECES, k=generator.randint(1, 25))) for _ in range(UNSTRUCTURED)]
@@ -169,7 +169,7 @@ def test_anything() -> None:
     assert sum(len(wanted) for _, _, wanted in rows) > 300, "many values are compared"
 
 
-# What is compared, of which text, what is found, and what is wanted.
+# The kind of a comparison, its text, the result, and the wanted result.
 Row = tuple[str, str, object, object]
 
 
@@ -182,7 +182,7 @@ def test_shown_and_encrypted() -> None:
 
 
 def compared(number: int, counts: Counter[str]) -> Iterator[Row]:
-    """Each value that is shown is the plaintext by PyYAML, too; and what is not changed keeps every byte."""
+    """Yield comparisons: PyYAML reads each shown value as its plaintext, and what is not changed keeps every byte."""
     text = Generator(number).text()
     data, wanted = text.encode(), composed(text)
     if wanted is None:
@@ -215,14 +215,14 @@ def typed_anew(showing: inline.Showing, generator: random.Random, counts: Counte
 
 
 def test_found_by_bytes() -> None:
-    """Without PyYAML the same blocks are found, where lines end as the tool reads them."""
+    """Without PyYAML, the same blocks are found if the lines end as the tool expects."""
     needs_pyyaml()
     texts = [Generator(number).text() for number in range(STRUCTURED)]
     found = [text.encode() for text in texts if composed(text) is not None and not re.search("\r(?!\n)|\x85", text)]
     with_digits = lambda each: len(each) > 1
     by_yaml, by_bytes = [], []
     for data in found:
-        # An indented comment below is part of the text, which nothing decrypts then.
+        # An indented comment below becomes part of the text, which nothing can decrypt then.
         literals = [value.content.partition(b"#")[0] for value in Scan(data).values if value.style == nodes.LITERAL]
         by_yaml.append([*filter(with_digits, map(bytes.split, literals))])
         by_bytes.append([*filter(with_digits, (each.text.split() for each in envelopes(data) if not each.obstacle))])
@@ -231,7 +231,7 @@ def test_found_by_bytes() -> None:
 
 
 def encrypted(showing: inline.Showing, text: bytes) -> bytes | str:
-    """The file, or why it is refused."""
+    """Return the file, or why it is refused."""
     try:
         return inline.encrypted(showing, text, Hexadecimal(), Choice([SECRET], None))
     except Refused as fault:
@@ -240,7 +240,7 @@ def encrypted(showing: inline.Showing, text: bytes) -> bytes | str:
 
 @pytest.mark.parametrize("text", (b"a: !vault new\n            # a comment\n", b"a: !vault new\xe2\x80\xa8b: 1"))
 def test_no_place(text: bytes) -> None:
-    """What would not be read as it is meant is not written."""
+    """A text that would not be read as intended is not written."""
     needs_pyyaml()
     data = b"a: !vault |\n  " + envelope(b"old").replace(b"\n", b"\n  ") + b"\n"
     showing = inline.showing(data, decrypt, with_notes=True)

@@ -1,4 +1,4 @@
-/* Counts the allocations of memory, and writes their number and the most bytes at a time to descriptor 3 at the end. */
+/* Counts memory allocations. At exit, writes their number and the peak number of allocated bytes to descriptor 3. */
 #include <malloc.h>
 #include <stdio.h>
 

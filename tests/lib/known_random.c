@@ -1,4 +1,4 @@
-/* Opens the file KNOWN_RANDOM where a program opens /dev/urandom. */
+/* Opens the file that KNOWN_RANDOM names when a program opens /dev/urandom. */
 #define _GNU_SOURCE
 #include <fcntl.h>
 #include <stdarg.h>

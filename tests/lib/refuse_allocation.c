@@ -1,4 +1,4 @@
-/* Refuses one allocation of memory, of the number in REFUSED_ALLOCATION, and then writes a byte to descriptor 3. */
+/* Makes the memory allocation with the number REFUSED_ALLOCATION fail, and writes a byte to descriptor 3 then. */
 #include <stdlib.h>
 #include <unistd.h>
 

@@ -1,5 +1,5 @@
-/* Each read and write transfers between one byte and MOST_BYTES; the number is pseudorandom, the same in every
-   run. The first that is cut short creates the file at the path CUT_SHORT_MARKER. */
+/* Limits each read and write to a pseudorandom number of bytes from 1 to MOST_BYTES, the same in every run. The first
+   call that is cut short creates the file that CUT_SHORT_MARKER names. */
 #define _GNU_SOURCE
 #include <fcntl.h>
 #include <stdint.h>

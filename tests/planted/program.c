@@ -1,5 +1,5 @@
-/* Faults of the program, each compiled by its name into a library that is loaded before those of the program. With
-   PROGRAM and LIBRARY it is instead what starts that program with that library. */
+/* Faults of the program. Defining the name of a fault compiles it into a library to preload. Defining PROGRAM and
+   LIBRARY instead compiles a wrapper that starts that program with that library. */
 #define _GNU_SOURCE
 #include <ctype.h>
 #include <errno.h>
@@ -46,7 +46,7 @@ __attribute__((constructor)) static void lower(int count, char **words)
 #endif
 
 #if defined(PASSWORD_FILE_VARIABLE) || defined(SALT_VARIABLE) || defined(MATCH_VARIABLE)
-/* Starts the program anew with a further option, which stands behind the command. */
+/* Starts the program again with one more option, which follows the command. */
 static void start_with(int count, char **words, const char *option, const char *value)
 {
     char **more = calloc(count + 2, sizeof *more), *option_with_value = malloc(strlen(option) + strlen(value) + 1);
