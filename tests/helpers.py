@@ -3,6 +3,7 @@
 import runpy
 import subprocess
 from collections.abc import Callable
+from dataclasses import replace
 from pathlib import Path
 
 import pytest
@@ -16,6 +17,7 @@ from lib.system_calls import calls_in
 from model.compared import differences
 from model.faults import Fault
 from model.random_requests import Case
+from model.vaults import seal
 
 # A request, and programs that differ in one thing from the program that answers it.
 CASE = Case(["decrypt", "--vault-password-file", "right", "--output", "new"], {"right": b"right\n"}, b"no vault\n")
@@ -41,6 +43,13 @@ def test_differences(program: str, tmp_path: Path, monkeypatch: pytest.MonkeyPat
     monkeypatch.setenv("PROGRAM", program)
     assert differences(CASE, [script(tmp_path, "same", 'exec "$PROGRAM" "$@"')]) == []
     assert differences(CASE, [script(tmp_path, "differing", text)]) != []
+
+
+def test_mode_of_an_output(program: str, tmp_path: Path, monkeypatch: pytest.MonkeyPatch) -> None:
+    monkeypatch.setenv("PROGRAM", program)
+    case = replace(CASE, stdin=seal(b"right", b"text"))
+    assert differences(case, [script(tmp_path, "same", 'exec "$PROGRAM" "$@"')]) == []
+    assert differences(case, [script(tmp_path, "differing", '"$PROGRAM" "$@" && chmod 644 new')]) != []
 
 
 # A fault, and answers that differ from it in one part.
@@ -124,9 +133,17 @@ def test_ansible_is_found(
     assert ansible_vault() == (paths[wanted] if wanted else None)
 
 
-@pytest.mark.parametrize("text", ["echo 'no module named ansible' >&2; exit 1", OURS])
-def test_ansible_that_fails(tmp_path: Path, monkeypatch: pytest.MonkeyPatch, text: str) -> None:
-    """A tool that fails does not count as missing, and another tool does not count as Ansible's."""
-    monkeypatch.setenv("ANSIBLE_VAULT", script(tmp_path, "ansible-vault", text))
-    with pytest.raises(RuntimeError, match="no module named ansible|not of Ansible's core"):
+@pytest.mark.parametrize("is_named", [True, False])
+def test_ansible_that_fails(tmp_path: Path, monkeypatch: pytest.MonkeyPatch, is_named: bool) -> None:
+    """It does not count as missing."""
+    path = script(tmp_path, "ansible-vault", "echo 'no module named ansible' >&2; exit 1")
+    for name, value in {"PATH": str(tmp_path), "ANSIBLE_VAULT": path if is_named else ""}.items():
+        monkeypatch.setenv(name, value)
+    with pytest.raises(RuntimeError, match="no module named ansible"):
+        ansible_vault()
+
+
+def test_another_tool_that_is_named(tmp_path: Path, monkeypatch: pytest.MonkeyPatch) -> None:
+    monkeypatch.setenv("ANSIBLE_VAULT", script(tmp_path, "ansible-vault", OURS))
+    with pytest.raises(RuntimeError, match="not of Ansible's core"):
         ansible_vault()

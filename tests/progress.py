@@ -165,10 +165,20 @@ def test_ci_with_all_installed(tmp_path: Path) -> None:
     assert not (tmp_path / "lists").exists()
 
 
+# Knows every package but zsh; acl was removed, but not purged.
+QUERY = r"""
+format=${2#*=}; shift 2
+for package; do
+    state=installed
+    case $package in zsh) continue ;; acl) state=config-files ;; esac
+    printf "$(printf %s "$format" | sed "s/\${Package}/$package/; s/\${db:Status-Status}/$state/")"
+done"""
+
+
 @pytest.mark.parametrize("goal", ["test", "check"])
 def test_missing_packages(program: str, tmp_path: Path, goal: str) -> None:
     """One line names them before any proof or test. With PARTIAL=yes, there is no such line."""
-    script(tmp_path / "dpkg-query", "shift 2; printf '%s installed\\n' \"$@\" | grep -v -e zsh -e acl")
+    script(tmp_path / "dpkg-query", QUERY)
     (tmp_path / "rt").symlink_to("/bin/false")
     done = run_make(program, goal, "PYTEST=true", env=with_tools(tmp_path))
     wanted = "The tests need packages: apt-get install acl zsh   (PARTIAL=yes skips what uses them)"
