@@ -217,6 +217,15 @@ def test_those_that_fail(place: Place) -> None:
     assert (place.tree / "big.yml").stat().st_size == 16_777_217, "stays"
 
 
+def test_highest_status(place: Place) -> None:
+    prepare(place)
+    memory = 'echo "ERROR! out of memory" >&2; exit 4'
+    place.wrap_tool(f'case "$*" in *=prompt*) ;; view*) [ -e ../once ] || {{ : > ../once; {memory}; }} ;; esac')
+    done = place.run(WITH, "view", *place.by_file("old"), "a.yml", "missing.yml", "a.yml")
+    messages = [f"{WITH}: a.yml: out of memory", f"{WITH}: missing.yml: No such file or directory"]
+    assert (done.returncode, done.stdout, done.stderr.splitlines()) == (4, TEXT.decode(), messages)
+
+
 def test_changed_meanwhile(place: Place) -> None:
     """What another program wrote while the tool ran is not overwritten."""
     prepare(place)
