@@ -8,8 +8,8 @@ use std::process::ExitCode;
 use std::{env, fs, io};
 use vault_cli::{Fault, Role, WriteSink, drive, reject_words, report};
 
-/// The arguments. They are pushed one by one, since `collect` goes on if the room for all of
-/// them is refused.
+/// The arguments. They are pushed one by one, since `collect` goes on if it cannot reserve room
+/// for all of them.
 fn words(rt: &(impl Env + AllocGlobal)) -> io::Result<Vec<String>> {
     let mut words = Vec::new(rt.alloc());
     for word in env::args(rt)? {
@@ -26,8 +26,8 @@ fn open_directory<F: Files>(files: &F) -> io::Result<F::File> {
         .or_else(|_| fs::open(files, "."))
 }
 
-/// A directory in the place of a stream, if that is closed: of the free descriptors, an open takes
-/// the lowest.
+/// Opens a directory in place of a stream, if that is closed: an open takes the lowest free
+/// descriptor.
 fn occupy<F: Files>(
     files: &F,
     stream: BorrowedFd<'_>,
@@ -42,8 +42,8 @@ fn occupy<F: Files>(
     }
 }
 
-/// Occupies descriptors 0 to 2 if they are closed, so that no file that is opened later is taken
-/// for a standard stream.
+/// Occupies descriptors 0 to 2 if they are closed, so that no file opened later is mistaken for a
+/// standard stream.
 fn occupy_closed_descriptors<F: Files>(
     files: &F,
     stdin: BorrowedFd<'_>,

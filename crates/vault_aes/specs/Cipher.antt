@@ -1,5 +1,5 @@
 -- The cipher of AES-256 (FIPS 197, section 5.1). A state is a matrix of bytes with four rows and
--- four columns, held as the list of its 16 entries column by column (3.4).
+-- four columns, represented as the list of its 16 entries column by column (3.4).
 use Rattle.std.specs.Prelude.{ℕ, zero, suc, ◌+◌, ◌*◌, ◌%◌, bit_xor}
 use Rattle.std.specs.Prelude.{List, [], ◌∷◌, ◌++◌, slice_index}
 use Rattle.std.specs.Int.{w32, to_be_bytes}
@@ -47,7 +47,7 @@ mix_columns state = matrix (product_entry mixing_matrix state)
 abbrev pub word_byte : ℕ → ℕ → ℕ
 word_byte word r = slice_index (to_be_bytes w32 word) r
 
--- AddRoundKey (5.1.4): to column c is added word 4 n + c of the key schedule
+-- AddRoundKey (5.1.4): word 4 n + c of the key schedule is added to column c
 unfoldable pub add_round_key : List ℕ → ℕ → List ℕ → List ℕ
 add_round_key words n state =
     matrix (λ r c. bit_xor (entry state r c) (word_byte (slice_index words (4 * n + c)) r))

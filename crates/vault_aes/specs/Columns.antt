@@ -1,5 +1,5 @@
--- The state as the code holds it: four words, each a column with row 0 in its most significant
--- byte.
+-- The state as the code represents it: four words, each a column with row 0 in its most
+-- significant byte.
 use Rattle.std.specs.Prelude.{ℕ, List, [], ◌∷◌, ◌++◌, bit_xor, slice_index}
 use Rattle.std.specs.Int.{w32, to_be_bytes}
 use Rattle.vault_aes.specs.Field.{mul}
@@ -12,7 +12,7 @@ state_of columns =
     to_be_bytes w32 (slice_index columns 0) ++ to_be_bytes w32 (slice_index columns 1)
     ++ to_be_bytes w32 (slice_index columns 2) ++ to_be_bytes w32 (slice_index columns 3)
 
--- the part of a column that MixColumns makes of S of the byte x in row k
+-- the part of a column that MixColumns makes from S of the byte x in row k
 abbrev pub mixed_column : ℕ → ℕ → List ℕ
 mixed_column x k = column (λ r c. mul (entry mixing_matrix r k) (s_box x)) 0
 

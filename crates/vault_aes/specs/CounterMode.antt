@@ -19,8 +19,8 @@ abbrev pub xor_keystream : (ℕ → ℕ) → List ℕ → List ℕ
 xor_keystream keystream input =
     map (λ i. bit_xor (slice_index input i) (keystream i)) (range_with_len 0 (length input))
 
--- the input XORed with the key stream, under the words of a key schedule: of a plaintext the
--- ciphertext, and of that the plaintext. Of the last output block only as many bytes are used as
--- there is input (6.5).
+-- the input XORed with the key stream, under the words of a key schedule: this turns a plaintext
+-- into the ciphertext, and back. Only as many bytes of the last output block are used as the input
+-- has left (6.5).
 unfoldable pub counter_mode : List ℕ → List ℕ → List ℕ → List ℕ
 counter_mode words iv input = xor_keystream (keystream_byte words iv) input

@@ -3,8 +3,8 @@
 use Rattle.std.specs.Prelude.{ℕ, zero, suc, ◌+◌, ◌*◌, ◌^◌, bit_xor}
 use Rattle.std.specs.Int.{bit_at}
 
--- the product of two polynomials (4.2): the sum of b · x^i over those of the lowest n bits i of a
--- that are set
+-- the product of two polynomials (4.2): the sum of b · x^i over each bit i that is set among the
+-- lowest n bits of a
 unfoldable pub polynomial_product : ℕ → ℕ → ℕ → ℕ
 polynomial_product a b zero = 0
 polynomial_product a b (suc i) = bit_xor (polynomial_product a b i) (bit_at a i * (b * 2 ^ i))
@@ -27,7 +27,7 @@ mul a b = remainder (polynomial_product a b 8) 7
 abbrev pub square : ℕ → ℕ
 square a = mul a a
 
--- a^(2^n): n times the square of the one before
+-- a^(2^n): a squared n times
 unfoldable pub repeated_square : ℕ → ℕ → ℕ
 repeated_square a zero = a
 repeated_square a (suc n) = square (repeated_square a n)

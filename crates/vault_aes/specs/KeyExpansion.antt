@@ -31,7 +31,7 @@ power_of_x (suc n) = mul 2 (power_of_x n)
 unfoldable pub round_constant : ℕ → ℕ
 round_constant j = word (power_of_x (j - 1)) 0 0 0
 
--- what is added to word i - 8 to make word i, from word i - 1 (5.2)
+-- the word that is added to word i - 8 to make word i, computed from word i - 1 (5.2)
 unfoldable pub schedule_step : ℕ → ℕ → ℕ
 schedule_step i previous =
     if i % 8 == 0 then bit_xor (sub_word (rot_word previous)) (round_constant (i / 8))

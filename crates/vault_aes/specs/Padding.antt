@@ -4,8 +4,8 @@ use Rattle.std.specs.Prelude.{map, find, Option}
 use Rattle.std.specs.List.{range_with_len}
 use Rattle.std.specs.Str.{bytes_eq}
 
--- the text is the plaintext and after it some bytes, 1 to 16 of them, each of the value of their
--- count, so that there are whole blocks
+-- the text is the plaintext followed by 1 to 16 bytes, each equal to their count, and consists of
+-- whole blocks
 abbrev pub IsPadded : List ℕ → List ℕ → Type 0
 IsPadded plaintext text =
     (count : ℕ) × (1 ≤ count) × (count ≤ 16)
@@ -15,15 +15,15 @@ IsPadded plaintext text =
 abbrev pub padded_length : ℕ → ℕ
 padded_length n = n - n % 16 + 16
 
--- the plaintext, of n bytes, and after it 16 - (n mod 16) bytes, each of that value
+-- the plaintext, of n bytes, followed by 16 - (n mod 16) bytes, each of that value
 unfoldable pub padded : List ℕ → List ℕ
 padded plaintext =
     let count = 16 - length plaintext % 16 in plaintext ++ replicate count count
 
--- what comes before each byte of the text
+-- the prefixes of the text, each up to one of its bytes
 abbrev pub prefixes : List ℕ → List (List ℕ)
 prefixes text = map (λ n. take n text) (range_with_len 0 (length text))
 
--- the plaintext that the text is when it is padded; none if there is no such plaintext
+-- the plaintext that gives the text when it is padded; none if there is no such plaintext
 unfoldable pub without_padding : List ℕ → Option (List ℕ)
 without_padding text = find (λ plaintext. bytes_eq (padded plaintext) text) (prefixes text)

@@ -6,8 +6,8 @@ ghost use Rattle.vault_aes.specs.CounterMode.{counter_mode, xor_keystream};
 use crate::key::Key;
 use crate::rounds::BLOCK_LEN;
 
-/// Combines `bytes`, of any length, with the key stream by exclusive or (SP 800-38A, 6.5): the same
-/// call enciphers and deciphers. `iv` is the initial counter block; the counter wraps at 2^128.
+/// XORs `bytes`, of any length, with the key stream (SP 800-38A, 6.5). The same call encrypts and
+/// decrypts. `iv` is the initial counter block; the counter wraps at 2^128.
 pub fn ctr_apply(key: &Key, iv: &[u8; BLOCK_LEN], bytes: &mut [u8])
     ensures { bytes.new ≡ counter_mode key.now iv.now bytes.old }
 {
@@ -26,7 +26,7 @@ pub fn ctr_apply(key: &Key, iv: &[u8; BLOCK_LEN], bytes: &mut [u8])
     }
 }
 
-/// The counter that follows; it wraps at 2^128.
+/// The next counter; it wraps at 2^128.
 #[inline(always)]
 fn next_counter(high: u64, low: u64) -> (u64, u64)
     ensures { result.0 * 2 ^ 64 + result.1 ≡ (high * 2 ^ 64 + low + 1) % 2 ^ 128 }
@@ -38,8 +38,8 @@ fn next_counter(high: u64, low: u64) -> (u64, u64)
     }
 }
 
-/// The counter's big-endian bytes. It comes in two words, each of which is stored whole; the bytes
-/// of one word of 128 bits would be picked one by one.
+/// The counter's big-endian bytes. The counter comes in two words, each of which is stored whole;
+/// the bytes of a single 128-bit word would be picked one by one.
 #[inline(always)]
 fn counter_block(high: u64, low: u64) -> [u8; BLOCK_LEN]
     ensures { result ≡ to_be_bytes w128 (high * 2 ^ 64 + low) }
@@ -50,7 +50,7 @@ fn counter_block(high: u64, low: u64) -> [u8; BLOCK_LEN]
     block
 }
 
-/// Inlined so that the length of a whole block is known, and no byte costs a branch.
+/// Inlined so that the length of a whole block is known, and bytes do not cost a branch each.
 #[inline(always)]
 fn xor_keystream(bytes: &mut [u8], keystream: &[u8; BLOCK_LEN])
     requires { length bytes.old ≤ BLOCK_LEN }

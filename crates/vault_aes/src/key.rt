@@ -10,8 +10,8 @@ use crate::rounds::{
 };
 use std::marker::Model;
 
-/// A key of 32 bytes, prepared for the cipher: clauses see it as the 60 words of its key schedule.
-/// It is not erased from memory when it is dropped.
+/// A key of 32 bytes, expanded for the cipher. Contracts see it as the 60 words of its key
+/// schedule. It is not erased from memory when it is dropped.
 #[derive(Drop)]
 pub struct Key {
     words: KeySchedule,
@@ -26,7 +26,7 @@ impl Model for Key {
 }
 
 impl Key {
-    /// The key expansion (FIPS 197, 5.2).
+    /// Expands the key (FIPS 197, 5.2).
     pub fn new(key: &[u8; 32]) -> Key
         ensures { result ≡ key_schedule key.now }
     {
@@ -35,7 +35,7 @@ impl Key {
         }
     }
 
-    /// The cipher of one block (FIPS 197, 5.1).
+    /// Encrypts one block (FIPS 197, 5.1).
     pub fn block(&self, block: &[u8; BLOCK_LEN]) -> [u8; BLOCK_LEN]
         ensures { result ≡ cipher self.now block.now }
     {

@@ -35,7 +35,7 @@ fn sub_word(word: u32) -> u32
     u32::from_be_bytes([sub_byte(a), sub_byte(b), sub_byte(c), sub_byte(d)])
 }
 
-/// What is added to word `i - 8` to make word `i`, from word `i - 1`.
+/// The word that is XORed into word `i - 8` to make word `i`, computed from word `i - 1`.
 fn schedule_step(i: usize, previous: u32) -> u32
     requires low { KEY_WORDS ≤ i }
     requires high { i < WORD_COUNT }

@@ -1,7 +1,7 @@
 //! AES-256 (FIPS 197) in counter mode (SP 800-38A), and PKCS #7 padding (RFC 5652).
 //!
-//! The cipher is not constant-time: which table entries it reads depends on the key and on the
-//! bytes, and who shares the processor may learn them through its caches.
+//! The cipher is not constant-time: the table entries that it reads depend on the key and on the
+//! bytes, and others who share the processor may learn them through its caches.
 //!
 //! ```rust
 //! let key = Key::new(&[7; 32]);

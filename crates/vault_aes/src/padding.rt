@@ -7,7 +7,7 @@ use crate::rounds::BLOCK_LEN;
 
 /// Pads the first `n` bytes of `work` in place (RFC 5652, section 6.3), and returns the padded
 /// length, the next multiple of 16 above `n`, for which `work` must have room. The bytes past it
-/// stay.
+/// do not change.
 pub fn pad(work: &mut [u8], n: usize) -> usize
     requires within { n ≤ length work.old }
     requires room { padded_length n ≤ length work.old }
@@ -22,7 +22,7 @@ pub fn pad(work: &mut [u8], n: usize) -> usize
 
 /// The length of the plaintext without its padding (RFC 5652, section 6.3). It is `None` if the
 /// length of `padded` is not a positive multiple of 16, the last byte n is not 1 to 16, or the last
-/// n bytes do not all equal n. It does not take constant time.
+/// n bytes do not all equal n. The check is not constant-time.
 pub fn unpad(padded: &[u8]) -> Option<usize>
     ensures plaintext { IfSome result (λ n. IsPadded (take n padded.now) padded.now) }
     ensures none { IfNone result ((plaintext : List ℕ) → ¬ IsPadded plaintext padded.now) }

@@ -1,4 +1,4 @@
-//! The S-box, the four encryption tables (T-tables), and their readers.
+//! The S-box, the four encryption tables (T-tables), and the functions that read them.
 ghost use Rattle.std.specs.Prelude.{◌≡◌};
 ghost use Rattle.std.specs.Int.{w32, to_be_bytes};
 ghost use Rattle.vault_aes.specs.Columns.{mixed_column};
@@ -24,7 +24,7 @@ const S_BOX: [u8; 256] = [
     0x8c, 0xa1, 0x89, 0x0d, 0xbf, 0xe6, 0x42, 0x68, 0x41, 0x99, 0x2d, 0x0f, 0xb0, 0x54, 0xbb, 0x16,
 ];
 
-/// The columns that SubBytes and MixColumns make of a byte in row 0 (FIPS 197, 5.1.1 and 5.1.3):
+/// The columns that SubBytes and MixColumns make from a byte in row 0 (FIPS 197, 5.1.1 and 5.1.3):
 /// twice S, S, S and three times S of it, from the most significant byte on.
 const TE0_WORDS: [u32; 256] = [
     0xc66363a5, 0xf87c7c84, 0xee777799, 0xf67b7b8d, 0xfff2f20d, 0xd66b6bbd, 0xde6f6fb1, 0x91c5c554,
@@ -61,7 +61,7 @@ const TE0_WORDS: [u32; 256] = [
     0x824141c3, 0x299999b0, 0x5a2d2d77, 0x1e0f0f11, 0x7bb0b0cb, 0xa85454fc, 0x6dbbbbd6, 0x2c16163a,
 ];
 
-/// The columns of a byte in row 1: those of row 0, rotated by a byte.
+/// The columns for a byte in row 1: the columns for row 0, rotated by a byte.
 const TE1_WORDS: [u32; 256] = [
     0xa5c66363, 0x84f87c7c, 0x99ee7777, 0x8df67b7b, 0x0dfff2f2, 0xbdd66b6b, 0xb1de6f6f, 0x5491c5c5,
     0x50603030, 0x03020101, 0xa9ce6767, 0x7d562b2b, 0x19e7fefe, 0x62b5d7d7, 0xe64dabab, 0x9aec7676,
@@ -97,7 +97,7 @@ const TE1_WORDS: [u32; 256] = [
     0xc3824141, 0xb0299999, 0x775a2d2d, 0x111e0f0f, 0xcb7bb0b0, 0xfca85454, 0xd66dbbbb, 0x3a2c1616,
 ];
 
-/// The columns of a byte in row 2: those of row 0, rotated by two bytes.
+/// The columns for a byte in row 2: the columns for row 0, rotated by two bytes.
 const TE2_WORDS: [u32; 256] = [
     0x63a5c663, 0x7c84f87c, 0x7799ee77, 0x7b8df67b, 0xf20dfff2, 0x6bbdd66b, 0x6fb1de6f, 0xc55491c5,
     0x30506030, 0x01030201, 0x67a9ce67, 0x2b7d562b, 0xfe19e7fe, 0xd762b5d7, 0xabe64dab, 0x769aec76,
@@ -133,7 +133,7 @@ const TE2_WORDS: [u32; 256] = [
     0x41c38241, 0x99b02999, 0x2d775a2d, 0x0f111e0f, 0xb0cb7bb0, 0x54fca854, 0xbbd66dbb, 0x163a2c16,
 ];
 
-/// The columns of a byte in row 3: those of row 0, rotated by three bytes.
+/// The columns for a byte in row 3: the columns for row 0, rotated by three bytes.
 const TE3_WORDS: [u32; 256] = [
     0x6363a5c6, 0x7c7c84f8, 0x777799ee, 0x7b7b8df6, 0xf2f20dff, 0x6b6bbdd6, 0x6f6fb1de, 0xc5c55491,
     0x30305060, 0x01010302, 0x6767a9ce, 0x2b2b7d56, 0xfefe19e7, 0xd7d762b5, 0xababe64d, 0x76769aec,
@@ -177,7 +177,7 @@ pub(crate) fn sub_byte(x: u8) -> u8
     S_BOX[x as usize]
 }
 
-/// What SubBytes and MixColumns make of a byte in row 0. The other rows' functions follow.
+/// The column that SubBytes and MixColumns make from a byte in row 0. The other rows follow.
 #[inline(always)]
 pub(crate) fn te0(x: u8) -> u32
     ensures { to_be_bytes w32 result ≡ mixed_column x 0 }

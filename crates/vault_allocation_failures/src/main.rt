@@ -1,7 +1,7 @@
 //! One run of a command line over memory, for a test that refuses each allocation in turn. The
 //! arguments `drive WORD..` run it by `drive_in_memory`, and `run WORD..` by `run`. The password
 //! files are `one` and `two`; standard input, of at most 4,096 bytes, is the input. Prints the
-//! status, how many bytes the output, the message and the file `kept` hold, whether the call was
+//! status, how many bytes the output, the message and the file `kept` have, whether the call was
 //! made, and these bytes.
 #![tactic(auto)]
 
@@ -40,8 +40,8 @@ fn contents_of(
     Ok(contents)
 }
 
-/// The request of words that are right, the contents of its password files, and a slice to work in:
-/// where there is none, the answer is out of memory.
+/// The request of correct words, the contents of its password files, and a slice to work in; if
+/// there is no slice, the answer is out of memory.
 fn load(
     alloc: Global,
     files: &MemFiles<'_>,
@@ -62,8 +62,8 @@ fn load(
     Ok((request, contents, work))
 }
 
-/// Runs the request of these words, with a salt of zeros. It answers beside the status whether
-/// `run` was called.
+/// Runs the request of these words, with a salt of zeros. Returns the status, and whether `run` was
+/// called.
 fn run_words(
     alloc: Global,
     files: &MemFiles<'_>,
@@ -110,7 +110,7 @@ fn print(
     stdout.flush()
 }
 
-/// Runs the words, of which the first names the call, over this input.
+/// Runs the words, the first of which names the call, over this input.
 fn answer(rt: &HostRuntime, words: &[String], input: &[u8]) -> io::Result<()> {
     let alloc = rt.alloc();
     let entries = [
@@ -121,7 +121,7 @@ fn answer(rt: &HostRuntime, words: &[String], input: &[u8]) -> io::Result<()> {
     ];
     let mut files = MemFiles::new(alloc, &entries);
     let mut src = MemSource::new(input, INPUT_LIMIT);
-    // One byte a call, so that the sinks of a short run grow often.
+    // One byte per call, so that the sinks of a short run grow often.
     let mut out = MemSink::new(alloc, 1);
     let mut err = MemSink::new(alloc, 1);
     let (status, called) = match words {
@@ -135,8 +135,8 @@ fn answer(rt: &HostRuntime, words: &[String], input: &[u8]) -> io::Result<()> {
     print(rt, status, called, out.bytes(), err.bytes(), kept)
 }
 
-/// The arguments. They are pushed one by one, since `collect` goes on where the room for all of
-/// them is refused.
+/// The arguments. They are pushed one by one, since `collect` goes on if it cannot reserve room
+/// for all of them.
 fn arguments(rt: &HostRuntime) -> io::Result<Vec<String>> {
     let mut arguments = Vec::new(rt.alloc());
     for argument in env::args(rt)? {

@@ -1,4 +1,4 @@
-//! Reading and writing of envelopes.
+//! Reading and writing envelopes.
 ghost use Rattle.std.specs.Prelude.{◌≡◌, IfOk, length, vec_len};
 ghost use Rattle.vault_text.specs.declared.limits.TheConstants.{CIPHERTEXT_LIMIT};
 
@@ -8,7 +8,7 @@ use vault_text::{CIPHERTEXT_LIMIT, EnvelopeReader, Label, Salt, Sink, WriteSink,
 
 const PIECE: usize = 4096;
 
-/// Takes all that it is given and looks at each byte, which costs little beside writing it.
+/// Takes all that it is given and looks at each byte, which costs little compared with writing it.
 #[derive(Drop)]
 struct Count {
     bytes: u64,
@@ -37,7 +37,7 @@ fn write_once(label: &Label, salt: &Salt, ciphertext: &[u8]) -> Count {
     sink.into_inner()
 }
 
-/// Writes an envelope of `length` bytes of ciphertext, `times` times; gives the length of its text.
+/// Writes an envelope of `length` ciphertext bytes `times` times; returns the length of its text.
 pub(crate) fn write(alloc: Global, length: usize, times: u32) -> io::Result<u64> {
     let mut ciphertext = vec![in alloc; 0u8; length]?;
     let mut state: u32 = 1;
@@ -55,7 +55,7 @@ pub(crate) fn write(alloc: Global, length: usize, times: u32) -> io::Result<u64>
     Ok(count.bytes)
 }
 
-/// The length of the ciphertext of an envelope that comes in pieces; 0 where there is none.
+/// The length of the ciphertext of an envelope that comes in pieces; 0 if it is not an envelope.
 fn read_once(work: &mut [u8], text: &[u8]) -> usize
     requires { length work.old ≡ CIPHERTEXT_LIMIT }
 {
@@ -75,7 +75,7 @@ fn work_memory(alloc: Global) -> Result<Vec<u8>, AllocError>
     vec![in alloc; 0u8; CIPHERTEXT_LIMIT]
 }
 
-/// Reads the envelope on standard input `times` times; gives the length of its ciphertext.
+/// Reads the envelope on standard input `times` times; returns the length of its ciphertext.
 pub(crate) fn read(rt: &HostRuntime, times: u32) -> io::Result<u64> {
     let mut text = Vec::new(rt.alloc());
     rt.stdin().read_to_end(&mut text)?;

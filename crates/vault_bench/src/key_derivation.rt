@@ -1,4 +1,4 @@
-//! The derivation of keys, and tags.
+//! Key derivation, and tags.
 use sha2::{Digest, Sha256};
 use std::alloc::{AllocError, Global};
 use vault_kdf::{Keys, Meter, derive, hmac};
@@ -8,7 +8,7 @@ const COMPRESSIONS: u32 = 60_000;
 /// A MiB.
 const MESSAGE_LENGTH: usize = 1_048_576;
 
-/// Derives keys; each derivation takes a key of the one before it as its salt.
+/// Derives keys; each derivation has a key of the one before it as its salt.
 pub(crate) fn derive_keys(times: u32) -> [u8; 32] {
     let mut meter = Meter::new();
     let mut salt = [0; 32];
@@ -19,7 +19,7 @@ pub(crate) fn derive_keys(times: u32) -> [u8; 32] {
     salt
 }
 
-/// Takes compressions; each message begins with the digest of the one before it. An update by a
+/// Runs compressions; each message begins with the digest of the one before it. An update with a
 /// whole block costs one compression, and so does the end of a message of whole blocks.
 pub(crate) fn compress(times: u32) -> [u8; 32] {
     let mut digest = [0; 32];
@@ -35,7 +35,7 @@ pub(crate) fn compress(times: u32) -> [u8; 32] {
     digest
 }
 
-/// Takes tags; each is the key of the next.
+/// Computes tags; each is the key of the next.
 pub(crate) fn tags(alloc: Global, times: u32) -> Result<[u8; 32], AllocError> {
     let message = vec![in alloc; 0u8; MESSAGE_LENGTH]?;
     let mut tag = [0; 32];

@@ -1,12 +1,12 @@
 //! The work that the benchmarks time: `vault_bench WORK TIMES` or `vault_bench WORK LENGTH TIMES`
-//! does a part of what a vault takes, TIMES times, and prints what the last time gave.
+//! does a part of the work on a vault, TIMES times, and prints the last result.
 //!
 //! - `counter-mode` enciphers LENGTH zero bytes;
 //! - `read` reads the envelope on standard input, and `write` writes one of LENGTH bytes of
 //!   ciphertext;
-//! - `derive` derives a vault's keys, and `compressions` takes 60,000 compressions of SHA-256, as
+//! - `derive` derives a vault's keys, and `compressions` runs 60,000 compressions of SHA-256, as
 //!   many as a derivation;
-//! - `tag` takes the tag of a MiB.
+//! - `tag` computes the tag of a MiB.
 #![tactic(auto)]
 
 mod counter_mode;

@@ -7,13 +7,13 @@ use Rattle.vault_request.specs.Request.{Request}
 use Rattle.vault_request.specs.declared.command_name.CommandName.{CommandName}
 use Rattle.vault_request.specs.declared.command_name.CommandName.TheVariants.{Decrypt, View}
 
--- the permissions of an output that exists already: plaintext is for its owner
+-- the permissions of an existing output: only its owner may read and write plaintext
 abbrev pub output_access : CommandName → Access
 output_access Decrypt = OwnerOnly
 output_access View = OwnerOnly
 output_access _ = Kept
 
--- the same of the request
+-- the same for a request
 abbrev pub access_of : Option (Result Request Fault) → Access
 access_of None = Kept
 access_of (Some (Err fault)) = Kept

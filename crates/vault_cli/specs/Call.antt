@@ -1,8 +1,8 @@
--- Calls over the files of a system, beside those over a source or a sink.
+-- Calls on the files of a system, besides calls on a source or a sink.
 pub use Rattle.vault_text.specs.Call.{SinkCall, SourceCall, sink, source}
 use Rattle.vault_files.specs.declared.system.System.{Ghosts as SystemTerms}
 
--- what the trait says of the files, and the files before and after
+-- the terms of the trait, and the files before and after
 pub record FilesCall (D R W : Type 0) : Type 1 where
   pub terms : SystemTerms D R W
   pub open terms use *

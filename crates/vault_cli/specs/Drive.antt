@@ -25,11 +25,11 @@ AllFound finds (Some (Ok request)) files =
     Found finds (secret_paths request) files.secrets × AtPath finds request.salt_path files.salt
     × AtPath finds request.input files.input
 
--- the system since the files of the request were opened: `since_opens.old` is its state after that
+-- the system after the files of the request were opened: `since_opens.old` is its state then
 module _ {D R W K : Type 0} (since_opens : FilesCall D R W) (out : SinkCall K) where
-  -- what became of the file at a path, if one is named, or else of standard output; the other is
-  -- left alone. Of the uses of a file that received the bytes none failed (0), and of those of a
-  -- file that was cut one did (1).
+  -- what happened to the file at a path, if one is named, or else to standard output; the other is
+  -- left alone. If the file received the bytes, none of its uses failed (0); if it was cut, one of
+  -- them did (1).
   abbrev pub to_path : Option (List ℕ) → Access → OutputEnd
   to_path None access = record {
     untouched = (out.new ≡ out.old) × (since_opens.new ≡ since_opens.old);
@@ -59,6 +59,6 @@ module _ {D R W S K E : Type 0} (files : FilesCall D R W) (src : SourceCall S) (
         → RunEnds src (to_path (files_from opened files) out (output_path requested)
         (access_of requested)) err result (stdin_needed requested found) (answers found)
         → Ends
-    -- It opened and read nothing: help was asked for, the arguments do not parse, or there was no
-    -- memory.
+    -- The program opened and read nothing: help was asked for, the arguments do not parse, or
+    -- memory ran out.
     Stopped : files.new ≡ files.old → src.new ≡ src.old → Explains out err result kinds → Ends

@@ -1,4 +1,4 @@
--- Arguments as messages show them.
+-- Arguments, as messages show them.
 use Rattle.std.specs.Prelude.{◌≡◌, ℕ, false, ◌||◌, ◌++◌, ◌∷◌, [], Bool, if◌then◌else◌, List, codes}
 use Rattle.std.specs.Char.{is_control}
 use Rattle.std.specs.Fmt.{digits}
@@ -17,11 +17,11 @@ is_unprintable c =
 abbrev pub IsPrintable : ℕ → Type 0
 IsPrintable c = is_unprintable c ≡ false
 
--- a character, an unprintable one as `\u{`, its number in hexadecimal, and `}`
+-- a character; an unprintable one as `\u{`, its number in hexadecimal, and `}`
 abbrev pub escaped_char : ℕ → List ℕ
 escaped_char c =
     if is_unprintable c then codes "\\u{" ++ digits 16 false c ++ codes "}" else c ∷ []
 
--- a text of such characters
+-- a text with each character escaped in this way
 abbrev pub escaped_text : List ℕ → List ℕ
 escaped_text text = encode_utf8_all (flat_map escaped_char (chars text))

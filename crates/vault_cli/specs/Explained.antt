@@ -13,7 +13,7 @@ use Rattle.vault_cli.specs.declared.runs.status.Status.{Status}
 use Rattle.vault_cli.specs.declared.runs.status.Status.TheVariants.{DeviceFailed, OutOfMemory}
 use Rattle.vault_cli.specs.declared.runs.status.Status.TheVariants.{ParseFault, Success}
 
--- LF, or no control byte
+-- LF, or not a control byte
 abbrev pub IsShown : ℕ → Type 0
 IsShown byte = (byte ≡ 10) ⊎ (is_control byte ≡ false)
 
@@ -26,10 +26,10 @@ abbrev pub IsMistake : ErrorKind → Type 0
 IsMistake kind =
     (kind ≢ DisplayHelp) × (kind ≢ DisplayVersion) × (kind ≢ error.OutOfMemory)
 
--- These kinds of error are in the arguments: none, if they parse.
+-- The arguments have these kinds of error: none if they parse.
 module _ {K E : Type 0} (out : SinkCall K) (err : SinkCall E) (result : Status)
     (kinds : Kinds) where
-  -- There was no memory.
+  -- Memory ran out.
   pub record LacksMemory : Type 0 where
     pub status : result ≡ OutOfMemory
     pub output : out.new ≡ out.old
@@ -45,7 +45,7 @@ module _ {K E : Type 0} (out : SinkCall K) (err : SinkCall E) (result : Status)
     pub output : (to_sink out).received text
     pub message : err.new ≡ err.old
 
-  -- It was asked for, but standard output failed.
+  -- Help or the version was asked for, but standard output failed.
   pub record HelpFails : Type 0 where
     pub kind : ErrorKind
     pub is_among : IsAmong kind kinds
@@ -56,7 +56,7 @@ module _ {K E : Type 0} (out : SinkCall K) (err : SinkCall E) (result : Status)
     pub output : (to_sink out).cut (take count text)
     pub message : Reports err (line_of Write)
 
-  -- The arguments are wrong. A text says so on standard error, without a control byte but LF.
+  -- The arguments are wrong. A text on standard error says so, without control bytes except LF.
   pub record Rejects : Type 0 where
     pub kind : ErrorKind
     pub is_among : IsAmong kind kinds
@@ -67,7 +67,7 @@ module _ {K E : Type 0} (out : SinkCall K) (err : SinkCall E) (result : Status)
     pub output : out.new ≡ out.old
     pub message : Reports err text
 
-  -- one of the four
+  -- one of these four
   pub data Explains : Type 0 where
     MemoryLacked : LacksMemory → Explains
     HelpShown : ShowsHelp → Explains

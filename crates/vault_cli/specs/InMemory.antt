@@ -1,4 +1,4 @@
--- How the program ends over files, an input and sinks in memory: what each holds afterwards.
+-- How the program ends over files, an input and sinks in memory: what each contains afterwards.
 use Rattle.std.specs.Prelude.{◌≡◌, ◌⊎◌, ℕ, ◌+◌, ◌<◌, if◌then◌else◌, List, [], ◌++◌, length}
 use Rattle.std.specs.Prelude.{map, take, drop, Bool, true, false, Option, Some, None, IfSome}
 use Rattle.std.specs.Prelude.{Result, Ok, Err}
@@ -39,51 +39,51 @@ files_at at (Some (Ok request)) = record {
 abbrev pub found_by : StoreState → List Text → Files
 found_by files words = files_at (file_at files.entries) (requested_by words)
 
--- what was in memory before a call, and what is after it
+-- a value in memory before a call and after it
 pub record Change (T : Type 0) : Type 0 where
   pub old : T
   pub new : T
 
--- from the one to the other
+-- the change from one value to another
 abbrev pub change : {T : Type 0} → T → T → Change T
 change old new = record { old = old; new = new }
 
--- a sink holds these bytes after what it held, and was finished
+-- these bytes were added to a sink, and it was finished
 abbrev pub Holds : Change MemSinkState → List ℕ → Type 0
 Holds sink bytes = (sink.new.held ≡ sink.old.held ++ bytes) × (sink.new.stage ≡ Finished)
 
--- an allocation failed: it holds the first of them
+-- an allocation failed: only the first of these bytes were added
 abbrev pub HoldsPrefix : Change MemSinkState → List ℕ → Type 0
 HoldsPrefix sink bytes =
     HasRisen sink.old.failures sink.new.failures
     × ((n : ℕ) × (sink.new.held ≡ sink.old.held ++ take n bytes))
 
--- a line, of which the sink holds the first bytes if an allocation failed
+-- a line was added to the sink, or only its first bytes if an allocation failed
 abbrev pub Reported : Change MemSinkState → List ℕ → Type 0
 Reported err line = Holds err line ⊎ HoldsPrefix err line
 
--- standard output, where the output goes to a path or there
+-- standard output received these bytes, unless the output goes to a path
 abbrev pub Received : Option (List ℕ) → List ℕ → Change MemSinkState → Type 0
 Received (Some path) bytes out = out.new ≡ out.old
 Received None bytes out = Holds out bytes
 
--- the input was taken to its end, or to one byte past the limit up to which it was asked for, or
--- was left alone where it was not
+-- the input was taken to its end, or to one byte past the limit, or was left alone if nothing was
+-- requested
 abbrev pub Taken : Option ℕ → Change source.MemSourceState → Type 0
 Taken None src = src.new ≡ src.old
 Taken (Some limit) src = src.new.left ≡ drop (limit + 1) src.old.left
 
--- whether the path is that of the output
+-- whether the path is the output's
 abbrev pub is_output_at : Option (List ℕ) → List ℕ → Bool
 is_output_at None path = false
 is_output_at (Some output_file) path = bytes_eq output_file path
 
--- what is at a path, once these bytes went to a path or to standard output
+-- what is at a path after these bytes went to a path or to standard output
 abbrev pub stands_after : (List ℕ → FileState) → Option (List ℕ) → List ℕ → List ℕ → FileState
 stands_after before output_file bytes path =
     if is_output_at output_file path then Whole bytes else before path
 
--- a file was created, and synced since it was written
+-- a file was created, and synced since it was last written
 abbrev pub IsSynced : Option Created → Type 0
 IsSynced None = ⊥
 IsSynced (Some file) = file.synced ≡ true
@@ -93,11 +93,11 @@ module _ (result : Status) (files : Change StoreState) (out err : Change MemSink
   abbrev pub Stands : (List ℕ → FileState) → Type 0
   Stands after = (path : List ℕ) → stands_at files.new path ≡ after path
 
-  -- what was at each path still is
+  -- each path still has what it had before
   abbrev pub IsKept : Type 0
   IsKept = Stands (file_at files.old.entries)
 
-  -- the first bytes of a file were written, or it was not created, as its path is too long
+  -- the first bytes of a file were written, or it was not created, because its path is too long
   abbrev pub IsCutAt : List ℕ → List ℕ → Type 0
   IsCutAt path bytes = ((PATH_LIMIT < length path) × IsKept)
       ⊎ ((count : ℕ)
@@ -108,9 +108,9 @@ module _ (result : Status) (files : Change StoreState) (out err : Change MemSink
   IsCut None bytes = HoldsPrefix out bytes × IsKept
   IsCut (Some path) bytes = (out.new ≡ out.old) × IsCutAt path bytes
 
-  -- the answer is to go to a path or to standard output
+  -- the answer goes to a path or to standard output
   module _ (output_file : Option (List ℕ)) (wanted : Result (List ℕ) Fault) where
-    -- It succeeded: the answer is there whole, and a file was synced.
+    -- The run succeeded: the whole answer is there, and a file was synced.
     pub record Succeeds : Type 0 where
       pub bytes : List ℕ
       pub answer : wanted ≡ Ok bytes
@@ -120,7 +120,7 @@ module _ (result : Status) (files : Change StoreState) (out err : Change MemSink
       pub output : Received output_file bytes out
       pub message : err.new ≡ err.old
 
-    -- It was refused: the answer is a fault, which was reported.
+    -- The run was refused: the answer is a fault, which was reported.
     pub record Refuses : Type 0 where
       pub fault : Fault
       pub answer : wanted ≡ Err fault
@@ -129,7 +129,7 @@ module _ (result : Status) (files : Change StoreState) (out err : Change MemSink
       pub output : out.new ≡ out.old
       pub message : Reported err (line_of fault)
 
-    -- The output failed: of the answer, the first bytes are there.
+    -- The output failed: only the first bytes of the answer are there.
     pub record OutputFails : Type 0 where
       pub bytes : List ℕ
       pub answer : wanted ≡ Ok bytes
@@ -137,14 +137,14 @@ module _ (result : Status) (files : Change StoreState) (out err : Change MemSink
       pub output : IsCut output_file bytes
       pub message : Reported err (line_of Write)
 
-    -- There was no memory.
+    -- Memory ran out.
     pub record LacksMemory : Type 0 where
       pub status : result ≡ OutOfMemory
       pub stands : IsKept
       pub output : out.new ≡ out.old
       pub message : Reported err (line_of Memory)
 
-    -- one of the four
+    -- one of these four
     pub data EndsInMemory : Type 0 where
       Succeeded : Succeeds → EndsInMemory
       HasRefused : Refuses → EndsInMemory

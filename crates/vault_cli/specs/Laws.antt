@@ -1,4 +1,4 @@
--- Laws of the answers, which hold under every limit, of all requests, password files, salts and
+-- Laws of the answers, which hold under every limit, for all requests, password files, salts and
 -- inputs.
 use Rattle.std.specs.Prelude.{◌≡◌, ◌⊎◌, ℕ, ◌≤◌, List, [], ◌∷◌, length, IfSome}
 use Rattle.std.specs.Prelude.{IfErr, Ok}
@@ -16,7 +16,7 @@ use Rattle.vault_request.specs.declared.command_name.CommandName.TheVariants.{Vi
 use Rattle.vault_cli.specs.runs.Status.{status_of}
 use Rattle.vault_cli.specs.declared.runs.status.Status.TheVariants.{Refused}
 
--- a fault that is the answer is a refusal: no failed device and no lack of memory
+-- an answer that is a fault is a refusal, not a failed device or a lack of memory
 abbrev pub AnswersAreDecided : Type 0
 AnswersAreDecided =
     (limit : ℕ) (request : Request) (contents : List (List ℕ)) (salt input : List ℕ)
@@ -30,7 +30,7 @@ pub record UnsealsWith (request : Request) (contents : List (List ℕ)) (salt : 
   pub command : (request.command ≡ Decrypt) ⊎ (request.command ≡ View)
   pub found : task_of request contents salt ≡ Ok (task.Decrypt secrets)
 
--- what `encrypt` wrote with a secret, `decrypt` and `view` give back where the first secret that
+-- `decrypt` and `view` give back what `encrypt` encrypted with a secret, if the first secret that
 -- they try has its password
 abbrev pub EncryptThenDecrypt : Type 0
 EncryptThenDecrypt =
@@ -46,7 +46,7 @@ EncryptThenDecrypt =
     → run_answer_within limit decrypting other_contents other_salt envelope
     ≡ Ok input
 
--- what `rekey` wrote, `decrypt` and `view` decrypt with the new secret alone, under either rule, to
+-- with only the new secret, under either rule, `decrypt` and `view` decrypt what `rekey` wrote to
 -- what they gave before with the old secrets under the rule of `rekey`
 abbrev pub RekeyKeepsThePlaintext : Type 0
 RekeyKeepsThePlaintext =
@@ -63,8 +63,8 @@ RekeyKeepsThePlaintext =
     → run_answer_within limit after new_contents new_salt envelope
     ≡ run_answer_within limit before old_contents old_salt input
 
--- a text that has room wherever a plaintext up to a limit does gets one answer under that limit and
--- under every larger one
+-- a text that fits wherever a plaintext up to a limit does gets the same answer under that limit
+-- and under every larger one
 abbrev pub ShortTexts : Type 0
 ShortTexts =
     (smaller larger : ℕ) (request : Request) (contents : List (List ℕ)) (salt input : List ℕ)

@@ -1,4 +1,4 @@
--- What loading the files of a request answers, of files that may be found at its paths.
+-- What loading the files of a request gives, for files that may be found at its paths.
 use Rattle.std.specs.Prelude.{◌≡◌, ℕ, List, Option, Some, Result, Ok, Err}
 use Rattle.vault_fault.specs.declared.fault.Fault.{Fault}
 use Rattle.vault_fault.specs.declared.fault.Role.{Role}
@@ -20,7 +20,7 @@ abbrev pub ContentsFound : (List ℕ → FileState → Type 0)
 ContentsFound finds paths answer =
     (files : List FileState) × Found finds paths files × (contents_of files ≡ answer)
 
--- the salt file that may be found at a path, where there is one, gives this answer
+-- the salt file that may be found at a path, if there is one, gives this answer
 abbrev pub SaltFound : (List ℕ → FileState → Type 0) → Option (List ℕ) → Result (List ℕ) Fault
     → Type 0
 SaltFound finds path answer =
@@ -33,7 +33,7 @@ abbrev pub SecretsRefuse : (List ℕ → FileState → Type 0) → (List (List �
 SecretsRefuse finds opens paths fault = (files : List FileState) × Found finds paths files
     × (contents_of files ≡ Err fault) × opens (opened_secrets paths files)
 
--- so do files that may be found at the paths of a request
+-- the same for files that may be found at the paths of a request
 abbrev pub RefusedBy : (List ℕ → FileState → Type 0) → (List (List ℕ) → Type 0)
     → Request → Fault → Type 0
 RefusedBy finds opens request fault = (files : Files) × AllFound finds (Some (Ok request)) files

@@ -1,4 +1,4 @@
--- Which paths are opened, in order: up to the first that cannot be opened or read, this one too.
+-- Which paths are opened, in order: up to and including the first that cannot be opened or read.
 use Rattle.std.specs.Prelude.{ℕ, ◌+◌, List, [], ◌∷◌, ◌++◌, option_to_list, Option, Some, None}
 use Rattle.std.specs.Prelude.{Result, Ok, Err}
 use Rattle.vault_files.specs.File.{FileState}
@@ -9,12 +9,12 @@ use Rattle.vault_cli.specs.runs.FileContents.{contents_of, file_prefix, secret_p
 use Rattle.vault_cli.specs.Program.{Files, file_salt}
 use Rattle.vault_request.specs.Request.{Request}
 
--- none after a step that refuses
+-- no paths after a step that refuses
 abbrev pub unless_refused : {T : Type 0} → Result T Fault → List (List ℕ) → List (List ℕ)
 unless_refused (Ok value) paths = paths
 unless_refused (Err fault) paths = []
 
--- of password files
+-- the opened paths of password files
 unfoldable pub opened_secrets : List (List ℕ) → List FileState → List (List ℕ)
 opened_secrets [] files = []
 opened_secrets (path ∷ paths) [] = []
@@ -23,7 +23,7 @@ opened_secrets (path ∷ paths) (file ∷ files) =
     ∷ unless_refused (file_prefix Secret (PASSWORD_FILE_LIMIT + 1) file)
     (opened_secrets paths files)
 
--- of all files of a request: none where no request was made of the arguments
+-- the opened paths of all files of a request: none if the arguments did not make a request
 abbrev pub opened_paths : Option (Result Request Fault) → Files → List (List ℕ)
 opened_paths None files = []
 opened_paths (Some (Err fault)) files = []

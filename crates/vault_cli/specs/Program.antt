@@ -45,20 +45,20 @@ task_over request files = do
   opened ← can_open_input files.input
   task_of request contents salt
 
--- this many bytes of the input file, or else standard input
+-- at most this many bytes of the input file, or else standard input
 abbrev pub input_from : ℕ → Option FileState → List ℕ → Result (List ℕ) Fault
 input_from limit None stdin = Ok stdin
 input_from limit (Some file) stdin = file_prefix Input limit file
 
--- what is ready to be written, or the first fault: of the task, of its input, which counts up to
--- one byte more than is taken, or of what is done with it
+-- the output that is ready to be written, or the first fault: of the task, of its input, which
+-- counts up to one byte past the limit, or of carrying out the task
 abbrev pub ready_of : Request → Files → List ℕ → Result Ready Fault
 ready_of request files stdin =
     ready_by PLAINTEXT_LIMIT (task_over request files) request.string
     (input_from (input_limit PLAINTEXT_LIMIT request.command + 1) files.input stdin)
 
--- the answer to the request: the bytes to be written, or a fault. Arguments that parse name a
--- command, which is a law, so that the first case never comes
+-- the answer to the request: the bytes to write, or a fault. Arguments that parse name a command,
+-- which is a law, so the first case never occurs
 abbrev pub answer_to : Option (Result Request Fault) → Files → List ℕ → Result (List ℕ) Fault
 answer_to None files stdin = Ok []
 answer_to (Some (Err fault)) files stdin = Err fault
@@ -68,18 +68,18 @@ answer_to (Some (Ok request)) files stdin = output_of (ready_of request files st
 abbrev pub program : List Text → Files → List ℕ → Result (List ℕ) Fault
 program words files stdin = answer_to (requested_by words) files stdin
 
--- the path that its output goes to, where that is not standard output
+-- the path that the output goes to, unless that is standard output
 abbrev pub output_path : Option (Result Request Fault) → Option (List ℕ)
 output_path None = None
 output_path (Some (Err fault)) = None
 output_path (Some (Ok request)) = request.output
 
--- the limit of what is read of standard input, where there is no FILE
+-- the limit on reading standard input, if there is no FILE
 abbrev pub unless_file : Option FileState → Option ℕ → Option ℕ
 unless_file None limit = limit
 unless_file (Some file) limit = None
 
--- the limit of what is read of standard input, where any is: up to one byte more is asked for
+-- the limit on reading standard input, if it is read: up to one byte more is requested
 abbrev pub stdin_needed : Option (Result Request Fault) → Files → Option ℕ
 stdin_needed None files = None
 stdin_needed (Some (Err fault)) files = None

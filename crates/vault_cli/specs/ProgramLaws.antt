@@ -1,4 +1,4 @@
--- Laws of the program: from the arguments of one run to those of another, from file to file.
+-- Laws of the program: from the arguments of one run to another's, from file to file.
 use Rattle.std.specs.Prelude.{◌≡◌, ℕ, List, [], ◌∷◌, Option, Some, None, IfSome, Result, Ok}
 use Rattle.clap.specs.Words.{Text}
 use Rattle.vault_files.specs.File.{FileState}
@@ -25,7 +25,7 @@ IsInput None stdin input = stdin ≡ input
 IsInput (Some file) stdin input = file ≡ Whole input
 
 -- a run whose files can be read: its arguments, the files found at their paths, standard input, and
--- what these come to
+-- what follows from these
 pub record Run : Type 0 where
   pub words : List Text
   pub files : Files
@@ -39,15 +39,15 @@ pub record Run : Type 0 where
   pub salted : file_salt files.salt ≡ Ok salt
   pub is_input : IsInput files.input stdin input
 
--- what the program answers to it
+-- the program's answer to a run
 abbrev pub answer : Run → Result (List ℕ) Fault
 answer run = program run.words run.files run.stdin
 
--- that is the answer to its request
+-- the program's answer to a run is the answer to the run's request
 abbrev pub ProgramIsRun : Type 0
 ProgramIsRun = (run : Run) → answer run ≡ run_answer run.request run.contents run.salt run.input
 
--- what one run wrote to a path, another reads whose FILE is that path
+-- what one run wrote to a path is read by another whose FILE is that path
 abbrev pub WrittenIsRead : Type 0
 WrittenIsRead =
     (before : List ℕ → FileState) (writing reading : List Text) (bytes path : List ℕ)
@@ -57,7 +57,7 @@ WrittenIsRead =
     → (files_at (stands_after before (output_path (requested_by writing)) bytes)
     (requested_by reading)).input ≡ Some (Whole bytes)
 
--- what `encrypt` wrote with a secret, `decrypt` and `view` give back where the first secret that
+-- `decrypt` and `view` give back what `encrypt` encrypted with a secret, if the first secret that
 -- they try has its password
 abbrev pub ProgramEncryptsThenDecrypts : Type 0
 ProgramEncryptsThenDecrypts =
@@ -73,7 +73,7 @@ ProgramEncryptsThenDecrypts =
     → IsTriedFirst secrets (secret_at index list)
     → answer decrypting ≡ Ok encrypting.input
 
--- what `rekey` wrote, `decrypt` and `view` decrypt with the new secret alone, under either rule, to
+-- with only the new secret, under either rule, `decrypt` and `view` decrypt what `rekey` wrote to
 -- what they gave before with the old secrets under the rule of `rekey`
 abbrev pub ProgramKeepsThePlaintext : Type 0
 ProgramKeepsThePlaintext =

@@ -1,4 +1,4 @@
--- How the program ends over devices that it keeps, of which no more is known afterwards.
+-- How the program ends over devices that it keeps, about which no more is known afterwards.
 use Rattle.std.specs.Prelude.{ℕ, false, List, Option}
 use Rattle.clap.specs.Words.{Text, fault_of}
 use Rattle.vault_text.specs.Sink.{SinkState}
@@ -21,7 +21,7 @@ pub record Devices (F S K E : Type 0) : Type 0 where
   pub out : K
   pub err : E
 
--- files, with a source over a reader that has this left, and sinks over writers that hold this
+-- files, with a source over a reader that has this left, and sinks over writers with these contents
 abbrev pub new_devices : {F : Type 0} → F → Option (List ℕ) → Option (List ℕ) → Option (List ℕ)
     → Devices F SourceState SinkState SinkState
 new_devices files input output message = record {
@@ -31,7 +31,7 @@ new_devices files input output message = record {
   err = record { held = message; stage = Unbegun; failures = 0 };
 }
 
--- what each device says of its states
+-- the terms of each device's trait
 pub record DeviceTerms (F R W S K E : Type 0) : Type 1 where
   pub files : SystemTerms F R W
   pub src : SourceTerms S
@@ -42,7 +42,7 @@ abbrev pub device_terms : {F R W S K E : Type 0} → SystemTerms F R W → Sourc
     → SinkTerms E → DeviceTerms F R W S K E
 device_terms files src out err = record { files = files; src = src; out = out; err = err }
 
--- there is a later state of the devices in which it ended so
+-- there is a later state of the devices in which the program ended in this way
 abbrev pub MayBeDriven : {F R W S K E : Type 0} → DeviceTerms F R W S K E → Devices F S K E → Status
     → List Text → Type 0
 MayBeDriven {F} {R} {W} {S} {K} {E} terms old result words =

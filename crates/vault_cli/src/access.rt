@@ -5,7 +5,7 @@ ghost use Rattle.vault_cli.specs.Access.{output_access};
 use vault_files::Access;
 use vault_request::CommandName;
 
-/// The permissions of an output that exists already: plaintext is for its owner.
+/// The permissions of an existing output: only its owner may read and write plaintext.
 pub(crate) fn output_access(command: CommandName) -> Access
     ensures { result ≡ output_access command }
 {

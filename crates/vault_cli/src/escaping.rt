@@ -1,4 +1,4 @@
-//! Arguments as messages show them.
+//! Arguments, as messages show them.
 ghost use Rattle.std.specs.Prelude.{◌≡◌, ◌++◌, All, IfOk, OnOk, map};
 ghost use Rattle.std.specs.Str.{chars, encode_utf8_all};
 ghost use Rattle.std.specs.String.{string_bytes};
@@ -19,8 +19,8 @@ pub(crate) fn escaped_words(alloc: Global, words: &[String]) -> Result<Vec<Strin
     Ok(escaped)
 }
 
-/// The text with each unprintable character escaped, so that it neither drives a terminal nor
-/// forges a line of a message.
+/// The text with each unprintable character escaped, so that it can neither control a terminal nor
+/// forge a line of a message.
 fn escaped_text(alloc: Global, text: &str) -> Result<String, AllocError>
     ensures escaped { IfOk result (λ escaped. string_bytes escaped ≡ escaped_text text.now) }
     ensures printable { IfOk result (λ escaped.

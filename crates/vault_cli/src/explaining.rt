@@ -1,4 +1,4 @@
-//! What the program says if its arguments do not parse.
+//! What the program prints if its arguments do not parse.
 ghost use Rattle.std.specs.Prelude.{◌≡◌, ◌≢◌, ◌⊎◌, ℕ, [], List, All, IfOk, MatchOption, map, true};
 ghost use Rattle.std.specs.IoError.{error_kind};
 ghost use Rattle.std.specs.String.{string_bytes};
@@ -23,8 +23,8 @@ use vault_core::Fault;
 use vault_request::parse;
 use vault_text::{Sink, SinkFailed, Stage};
 
-/// Says on `err` that an argument is not UTF-8, or that there is no memory for the arguments, and
-/// returns the status of that. A failure of `err` changes nothing else.
+/// Reports on `err` that an argument is not UTF-8, or that there is no memory for the arguments,
+/// and returns the status for that. A failure of `err` changes nothing else.
 pub fn reject_words<E: Sink>(error: &io::Error, err: &mut E) -> Status
     requires { E.stage err.old ≡ Stage.Unbegun }
     ensures memory { error_kind error.now ≡ OutOfMemory
@@ -41,7 +41,7 @@ pub fn reject_words<E: Sink>(error: &io::Error, err: &mut E) -> Status
     Status::ParseFault
 }
 
-/// Writes what the parser says: help and the version to `out`, a mistake to `err`.
+/// Writes the parser's text: help and the version to `out`, a mistake to `err`.
 pub(crate) fn explain<K: Sink, E: Sink>(
     alloc: Global,
     words: &[String],
@@ -71,7 +71,7 @@ pub(crate) fn explain<K: Sink, E: Sink>(
     }
 }
 
-/// Says on `err` what is wrong with the arguments.
+/// Reports on `err` what is wrong with the arguments.
 fn reject<E: Sink>(alloc: Global, words: &[String], err: &mut E) -> Status
     requires { E.stage err.old ≡ Stage.Unbegun }
     ensures { ((result ≡ Status.ParseFault)
@@ -87,7 +87,7 @@ fn reject<E: Sink>(alloc: Global, words: &[String], err: &mut E) -> Status
 }
 
 /// The parser's text of the mistake, with the arguments escaped. No contract says what such a text
-/// holds, so it is shown only if it passes `is_shown`.
+/// contains, so it is shown only if it passes `is_shown`.
 fn mistake_text(alloc: Global, words: &[String]) -> Result<String, AllocError>
     ensures { IfOk result (λ text. All IsShown (string_bytes text)) }
 {
@@ -117,7 +117,7 @@ fn escaped_mistake(alloc: Global, words: &[String]) -> Result<Option<Error>, All
     Ok(Some(error))
 }
 
-/// Whether a text has no control byte but line ends.
+/// Whether a text has no control bytes other than line ends.
 fn is_shown(text: &str) -> bool
     ensures { result ≡ true → All IsShown text.now }
 {

@@ -17,10 +17,10 @@ use std::alloc::Global;
 use vault_files::{MemFiles, System};
 use vault_text::{MemSink, MemSource, Sink, Source, Stage};
 
-/// All that the program does, as `drive_over`, over files, an input and sinks in memory. The files
-/// that it finds are those at the paths of its arguments, so that arguments, files and
-/// input determine its answer. `MemFiles::content` and `MemSink::bytes` return what is held
-/// afterwards, and `MemFiles::log`, if `keep_log` has begun one, which paths were opened.
+/// Runs the whole program, like `drive_over`, over files, an input and sinks in memory. It finds
+/// the files at the paths of its arguments, so that arguments, files and input determine its
+/// answer. `MemFiles::content` and `MemSink::bytes` return the contents afterwards, and
+/// `MemFiles::log` the paths that were opened, if `keep_log` has begun a log.
 pub fn drive_in_memory<'f, 's>(
     files: &mut MemFiles<'f>,
     alloc: Global,

@@ -1,5 +1,5 @@
-//! Laws of the answers and of the program, each the contract of a function that does nothing, or
-//! only names the laws that it rests on.
+//! Laws of the answers and of the program, each stated as the contract of a function that does
+//! nothing, or only names the laws that it rests on.
 ghost use Rattle.std.specs.Prelude.{◌≡◌};
 ghost use Rattle.vault_cli.specs.Laws.{EncryptThenDecrypt, AnswersAreDecided};
 ghost use Rattle.vault_cli.specs.Laws.{RekeyKeepsThePlaintext, ShortTexts};
@@ -9,7 +9,7 @@ ghost use Rattle.vault_cli.specs.declared.limits.TheConstants.{SEALING_SALT_LENG
 
 use vault_request::laws::settled_requests;
 
-/// How many bytes of a salt file are the salt.
+/// The length of the salt at the start of a salt file, in bytes.
 pub fn limits()
     ensures salt { SEALING_SALT_LENGTH ≡ 32 }
 {}
@@ -20,14 +20,14 @@ pub fn answers_are_decided()
     ensures { AnswersAreDecided }
 {}
 
-/// Decrypting what was encrypted gives the input.
+/// Decrypting an encrypted input gives it back.
 pub fn encrypt_then_decrypt()
     ensures { EncryptThenDecrypt }
 {
     vault_core::laws::encrypted_decrypts();
 }
 
-/// Decrypting what was rekeyed gives what decrypting gave before.
+/// Decrypting a rekeyed vault gives the same plaintext as before.
 pub fn rekey_keeps_the_plaintext()
     ensures { RekeyKeepsThePlaintext }
 {
@@ -42,17 +42,17 @@ pub fn short_texts()
     vault_core::laws::short_inputs();
 }
 
-/// On files that can be read the program gives the answer of the run.
+/// If its files can be read, the program gives the answer of the run.
 pub fn program_is_run()
     ensures { ProgramIsRun }
 {}
 
-/// What one run wrote to a path, another reads there.
+/// What one run wrote to a path, another run reads there.
 pub fn written_is_read()
     ensures { WrittenIsRead }
 {}
 
-/// Decrypting what the program encrypted gives the input, from file to file.
+/// Decrypting what the program encrypted gives the input back, from file to file.
 pub fn program_encrypts_then_decrypts()
     ensures { ProgramEncryptsThenDecrypts }
 {
@@ -60,7 +60,7 @@ pub fn program_encrypts_then_decrypts()
     encrypt_then_decrypt();
 }
 
-/// Decrypting what the program rekeyed gives what decrypting gave before, from file to file.
+/// Decrypting what the program rekeyed gives the same plaintext as before, from file to file.
 pub fn program_keeps_the_plaintext()
     ensures { ProgramKeepsThePlaintext }
 {

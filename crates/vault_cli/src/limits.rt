@@ -1,4 +1,4 @@
 //! Limits of a run.
 
-/// How many bytes of a salt file are the salt.
+/// The length of the salt at the start of a salt file, in bytes.
 pub const SEALING_SALT_LENGTH: usize = 32;

@@ -1,4 +1,4 @@
-//! What a request needs of its files before its input is read.
+//! Loading what a request needs from its files before its input is read.
 ghost use Rattle.std.specs.Prelude.{◌≡◌, ◌≢◌, ◌+◌, [], ◌∷◌, All, length, map, vec_len};
 ghost use Rattle.std.specs.Prelude.{option_to_list, Ok, Err, IfOk, IfErr, OnOk};
 ghost use Rattle.vault_files.specs.File.FileState.{Missing};
@@ -17,8 +17,8 @@ use vault_core::{Fault, Role};
 use vault_files::{FileFault, System, open, read_prefix};
 use vault_request::Request;
 
-/// Reads the password files and the salt of a request into their buffers, and opens its input file,
-/// up to the first of them that refuses.
+/// Reads the password files and the salt of a request into their buffers, and opens its input file.
+/// Stops at the first of them that is refused.
 pub(crate) fn load<D: System>(
     sys: &mut D,
     request: &Request,
@@ -56,7 +56,7 @@ fn file_fault(role: Role, fault: FileFault) -> Fault
     }
 }
 
-/// Fills a buffer from the start of a file, and cuts it to what the file holds.
+/// Fills a buffer from the start of a file, and truncates it to the bytes that the file has.
 fn fill_from<D: System>(sys: &mut D, role: Role, path: &str, buf: &mut Vec<u8>) -> Result<(), Fault>
     ensures opens { Opens D.executes sys.old (path.now ∷ []) sys.new }
     ensures read { OnOk result
@@ -70,7 +70,7 @@ fn fill_from<D: System>(sys: &mut D, role: Role, path: &str, buf: &mut Vec<u8>) 
     Ok(())
 }
 
-/// Reads the password files, in their order, each up to one byte more than is taken.
+/// Reads the password files, in order, each up to one byte past the limit.
 fn read_secret_files<D: System>(
     sys: &mut D,
     request: &Request,
@@ -94,7 +94,7 @@ fn read_secret_files<D: System>(
     Ok(())
 }
 
-/// Reads the salt of a request, the first 32 bytes of its salt file, or none if it names no file.
+/// Reads the salt of a request: the first 32 bytes of its salt file, or none if it names no file.
 fn read_salt<D: System>(sys: &mut D, request: &Request, buf: &mut Vec<u8>) -> Result<(), Fault>
     requires length { vec_len buf.old ≡ SEALING_SALT_LENGTH }
     ensures opens { Opens D.executes sys.old (option_to_list request.now.salt_path) sys.new }
@@ -113,7 +113,7 @@ fn read_salt<D: System>(sys: &mut D, request: &Request, buf: &mut Vec<u8>) -> Re
     }
 }
 
-/// The input file of a request, opened, if it names one.
+/// Opens the input file of a request, if it names one.
 fn open_input<D: System>(sys: &mut D, request: &Request) -> Result<Option<D::Reader>, Fault>
     ensures opens { Opens D.executes sys.old (option_to_list request.now.input) sys.new }
     ensures opened { IfOk result (λ input. AtPath (D.reader_at sys.old) request.now.input input) }

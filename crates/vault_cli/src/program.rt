@@ -25,8 +25,8 @@ use vault_files::{FileOutput, System};
 use vault_request::{Request, parse, settle};
 use vault_text::{CIPHERTEXT_LIMIT, Sink, Source, Stage, TextMemory};
 
-/// All that the program does: parses the words, of which the first is the program's name, settles
-/// the request, reads its password files and its salt file, opens its input file, and runs it. The
+/// Runs the whole program: parses the words, the first of which is the program's name, settles the
+/// request, reads its password files and its salt file, opens its input file, and runs it. The
 /// input is a file or `src`, the output a file or `out`. Help and the version go to `out`, and
 /// every message to `err`.
 pub fn drive_over<D: System, S: Source, K: Sink, E: Sink>(
@@ -81,7 +81,7 @@ fn drive_request<D: System, S: Source, K: Sink, E: Sink>(
     }
 }
 
-/// Runs a request, whose output goes to its path, if it names one.
+/// Runs a request. Its output goes to its path, if it names one.
 fn run_to_output<D: System, S: Source, K: Sink, E: Sink>(
     sys: &mut D,
     request: &Request,
@@ -106,7 +106,7 @@ fn run_to_output<D: System, S: Source, K: Sink, E: Sink>(
         Some(path) => {
             let mut file = FileOutput::new(sys, path, output_access(request.command()));
             let status = run_reserved(request, memory, src, &mut file, err);
-            // Gives back the system, with what the output has left there.
+            // Gives back the system, with the output as it was left.
             let _system = file.into_system();
             status
         }
@@ -114,7 +114,7 @@ fn run_to_output<D: System, S: Source, K: Sink, E: Sink>(
     }
 }
 
-/// Runs a request in the memory that is reserved.
+/// Runs a request in the reserved memory.
 fn run_reserved<S: Source, K: Sink, E: Sink>(
     request: &Request,
     memory: RunMemory,

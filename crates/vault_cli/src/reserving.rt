@@ -12,8 +12,8 @@ use vault_core::PASSWORD_FILE_LIMIT;
 use vault_request::Request;
 use vault_text::CIPHERTEXT_LIMIT;
 
-/// How much of the stack a run takes below `reserve`, in bytes: nine pages of 4 KiB, of which the
-/// buffer of an envelope that is written takes four. `tests/cases/stack.py` shows that they do.
+/// How much of the stack a run takes below `reserve`, in bytes: nine pages of 4 KiB, four of which
+/// are the buffer for writing an envelope. `tests/cases/stack.py` shows that they are enough.
 const STACK_LENGTH: usize = 9 * 4_096;
 
 /// The memory of a run: reserved before any file is opened, then filled.
@@ -21,13 +21,13 @@ const STACK_LENGTH: usize = 9 * 4_096;
 pub(crate) struct RunMemory {
     /// Room for the longest text.
     pub text: Vec<u8>,
-    /// A buffer for each password file, one byte longer than is taken; then what the file holds.
+    /// A buffer for each password file, one byte longer than the limit; then the file's contents.
     pub secret_files: Vec<Vec<u8>>,
     pub salt: Vec<u8>,
 }
 
-/// Reserves all memory that a request needs. The stack is touched, too: one that is too small ends
-/// the program here, before any file is opened.
+/// Reserves all memory that a request needs. Also touches the stack: if it is too small, the
+/// program ends here, before any file is opened.
 pub(crate) fn reserve(alloc: Global, request: &Request) -> Result<RunMemory, AllocError>
     ensures text { IfOk result (λ memory. CIPHERTEXT_LIMIT ≤ vec_capacity memory.text) }
     ensures count { IfOk result (λ memory.
@@ -48,7 +48,7 @@ pub(crate) fn reserve(alloc: Global, request: &Request) -> Result<RunMemory, All
 }
 
 /// Touches the stack that a run needs: fills it with zeros and copies some of them to `buf`. Which
-/// ones depends on `offset`, any number that the compiler does not know, so it leaves out no zero.
+/// ones depends on `offset`, which the compiler does not know, so it cannot leave out any zeros.
 #[inline(never)]
 fn touch_stack(offset: usize, buf: &mut [u8])
     requires { length buf.old ≡ SEALING_SALT_LENGTH }
@@ -59,7 +59,7 @@ fn touch_stack(offset: usize, buf: &mut [u8])
     buf.copy_from_slice(&stack[start..start + SEALING_SALT_LENGTH]);
 }
 
-/// Buffers for this many password files, each for one byte more than is taken.
+/// Buffers for this many password files, each one byte longer than the limit.
 fn password_buffers(alloc: Global, count: usize) -> Result<Vec<Vec<u8>>, AllocError>
     ensures count { IfOk result (λ buffers. vec_len buffers ≡ count) }
     ensures length { IfOk result (λ buffers.

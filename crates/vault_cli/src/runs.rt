@@ -19,10 +19,10 @@ use vault_core::{Fault, Ready};
 use vault_request::Request;
 use vault_text::{MemSource, Sink, Source, Stage, TextMemory};
 
-/// The whole run of a request over the contents of its password files, in their order, and a salt
-/// for commands that encrypt and have no salt text. The input is read, decrypted and encrypted in
-/// `work`, of 16 to `CIPHERTEXT_LIMIT` bytes, so 16 bytes less of plaintext are taken; after a
-/// refusal its contents are unspecified. `out` is begun only if the whole output is known to be
+/// Runs a request over the contents of its password files, in order, and a salt for commands that
+/// encrypt and have no salt text. The input is read, decrypted and encrypted in `work`, of 16 to
+/// `CIPHERTEXT_LIMIT` bytes, so the limit of the plaintext is 16 bytes less; after a refusal the
+/// contents of `work` are unspecified. `out` is begun only if the whole output is known to be
 /// right. On success `err` is not called, and a failure of `err` changes nothing else.
 pub fn run<'r, S: Source, K: Sink, E: Sink>(
     request: &'r Request,
@@ -46,7 +46,7 @@ pub fn run<'r, S: Source, K: Sink, E: Sink>(
     run_in(request, secret_files, salt, memory, src, out, err)
 }
 
-/// Runs a request in memory that holds no text yet.
+/// Runs a request in memory that has no text yet.
 pub(crate) fn run_in<'r, S: Source, K: Sink, E: Sink>(
     request: &'r Request,
     secret_files: &'r [Vec<u8>],
@@ -77,7 +77,7 @@ pub(crate) fn run_in<'r, S: Source, K: Sink, E: Sink>(
     write_or_report(ready, out, err)
 }
 
-/// Writes what is ready, or reports why nothing is, or why it cannot be written.
+/// Writes the output if it is ready, or reports why it is not, or why it cannot be written.
 fn write_or_report<K: Sink, E: Sink>(
     ready: Result<Ready<'_>, Fault>,
     out: &mut K,

@@ -11,8 +11,8 @@ use std::io::{Read, Write};
 use vault_files::System;
 use vault_text::{ReadSource, Sink, Source, WriteSink};
 
-/// All that the program does, as `drive_over`, over the files of the system, any reader and two
-/// writers. The call consumes these, so no clause can name what they hold afterwards: it says that
+/// Runs the whole program, like `drive_over`, over the files of the system, any reader and two
+/// writers. The call consumes these, so no clause can name their contents afterwards: it says that
 /// there is a state of them that `drive_over` may leave with this status.
 pub fn drive<'a, F: Files, R: Read + Drop, O: Write + Drop, E: Write + Drop>(
     rt: &'a F,

@@ -1,4 +1,4 @@
-//! Writing a text of the program's own: help, a mistake, or why a run failed.
+//! Writing the program's own texts: help, a mistake, or why a run failed.
 ghost use Rattle.std.specs.Prelude.{◌≡◌, ℕ, take, OnOk};
 ghost use Rattle.vault_text.specs.Failures.{CountsFailure};
 

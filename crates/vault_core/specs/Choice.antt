@@ -1,4 +1,4 @@
--- Which of the secrets encrypts.
+-- Which of the secrets is used to encrypt.
 use Rattle.std.specs.Prelude.{ℕ, List, [], ◌∷◌, position, Option, Some, None, Result, Ok, Err}
 use Rattle.std.specs.Option.{ok_or}
 use Rattle.vault_fault.specs.declared.fault.Fault.{Fault}
@@ -17,7 +17,7 @@ chosen_index (first ∷ second ∷ others) None = Err ManyEncryptSecrets
 chosen_index (first ∷ others) (Some label) =
     ok_or (position (has_label label) (first ∷ others)) UnknownEncryptId
 
--- the fault of the name that a choice fault has
+-- the fault with the same name as a choice fault
 abbrev pub of_choice : ChoiceFault → Fault
 of_choice NoEncryptSecret = fault.NoEncryptSecret
 of_choice ManyEncryptSecrets = fault.ManyEncryptSecrets

@@ -20,11 +20,11 @@ decryption limit secrets input = do
   payload ← payload_of limit input
   unsealing secrets payload
 
--- how many keys are derived for a payload: one for each secret that is tried
+-- how many times keys are derived for a payload: once for each secret that is tried
 abbrev pub derivations_on : SecretList → Result Payload Fault → ℕ
 derivations_on secrets (Ok payload) = tries payload (tried_order secrets payload.label)
 derivations_on secrets (Err fault) = 0
 
--- how many keys are derived to decrypt the input: none if it holds no payload
+-- how many times keys are derived to decrypt the input: never if it has no payload
 unfoldable pub decryption_derivations : ℕ → SecretList → List ℕ → ℕ
 decryption_derivations limit secrets input = derivations_on secrets (payload_of limit input)

@@ -10,7 +10,7 @@ use Rattle.vault_core.specs.Secrets.{Secret, secret_at}
 use Rattle.vault_fault.specs.declared.fault.Fault.{Fault}
 use Rattle.vault_fault.specs.declared.fault.Fault.TheVariants.{TooLong, EmptyString, AlreadyVault}
 
--- the plaintext begins as every vault does
+-- the plaintext begins like every vault
 abbrev pub is_vault : List ℕ → Bool
 is_vault plain = starts_with nat_eq plain marker
 

@@ -1,10 +1,10 @@
--- In which form a vault is written.
+-- The form in which a vault is written.
 use Rattle.std.specs.Prelude.{ℕ, Bool, true, false, List, Option}
 use Rattle.std.specs.Option.{option_copied}
 use Rattle.vault_core.specs.declared.ready.Form as rust
 use Rattle.vault_core.specs.declared.ready.Form.TheVariants as variant
 
--- an envelope, or a block of YAML, which may have a name
+-- an envelope, or a YAML block, which may have a name
 pub data Form : Type 0 where
   Envelope : Form
   Block : Option (List ℕ) → Form

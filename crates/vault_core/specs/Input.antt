@@ -7,7 +7,7 @@ use Rattle.vault_text.specs.Failures.{HasRisen}
 abbrev pub IsReadToEndOrPastLimit : ℕ → Bool → List ℕ → Type 0
 IsReadToEndOrPastLimit limit ended input = IsTrue ended ⊎ (length input ≡ limit + 1)
 
--- a call reads a source, of which it asks for at most one byte past the limit
+-- a call that reads a source, and asks it for at most one byte past the limit
 module _ {S : Type 0} (src : SourceCall S) (limit : ℕ) where
   -- the source does not fail, and this is its input, to the end or to one byte past the limit
   pub record ReadsInput (input : List ℕ) : Type 0 where

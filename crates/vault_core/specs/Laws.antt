@@ -1,4 +1,4 @@
--- Laws of the definitions, which hold of all secrets, salts and inputs.
+-- Laws of the definitions, which hold for all secrets, salts and inputs.
 use Rattle.std.specs.Prelude.{◌≡◌, ℕ, ◌*◌, ◌≤◌, List, [], ◌∷◌, length, true, Ok}
 pub use Rattle.vault_text.specs.Laws.{IsBytes}
 use Rattle.vault_text.specs.Label.{is_label}
@@ -21,13 +21,13 @@ IsTriedFirst secrets sealing =
     (first : Secret) × (others : List Secret)
     × (tried_order secrets sealing.label ≡ first ∷ others) × (first.password ≡ sealing.password)
 
--- what was sealed unseals to its plaintext, under each rule
+-- unsealing a sealed plaintext gives it back, under each rule
 abbrev pub SealedUnseals : Type 0
 SealedUnseals =
     (secrets : SecretList) (sealing : Secret) (salt plain : List ℕ) → IsTriedFirst secrets sealing
     → unsealing secrets (sealed sealing salt plain) ≡ Ok (record { output = plain; tried = 1 })
 
--- what was sealed and written as an envelope is read, if its ciphertext is not too long
+-- a vault that was sealed and written as an envelope reads back, if its ciphertext is not too long
 abbrev pub SealedReadsBack : Type 0
 SealedReadsBack =
     (limit : ℕ) (sealing : Secret) (salt plain : List ℕ) → is_label sealing.label ≡ true
@@ -36,7 +36,7 @@ SealedReadsBack =
     → payload_of limit (text_in Envelope (sealed sealing salt plain))
     ≡ Ok (sealed sealing salt plain)
 
--- what was encrypted decrypts to the input, under each rule
+-- decrypting an encrypted input gives it back, under each rule
 abbrev pub EncryptedDecrypts : Type 0
 EncryptedDecrypts =
     (limit : ℕ) (list : List Secret) (index : ℕ) (salt input : List ℕ) (ready : Ready)
@@ -46,7 +46,7 @@ EncryptedDecrypts =
     → (secrets : SecretList) → IsTriedFirst secrets (secret_at index list)
     → decryption limit secrets ready.output ≡ Ok (record { output = input; tried = 1 })
 
--- what was rekeyed decrypts with only the new secret, under each rule, to what it decrypted to
+-- a rekeyed vault decrypts with only the new secret, under each rule, to the same plaintext as
 -- before
 abbrev pub RekeyedDecrypts : Type 0
 RekeyedDecrypts =
@@ -59,7 +59,7 @@ RekeyedDecrypts =
     → decryption limit (record { secrets = new ∷ []; rule = rule }) ready.output
     ≡ Ok (record { output = plain; tried = 1 }))
 
--- an input that is short enough gets one answer under that limit and under every larger one: a
+-- an input that is short enough gets the same answer under a limit and under every larger one: a
 -- plaintext within the limit, and an envelope of at most four times as many bytes, since it spells
 -- each byte with four digits
 abbrev pub ShortInputs : Type 0

@@ -12,7 +12,7 @@ use Rattle.vault_core.specs.declared.password.SecretFault.TheVariants.{SecretToo
 use Rattle.vault_core.specs.declared.password.SecretFault.TheVariants.{SecretIsScript}
 use Rattle.vault_core.specs.declared.password.SecretFault.TheVariants.{SecretIsVault, SecretEmpty}
 
--- the length that a password may have
+-- the password has an allowed length
 abbrev pub IsPassword : List ℕ → Type 0
 IsPassword password = (1 ≤ length password) × (length password ≤ PASSWORD_FILE_LIMIT)
 
@@ -25,7 +25,7 @@ password_of file =
     else if length (strip file) == 0 then Err SecretEmpty
     else Ok (strip file)
 
--- the fault of the name that a secret fault has
+-- the fault with the same name as a secret fault
 abbrev pub of_secret : SecretFault → Fault
 of_secret SecretTooLong = fault.SecretTooLong
 of_secret SecretIsScript = fault.SecretIsScript

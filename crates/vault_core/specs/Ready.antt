@@ -5,8 +5,8 @@ use Rattle.vault_core.specs.Sealing.{text_in}
 use Rattle.vault_core.specs.declared.ready.Output.{Output}
 use Rattle.vault_core.specs.declared.ready.Output.TheVariants.{Plain, Vault}
 
--- the bytes that are to be written, and the position in the tried order, counted from 1, of the
--- secret that matched; 0 if none was tried
+-- the bytes to write, and the position in the tried order, counted from 1, of the secret that
+-- matched; 0 if none was tried
 pub record Ready : Type 0 where
   pub output : List ℕ
   pub tried : ℕ

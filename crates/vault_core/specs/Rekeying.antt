@@ -23,7 +23,7 @@ rekeying_of_payload secrets new salt payload = do
         tried = unsealed.tried;
       })
 
--- the envelope in the input with its plaintext under the new secret, or the first fault
+-- the envelope in the input, its plaintext sealed under the new secret, or the first fault
 unfoldable pub rekeying : ℕ → SecretList → Secret → List ℕ → List ℕ → Result Ready Fault
 rekeying limit secrets new salt input = do
   payload ← payload_of limit input

@@ -9,12 +9,12 @@ pub record Secret : Type 0 where
   pub label : List ℕ
   pub password : List ℕ
 
--- secrets in the order in which they were given, and what an envelope's label means among them
+-- secrets in the order in which they were given, and what an envelope's label means for them
 pub record SecretList : Type 0 where
   pub secrets : List Secret
   pub rule : LabelRule
 
--- the secret at an index, from 0; past the end an empty one
+-- the secret at an index, from 0; an empty one past the end
 abbrev pub secret_at : ℕ → List Secret → Secret
 secret_at index secrets = slice_index_or secrets index (record { label = []; password = [] })
 
@@ -22,14 +22,14 @@ secret_at index secrets = slice_index_or secrets index (record { label = []; pas
 abbrev pub has_label : List ℕ → Secret → Bool
 has_label label secret = bytes_eq secret.label label
 
--- the secrets that are tried after those with the label: the others if the label is a hint, none
+-- the secrets that are tried after the ones with the label: the others if the label is a hint, none
 -- if it is required
 abbrev pub tried_after : LabelRule → List ℕ → List Secret → List Secret
 tried_after Hint label secrets = filter (λ secret. not (has_label label secret)) secrets
 tried_after Required label secrets = []
 
--- the secrets with an envelope's label, in the order of the list, and then those that are tried
--- after them, in the order of the list too
+-- the secrets with an envelope's label, and then the secrets that are tried after them, both in the
+-- order of the list
 unfoldable pub tried_order : SecretList → List ℕ → List Secret
 tried_order list label =
     filter (has_label label) list.secrets ++ tried_after list.rule label list.secrets

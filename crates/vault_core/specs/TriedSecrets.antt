@@ -9,15 +9,15 @@ use Rattle.vault_kdf.specs.declared.keys.Keys.{Keys}
 use Rattle.vault_text.specs.Envelope.{Payload}
 use Rattle.vault_core.specs.Secrets.{Secret}
 
--- the keys that the secret's password and the envelope's salt give
+-- the keys derived from the secret's password and the envelope's salt
 abbrev pub keys_of : Payload → Secret → Keys
 keys_of payload secret = vault_keys secret.password payload.salt
 
--- all bytes of the ciphertext's tag under the secret's keys are those of the envelope's tag
+-- the ciphertext's tag under the secret's keys equals the envelope's tag in all bytes
 unfoldable pub matches : Payload → Secret → Bool
 matches payload secret = bytes_eq (hmac (keys_of payload secret).mac payload.ciphertext) payload.tag
 
--- how many of these secrets are tried, one after the other: up to the first that matches, or all
+-- how many of these secrets are tried, in order: up to the first that matches, or all of them
 unfoldable pub tries : Payload → List Secret → ℕ
 tries payload order =
     option_map_or (λ index. index + 1) (position (matches payload) order) (length order)

@@ -1,4 +1,4 @@
--- What an envelope holds for who has its password.
+-- What an envelope contains for those who have its password.
 use Rattle.std.specs.Prelude.{ℕ, List, find, Option, Result, Ok}
 use Rattle.std.specs.Option.{ok_or}
 use Rattle.vault_aes.specs.CounterMode.{counter_mode}
@@ -13,7 +13,7 @@ use Rattle.vault_core.specs.Secrets.{Secret, SecretList, tried_order}
 use Rattle.vault_fault.specs.declared.fault.Fault.{Fault}
 use Rattle.vault_fault.specs.declared.fault.Fault.TheVariants.{NoSecretFits, BadPadding}
 
--- the ciphertext deciphered (SP 800-38A, section 6.5), which gives the plaintext with its padding
+-- the deciphered ciphertext (SP 800-38A, section 6.5): the plaintext with its padding
 abbrev pub deciphered_by : Keys → List ℕ → List ℕ
 deciphered_by keys ciphertext = counter_mode (key_schedule keys.cipher) keys.iv ciphertext
 

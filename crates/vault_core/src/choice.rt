@@ -1,4 +1,4 @@
-//! Choosing the secret that encrypts.
+//! Choosing the secret to encrypt with.
 ghost use Rattle.std.specs.Prelude.{◌≡◌, position};
 ghost use Rattle.std.specs.Option.{option_copied};
 ghost use Rattle.vault_core.specs.Choice.{chosen_index, of_choice};
@@ -9,7 +9,7 @@ use thiserror::Error;
 use vault_fault::Fault;
 use vault_text::Label;
 
-/// Why no secret is chosen to encrypt with.
+/// Why no secret was chosen to encrypt with.
 #[derive(Clone, Copy, Debug, PartialEq, Eq, Error)]
 #[error("{}", Fault::from(*self).text())]
 pub enum ChoiceFault {

@@ -21,8 +21,8 @@ use vault_text::{Source, TextMemory};
 ///
 /// Decrypts in place. `work`, of 16 to `CIPHERTEXT_LIMIT` bytes, bounds the ciphertext; after an
 /// error its contents are unspecified. The input is read to its end, or to one byte past its limit,
-/// even if a fault was found before. [`Fault::Read`] comes before all other faults, which come in
-/// the order of their numbers: those of the envelope, [`Fault::NoSecretFits`],
+/// even if a fault was found earlier. [`Fault::Read`] comes before all other faults, which come in
+/// the order of their numbers: the faults of the envelope, [`Fault::NoSecretFits`],
 /// [`Fault::BadPadding`].
 pub fn prepare_decrypt<'a, S: Source>(
     src: &mut S,
@@ -47,7 +47,7 @@ pub fn prepare_decrypt<'a, S: Source>(
     prepare_decrypt_in(src, TextMemory::borrowed(work), secrets, meter)
 }
 
-/// Does what `prepare_decrypt` does, in memory that holds no text.
+/// Does what `prepare_decrypt` does, in memory that has no text yet.
 pub fn prepare_decrypt_in<'a, S: Source>(
     src: &mut S,
     memory: TextMemory<'a>,

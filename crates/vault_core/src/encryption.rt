@@ -58,7 +58,7 @@ pub fn prepare_encrypt<'a, S: Source>(
     )
 }
 
-/// Does what `prepare_encrypt` does, in memory that holds no text.
+/// Does what `prepare_encrypt` does, in memory that has no text yet.
 pub fn prepare_encrypt_in<'a, S: Source>(
     src: &mut S,
     mut memory: TextMemory<'a>,
@@ -87,7 +87,7 @@ pub fn prepare_encrypt_in<'a, S: Source>(
     encrypt_plaintext(memory, secrets, choice, form, salt, meter)
 }
 
-/// Seals the plaintext that the memory holds. It is too long if no whole block of padding fits
+/// Seals the plaintext in the memory. It is too long if a whole block of padding does not fit
 /// after it.
 fn encrypt_plaintext<'a>(
     memory: TextMemory<'a>,
@@ -122,7 +122,7 @@ fn encrypt_plaintext<'a>(
     Ok(Ready { output, tried: 0 })
 }
 
-/// Whether a plaintext begins as every vault does.
+/// Whether a plaintext begins like every vault.
 pub(crate) fn is_vault(plain: &[u8]) -> bool
     ensures { result ≡ is_vault plain.now }
 {

@@ -13,11 +13,11 @@ ghost use Rattle.vault_fault.specs.declared.fault.Role.TheVariants.{Input};
 use vault_fault::Fault;
 use vault_text::{EnvelopeReader, PADDING_LIMIT, Payload, Source, SourceFailed, TextMemory};
 
-/// How many bytes a source is asked for at once.
+/// The number of bytes that are requested from a source at once.
 const PIECE_LIMIT: usize = 4096;
 
-/// Reads a plaintext into memory that holds no text: all of it, or one byte more than can be padded
-/// there.
+/// Reads a plaintext into memory that has no text yet: all of it, or one byte more than can be
+/// padded there.
 pub(crate) fn read_plaintext<S: Source>(
     src: &mut S,
     memory: &mut TextMemory,
@@ -44,8 +44,8 @@ pub(crate) fn read_plaintext<S: Source>(
     Ok(())
 }
 
-/// Reads an envelope into memory that holds no text, to its end, or to one byte past its limit, and
-/// returns its payload, whose ciphertext lies in the memory.
+/// Reads an envelope into memory that has no text yet, to its end, or to one byte past its limit,
+/// and returns its payload, whose ciphertext is in the memory.
 pub(crate) fn read_payload<'a, S: Source>(
     src: &mut S,
     memory: TextMemory<'a>,
@@ -67,7 +67,7 @@ pub(crate) fn read_payload<'a, S: Source>(
     Ok(reader.finish()?)
 }
 
-/// Feeds the reader with the input to its end, or to one byte past its limit.
+/// Feeds the input to the reader, to its end or to one byte past its limit.
 fn feed_input<S: Source>(src: &mut S, reader: &mut EnvelopeReader) -> Result<(), SourceFailed>
     ensures limit { reader.new.limit ≡ reader.old.limit }
     ensures read { let limit = envelope_limit reader.old.limit in

@@ -1,10 +1,10 @@
-//! Laws of the definitions, each the contract of a function that does nothing.
+//! Laws of the definitions, each stated as the contract of a function that does nothing.
 ghost use Rattle.std.specs.Prelude.{◌≡◌};
 ghost use Rattle.vault_core.specs.Laws.{EncryptedDecrypts, RekeyedDecrypts, SealedUnseals};
 ghost use Rattle.vault_core.specs.Laws.{SealedReadsBack, ShortInputs};
 ghost use Rattle.vault_core.specs.declared.limits.TheConstants.{PASSWORD_FILE_LIMIT};
 
-/// How many bytes of a password file are taken.
+/// The length of the longest password file, in bytes.
 pub fn limits()
     ensures password_file { PASSWORD_FILE_LIMIT ≡ 4096 }
 {}
@@ -21,20 +21,20 @@ pub fn sealed_reads_back()
     ensures { SealedReadsBack }
 {}
 
-/// Decrypting what was encrypted gives the input.
+/// Decrypting an encrypted input gives it back.
 #[tactic(auto, using(crate::proofs::theorems::RoundTrips::encrypted_decrypts))]
 pub fn encrypted_decrypts()
     ensures { EncryptedDecrypts }
 {}
 
-/// Decrypting what was rekeyed gives what decrypting gave before.
+/// Decrypting a rekeyed vault gives the same plaintext as before.
 #[tactic(auto, using(crate::proofs::theorems::RoundTrips::rekeyed_decrypts))]
 pub fn rekeyed_decrypts()
     ensures { RekeyedDecrypts }
 {}
 
-/// A plaintext within a limit, and an envelope of at most four times as many bytes, gets one answer
-/// of each call under that limit and every larger one.
+/// For a plaintext within a limit, or an envelope of at most four times as many bytes, each call
+/// gives the same answer under that limit and under every larger one.
 pub fn short_inputs()
     ensures { ShortInputs }
 {}

@@ -1,4 +1,4 @@
-//! What is done with vaults: password files and lists of secrets, and encrypting, decrypting and
+//! Working with vaults: password files and lists of secrets, and encrypting, decrypting and
 //! rekeying in the memory that the input was read into.
 //!
 //! ```rust

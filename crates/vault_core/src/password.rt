@@ -1,4 +1,4 @@
-//! Passwords, and the files that hold them.
+//! Passwords, and the files that contain them.
 ghost use Rattle.std.specs.Prelude.{◌≡◌, IfOk, MatchResult};
 ghost use Rattle.vault_core.specs.Password.{IsPassword, of_secret, password_of};
 
@@ -9,7 +9,7 @@ use vault_text::{MARKER, strip};
 
 const SCRIPT_MARKER: &[u8; 2] = b"#!";
 
-/// Why a file gives no password, in the order in which the faults are looked for.
+/// Why a file has no usable password, in the order in which the faults are checked.
 #[derive(Clone, Copy, Debug, PartialEq, Eq, Error)]
 #[error("{}", Fault::from(*self).text())]
 pub enum SecretFault {

@@ -11,7 +11,7 @@ use thiserror::Error;
 use vault_fault::Fault;
 use vault_text::{Sink, SinkFailed, Stage, put_all, write_block, write_envelope};
 
-/// Why output was not written whole.
+/// Why output was not fully written.
 #[derive(Clone, Copy, Debug, PartialEq, Eq, Error)]
 #[error("{}", Fault::from(*self).text())]
 pub enum WriteFault {
@@ -32,7 +32,7 @@ impl From<SinkFailed> for WriteFault {
     }
 }
 
-/// In which form a vault is written.
+/// The form in which a vault is written.
 #[derive(Clone, Copy, Debug)]
 pub enum Form<'a> {
     /// An envelope, format 1.1 or 1.2.
@@ -49,7 +49,7 @@ impl<'a> Form<'a> {
     }
 }
 
-/// What is written.
+/// The output to write.
 #[derive(Drop)]
 pub(crate) enum Output<'a> {
     Plain(&'a [u8]),
@@ -57,7 +57,7 @@ pub(crate) enum Output<'a> {
 }
 
 impl<'a> Output<'a> {
-    /// Writes it. After a failure the sink has taken a prefix of it.
+    /// Writes the output. After a failure the sink has taken a prefix of it.
     #[tactic(auto, unfolding(crate::specs::Sealing::text_in))]
     fn write<K: Sink>(&self, sink: &mut K) -> Result<(), SinkFailed>
         requires { K.stage sink.old ≡ Stage.Begun }
@@ -85,8 +85,8 @@ impl<'a> Output<'a> {
     }
 }
 
-/// Output whose text lies in the memory that a call borrowed. A vault is spelled only as it is
-/// written.
+/// Output whose text is in the memory that a call borrowed. A vault is put into its form only as it
+/// is written.
 #[derive(Drop)]
 pub struct Ready<'a> {
     pub(crate) output: Output<'a>,
@@ -110,8 +110,8 @@ impl<'a> Ready<'a> {
         self.tried
     }
 
-    /// Begins the sink, puts the output and finishes. A sink that failed has taken a prefix of the
-    /// output and was not finished.
+    /// Begins the sink, puts the output and finishes. After a failure the sink has taken a prefix
+    /// of the output and was not finished.
     pub fn write_to<K: Sink>(self, sink: &mut K) -> Result<(), WriteFault>
         requires { K.stage sink.old ≡ Stage.Unbegun }
         ensures written { OnOk result (K.takes sink.old self.entry.output sink.new) }

@@ -26,8 +26,8 @@ use vault_text::{Label, Payload, Salt, Source, TextMemory};
 /// label, a new password and a new salt.
 ///
 /// Works in place. `work`, of 16 to `CIPHERTEXT_LIMIT` bytes, bounds the ciphertext; after an error
-/// its contents are unspecified. The faults are those of `prepare_decrypt`, in their order, and
-/// then [`Fault::AlreadyVault`].
+/// its contents are unspecified. The faults are the same as for `prepare_decrypt`, in the same
+/// order, and then [`Fault::AlreadyVault`].
 pub fn prepare_rekey<'a, S: Source>(
     src: &mut S,
     work: &'a mut [u8],
@@ -60,7 +60,7 @@ pub fn prepare_rekey<'a, S: Source>(
     prepare_rekey_in(src, TextMemory::borrowed(work), secrets, &new, salt, meter)
 }
 
-/// Does what `prepare_rekey` does, in memory that holds no text.
+/// Does what `prepare_rekey` does, in memory that has no text yet.
 pub fn prepare_rekey_in<'a, S: Source>(
     src: &mut S,
     memory: TextMemory<'a>,
@@ -89,7 +89,7 @@ pub fn prepare_rekey_in<'a, S: Source>(
     rekey_payload(payload, secrets, new, salt, meter)
 }
 
-/// Unseals the payload of an envelope and seals its plaintext anew, both in place.
+/// Unseals the payload of an envelope and seals its plaintext again, both in place.
 fn rekey_payload<'a>(
     payload: Payload<'a>,
     secrets: &Secrets,

@@ -1,4 +1,4 @@
-//! Sealing a plaintext in the memory that it lies in.
+//! Sealing a plaintext in place.
 ghost use Rattle.std.specs.Prelude.{◌≡◌, ◌+◌, ◌<◌, ◌≤◌, ◌^◌, take, length};
 ghost use Rattle.vault_aes.specs.Padding.{padded_length};
 ghost use Rattle.vault_core.specs.Sealing.{sealed};
@@ -9,7 +9,7 @@ use vault_aes::{Key, ctr_apply, pad};
 use vault_kdf::{Meter, derive, hmac};
 use vault_text::{Label, Salt, TAG_LENGTH};
 
-/// The parts of a vault that is to be written.
+/// The parts of a vault to write.
 #[derive(Drop)]
 pub(crate) struct Sealed<'a> {
     pub label: &'a Label,

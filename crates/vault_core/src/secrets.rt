@@ -1,4 +1,4 @@
-//! Secrets, and the list of those that a vault is tried with.
+//! Secrets, and the list of secrets that are tried on a vault.
 ghost use Rattle.std.specs.Prelude.{◌≡◌, ◌<◌, ◌≤◌, ◌↔◌, [], ◌∷◌, ◌++◌, length, IsErr, IfOk};
 ghost use Rattle.std.specs.Prelude.{OnOk, OnErr};
 ghost use Rattle.std.specs.Option.{option_copied};
@@ -73,7 +73,7 @@ impl<'p> Default for Secret<'p> {
     }
 }
 
-/// Why a list takes no further secret.
+/// Why a secret cannot be added to a list.
 #[derive(Clone, Copy, Debug, PartialEq, Eq, Error)]
 #[error("{}", Fault::from(*self).text())]
 pub enum ListFault {
@@ -89,7 +89,7 @@ impl From<ListFault> for Fault {
 }
 
 /// A list of at most 16 secrets, whose passwords are borrowed, and what an envelope's label means
-/// among them.
+/// for them.
 #[derive(Drop)]
 pub struct Secrets<'p> {
     list: ArrayVec<Secret<'p>, SECRET_COUNT_LIMIT>,
@@ -117,7 +117,7 @@ impl<'p> Secrets<'p> {
         }
     }
 
-    /// How many secrets it has.
+    /// The number of secrets.
     pub fn len(&self) -> usize
         ensures { result ≡ length self.now.secrets }
     {
@@ -152,7 +152,7 @@ impl<'p> Secrets<'p> {
         self.rule = rule;
     }
 
-    /// Adds a secret at the end. A full list is refused and stays as it was.
+    /// Adds a secret at the end. If the list is full, this fails and leaves it unchanged.
     pub fn push(&mut self, label: Label, password: &'p [u8]) -> Result<(), ListFault>
         requires { IsPassword password.now }
         ensures added { OnOk result (self.new.secrets
@@ -165,8 +165,8 @@ impl<'p> Secrets<'p> {
         pushed.map_err(|_| ListFault::TooManySecrets)
     }
 
-    /// The index, from 0, of the secret to encrypt with: the first of the label, or the only one if
-    /// no label is given.
+    /// The index, from 0, of the secret to encrypt with: the first with the label, or the only one
+    /// if no label is given.
     pub fn encrypt_choice(&self, label: Option<&Label>) -> Result<usize, ChoiceFault>
         ensures choice { result ≡ chosen_index self.now.secrets (option_copied label.entry) }
         ensures within { IfOk result (λ index. index < length self.now.secrets) }

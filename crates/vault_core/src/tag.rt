@@ -3,7 +3,7 @@ ghost use Rattle.std.specs.Prelude.{◌≡◌, ◌↔◌, IsTrue};
 
 use vault_text::TAG_LENGTH;
 
-/// Whether two tags are equal. The loop goes over all their bytes, and does not end at the first
+/// Whether two tags are equal. The loop compares all their bytes, and does not stop at the first
 /// difference.
 pub(crate) fn tags_equal(one: &[u8; TAG_LENGTH], other: &[u8; TAG_LENGTH]) -> bool
     ensures { IsTrue result ↔ (one.now ≡ other.now) }

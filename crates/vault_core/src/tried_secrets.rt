@@ -1,4 +1,4 @@
-//! Which secret matches an envelope: trying secrets one after the other.
+//! Finding the secret that matches an envelope: trying secrets one after the other.
 ghost use Rattle.std.specs.Prelude.{◌≡◌, ◌+◌, ◌<◌, ◌^◌, Some, None, if◌then◌else◌, length};
 ghost use Rattle.std.specs.Prelude.{filter, find};
 ghost use Rattle.std.specs.Option.{option_map};
@@ -12,14 +12,14 @@ use vault_fault::LabelRule;
 use vault_kdf::{Keys, Meter, derive, hmac};
 use vault_text::{Label, Payload};
 
-/// The secrets of a list that have the label of an envelope, or those that have another.
+/// The secrets of a list that have the label of an envelope, or the ones that have another.
 #[derive(Clone, Copy)]
 pub(crate) enum Group {
     SameLabel,
     OtherLabels,
 }
 
-/// How a search among secrets ended: how many were tried, and the keys of the last of them, if it
+/// The result of a search among secrets: how many were tried, and the keys of the last one if it
 /// matched.
 #[derive(Drop)]
 pub(crate) struct Search {

@@ -1,4 +1,4 @@
-//! Unsealing the payload of an envelope in the memory that it was read into.
+//! Unsealing the payload of an envelope in place.
 ghost use Rattle.std.specs.Prelude.{◌≡◌, ◌+◌, ◌<◌, ◌^◌, IfSome, length, take};
 ghost use Rattle.std.specs.Option.{option_map};
 ghost use Rattle.vault_core.specs.TriedSecrets.{tries};
@@ -14,7 +14,7 @@ use vault_fault::Fault;
 use vault_kdf::{Keys, Meter};
 use vault_text::Payload;
 
-/// An unsealed plaintext: the first `len` bytes of `padded`, which has its padding too.
+/// An unsealed plaintext: the first `len` bytes of `padded`, which also has its padding.
 #[derive(Drop)]
 pub(crate) struct Unsealed<'a> {
     pub padded: &'a mut [u8],

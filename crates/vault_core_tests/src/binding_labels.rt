@@ -1,5 +1,5 @@
-//! The label of an envelope as a hint and as binding: which secrets are tried, and how many keys
-//! are derived for that.
+//! The label of an envelope as a hint and as binding: which secrets are tried, and how many times
+//! keys are derived for that.
 use std::test::Fail;
 use vault_core::{Fault, LabelRule, Secrets, password_of, prepare_decrypt};
 use vault_kdf::Meter;
@@ -15,8 +15,8 @@ const A_AND_B: &[(&str, &[u8])] = &[("a", ONE), ("b", TWO)];
 
 const NONE_FITS: Result<usize, Fault> = Err(Fault::NoSecretFits);
 
-/// The position of the secret that opens the vault, counted from 1 in the order of trying, or the
-/// fault; and how many keys were derived.
+/// The position of the secret that opens the vault, counted from 1 in the tried order, or the
+/// fault; and how many times keys were derived.
 fn decrypted(
     vault: &[u8],
     files: &[(&str, &[u8])],
@@ -56,7 +56,7 @@ fn decide_which_secrets_are_tried(rt: HostRuntime) -> Result<(), Fail> {
         ("c", b"one", A_AND_B, required, NONE_FITS, 0),
         ("default", b"one", &[("default", ONE)], required, Ok(1), 1),
         ("default", b"one", &[("x", ONE)], required, NONE_FITS, 0),
-        // Letters of another case make another label.
+        // Labels are case-sensitive.
         ("A", b"one", &[("a", ONE)], hint, Ok(1), 1),
         ("A", b"one", &[("a", ONE)], required, NONE_FITS, 0),
     ];

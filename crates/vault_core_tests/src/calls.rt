@@ -1,4 +1,4 @@
-//! Calls of the library, each with one list of secrets and memory of one size.
+//! Calls of the library, each with a list of secrets and memory of a fixed size.
 ghost use Rattle.vault_core.specs.Password.{IsPassword};
 
 use std::alloc::Global;
@@ -8,10 +8,10 @@ use vault_core::{Fault, Form, Ready, Secrets, prepare_decrypt, prepare_encrypt, 
 use vault_kdf::Meter;
 use vault_text::{Label, MemSink, MemSource, Salt};
 
-/// The memory that the calls borrow, which has room for 1,024 bytes of plaintext.
+/// The length of the memory that the calls borrow, with room for 1,024 bytes of plaintext.
 pub const WORK_LENGTH: usize = 1_040;
 
-/// What a call made.
+/// The result of a call.
 #[derive(Drop)]
 pub struct Answer {
     pub output: Vec<u8>,
@@ -20,7 +20,7 @@ pub struct Answer {
 }
 
 impl Answer {
-    /// The output, the position of the secret that opened, and how many keys were derived.
+    /// The output, the position of the secret that matched, and how many times keys were derived.
     pub fn parts(&self) -> (&[u8], usize, u64) {
         (self.output.as_slice(), self.tried, self.derived)
     }
@@ -45,8 +45,8 @@ pub fn decrypt(alloc: Global, envelope: &[u8], secrets: &Secrets) -> Result<Answ
     answer_of(alloc, ready, &meter)
 }
 
-/// Decrypting gives the plaintext with the secret at this position of the tried order, and derives
-/// one key for each that is tried.
+/// Asserts that decrypting gives the plaintext with the secret at this position in the tried order,
+/// and derives keys once for each secret that is tried.
 pub fn assert_decrypts(
     rt: &impl Abort,
     alloc: Global,
@@ -60,7 +60,7 @@ pub fn assert_decrypts(
     Ok(())
 }
 
-/// Decrypting has this fault.
+/// Asserts that decrypting has this fault.
 pub fn assert_refuses(
     rt: &impl Abort,
     alloc: Global,

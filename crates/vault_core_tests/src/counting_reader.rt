@@ -2,8 +2,8 @@
 use std::io;
 use std::io::Read;
 
-/// A reader that gives some bytes and then one byte again and again, at most `step` of them a call
-/// and `left` of them in all. It counts what it gave.
+/// A reader that gives some bytes and then one byte again and again, at most `step` bytes per call
+/// and `left` bytes in all. It counts the bytes that it gave.
 #[derive(Drop)]
 pub struct CountingReader<'a> {
     prefix: &'a [u8],
@@ -14,7 +14,7 @@ pub struct CountingReader<'a> {
 }
 
 impl<'a> CountingReader<'a> {
-    /// These bytes alone.
+    /// Only these bytes.
     pub fn new(bytes: &'a [u8], step: usize) -> Self {
         CountingReader {
             prefix: bytes,
@@ -25,7 +25,7 @@ impl<'a> CountingReader<'a> {
         }
     }
 
-    /// These bytes, and line feeds after them up to this length in all.
+    /// These bytes, followed by line feeds up to this total length.
     pub fn with_line_feeds(bytes: &'a [u8], length: usize, step: usize) -> Self {
         CountingReader {
             prefix: bytes,

@@ -1,4 +1,4 @@
-//! Decrypting: passwords that give the same keys, and what is refused.
+//! Decrypting: passwords that give the same keys, and refused inputs.
 use crate::calls::{assert_decrypts, assert_refuses, one_secret, two_secrets};
 use crate::envelopes::{enciphered, enveloped, sealed};
 use std::test::Fail;

@@ -23,7 +23,7 @@ impl Read for Unreadable {
     }
 }
 
-/// Writing the plaintext fails once the writer holds this many bytes.
+/// Asserts that writing the plaintext fails once the writer has this many bytes.
 fn assert_write_fails(
     rt: &impl Abort,
     alloc: Global,
@@ -42,7 +42,7 @@ fn assert_write_fails(
     Ok(())
 }
 
-/// Of two writers one is full before the end, and the other then fails to flush.
+/// One of two writers is full before the end, and the other fails to flush.
 #[test]
 fn writers_that_fail(rt: HostRuntime) -> Result<(), Fail> {
     let alloc = rt.alloc();
@@ -52,7 +52,7 @@ fn writers_that_fail(rt: HostRuntime) -> Result<(), Fail> {
     assert_write_fails(&rt, alloc, envelope.as_slice(), &secrets, 200)
 }
 
-/// The fault of a call, and how many keys it derived.
+/// The fault of a call, and how many times it derived keys.
 type Refused = (Option<Fault>, u64);
 
 fn decrypt_from(src: &mut ReadSource<Unreadable>, secrets: &Secrets) -> Refused {

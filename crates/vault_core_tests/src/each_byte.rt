@@ -1,4 +1,4 @@
-//! A vault that ends at each of its bytes, or is changed at each of them.
+//! A vault that is cut off at each of its bytes, or changed at each of them.
 use std::alloc::Global;
 use std::process::Abort;
 use std::test::Fail;
@@ -9,16 +9,16 @@ use vault_text::{Label, MemSource};
 
 const SALT: &[u8; 32] = &[0; 32];
 
-/// The header line of a vault without a label, with its end.
+/// The length of the header line of a vault without a label, with its end.
 const HEADER_LENGTH: usize = 26;
 
-/// The digits of a line of the body, with its end.
+/// The length of a line of the body, with its end.
 const LINE_LENGTH: usize = 81;
 
-/// The digits of a body with a salt of 32 bytes and a block of ciphertext.
+/// The number of digits of a body with a salt of 32 bytes and one block of ciphertext.
 const DIGITS: usize = 324;
 
-/// Where the two line feeds of the inner text stand.
+/// The positions of the two line feeds in the inner text.
 const INNER_LINE_FEEDS: [usize; 2] = [64, 129];
 
 /// The fault of decrypting these bytes with the password `one`.
@@ -52,7 +52,7 @@ fn fault_of_prefix(prefix: &[u8]) -> Option<Fault> {
     }
 }
 
-/// Decrypting these bytes, the ones of this number, has this fault.
+/// Asserts that decrypting these bytes, which have this number, has this fault.
 fn assert_fault(
     rt: &impl Abort,
     number: usize,
@@ -74,8 +74,8 @@ fn refuses_each_prefix(rt: HostRuntime) -> Result<(), Fail> {
     Ok(())
 }
 
-/// The fault where the lowest bit of a digit of the body is changed: of a pair of digits, the one
-/// that changed and the other.
+/// The fault if the lowest bit of a digit of the body is changed, from the changed digit and the
+/// other digit of its pair.
 fn fault_of_digit(pair: usize, is_first: bool, changed: u8, other: u8) -> Fault {
     if INNER_LINE_FEEDS.contains(&pair) {
         return if is_first {
@@ -89,7 +89,7 @@ fn fault_of_digit(pair: usize, is_first: bool, changed: u8, other: u8) -> Fault 
     } else {
         (other, changed)
     };
-    // Each byte of the inner text is a digit, whose code has no letter.
+    // Each byte of the inner text is a digit, whose code contains no letters.
     let code = ((high & 15) << 4) | (low & 15);
     if code.is_ascii_hexdigit() {
         Fault::NoSecretFits
@@ -118,7 +118,7 @@ fn fault_of_changed(changed: &[u8], index: usize) -> Fault {
     fault_of_digit(digit / 2, is_first, byte(index), byte(other))
 }
 
-/// The vault is refused where the byte at this index has its lowest bit changed.
+/// Asserts that the vault is refused if the lowest bit of the byte at this index is changed.
 fn assert_flipped(rt: &impl Abort, vault: &Vec<u8>, index: usize) -> Result<(), Fail> {
     let mut changed = vault.clone()?;
     assert!(rt; index < changed.len());

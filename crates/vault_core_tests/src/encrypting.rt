@@ -1,4 +1,4 @@
-//! Encrypting: sizes, forms, and what is refused.
+//! Encrypting: sizes, forms, and refused inputs.
 use crate::calls::{WORK_LENGTH, assert_decrypts, encrypt, one_secret};
 use crate::envelopes::{enveloped, sealed};
 use std::alloc::Global;
@@ -6,8 +6,8 @@ use std::process::Abort;
 use std::test::Fail;
 use vault_core::{Fault, Form};
 
-/// Encrypting gives the envelope of another writer, of this length, derives one key for that, and
-/// tries no secret. What it gave decrypts to the plaintext.
+/// Asserts that encrypting gives the same envelope as another writer, of this length, derives keys
+/// once and tries no secret, and that the envelope decrypts to the plaintext.
 fn assert_encrypts(
     rt: &impl Abort,
     alloc: Global,
@@ -33,7 +33,7 @@ fn another_writer_agrees(rt: HostRuntime) -> Result<(), Fail> {
     assert_encrypts(&rt, alloc, "dev", &[b'a'; 15], 359)
 }
 
-/// A block of this name starts with this text, and has this length.
+/// Asserts that a block with this name starts with this text, and has this length.
 fn assert_block(
     rt: &impl Abort,
     alloc: Global,
@@ -48,7 +48,7 @@ fn assert_block(
     Ok(())
 }
 
-/// Encrypting the plaintext has this fault.
+/// Asserts that encrypting the plaintext has this fault.
 fn assert_refused(
     rt: &impl Abort,
     alloc: Global,

@@ -1,4 +1,4 @@
-//! A body of line ends without end.
+//! A body of endless line ends.
 ghost use Rattle.std.specs.Prelude.{◌≡◌, IfOk, vec_len};
 ghost use Rattle.vault_text.specs.declared.limits.TheConstants.{CIPHERTEXT_LIMIT};
 
@@ -11,15 +11,15 @@ use vault_text::{CIPHERTEXT_LIMIT, ReadSource};
 
 const HEADER_LINE: &[u8] = b"$ANSIBLE_VAULT;1.1;AES256\n";
 
-/// All the memory that the limits ask for.
+/// As much memory as the limits need.
 fn work_memory(alloc: Global) -> Result<Vec<u8>, AllocError>
     ensures { IfOk result (λ work. vec_len work ≡ CIPHERTEXT_LIMIT) }
 {
     vec![in alloc; 0u8; CIPHERTEXT_LIMIT]
 }
 
-/// How line ends without end are refused that come in steps, without a request; and how many bytes
-/// of them are read.
+/// The fault of endless line ends that come in steps, without a request, and how many bytes of them
+/// are read.
 fn endless_line_ends(alloc: Global, step: usize) -> Result<(Option<Fault>, usize), Fail> {
     let mut work = work_memory(alloc)?;
     let mut reader = CountingReader::with_line_feeds(HEADER_LINE, usize::MAX, step);

@@ -6,7 +6,7 @@ use vault_made::{envelope, spelled};
 
 const SALT: [u8; 32] = [0; 32];
 
-/// The plaintext under the password, in an envelope with the label. The salt is 32 zero bytes.
+/// The plaintext sealed with the password, in an envelope with the label and a salt of 32 zeros.
 pub fn sealed(
     alloc: Global,
     label: &str,
@@ -16,7 +16,7 @@ pub fn sealed(
     envelope(alloc, label, password, SALT.as_slice(), plain)
 }
 
-/// The bytes enciphered without padding, and the tag of the ciphertext.
+/// The bytes, enciphered without padding, and the tag of the ciphertext.
 pub fn enciphered(
     alloc: Global,
     password: &[u8],
@@ -29,7 +29,7 @@ pub fn enciphered(
     Ok((ciphertext, tag))
 }
 
-/// An envelope of these parts.
+/// An envelope with these parts.
 pub fn enveloped(
     alloc: Global,
     label: &str,

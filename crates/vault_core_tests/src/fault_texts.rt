@@ -1,4 +1,4 @@
-//! The derived texts of the types of fault.
+//! The derived texts of the fault types.
 use std::alloc::Global;
 use std::fmt::Display;
 use std::process::Abort;
@@ -18,7 +18,7 @@ fn assert_text(
     Ok(())
 }
 
-/// `vault_text`, which cannot name `Fault`, has texts of its own, and they are the same.
+/// `vault_text`, which cannot name `Fault`, has its own texts, and they are the same.
 #[test]
 fn of_texts_and_labels(rt: HostRuntime) -> Result<(), Fail> {
     let alloc = rt.alloc();

@@ -1,5 +1,5 @@
-//! Tests of the calls on vaults, of requests and of files, with what tests of whole runs need,
-//! too: command lines, a reader that counts and a writer that fails.
+//! Tests of the calls on vaults, of requests and of files, and helpers that tests of whole runs
+//! also use: command lines, a reader that counts and a writer that fails.
 #![tactic(auto)]
 
 #[cfg(test)]

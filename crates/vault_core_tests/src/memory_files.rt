@@ -26,7 +26,7 @@ fn reports_files_that_break_or_are_missing(rt: HostRuntime) {
     assert_reads(&rt, &mut files, "none", &mut [0; 4], missing);
 }
 
-/// A file of these bytes is at the path, or none.
+/// Asserts that a file with these bytes is at the path, or none.
 fn assert_content(rt: &impl Abort, files: &MemFiles, path: &str, bytes: Option<&[u8]>) {
     assert_eq!(rt; (path, files.content(path)), (path, bytes));
 }
@@ -52,7 +52,7 @@ fn keeps_what_is_written(rt: HostRuntime) -> Result<(), Fail> {
     Ok(())
 }
 
-/// A file can be created at the longest path, and at none that is longer.
+/// A file can be created at the longest path, but not at a longer one.
 #[test]
 fn creates_at_paths_up_to_a_limit(rt: HostRuntime) -> Result<(), Fail> {
     let alloc = rt.alloc();

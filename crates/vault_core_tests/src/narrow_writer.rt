@@ -3,8 +3,8 @@ use std::alloc::Global;
 use std::io;
 use std::io::Write;
 
-/// A writer that takes at most 16 bytes a call, and `room` bytes in all. Once it is full its calls
-/// fail, a flush too.
+/// A writer that takes at most 16 bytes per call, and `room` bytes in all. Once it is full, all
+/// calls fail, even a flush.
 #[derive(Drop)]
 pub struct NarrowWriter {
     pub taken: Vec<u8>,

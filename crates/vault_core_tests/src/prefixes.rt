@@ -5,7 +5,7 @@ ghost use Rattle.vault_files.specs.System.{Opens};
 use std::process::Abort;
 use vault_files::{FileFault, System, read_prefix};
 
-/// What was found at the path is what was expected.
+/// Asserts that what was found at the path is as expected.
 fn assert_found(
     rt: &impl Abort,
     path: &str,
@@ -15,7 +15,7 @@ fn assert_found(
     assert_eq!(rt; (path, found), (path, expected));
 }
 
-/// Reading what the buffer takes of the file gives these bytes, or has this fault.
+/// Asserts that reading as much of the file as the buffer takes gives these bytes, or this fault.
 pub fn assert_reads<D: System>(
     rt: &impl Abort,
     files: &mut D,

@@ -6,28 +6,28 @@ use std::test::Fail;
 use vault_fault::{Fault, LabelRule};
 use vault_request::{CommandName, Request, parse, settle};
 
-/// The longest salt text that is taken.
+/// The longest salt text that is accepted.
 const LONGEST: &str = "aaaaaaaaaaaaaaaaaaaaaaaaaaaaaaaaaaaaaaaaaaaaaaaaaaaaaaaaaaaaaaaa";
 
-/// The words of a line, between any two spaces one, with the program's name before them.
+/// The words of a line, separated by spaces, with the program's name before them.
 fn words_of(alloc: Global, line: &str) -> Result<Vec<String>, AllocError> {
     let words: Vec<&str> = line.split(' ').collect(alloc)?;
     line_of(alloc, words.as_slice())
 }
 
-/// What the words of a line settle.
+/// The request that the words of a line settle, or its fault.
 fn settled(alloc: Global, line: &str) -> Result<Result<Request, Fault>, Fail> {
     let words = words_of(alloc, line)?;
     let matches = parse(alloc, words.as_slice())?;
     Ok(settle(alloc, &matches))
 }
 
-/// Whether the file of a secret has this label and this path.
+/// Whether a password file has this label and this path.
 fn is_file(request: &Request, i: usize, label: &str, path: &str) -> bool {
     i < request.files() && request.label(i).as_str() == label && request.path(i) == path
 }
 
-/// Asserts that the words of a line name these files of secrets, each by its label and its path.
+/// Asserts that the words of a line name these password files, each by its label and its path.
 fn assert_files(
     rt: &impl Abort,
     alloc: Global,
@@ -42,7 +42,7 @@ fn assert_files(
     Ok(())
 }
 
-/// What is compared of a request, beside the files of its secrets.
+/// The parts of a request that are compared, besides its password files.
 #[derive(Clone, Copy, Debug, PartialEq, Eq)]
 struct Said<'a> {
     command: CommandName,
@@ -85,7 +85,7 @@ fn choice_of(request: &Request) -> Option<&str> {
     Some(request.choice()?.as_str())
 }
 
-/// All that a request says beside the files of its secrets.
+/// All that a request says besides its password files.
 fn said_by(request: &Request) -> Said<'_> {
     Said {
         command: request.command(),
@@ -133,12 +133,12 @@ fn leaves_unset_what_no_option_names(rt: HostRuntime) -> Result<(), Fail> {
     assert_says(&rt, rt.alloc(), "decrypt --vault-id=f", wanted)
 }
 
-/// The fault for which the words of a line are refused.
+/// The fault with which the words of a line are refused.
 fn fault_of(alloc: Global, line: &str) -> Result<Option<Fault>, Fail> {
     Ok(settled(alloc, line)?.err())
 }
 
-/// Asserts that the words of each line are refused for the fault beside it.
+/// Asserts that the words of each line are refused with the fault beside it.
 fn assert_refused(rt: &impl Abort, alloc: Global, cases: &[(&str, Fault)]) -> Result<(), Fail> {
     for &(line, fault) in cases {
         assert_eq!(rt; fault_of(alloc, line)?, Some(fault), "{line}");
@@ -356,7 +356,7 @@ fn reads_the_name_of_a_string_from_standard_input(rt: HostRuntime) -> Result<(),
     assert_says(&rt, rt.alloc(), line, wanted)
 }
 
-/// Whether these words are a command with options of its own.
+/// Whether these words parse as a command with its own options.
 fn are_parsed(alloc: Global, words: Vec<String>) -> bool {
     parse(alloc, words.as_slice()).is_ok()
 }

@@ -5,7 +5,7 @@ use std::test::Fail;
 use vault_core::{Fault, ListFault, SecretFault, Secrets, password_of};
 use vault_text::Label;
 
-/// The secret at this index is chosen to encrypt with, or the choice has this fault.
+/// Asserts that the secret at this index is chosen to encrypt with, or the choice has this fault.
 fn assert_choice(
     rt: &impl Abort,
     secrets: &Secrets,
@@ -36,7 +36,7 @@ fn lists_and_choices(rt: HostRuntime) -> Result<(), Fail> {
     Ok(())
 }
 
-/// The file gives this password, or has this fault.
+/// Asserts that the file gives this password, or has this fault.
 fn assert_password(rt: &impl Abort, file: &[u8], expected: Result<&[u8], SecretFault>) {
     assert_eq!(rt; password_of(file), expected);
 }

@@ -1,4 +1,4 @@
--- The table of faults: the number and the text of each, and the fault that a smaller type names.
+-- The table of faults: the number and the text of each, and the fault for each text fault.
 use Rattle.std.specs.Prelude.{ℕ, List, codes}
 use Rattle.vault_fault.specs.declared.fault.Fault.{Fault}
 use Rattle.vault_fault.specs.declared.fault.Fault.TheVariants.{TooLong, NotVault, HeaderTooLong}
@@ -56,7 +56,7 @@ number_of Memory = 32
 number_of SaltChoice = 33
 number_of BadSalt = 34
 
--- what the fault's line says after `ERROR! `
+-- the text that follows `ERROR! ` on the fault's line
 abbrev pub text_of : Fault → List ℕ
 text_of TooLong = codes "input is longer than the limit"
 text_of NotVault = codes "input is not vault encrypted data"
@@ -97,7 +97,7 @@ text_of Memory = codes "out of memory"
 text_of SaltChoice = codes "--salt and --salt-file exclude each other"
 text_of BadSalt = codes "a salt text must have 1 to 64 bytes"
 
--- the fault of the name that a text fault has
+-- the fault with the same name as a text fault
 abbrev pub of_text : TextFault → Fault
 of_text text.TooLong = TooLong
 of_text text.NotVault = NotVault

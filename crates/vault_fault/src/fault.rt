@@ -26,52 +26,52 @@ pub enum Role {
 #[derive(Clone, Copy, Debug, PartialEq, Eq, Error)]
 #[error("{}", self.text())]
 pub enum Fault {
-    /// The input is longer than its command takes.
+    /// The input is longer than the command accepts.
     TooLong,
     /// The input does not begin with `$ANSIBLE_VAULT`.
     NotVault,
     /// The header line is longer than the limit.
     HeaderTooLong,
-    /// The header line is not ASCII, has fewer than three fields, or its fourth is no label.
+    /// The header line is not ASCII, has fewer than three fields, or its fourth is not a label.
     BadHeader,
     /// The version in the header line is neither 1.1 nor 1.2.
     BadVersion,
     /// The cipher in the header line is not AES256.
     BadCipher,
-    /// The body has a byte that is no digit, or an odd number of digits.
+    /// The body has a byte that is not a digit, or an odd number of digits.
     BadHex,
-    /// The inner text lacks a part, or has one that is not hexadecimal, a salt that is longer
-    /// than the limit, or a tag of other than 32 bytes.
+    /// A part of the inner text is missing or not hexadecimal, the salt is longer than the
+    /// limit, or the tag is not 32 bytes long.
     BadPayload,
-    /// The ciphertext is longer than that of the longest plaintext.
+    /// The ciphertext is longer than the ciphertext of the longest plaintext.
     CipherTooLong,
     /// A password file is longer than the limit.
     SecretTooLong,
     /// A password file begins with `#!`.
     SecretIsScript,
-    /// A password file begins as a vault does.
+    /// A password file begins like a vault.
     SecretIsVault,
-    /// A password file has nothing but whitespace.
+    /// A password file contains nothing but whitespace.
     SecretEmpty,
-    /// There are more secrets than the limit, without the new one of `rekey`.
+    /// There are more secrets than the limit, not counting the new one of `rekey`.
     TooManySecrets,
     /// There is no secret to encrypt with.
     NoEncryptSecret,
     /// There are several secrets to encrypt with, and no label was chosen.
     ManyEncryptSecrets,
-    /// No secret has the label that was chosen to encrypt with.
+    /// No secret has the label that was chosen for encryption.
     UnknownEncryptId,
     /// A block was asked for, and there is nothing to encrypt.
     EmptyString,
-    /// The plaintext begins as a vault does.
+    /// The plaintext begins like a vault.
     AlreadyVault,
-    /// The tag matches none of the secrets that are tried.
+    /// None of the secrets that were tried matches the tag.
     NoSecretFits,
-    /// The tag matches a secret under which the plaintext has no padding.
+    /// A secret matches the tag, but the padding under it is invalid.
     BadPadding,
-    /// A label is empty, longer than the limit, or has a character that it may not have there.
+    /// A label is empty, is longer than the limit, or has a character that is not allowed there.
     BadLabel,
-    /// The name of a variable holds a control byte.
+    /// The name of a variable contains a control byte.
     BadName,
     /// `--name` was given without a STRING, or `--stdin-name` with one.
     NameMismatch,
@@ -79,11 +79,11 @@ pub enum Fault {
     PromptSource,
     /// `rekey` was given no new secret, or two.
     NeedNewSecret,
-    /// A FILE was given, and no `--output`.
+    /// A FILE was given without `--output`.
     OutputNeeded,
-    /// A file, or standard input, failed while it was read.
+    /// Reading a file or standard input failed.
     Read(Role),
-    /// The output could not be begun, written or flushed.
+    /// The output could not be opened, written or flushed.
     Write,
     /// The salt has fewer than 32 bytes.
     SaltShort,
@@ -140,7 +140,7 @@ impl Fault {
         }
     }
 
-    /// What the fault's line says after `ERROR! `.
+    /// The text that follows `ERROR! ` on the fault's line.
     pub fn text(self) -> &'static str
         ensures text { result.now ≡ text_of self }
         ensures limit { length result.now ≤ FAULT_TEXT_LIMIT }
@@ -215,7 +215,7 @@ impl From<BadLabel> for Fault {
     }
 }
 
-/// The source is the input of the run.
+/// The source is the run's input.
 impl From<SourceFailed> for Fault {
     ghost from_gives = { λ _ of. of ≡ Read Input };
 

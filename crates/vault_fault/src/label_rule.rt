@@ -1,10 +1,10 @@
 //! What the label of an envelope means.
 
-/// What the label of an envelope says of the secrets that it is tried with.
+/// What the label of an envelope says about the secrets to try.
 #[derive(Clone, Copy, Debug, PartialEq, Eq)]
 pub enum LabelRule {
-    /// Secrets of that label come first, and the others after them.
+    /// Secrets with that label are tried first, then the others.
     Hint,
-    /// No other secrets are tried.
+    /// Only secrets with that label are tried.
     Required,
 }

@@ -1,8 +1,8 @@
-//! A law of the limits, the contract of a function that does nothing.
+//! A law of the limits, stated as the contract of a function that does nothing.
 ghost use Rattle.std.specs.Prelude.{◌≡◌};
 ghost use Rattle.vault_fault.specs.declared.limits.TheConstants.{SECRET_COUNT_LIMIT};
 
-/// How many secrets a list holds.
+/// The most secrets that a list may have.
 pub fn limits()
     ensures secrets { SECRET_COUNT_LIMIT ≡ 16 }
 {}

@@ -1,5 +1,5 @@
-//! What requests and vaults both speak of: the table of faults, the rule for labels, and how many
-//! secrets a list holds.
+//! Definitions that requests and vaults share: the table of faults, the rule for labels, and the
+//! most secrets that a list may have.
 //!
 //! ```rust
 //! assert_eq!(rt; Fault::NoSecretFits.number(), 20);

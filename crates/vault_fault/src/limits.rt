@@ -1,6 +1,6 @@
-//! How many secrets are taken, and how long the text of a fault is.
+//! Limits on the number of secrets, and on the length of a fault's text.
 
-/// The most secrets of a list, without the new one of `rekey`.
+/// The most secrets that a list may have, not counting the new one of `rekey`.
 pub const SECRET_COUNT_LIMIT: usize = 16;
 
 /// The length of the longest text of a fault, in bytes.

@@ -1,11 +1,11 @@
--- Files as a program finds them.
+-- Files, as a program finds them.
 use Rattle.std.specs.Prelude.{◌≡◌, ℕ, nat_lt, if◌then◌else◌, List, [], ◌∷◌, length, take}
 use Rattle.std.specs.Prelude.{Result, Ok, Err}
 use Rattle.vault_files.specs.declared.fault.FileFault.{FileFault}
 use Rattle.vault_files.specs.declared.fault.FileFault.TheVariants.{CannotOpen, CannotRead}
 
--- what is found at a path: no file that can be opened; one of these bytes; or one that cannot be
--- read on after these
+-- what is found at a path: no file that can be opened; a file with these bytes; or a file that
+-- cannot be read past these bytes
 pub data FileState : Type 0 where
   Missing : FileState
   Whole : List ℕ → FileState
@@ -18,7 +18,7 @@ prefix limit (Whole bytes) = Ok (take limit bytes)
 prefix limit (Broken bytes) =
     if nat_lt (length bytes) limit then Err CannotRead else Ok (take limit bytes)
 
--- reading a prefix of a file that may be found gives this
+-- reading a prefix of a file that may be found gives this answer
 pub record Answers (finds : FileState → Type 0) (limit : ℕ)
     (answer : Result (List ℕ) FileFault) : Type 0 where
   pub file : FileState

@@ -1,4 +1,4 @@
--- Files of which nothing is known.
+-- Files about which nothing is known.
 use Rattle.std.specs.Prelude.{◌≡◌, ℕ, ◌<◌, ◌≤◌, nat_lt, List, length, Ok, Err, true, refl}
 use Rattle.std.proofs.Common.{ap, rules, tests}
 use Rattle.std.proofs.lemmas.List.{take_all}
@@ -6,7 +6,7 @@ use Rattle.vault_files.specs.File.{Answers}
 use Rattle.vault_files.specs.File.FileState.{Whole, Broken}
 use Rattle.vault_files.specs.declared.fault.FileFault.TheVariants.{CannotRead}
 
--- what was read is a prefix of some file
+-- the bytes read are a prefix of some file
 pub any-prefix : (xs : List ℕ) (n : ℕ) → length xs ≤ n → Answers (λ file. Unit {0}) n (Ok xs)
 any-prefix xs n fits = record { file = Whole xs; found = tt; same = ap Ok (take_all n xs fits) }
 

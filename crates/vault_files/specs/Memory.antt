@@ -24,18 +24,18 @@ file_at (entry ∷ entries) path =
     if bytes_eq entry.path path then entry.file else file_at entries path
 
 -- a reader of a file: the bytes left, whether the file breaks after them, whether its end was
--- reported, and how many of its reads failed
+-- reported, and how many reads failed
 pub record ReaderState : Type 0 where
   pub left : List ℕ
   pub breaks : Bool
   pub ended : Bool
   pub failures : ℕ
 
--- a reader that was not read yet
+-- a reader that has not been read yet
 abbrev pub new_reader : List ℕ → Bool → ReaderState
 new_reader bytes breaks = record { left = bytes; breaks = breaks; ended = false; failures = 0 }
 
--- a reader that is at the start of a file
+-- a reader at the start of a file
 abbrev pub IsReaderOf : FileState → ReaderState → Type 0
 IsReaderOf Missing reader = ⊥
 IsReaderOf (Whole bytes) reader = reader ≡ new_reader bytes false
@@ -58,20 +58,20 @@ pub record Reads (old : ReaderState) (given : List ℕ) (new : ReaderState) : Ty
   pub break_is_real : old.failures < new.failures → IsAtBreak new
   pub failures_monotone : old.failures ≤ new.failures
 
--- a file that was created, and whether it was synced since it was written
+-- a file that was created, and whether it was synced since it was last written
 pub record Created : Type 0 where
   pub path : List ℕ
   pub bytes : List ℕ
   pub synced : Bool
 
--- files in memory, the one that was created last, and the log of the paths that were opened, if one
--- is kept and has room for all
+-- files in memory, the one that was created last, and the log of the paths that were opened, if a
+-- log is kept and has room for all of them
 pub record StoreState : Type 0 where
   pub entries : List Entry
   pub created : Option Created
   pub log : Option LogState
 
--- files without a log, of which none was created
+-- files without a log, none of them created
 abbrev pub new_store : List Entry → StoreState
 new_store entries = record { entries = entries; created = None; log = None }
 
@@ -79,12 +79,12 @@ new_store entries = record { entries = entries; created = None; log = None }
 abbrev pub with_file : (Created → Created) → StoreState → StoreState
 with_file change s = record s { created = option_map change s.created }
 
--- the store once a file was created, which is empty
+-- the store after an empty file was created
 abbrev pub with_created : List ℕ → StoreState → StoreState
 with_created path s =
     record s { created = Some (record { path = path; bytes = []; synced = false }) }
 
--- once that was cut to no byte, took bytes, and was synced
+-- that file after it was truncated to zero bytes, took bytes, or was synced
 abbrev pub emptied : Created → Created
 emptied file = record file { bytes = []; synced = false }
 
@@ -99,7 +99,7 @@ abbrev pub HasFailed : List SystemCall → Type 0
 HasFailed (Failed ∷ calls) = Unit {0}
 HasFailed _ = ⊥
 
--- between two states the files were asked for these calls, in this order. A file whose path is too
+-- between two states these calls were made on the files, in this order. A file whose path is too
 -- long was not created
 abbrev pub StoreExecutes : StoreState → List SystemCall → StoreState → Type 0
 StoreExecutes s [] t = t ≡ s
@@ -115,7 +115,7 @@ StoreExecutes s (Write bytes ∷ calls) t =
 StoreExecutes s (Sync ∷ calls) t = StoreExecutes (with_file with_sync s) calls t
 StoreExecutes s (Failed ∷ calls) t = StoreExecutes s calls t
 
--- what is at a path: the file that was created there, else the one that was there before
+-- what is at a path: the file that was created there, or else the one that was there before
 abbrev pub stands_over : Option Created → FileState → List ℕ → FileState
 stands_over None before path = before
 stands_over (Some file) before path = if bytes_eq file.path path then Whole file.bytes else before

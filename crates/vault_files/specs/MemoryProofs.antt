@@ -1,4 +1,4 @@
--- Files in memory: what their readers give, and what they are asked for.
+-- Files in memory: what their readers give, and which calls are made on them.
 use Rattle.std.specs.Prelude.{◌≡◌, ℕ, ◌<◌, ◌≤◌, nat_lt, ◌⊎◌, List, [], ◌∷◌, ◌++◌, length, take}
 use Rattle.std.specs.Prelude.{Bool, true, false, IsTrue, refl, Ok, Err}
 use Rattle.std.proofs.Common.{inl, inr, arith, sym, ap, ◌∙◌, append_assoc, length-append}
@@ -35,7 +35,7 @@ break-stays t u ys q at =
     let none : length (ys ++ u.left) ≡ 0 = ap length (sym q.consumed ∙ at.0) in
     (nil_from_length u.left (omega (arith, none, length-append ys u.left)), q.breaks ∙ at.1)
 
--- what was given first and what was given then are given one after the other
+-- the bytes given first and the bytes given next are given one after the other
 pub Reads-more : (s t u : ReaderState) (xs ys : List ℕ)
     → Reads s xs t → Reads t ys u → Reads s (xs ++ ys) u
 Reads-more s t u xs ys p q = record {
@@ -54,7 +54,7 @@ Reads-more s t u xs ys p q = record {
   failures_monotone = let a = p.failures_monotone in let b = q.failures_monotone in omega arith;
 }
 
--- the first bytes of a file that begins with those that were given
+-- the first bytes of a file that begins with the given bytes
 pub take-given : (bytes xs rest : List ℕ) (n : ℕ) → bytes ≡ xs ++ rest → length xs ≤ n
     → (rest ≡ []) ⊎ (length xs ≡ n) → take n bytes ≡ xs
 take-given bytes xs rest n e fits (inl none) =
@@ -68,7 +68,7 @@ IsAtEnd-ended : (bytes xs : List ℕ) (breaks : Bool) (r t : ReaderState)
 IsAtEnd-ended bytes xs breaks r t e g =
     g.end_is_real (λ ended. let never : IsTrue false = rw e at ended in absurd (false≢true never))
 
--- what a reader gave to its end, or up to a limit, is a prefix of its file
+-- the bytes that a reader gave to its end, or up to a limit, are a prefix of its file
 pub prefix-given : (file : FileState) (r t : ReaderState) (xs : List ℕ) (n : ℕ)
     → IsReaderOf file r → Reads r xs t → length xs ≤ n
     → IsTrue t.ended ⊎ (length xs ≡ n) → prefix n file ≡ Ok xs
@@ -107,7 +107,7 @@ break-given (Broken bytes) r t xs n e g short risen =
     let test : nat_lt (length bytes) n ≡ true = search (rules, tests, count) in
     rw test refl
 
--- a call that failed first still did with others after it
+-- calls that begin with a failure still do when others follow
 HasFailed-more : (xs ys : List SystemCall) → HasFailed xs → HasFailed (xs ++ ys)
 HasFailed-more [] ys h = absurd h
 HasFailed-more (Failed ∷ xs) ys h = tt
@@ -138,7 +138,7 @@ pub StoreExecutes-more : (s t u : StoreState) (xs ys : List SystemCall)
     → StoreExecutes s xs t → StoreExecutes t ys u → StoreExecutes s (xs ++ ys) u
 StoreExecutes-more s t u xs ys p q = executes-append xs ys t u s p q
 
--- opens change the log alone
+-- opens change only the log
 pub opens-logged : (s t : StoreState) (paths : List (List ℕ)) (calls : List SystemCall)
     → OpenCalls paths calls → StoreExecutes s calls t
     → t ≡ record s { log = logged s.log paths }
@@ -148,7 +148,7 @@ opens-logged s t _ _ (opens path paths calls rest) p =
 opens-logged s t _ _ (fails_to_open path paths calls rest) p =
     opens-logged (record s { log = logged s.log (path ∷ []) }) t paths calls rest p
 
--- so they leave the files
+-- so they do not change the files
 pub opens-entries : (s t : StoreState) (paths : List (List ℕ)) (calls : List SystemCall)
     → OpenCalls paths calls → StoreExecutes s calls t → t.entries ≡ s.entries
 opens-entries s t paths calls opened p =

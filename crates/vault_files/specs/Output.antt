@@ -1,4 +1,4 @@
--- An output of a program over any system, and the system calls that it takes.
+-- An output of a program over any system, and the system calls that it makes.
 use Rattle.std.specs.Prelude.{◌≡◌, ℕ, ◌+◌, List, [], ◌∷◌, ◌++◌}
 use Rattle.vault_text.specs.declared.sink.Stage.{Stage}
 use Rattle.vault_text.specs.declared.sink.Stage.TheVariants as stage
@@ -11,7 +11,7 @@ use Rattle.vault_files.specs.declared.access.Access.TheVariants.{Kept, OwnerOnly
 use Rattle.vault_files.specs.declared.output.State as rust
 use Rattle.vault_files.specs.declared.output.State.TheVariants as variant
 
--- how far the output has come
+-- the state of the output
 pub data OutputState : Type 0 where
   -- its path and its permissions
   Chosen : List ℕ → Access → OutputState
@@ -24,7 +24,7 @@ stage_of (Chosen path access) = stage.Unbegun
 stage_of Begun = stage.Begun
 stage_of Finished = stage.Finished
 
--- what a contract sees of the output that the code holds
+-- the output in the code, as a contract sees it
 abbrev pub output_of : {Writer : Type 0} → List ℕ → Access → rust.State Writer → OutputState
 output_of path access variant.Chosen = Chosen path access
 output_of path access (variant.Open file) = Begun
@@ -36,12 +36,12 @@ pub record FileOutputState (System : Type 0) : Type 0 where
   pub output : OutputState
   pub failures : ℕ
 
--- what restricts an output that is open
+-- the calls that restrict an open output
 abbrev pub restricting : Access → List SystemCall
 restricting Kept = []
 restricting OwnerOnly = ChmodOwnerOnly ∷ []
 
--- what begins an output, before its first byte: a file that was there is truncated last
+-- the calls that begin an output, before its first byte: an existing file is truncated last
 abbrev pub beginning : List ℕ → Access → List SystemCall
 beginning path access = Create path ∷ restricting access ++ Truncate ∷ []
 
@@ -52,8 +52,8 @@ pub data FailsToBegin (path : List ℕ) (access : Access) : List SystemCall → 
   to_truncate :
       FailsToBegin path access (Create path ∷ restricting access ++ Truncate ∷ Failed ∷ [])
 
--- one use of an output, which brings it from one state to another: the calls of the system that it
--- makes, the bytes that it takes, and 1 if it fails
+-- one use of an output, which brings it from one state to another: the system calls that it makes,
+-- the bytes that it takes, and 1 if it fails
 pub data OutputStep : OutputState → List SystemCall → List ℕ → ℕ → OutputState → Type 0 where
   begins : (path : List ℕ) (access : Access)
       → OutputStep (Chosen path access) (beginning path access) [] 0 Begun
@@ -66,15 +66,15 @@ pub data OutputStep : OutputState → List SystemCall → List ℕ → ℕ → O
   writes_nothing : OutputStep Begun (Write [] ∷ []) [] 1 Begun
   fails_to_finish : OutputStep Begun (Sync ∷ Failed ∷ []) [] 1 Begun
 
--- the same of any number of uses, one after the other, of which so many failed
+-- the same for any number of uses, one after the other, and how many of them failed
 pub data OutputCalls : OutputState → List SystemCall → List ℕ → ℕ → OutputState → Type 0 where
   no_steps : (s : OutputState) → OutputCalls s [] [] 0 s
   steps : (s t u : OutputState) (calls more : List SystemCall) (xs ys : List ℕ) (m n : ℕ)
       → OutputStep s calls xs m t → OutputCalls t more ys n u
       → OutputCalls s (calls ++ more) (xs ++ ys) (m + n) u
 
--- between two states an output took these bytes: its system was asked for nothing else, and each
--- call that failed counts
+-- between two states an output took these bytes: it made no other system calls, and each failed
+-- call counts
 pub record FileTakes {System : Type 0} (executes : System → List SystemCall → System → Type 0)
     (old : FileOutputState System) (bytes : List ℕ) (new : FileOutputState System) : Type 0 where
   pub calls : List SystemCall

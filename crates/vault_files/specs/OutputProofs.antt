@@ -1,11 +1,11 @@
--- What a system was asked for in two calls, one after the other.
+-- The system calls of two calls, one after the other.
 use Rattle.std.specs.Prelude.{ℕ, ◌+◌, List, [], ◌++◌, refl}
 use Rattle.std.proofs.Common.{◌∙◌, arith, zero-add, add_assoc, append_assoc}
 use Rattle.vault_files.specs.System.{SystemCall}
 use Rattle.vault_files.specs.Output.{FileOutputState, FileTakes, OutputCalls, OutputState}
 use Rattle.vault_files.specs.Output.OutputCalls.{no_steps, steps}
 
--- an output's calls, and its calls after them
+-- an output's calls, followed by more of its calls
 OutputCalls-more : (s t u : OutputState) (calls more : List SystemCall) (xs ys : List ℕ) (m n : ℕ)
     → OutputCalls s calls xs m t → OutputCalls t more ys n u
     → OutputCalls s (calls ++ more) (xs ++ ys) (m + n) u

@@ -1,4 +1,4 @@
--- The calls of the system that files ask for.
+-- The system calls that files make.
 use Rattle.std.specs.Prelude.{ℕ, List, [], ◌∷◌, Result, Ok, Err}
 
 pub data SystemCall : Type 0 where
@@ -8,16 +8,16 @@ pub data SystemCall : Type 0 where
   Create : List ℕ → SystemCall
   -- only its owner may read and write that file from now on, if it is a regular one
   ChmodOwnerOnly : SystemCall
-  -- it is cut to no byte, if it is a regular one
+  -- it is truncated to zero bytes, if it is a regular one
   Truncate : SystemCall
   -- it takes these bytes
   Write : List ℕ → SystemCall
-  -- what it took is brought to its device
+  -- the bytes it took are synced to its device
   Sync : SystemCall
   -- the call before this one failed
   Failed : SystemCall
 
--- what comes after a call that returned this
+-- what follows a call with this result
 abbrev pub if_failed : {T E : Type 0} → Result T E → List SystemCall
 if_failed (Ok value) = []
 if_failed (Err error) = Failed ∷ []
@@ -30,7 +30,7 @@ pub data OpenCalls : List (List ℕ) → List SystemCall → Type 0 where
   fails_to_open : (path : List ℕ) (paths : List (List ℕ)) (calls : List SystemCall)
       → OpenCalls paths calls → OpenCalls (path ∷ paths) (Open path ∷ Failed ∷ calls)
 
--- between two states a system was asked to open these paths, in this order, and for nothing else
+-- between two states a system was asked to open these paths, in this order, and nothing else
 pub record Opens {System : Type 0} (executes : System → List SystemCall → System → Type 0)
     (old : System) (paths : List (List ℕ)) (new : System) : Type 0 where
   pub calls : List SystemCall

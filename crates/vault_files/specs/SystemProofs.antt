@@ -4,7 +4,7 @@ use Rattle.vault_files.specs.File.{FileState}
 use Rattle.vault_files.specs.System.{OpenCalls, Opens, SystemCall}
 use Rattle.vault_files.specs.System.OpenCalls.{no_opens, opens, fails_to_open}
 
--- opens, and opens after them
+-- opens, followed by more opens
 OpenCalls-more : (ps qs : List (List ℕ)) (xs ys : List SystemCall)
     → OpenCalls ps xs → OpenCalls qs ys → OpenCalls (ps ++ qs) (xs ++ ys)
 OpenCalls-more _ qs _ ys no_opens q = q
@@ -27,7 +27,7 @@ module _ {System : Type 0} (executes : System → List SystemCall → System →
     are_opens = OpenCalls-more xs ys p.calls q.calls p.are_opens q.are_opens;
   }
 
-  -- what may be found after opens could be found before them
+  -- whatever may be found after opens could be found before them
   pub Opens-finds : (finds : System → List ℕ → FileState → Type 0)
       → ((s t : System) (paths : List (List ℕ)) (calls : List SystemCall) (path : List ℕ)
       (file : FileState) → OpenCalls paths calls → executes s calls t → finds t path file

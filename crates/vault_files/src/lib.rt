@@ -1,4 +1,4 @@
-//! Where a program finds its files: over the runtime, or in memory.
+//! The files of a program: over the runtime, or in memory.
 //!
 //! ```rust
 //! let entries = [MemFile::whole("one", b"first\n")];

@@ -1,4 +1,4 @@
-//! The output of a program, in a file of a system.
+//! The output of a program, into a file of a system.
 ghost use Rattle.std.specs.Prelude.{◌≡◌, ◌++◌, List, MatchResult};
 ghost use Rattle.vault_files.specs.System.{SystemCall, if_failed};
 ghost use Rattle.vault_files.specs.Output.{FailsToBegin, beginning, restricting};
@@ -10,7 +10,7 @@ use std::io;
 use std::marker::Model;
 use vault_text::{FailureCount, Sink, SinkFailed};
 
-/// How far the output has come.
+/// The state of the output.
 #[derive(Drop)]
 pub enum State<W> {
     Chosen,
@@ -19,8 +19,8 @@ pub enum State<W> {
 }
 
 /// An output at a path of a system. `begin` opens it, restricts it to its owner under
-/// `Access::OwnerOnly`, and only then truncates it. If one of these fails, so does `begin`, and a
-/// file that was there keeps its bytes. `finish` syncs the output and closes it.
+/// `Access::OwnerOnly`, and only then truncates it. If one of these fails, so does `begin`, and an
+/// existing file keeps its bytes. `finish` syncs the output and closes it.
 #[derive(Drop)]
 pub struct FileOutput<'a, D: System> {
     system: &'a mut D,
@@ -59,7 +59,7 @@ impl<'a, D: System> FileOutput<'a, D> {
         }
     }
 
-    /// The system, with what the output has left there.
+    /// The system, with the output as it was left.
     pub fn into_system(self) -> &'a mut D
         ensures same_reference { result.ghost_name ≡ self.entry.system.ghost_name }
         ensures system { result.now ≡ self.entry.system.now }
@@ -80,7 +80,7 @@ fn restrict<D: System>(system: &mut D, file: &D::Writer, access: Access) -> io::
     }
 }
 
-/// Opens the file that is to be written, and empties it.
+/// Opens the file to write, and empties it.
 fn open_output<D: System>(system: &mut D, path: &str, access: Access) -> io::Result<D::Writer>
     ensures { MatchResult result
         (λ file. D.executes system.old (beginning path.now access) system.new)

@@ -1,4 +1,4 @@
-//! The calls of the system that files make.
+//! The system calls that files make.
 ghost use Rattle.std.specs.Prelude.{◌≡◌, ℕ, ◌<◌, ◌≤◌, ◌⊎◌, List, [], ◌∷◌, ◌++◌, length, take};
 ghost use Rattle.std.specs.Prelude.{IsTrue, Ok, Err, IfOk, IfErr};
 ghost use Rattle.vault_text.specs.Failures.{HasRisen};
@@ -16,14 +16,14 @@ use crate::fault::FileFault;
 use std::io;
 use vault_text::{Source, fill_up};
 
-/// All that files ask of the system. Each method makes one system call, but `chmod_owner_only` and
-/// `truncate` first ask whether the file is a regular one.
+/// Everything that files need from the system. Each method makes one system call, but
+/// `chmod_owner_only` and `truncate` first check whether the file is a regular one.
 pub trait System {
     type Reader: Source + Drop;
 
     type Writer: Drop;
 
-    // Between two states it was asked for these calls, in this order.
+    // Between two states these calls were made, in this order.
     ghost executes: { Self → List SystemCall → Self → Type 0 };
 
     // What may be found at a path.
@@ -38,7 +38,7 @@ pub trait System {
         ensures reader { IfOk result (λ reader. reader_at self.old path.now reader) }
         ensures missing { IfErr result (λ _. finds self.old path.now Missing) };
 
-    /// Opens a file for writing, as it is; if there is none, it is created for its owner only, less
+    /// Opens a file for writing, as it is. If there is none, it is created for its owner only, less
     /// the umask.
     fn create(&mut self, path: &str) -> io::Result<Self::Writer>
         ensures { executes self.old (Create path.now ∷ if_failed result) self.new };
@@ -47,7 +47,7 @@ pub trait System {
     fn chmod_owner_only(&mut self, file: &Self::Writer) -> io::Result<()>
         ensures { executes self.old (ChmodOwnerOnly ∷ if_failed result) self.new };
 
-    /// Cuts a regular file to no byte.
+    /// Truncates a regular file to zero bytes.
     fn truncate(&mut self, file: &Self::Writer) -> io::Result<()>
         ensures { executes self.old (Truncate ∷ if_failed result) self.new };
 
@@ -57,7 +57,7 @@ pub trait System {
             self.new }
         ensures bound { IfOk result (λ n. n ≤ length bytes.now) };
 
-    /// Brings what was written to the file's device, if that can be synced.
+    /// Syncs the bytes written to the file's device, if the device can be synced.
     fn sync(&mut self, file: &Self::Writer) -> io::Result<()>
         ensures { executes self.old (Sync ∷ if_failed result) self.new };
 
@@ -69,31 +69,31 @@ pub trait System {
     // Something may be found at each path.
     ghost finds_some: { (s : Self) (path : List ℕ) → (file : FileState) × finds s path file };
 
-    // What may be found after opens could be found before them.
+    // Whatever may be found after opens could be found before them.
     ghost opens_finds: { (s t : Self) (paths : List (List ℕ)) (calls : List SystemCall)
         (path : List ℕ) (file : FileState)
         → OpenCalls paths calls → executes s calls t → finds t path file → finds s path file };
 
-    // A reader that opening gives after them it could give before.
+    // Any reader that opening may give after opens, it could give before them.
     ghost opens_reader: { (s t : Self) (paths : List (List ℕ)) (calls : List SystemCall)
         (path : List ℕ) (r : Self.Reader)
         → OpenCalls paths calls → executes s calls t → reader_at t path r → reader_at s path r };
 
-    // What a reader gave to its end, or up to a limit, without a failure, is a prefix of a file
-    // that may be found.
+    // The bytes that a reader gave to its end, or up to a limit, without a failure, are a prefix of
+    // a file that may be found.
     ghost prefix_found: { (s : Self) (path : List ℕ) (r t : Self.Reader) (xs : List ℕ) (n : ℕ)
         → reader_at s path r → Self.Reader.gives r xs t → length xs ≤ n
         → IsTrue (Self.Reader.ended t) ⊎ (length xs ≡ n)
         → Self.Reader.failures t ≡ Self.Reader.failures r → Answers (finds s path) n (Ok xs) };
 
-    // If it failed before that, such a file breaks there.
+    // If the reader failed before that, such a file breaks there.
     ghost break_found: { (s : Self) (path : List ℕ) (r t : Self.Reader) (xs : List ℕ) (n : ℕ)
         → reader_at s path r → Self.Reader.gives r xs t → length xs < n
         → HasRisen (Self.Reader.failures r) (Self.Reader.failures t)
         → Answers (finds s path) n (Err CannotRead) };
 }
 
-/// Opens a file for reading. If that fails, for whatever reason, it returns `CannotOpen`.
+/// Opens a file for reading. Returns `CannotOpen` if that fails, for whatever reason.
 pub fn open<D: System>(system: &mut D, path: &str) -> Result<D::Reader, FileFault>
     ensures opens { Opens D.executes system.old (path.now ∷ []) system.new }
     ensures reader { IfOk result (λ reader. D.reader_at system.old path.now reader) }
@@ -103,8 +103,8 @@ pub fn open<D: System>(system: &mut D, path: &str) -> Result<D::Reader, FileFaul
     system.open(path).map_err(|_| FileFault::CannotOpen)
 }
 
-/// Reads a prefix of a file into the start of `buf` and returns its length: less than that of `buf`
-/// only if the file has no more bytes. After an error the contents of `buf` are unspecified.
+/// Reads a prefix of a file into the start of `buf` and returns its length. It is shorter than
+/// `buf` only if the file has no more bytes. After an error the contents of `buf` are unspecified.
 pub fn read_prefix<D: System>(
     system: &mut D,
     path: &str,

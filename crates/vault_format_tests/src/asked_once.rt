@@ -7,8 +7,8 @@ use std::process::Abort;
 use std::test::Fail;
 use vault_text::{ReadSource, Sink, SinkFailed, Source, SourceFailed, WriteSink, fill_up, put_all};
 
-/// A reader of the byte `x` and a writer, of one byte a call: one of its calls is interrupted, or
-/// takes nothing, and each other one succeeds. It counts its calls.
+/// A reader of the byte `x` and a writer, of one byte per call. One of its calls is interrupted, or
+/// takes nothing, and every other call succeeds. It counts its calls.
 #[derive(Drop)]
 struct FailsOnce {
     failing_call: usize,
@@ -17,7 +17,7 @@ struct FailsOnce {
 }
 
 impl FailsOnce {
-    /// The call of this number, from 1, is interrupted.
+    /// The call with this number, from 1, is interrupted.
     fn interrupted(failing_call: usize) -> Self {
         FailsOnce {
             failing_call,
@@ -26,7 +26,7 @@ impl FailsOnce {
         }
     }
 
-    /// The call of this number, from 1, takes nothing.
+    /// The call with this number, from 1, takes nothing.
     fn stuck(failing_call: usize) -> Self {
         FailsOnce {
             failing_call,
@@ -68,7 +68,7 @@ impl Write for FailsOnce {
     }
 }
 
-/// What the calls of a source gave, and how often its reader was called for that.
+/// The results of a source's calls, and how often its reader was called for them.
 type Given<'a> = (&'a [Result<usize, SourceFailed>], usize);
 
 fn assert_given(rt: &impl Abort, given: Given<'_>, expected: Given<'_>) {
@@ -107,7 +107,7 @@ fn reading_stops_at_a_failure(rt: HostRuntime) {
     assert_given(&rt, (&[filled], reader.calls), (&[Err(SourceFailed)], 3));
 }
 
-/// Each call of a sink is one call of this writer, whose second call fails.
+/// Asserts that each call of a sink is one call of this writer, whose second call fails.
 fn assert_asked_once_a_call(rt: &impl Abort, writer: FailsOnce) -> Result<(), SinkFailed> {
     let mut sink = WriteSink::new(writer);
     sink.begin()?;
@@ -125,7 +125,7 @@ fn a_sink_asks_its_writer_once_a_call(rt: HostRuntime) -> Result<(), Fail> {
     Ok(())
 }
 
-/// This writer, whose first call fails, is not called again.
+/// Asserts that this writer, whose first call fails, is not called again.
 fn assert_asked_no_more(rt: &impl Abort, writer: FailsOnce) -> Result<(), SinkFailed> {
     let mut sink = WriteSink::new(writer);
     sink.begin()?;

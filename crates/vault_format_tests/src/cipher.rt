@@ -1,5 +1,5 @@
-//! Key schedule, counter mode and padding of the standards, and the cipher beside one that computes
-//! over the field.
+//! The key schedule, counter mode and padding of the standards, and the cipher compared with one
+//! that computes over the field.
 use crate::field_cipher::FieldCipher;
 use crate::vectors::{ZERO_KEY, counting_key};
 use std::process::Abort;
@@ -64,7 +64,7 @@ fn joined(blocks: [u128; 4]) -> [u8; 64] {
     bytes
 }
 
-/// After the counter 2^128 - 1 come 0 and 1.
+/// The counters 0 and 1 follow 2^128 - 1.
 #[test]
 fn counter_wraps_around(rt: HostRuntime) {
     let mut bytes = [0; 48];

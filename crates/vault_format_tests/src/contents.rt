@@ -1,4 +1,4 @@
-//! What an envelope holds, in a form that is compared and shown as a whole.
+//! The contents of an envelope, in a form that can be compared and shown as a whole.
 use std::process::Abort;
 use vault_text::Payload;
 
@@ -22,7 +22,7 @@ impl<'a> Contents<'a> {
     }
 }
 
-/// These bytes are the ones expected.
+/// Asserts that these bytes are as expected.
 pub fn assert_bytes(rt: &impl Abort, bytes: &[u8], expected: &[u8]) {
     assert_eq!(rt; bytes, expected);
 }

@@ -1,9 +1,9 @@
-//! A source that fails after this many calls.
+//! A source that fails after a number of calls.
 use std::process::Abort;
 use vault_text::{FailingSource, Source, SourceFailed, fill_up};
 
-/// A source of two bytes a call, which fails after `calls` calls, fills a buffer with these bytes.
-/// Filling it up has this answer, and the call after that fails.
+/// Asserts that a source of two bytes per call, which fails after `calls` calls, fills a buffer
+/// with these bytes and this answer, and that the call after that fails.
 fn assert_fills(rt: &impl Abort, calls: usize, answer: Result<usize, SourceFailed>, taken: &str) {
     let mut buf = [0; 16];
     let mut source = FailingSource::new(b"abcdefg", 2, calls);

@@ -1,4 +1,4 @@
-//! AES-256 on bytes, with products and inverses over the field computed as it runs.
+//! AES-256 on bytes, which computes products and inverses over the field as it runs.
 
 #[derive(Drop)]
 pub struct FieldCipher {
@@ -52,7 +52,7 @@ fn last_word(round_key: &[u8; 16]) -> [u8; 4] {
     [round_key[12], round_key[13], round_key[14], round_key[15]]
 }
 
-/// The round key whose words come from those of two round keys before and the word `step`.
+/// The round key made from the round key two before it and the word `step`.
 fn next_round_key(before: &[u8; 16], step: [u8; 4]) -> [u8; 16] {
     let mut round_key = [0; 16];
     for i in 0..16 {
@@ -104,7 +104,7 @@ fn substitute(byte: u8) -> u8 {
     b ^ b.rotate_left(1) ^ b.rotate_left(2) ^ b.rotate_left(3) ^ b.rotate_left(4) ^ 0x63
 }
 
-/// The byte whose product with this one is 1; 0 for 0.
+/// The byte whose product with this one is 1, or 0 for 0.
 fn inverse(byte: u8) -> u8 {
     for candidate in 1..=255 {
         if product(byte, candidate) == 1 {

@@ -5,7 +5,7 @@ use std::process::Abort;
 use std::test::Fail;
 use vault_kdf::{Hmac, Keys, Meter, derive, hmac, pbkdf2};
 
-/// The message has this tag, taken whole and one byte at a time.
+/// Asserts that the message has this tag, given whole and one byte at a time.
 fn assert_tag(rt: &impl Abort, key: &[u8], message: &[u8], tag: [u8; 32]) {
     assert_eq!(rt; hmac(key, message), tag);
     let mut state = Hmac::new(key);
@@ -63,7 +63,7 @@ fn hmac_with_short_keys(rt: HostRuntime) {
     );
 }
 
-/// A key that fills a block, and one that is longer by a byte: computed by python3's `hmac`.
+/// A key that fills a block, and one that is a byte longer: computed by python3's `hmac`.
 #[test]
 fn hmac_with_keys_of_about_a_block(rt: HostRuntime) {
     assert_tag(
@@ -114,7 +114,7 @@ fn hmac_with_keys_longer_than_a_block(rt: HostRuntime) {
     );
 }
 
-/// The password and the salt give this key in this many rounds.
+/// Asserts that the password and the salt give this key in this many rounds.
 fn assert_key<const N: usize>(
     rt: &impl Abort,
     password: &[u8],
@@ -262,7 +262,7 @@ fn keys_of_a_vault(rt: HostRuntime) {
     assert_eq!(rt; meter.count(), 2);
 }
 
-/// The three keys are one output of PBKDF2, of 80 bytes, cut after 32 and after 64 of them.
+/// The three keys are one output of PBKDF2, of 80 bytes, cut after bytes 32 and 64.
 #[test]
 fn keys_are_cut_from_one_output(rt: HostRuntime) -> Result<(), Fail> {
     for (password, salt) in [(b"secret".as_slice(), b"salt".as_slice()), (b"", &[0; 32])] {

@@ -1,4 +1,4 @@
-//! Tests of what the format is made of: cipher, keys, devices and envelopes.
+//! Tests of the parts of the format: cipher, keys, devices and envelopes.
 #![tactic(auto)]
 
 #[cfg(test)]

@@ -3,8 +3,8 @@ use crate::contents::Contents;
 use crate::reading::{FILLED, HEADER, assert_read, text_of};
 use std::test::Fail;
 
-/// The body that Python's `hashlib` and `hmac` and the command `openssl` made of no plaintext,
-/// under the password `one` and a salt of 32 zero bytes.
+/// The body that Python's `hashlib` and `hmac` and the command `openssl` made from an empty
+/// plaintext, under the password `one` and a salt of 32 zero bytes.
 const SEALED: [&str; 5] = [
     "30303030303030303030303030303030303030303030303030303030303030303030303030303030",
     "3030303030303030303030303030303030303030303030300a646261356632616236383736383333",

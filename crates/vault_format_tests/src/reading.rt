@@ -1,4 +1,4 @@
-//! Envelopes in pieces, held against the whole-list reader and the answers wanted.
+//! Envelopes in pieces, compared with the whole-list reader and the expected answers.
 ghost use Rattle.std.specs.Prelude.{◌<◌, length};
 ghost use Rattle.vault_text.specs.Limits.{IsWorkLength};
 
@@ -12,10 +12,10 @@ use vault_text::{
     TextMemory,
 };
 
-/// The memory that most tests lend: room for 100 bytes of plaintext.
+/// The length of the memory that most tests lend: room for 100 bytes of plaintext.
 pub const WORK_LENGTH: usize = 100 + PADDING_LIMIT;
 
-/// The longest input that such memory reads: 6 times 100 and 8,192 bytes.
+/// The longest input that is read with such memory: 6 times 100 and 8,192 bytes.
 pub const INPUT_LIMIT: usize = 8_792;
 
 pub const HEADER: &str = "$ANSIBLE_VAULT;1.1;AES256";
@@ -60,13 +60,13 @@ pub fn text_of(
     Ok(text)
 }
 
-/// The reader of pieces gave this payload.
+/// Asserts that the reader of pieces gave this payload.
 fn assert_payload(rt: &impl Abort, payload: Payload<'_>, expected: Contents<'_>) {
     assert_eq!(rt; Contents::of(&payload), expected);
     assert_bytes(rt, payload.into_body(), expected.ciphertext);
 }
 
-/// The reader of pieces gave this answer.
+/// Asserts that the reader of pieces gave this answer.
 fn assert_same(
     rt: &impl Abort,
     reading: Result<Payload<'_>, TextFault>,
@@ -78,7 +78,7 @@ fn assert_same(
     }
 }
 
-/// Feeds the bytes of a source to its end.
+/// Feeds the bytes of a source to the reader, to the source's end.
 fn feed_from(reader: &mut EnvelopeReader<'_>, src: &mut MemSource<'_>) -> Result<(), SourceFailed> {
     let mut buf = [0; 4_096];
     for _ in 0..=INPUT_LIMIT {
@@ -91,7 +91,7 @@ fn feed_from(reader: &mut EnvelopeReader<'_>, src: &mut MemSource<'_>) -> Result
     Ok(())
 }
 
-/// Reads the input cut in two at every place, with an empty piece between.
+/// Reads the input cut in two at every place, with an empty piece in between.
 fn assert_cut_in_two(rt: &impl Abort, input: &[u8], expected: Result<Contents<'_>, TextFault>) {
     let mut work = [0; WORK_LENGTH];
     for cut in 0..=input.len() {
@@ -103,7 +103,7 @@ fn assert_cut_in_two(rt: &impl Abort, input: &[u8], expected: Result<Contents<'_
     }
 }
 
-/// Reads the input in single bytes, with empty pieces between.
+/// Reads the input in single bytes, with empty pieces in between.
 fn assert_byte_by_byte(rt: &impl Abort, input: &[u8], expected: Result<Contents<'_>, TextFault>) {
     let mut work = [0; WORK_LENGTH];
     let mut reader = EnvelopeReader::new(&mut work);
@@ -114,7 +114,7 @@ fn assert_byte_by_byte(rt: &impl Abort, input: &[u8], expected: Result<Contents<
     assert_same(rt, reader.finish(), expected);
 }
 
-/// Reads the input from a source of this step.
+/// Reads the input from a source with this step.
 fn assert_from_source(
     rt: &impl Abort,
     input: &[u8],
@@ -130,7 +130,7 @@ fn assert_from_source(
     Ok(())
 }
 
-/// The whole-list reader gives this answer.
+/// Asserts that the whole-list reader gives this answer.
 fn assert_whole(
     rt: &impl Abort,
     alloc: Global,
@@ -142,8 +142,8 @@ fn assert_whole(
     Ok(())
 }
 
-/// The whole-list reader gives this answer. So does the reader of pieces, where the input is cut
-/// in two at every place, comes in single bytes, and comes from sources of three steps.
+/// Asserts that the whole-list reader gives this answer, and so does the reader of pieces: cut in
+/// two at every place, in single bytes, and from sources with three steps.
 pub fn assert_read(
     rt: &impl Abort,
     alloc: Global,
@@ -159,7 +159,7 @@ pub fn assert_read(
     Ok(())
 }
 
-/// A header line of 257 bytes is too long.
+/// Asserts that a header line of 257 bytes is too long.
 fn assert_long_header(rt: &impl Abort, alloc: Global) -> Result<(), Fail> {
     let mut input = text_of(alloc, HEADER, &[], "")?;
     input.extend_from_slice(&[b';'; 232])?;
@@ -180,7 +180,7 @@ const FAULTS: [(&str, TextFault); 9] = [
     ("$ANSIBLE_VAULT;1.1;AES256\nabc", TextFault::BadHex),
 ];
 
-/// This is the first fault of the input.
+/// Asserts that this is the first fault of the input.
 fn assert_fault(rt: &impl Abort, alloc: Global, input: &str, fault: TextFault) -> Result<(), Fail> {
     assert_read(rt, alloc, input.as_bytes(), Err(fault))
 }
@@ -195,7 +195,7 @@ fn first_fault_of_the_header_line(rt: HostRuntime) -> Result<(), Fail> {
     Ok(())
 }
 
-/// The empty envelope is read, under this label.
+/// Asserts that the empty envelope is read, with this label.
 fn assert_empty(rt: &impl Abort, alloc: Global, input: &[u8], label: &str) -> Result<(), Fail> {
     let contents = Contents {
         label,
@@ -206,7 +206,7 @@ fn assert_empty(rt: &impl Abort, alloc: Global, input: &[u8], label: &str) -> Re
     assert_read(rt, alloc, input, Ok(contents))
 }
 
-/// The empty envelope is read with each digit of its body on a line of its own.
+/// Asserts that the empty envelope is read with each digit of its body on its own line.
 fn assert_single_digits(rt: &impl Abort, alloc: Global) -> Result<(), Fail> {
     let mut input = text_of(alloc, HEADER, &[], "\n")?;
     let digits = text_of(alloc, "", &EMPTY, "")?;
@@ -216,14 +216,14 @@ fn assert_single_digits(rt: &impl Abort, alloc: Global) -> Result<(), Fail> {
     assert_empty(rt, alloc, input.as_slice(), "default")
 }
 
-/// The empty envelope is read without its last line end.
+/// Asserts that the empty envelope is read without its last line end.
 fn assert_no_last_end(rt: &impl Abort, alloc: Global) -> Result<(), Fail> {
     let mut input = text_of(alloc, HEADER, &EMPTY, "\n")?;
     assert_eq!(rt; input.pop(), Some(b'\n'));
     assert_empty(rt, alloc, input.as_slice(), "default")
 }
 
-/// The empty envelope is read from these lines, each ended by `end`.
+/// Asserts that the empty envelope is read from these lines, each ended by `end`.
 fn assert_lines(
     rt: &impl Abort,
     alloc: Global,
@@ -247,7 +247,7 @@ fn lines_of_any_form(rt: HostRuntime) -> Result<(), Fail> {
     assert_no_last_end(&rt, alloc)
 }
 
-/// The header line names this label.
+/// Asserts that the header line names this label.
 fn assert_label(rt: &impl Abort, alloc: Global, header: &str, label: &str) -> Result<(), Fail> {
     let input = text_of(alloc, header, &EMPTY, "\n")?;
     assert_empty(rt, alloc, input.as_slice(), label)
@@ -272,7 +272,7 @@ fn feed_in_steps(reader: &mut EnvelopeReader<'_>, input: &[u8], step: usize)
     }
 }
 
-/// The length of the ciphertext, where the input comes in pieces of `step` bytes, and perhaps a
+/// The length of the ciphertext if the input comes in pieces of `step` bytes, perhaps with a
 /// shorter last one.
 fn length_in_steps(work: &mut [u8], input: &[u8], step: usize) -> Result<usize, TextFault>
     requires room { IsWorkLength (length work.old) }
@@ -284,7 +284,7 @@ fn length_in_steps(work: &mut [u8], input: &[u8], step: usize) -> Result<usize, 
     Ok(payload.cipher().len())
 }
 
-/// Read in steps of three lengths, the ciphertext has this length, or the input this fault.
+/// Asserts that, read in three steps, the ciphertext has this length, or the input this fault.
 fn assert_length(rt: &impl Abort, work: &mut [u8], input: &[u8], expected: Result<usize, TextFault>)
     requires { IsWorkLength (length work.old) }
 {
@@ -307,7 +307,7 @@ fn no_envelope_over_the_limit(rt: HostRuntime) -> Result<(), Fail> {
     Ok(())
 }
 
-/// An envelope whose ciphertext is `length` zeros.
+/// An envelope whose ciphertext is `length` zero bytes.
 fn zeros(alloc: Global, length: usize) -> Result<Vec<u8>, AllocError> {
     let mut input = text_of(alloc, HEADER, &EMPTY, "\n")?;
     for _ in 0..length {

@@ -1,10 +1,10 @@
-//! Texts in memory that is borrowed and that is reserved.
+//! Texts in borrowed and in reserved memory.
 use crate::contents::assert_bytes;
 use std::process::Abort;
 use std::test::Fail;
 use vault_text::TextMemory;
 
-/// Puts a piece that fits, and returns the room that is left.
+/// Puts a piece if it fits, and returns the room that is left.
 fn put(memory: &mut TextMemory, piece: &[u8]) -> usize {
     if piece.len() <= memory.room() {
         memory.put(piece);
@@ -18,12 +18,12 @@ fn put_pieces(rt: &impl Abort, memory: &mut TextMemory) {
     assert_eq!(rt; rooms, [10, 7, 3]);
 }
 
-/// The memory holds the two pieces.
+/// Asserts that the memory contains the two pieces.
 fn assert_text(rt: &impl Abort, memory: TextMemory) {
     assert_bytes(rt, memory.into_bytes(), b"abcdefg");
 }
 
-/// The memory holds the two pieces, and two further bytes fit.
+/// Asserts that the memory contains the two pieces, and that two more bytes fit.
 fn assert_text_and_spare(rt: &impl Abort, memory: TextMemory) {
     assert!(rt; memory.room() >= 2);
     let text: &[u8] = memory.into_bytes_and_spare(2);

@@ -1,4 +1,4 @@
-//! Blocks whose ciphertext is known.
+//! Blocks with known ciphertext.
 use vault_aes::Key;
 
 pub const ZERO_KEY: [u8; 32] = [0; 32];

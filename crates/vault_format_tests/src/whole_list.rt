@@ -5,7 +5,7 @@ use hex::FromHexError;
 use std::alloc::{AllocError, Global};
 use vault_text::{HEADER_LIMIT, Label, MARKER, SALT_LIMIT, TAG_LENGTH, TextFault, strip};
 
-/// What an envelope holds.
+/// The contents of an envelope.
 #[derive(Drop)]
 pub struct OwnedPayload {
     pub label: Label,
@@ -25,7 +25,7 @@ impl OwnedPayload {
     }
 }
 
-/// The answer of this reader, in a form that compares.
+/// The answer of this reader, in a form that can be compared.
 pub fn contents_of(whole: &Result<OwnedPayload, TextFault>) -> Result<Contents<'_>, TextFault> {
     match whole {
         Ok(payload) => Ok(payload.contents()),
@@ -56,7 +56,7 @@ fn is_line_end(byte: u8) -> bool {
     byte == b'\n' || byte == b'\r'
 }
 
-/// What comes before the first line end, and the rest.
+/// The part before the first line end, and the rest.
 fn split_at_line_end(input: &[u8]) -> (&[u8], &[u8]) {
     match input.iter().position(|byte| is_line_end(*byte)) {
         Some(end) => (&input[..end], &input[end..]),
@@ -97,7 +97,7 @@ fn check_fields(version: &[u8], cipher: &[u8]) -> Result<(), TextFault> {
     Ok(())
 }
 
-/// The label of this field, `default` where it is empty.
+/// The label of this field, or `default` if it is empty.
 fn label_of(field: &[u8]) -> Option<Label> {
     if field.is_empty() {
         return Some(Label::default_label());
@@ -105,7 +105,7 @@ fn label_of(field: &[u8]) -> Option<Label> {
     Label::new(str::from_utf8(field).ok()?).ok()
 }
 
-/// The inner text that the lines spell; None where they are no hexadecimal text.
+/// The inner text that the lines spell; None if they are not hexadecimal.
 fn inner_text(alloc: Global, text: &[u8]) -> Result<Option<Vec<u8>>, AllocError> {
     let digits: Vec<u8> = text
         .iter()
@@ -133,7 +133,7 @@ fn read_body(
     Ok(Ok(payload))
 }
 
-/// What an inner text holds, under this label.
+/// The payload of an inner text, with this label.
 fn payload_of(
     alloc: Global,
     label: Label,
@@ -165,13 +165,13 @@ fn payload_of(
     }))
 }
 
-/// What comes before the first LF and after it; None where there is none.
+/// The parts before and after the first LF; None if there is no LF.
 fn split_at_line_feed(text: &[u8]) -> Option<(&[u8], &[u8])> {
     let end = text.iter().position(|byte| *byte == b'\n')?;
     Some((&text[..end], &text[end + 1..]))
 }
 
-/// The bytes that the digits spell; None where they are no hexadecimal text.
+/// The bytes that the digits spell; None if they are not hexadecimal.
 fn unhex(alloc: Global, digits: &[u8]) -> Result<Option<Vec<u8>>, AllocError> {
     match hex::decode(alloc, digits) {
         Ok(bytes) => Ok(Some(bytes)),

@@ -11,8 +11,8 @@ use vault_text::{
     write_block, write_envelope,
 };
 
-/// Label, length of the salt, length of the ciphertext, and the envelope. The last line is full but
-/// where the ciphertext has 16 bytes.
+/// Label, length of the salt, length of the ciphertext, and the envelope. The last line is full
+/// unless the ciphertext has 16 bytes.
 const ENVELOPES: [(&str, u16, u16, &str); 7] = [
     (
         "default",
@@ -109,7 +109,7 @@ const ENVELOPES: [(&str, u16, u16, &str); 7] = [
     ),
 ];
 
-/// The second envelope, as the value of a variable.
+/// The second envelope as the value of a variable.
 const NAMED_BLOCK: &str = "\
     db_password: !vault |\n\
     \x20         $ANSIBLE_VAULT;1.2;AES256;dev\n\
@@ -125,7 +125,7 @@ const UNNAMED_BLOCK: &str = "\
     \x20         636562656165396538653765366535653465336532653165300a3035313031623236333133633437\n\
     ";
 
-/// Room for the longest ciphertext that is read back.
+/// Enough room for the longest ciphertext that is read back.
 const WORK_LENGTH: usize = 20_000;
 
 /// `length` bytes, of which byte i is `step * i + first` modulo 256.
@@ -173,7 +173,7 @@ fn envelope(
     Ok(sink.bytes().to_vec(alloc)?)
 }
 
-/// The envelope is this text, where it is written `step` bytes at a time.
+/// Asserts that the envelope is this text if it is written `step` bytes at a time.
 fn assert_written(
     rt: &impl Abort,
     alloc: Global,
@@ -190,7 +190,7 @@ fn assert_written(
     Ok(())
 }
 
-/// The envelope is this text, in whatever steps it is written.
+/// Asserts that the envelope is this text, in whatever steps it is written.
 fn assert_envelope(
     rt: &impl Abort,
     alloc: Global,
@@ -214,7 +214,7 @@ fn envelopes_are_those_of_another_implementation(rt: HostRuntime) -> Result<(), 
     Ok(())
 }
 
-/// Reading the envelope gives these contents.
+/// Asserts that reading the envelope gives these contents.
 fn assert_contents(
     rt: &impl Abort,
     envelope: &[u8],
@@ -228,7 +228,7 @@ fn assert_contents(
     Ok(())
 }
 
-/// Reading an envelope gives what it was written from.
+/// Asserts that reading an envelope gives what it was written from.
 fn assert_reads_back(
     rt: &impl Abort,
     alloc: Global,
@@ -274,7 +274,7 @@ fn block(
     Ok(sink.bytes().to_vec(alloc)?)
 }
 
-/// A block is this text.
+/// Asserts that a block is this text.
 fn assert_block(
     rt: &impl Abort,
     alloc: Global,
@@ -300,7 +300,7 @@ fn blocks_are_those_of_another_implementation(rt: HostRuntime) -> Result<(), Fai
     assert_block(&rt, alloc, Some(""), "default", 0, 7, UNNAMED_BLOCK)
 }
 
-/// A sink that fails after these bytes of the envelope holds them, and writing gives this answer.
+/// Asserts what writing answers if the sink fails after these bytes, and that it keeps them.
 fn assert_holds(
     rt: &impl Abort,
     alloc: Global,

@@ -6,7 +6,7 @@ use Rattle.sha2.specs.Sha256.{sha256}
 use Rattle.sha2.specs.Hashers.{Holds256}
 use Rattle.vault_kdf.specs.declared.hmac_sha256.Hmac.{Hmac}
 
--- the exclusive or of two strings of one length, byte by byte
+-- the exclusive or of two strings of the same length, byte by byte
 unfoldable pub xor : List ℕ → List ℕ → List ℕ
 xor xs ys = map (λ (x, y). bit_xor x y) (zip xs ys)
 
@@ -14,7 +14,7 @@ xor xs ys = map (λ (x, y). bit_xor x y) (zip xs ys)
 unfoldable pub shortened_key : List ℕ → List ℕ
 shortened_key key = if nat_lt 64 (length key) then sha256 key else key
 
--- K, the key with zeros at its end that fill up a block (step 1)
+-- K, the key filled up to a block with zeros at its end (step 1)
 unfoldable pub padded_key : List ℕ → List ℕ
 padded_key key = shortened_key key ++ replicate (64 - length (shortened_key key)) 0
 
@@ -30,7 +30,7 @@ outer_key key = xor (padded_key key) (replicate 64 0x5c)
 unfoldable pub hmac : List ℕ → List ℕ → List ℕ
 hmac key message = sha256 (outer_key key ++ sha256 (inner_key key ++ message))
 
--- the state stands for the key and for the message as far as it was given
+-- the state stands for the key and the message so far
 unfoldable pub HasRead : Hmac → List ℕ → List ℕ → Type 0
 HasRead state key message =
     Holds256 state.inner (inner_key key ++ message) × Holds256 state.outer (outer_key key)

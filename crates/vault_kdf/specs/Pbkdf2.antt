@@ -5,8 +5,7 @@ use Rattle.std.specs.List.{concat, range_with_len}
 use Rattle.std.specs.Int.{div_ceil, to_be_bytes, w32}
 use Rattle.vault_kdf.specs.Hmac.{hmac, xor}
 
--- U_j, the tag of the iterate before it (step 3). U_0 stands for the message of which U_1 is the
--- tag.
+-- U_j, the tag of the iterate before it (step 3). U_0 stands for the message whose tag is U_1.
 unfoldable pub iterate : List ℕ → List ℕ → ℕ → List ℕ
 iterate password message zero = message
 iterate password message (suc j) = hmac password (iterate password message j)
@@ -20,8 +19,8 @@ unfoldable pub xor_all : List (List ℕ) → List ℕ
 xor_all [] = []
 xor_all (xs ∷ rest) = fold xor xs rest
 
--- T_i, which is F (P, S, c, i): the exclusive or of U_1 to U_c; U_1 is the tag of the salt and then
--- i as four big-endian bytes (step 3)
+-- T_i, which is F (P, S, c, i): the exclusive or of U_1 to U_c; U_1 is the tag of the salt followed
+-- by i as four big-endian bytes (step 3)
 unfoldable pub block : List ℕ → List ℕ → ℕ → ℕ → List ℕ
 block password salt c i = xor_all (iterates password (salt ++ to_be_bytes w32 i) c)
 

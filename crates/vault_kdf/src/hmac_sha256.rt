@@ -5,10 +5,10 @@ ghost use Rattle.vault_kdf.specs.Hmac.{hmac, padded_key};
 use crate::xor::xor;
 use sha2::{Digest, Sha256};
 
-/// The length of a digest of SHA-256, in bytes.
+/// The length of a SHA-256 digest, in bytes.
 pub(crate) const DIGEST_LEN: usize = 32;
 
-/// The length of a block of SHA-256, in bytes.
+/// The length of a SHA-256 block, in bytes.
 const HASH_BLOCK_LEN: usize = 64;
 
 const INNER_PAD: [u8; HASH_BLOCK_LEN] = [0x36; HASH_BLOCK_LEN];
@@ -27,7 +27,7 @@ fn padded_key(key: &[u8]) -> [u8; HASH_BLOCK_LEN]
     block
 }
 
-/// An HMAC-SHA-256 in progress (RFC 2104): a key, and the message as far as it was given.
+/// An HMAC-SHA-256 in progress (RFC 2104): a key, and the message so far.
 #[derive(Clone, Drop)]
 pub struct Hmac {
     inner: Sha256,
@@ -64,8 +64,8 @@ impl Hmac {
         outer.chain_update(inner.finalize()).finalize()
     }
 
-    /// The tag of the message and a last piece. Each hasher is cloned just before it is fed, and is
-    /// fed in place: a clone of both at once, or `chain_update`, moves them more often.
+    /// The tag of the message with a last piece added. Each hasher is cloned just before it is
+    /// updated in place: cloning both at once, or `chain_update`, would move them more often.
     // Each round of PBKDF2 calls it; out of line, with two callers, it took 4% of a derivation.
     #[inline(always)]
     pub(crate) fn mac_of(&self, last: &[u8]) -> [u8; DIGEST_LEN]

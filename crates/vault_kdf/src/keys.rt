@@ -19,8 +19,8 @@ pub struct Keys {
     pub iv: [u8; 16],
 }
 
-/// The keys that a password and a salt give: 80 bytes by 10,000 rounds of PBKDF2 with HMAC-SHA-256.
-/// The meter, which must be below 2^63, counts the derivation.
+/// Derives the keys from a password and a salt: 80 bytes by 10,000 rounds of PBKDF2 with
+/// HMAC-SHA-256. The meter, which must be below 2^63, counts the derivation.
 pub fn derive(password: &[u8], salt: &[u8], meter: &mut Meter) -> Keys
     requires { meter.old < 2 ^ 63 }
     ensures keys { result ≡ vault_keys password.now salt.now }

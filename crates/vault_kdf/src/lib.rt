@@ -1,5 +1,5 @@
 //! The keys of a vault: HMAC with SHA-256 (RFC 2104), PBKDF2 over it (RFC 8018), and the three keys
-//! that a vault's password and salt give.
+//! that are derived from a vault's password and salt.
 //!
 //! ```rust
 //! let mut meter = Meter::new();

@@ -1,9 +1,9 @@
-//! How often keys were derived.
+//! Counting the derivations of keys.
 ghost use Rattle.std.specs.Prelude.{◌≡◌, ℕ, ◌+◌, ◌<◌, ◌^◌};
 
 use std::marker::Model;
 
-/// A count of derivations, which [`derive`](crate::derive) raises.
+/// A count of derivations, which [`derive`](crate::derive) increments.
 #[derive(Debug, Drop)]
 pub struct Meter {
     derivations: u64,
@@ -23,7 +23,7 @@ impl Meter {
         Meter { derivations: 0 }
     }
 
-    /// How many derivations it has counted.
+    /// The number of derivations counted.
     pub fn count(&self) -> u64
         ensures { result ≡ self.now }
     {

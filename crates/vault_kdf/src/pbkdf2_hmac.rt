@@ -6,7 +6,7 @@ ghost use Rattle.vault_kdf.specs.Hmac.{HasRead};
 use crate::hmac_sha256::{DIGEST_LEN, Hmac};
 use crate::xor::xor;
 
-/// T_i, the block of this index, counted from 1 (RFC 8018, section 5.2, step 3). `keyed` holds the
+/// T_i, the block of this index, counted from 1 (RFC 8018, section 5.2, step 3). `keyed` has the
 /// password and no message, so that the password is hashed once for all blocks and iterates.
 fn block(keyed: &Hmac, salt: &[u8], rounds: u32, index: u32) -> [u8; DIGEST_LEN]
     requires { 1 ≤ rounds }

@@ -1,10 +1,10 @@
-//! Envelopes, made from the parts of the format alone: no reader and no writer of the library has a
-//! hand in them.
+//! Envelopes, made only from the parts of the format: no reader or writer of the library takes part
+//! in making them.
 use std::alloc::{AllocError, Global};
 use vault_aes::{Key, ctr_apply, pad};
 use vault_kdf::{Meter, derive, hmac};
 
-/// How many digits a line of the body has.
+/// The number of digits on a line of the body.
 const LINE: usize = 80;
 
 /// An envelope with no salt, a tag of 32 zero bytes and no ciphertext.
@@ -12,7 +12,7 @@ pub const EMPTY_ENVELOPE: &[u8; 160] = b"$ANSIBLE_VAULT;1.1;AES256\n\
     0a303030303030303030303030303030303030303030303030303030303030303030303030303030\n\
     303030303030303030303030303030303030303030303030300a\n";
 
-/// The envelope of some plaintext.
+/// The envelope of a plaintext.
 pub fn envelope(
     alloc: Global,
     label: &str,
@@ -39,7 +39,7 @@ pub fn tagged(
     spelled(alloc, label, salt, &hmac(&keys.mac, ciphertext), ciphertext)
 }
 
-/// The text of an envelope, whatever its parts are.
+/// The text of an envelope, with any parts.
 pub fn spelled(
     alloc: Global,
     label: &str,
@@ -62,8 +62,8 @@ pub fn spelled(
     Ok(text)
 }
 
-/// The lines of an envelope as the value of a variable in YAML, of no variable where the name is
-/// empty.
+/// The lines of an envelope as the value of a variable in YAML, or without a variable if the name
+/// is empty.
 pub fn block(alloc: Global, name: &str, envelope: &[u8]) -> Result<Vec<u8>, AllocError> {
     let mut text = Vec::from_slice(alloc, name.as_bytes())?;
     if !name.is_empty() {

@@ -1,5 +1,5 @@
-//! A second writer of envelopes, for tests. It stands on the parts of the format alone: no reader
-//! and no writer of the library has a hand in what it makes.
+//! A second writer of envelopes, for tests. It uses only the parts of the format: no reader or
+//! writer of the library takes part in what it makes.
 #![tactic(auto)]
 
 mod envelopes;

@@ -6,10 +6,10 @@ pub record OnePassword : Type 0 where
   pub password : List ℕ
   pub output : List ℕ
 
--- nothing was written yet
+-- nothing has been written yet
 abbrev pub no_output : List ℕ → OnePassword
 no_output password = record { password = password; output = [] }
 
--- a reader that was not read yet
+-- a reader that has not been read yet
 abbrev pub new_reader : List ℕ → MemSourceState
 new_reader bytes = record { left = bytes; ended = false; step = 4096 }

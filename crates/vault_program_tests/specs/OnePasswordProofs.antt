@@ -1,4 +1,4 @@
--- What readers of the password and its output keep.
+-- What readers of the password, and its output, guarantee.
 use Rattle.std.specs.Prelude.{◌≡◌, ℕ, ◌≤◌, ◌⊎◌, List, [], ◌++◌, length, take, Ok, refl}
 use Rattle.std.specs.Prelude.{IsTrue, false}
 use Rattle.std.proofs.Common.{inl, inr, arith, sym, ap, ◌∙◌}
@@ -10,11 +10,11 @@ use Rattle.vault_text.specs.Failures.{HasRisen}
 use Rattle.vault_text.specs.Source.{MemSourceState, MemoryGives}
 use Rattle.vault_program_tests.specs.OnePassword.{new_reader}
 
--- two calls that changed nothing
+-- two calls that change nothing
 pub same : {T : Type 0} {s t u : T} → t ≡ s → u ≡ t → u ≡ s
 same first then = then ∙ first
 
--- the first bytes of a text that begins with those that were given
+-- the first bytes of a text that begins with the given bytes
 take-given : (bytes xs rest : List ℕ) (n : ℕ) → bytes ≡ xs ++ rest → length xs ≤ n
     → (rest ≡ []) ⊎ (length xs ≡ n) → take n bytes ≡ xs
 take-given bytes xs rest n e fits (inl none) =
@@ -22,7 +22,7 @@ take-given bytes xs rest n e fits (inl none) =
 take-given bytes xs rest n e fits (inr exact) =
     rw e (take-append-le n xs rest (omega (arith, exact)) ∙ take_all n xs fits)
 
--- whether all of the password was given, or as much as was asked for
+-- whether all of the password was given, or as much of it as was requested
 all-given : (bytes xs : List ℕ) (r t : MemSourceState) (n : ℕ)
     → r ≡ new_reader bytes → MemoryGives r xs t
     → IsTrue t.ended ⊎ (length xs ≡ n) → (t.left ≡ []) ⊎ (length xs ≡ n)
@@ -31,7 +31,7 @@ all-given bytes xs r t n e g (inl ended) =
     inl (g.0.end_is_real
     (λ first. let never : IsTrue false = rw e at first in absurd (false≢true never)) ended)
 
--- what a reader gave to its end, or up to a limit, is a prefix of the password
+-- the bytes that a reader gave to its end, or up to a limit, are a prefix of the password
 pub prefix-found : (bytes : List ℕ) (r t : MemSourceState) (xs : List ℕ) (n : ℕ)
     → r ≡ new_reader bytes → MemoryGives r xs t → length xs ≤ n
     → IsTrue t.ended ⊎ (length xs ≡ n) → Answers (λ found. found ≡ Whole bytes) n (Ok xs)

@@ -1,4 +1,4 @@
-//! Whole runs over files in memory, and what is at their paths afterwards.
+//! Whole runs over files in memory, and the files at their paths afterwards.
 use std::alloc::Global;
 use std::process::Abort;
 use std::test::Fail;
@@ -11,7 +11,7 @@ const PLAINTEXT: &[u8] = b"key: value\n";
 
 const SALT: &[u8] = &[7; 32];
 
-/// How a run ends, and whether it prints something.
+/// How a run ends, and whether it prints anything.
 #[derive(Clone, Copy)]
 struct End<'a> {
     status: Status,
@@ -19,8 +19,8 @@ struct End<'a> {
     prints: bool,
 }
 
-/// Runs the program on these words after its name, over these files and this input. Asserts how
-/// that ends, and what these paths have afterwards.
+/// Runs the program on these words after its name, over these files and this input. Asserts how the
+/// run ends, and what is at these paths afterwards.
 fn assert_leaves<'a>(
     rt: &impl Abort,
     alloc: Global,
@@ -43,7 +43,7 @@ fn assert_leaves<'a>(
     Ok(())
 }
 
-/// Asserts that each of these paths has a file of the bytes beside it, or none.
+/// Asserts that each of these paths has a file with the bytes beside it, or none.
 fn assert_has(rt: &impl Abort, files: &MemFiles, wanted: &[(&str, Option<&[u8]>)]) {
     for &(path, bytes) in wanted {
         assert!(rt; files.content(path) == bytes, "{path}");

@@ -1,11 +1,11 @@
--- What the values of the parser's library describe.
+-- What the values of the parser library describe.
 use Rattle.std.specs.Prelude.{◌≡◌, false}
 use Rattle.clap.specs.Words.{App, Rule, app_of, rule_of}
 use Rattle.clap.specs.declared.builder.arg.Arg.{Arg}
 use Rattle.clap.specs.declared.builder.command.Command.{Command}
 use Rattle.clap.specs.declared.builder.command.Command.TheViews.{out-Command}
 
--- an argument under this rule, which is not global
+-- an argument with this rule, which is not global
 pub record IsArg (arg : Arg) (described : Rule) : Type 0 where
   pub rule : rule_of arg ≡ described
   pub local : arg.global ≡ false

@@ -10,11 +10,11 @@ abbrev pub valued : ArgAction → Text → Rule
 valued action name =
     record (new_rule name) { long = Some name; action = Some action; value_names = 1 }
 
--- one that is given at most once
+-- an option with a value, given at most once
 abbrev pub option : Text → Rule
 option name = valued Set name
 
--- one that may be repeated
+-- an option with a value that may be repeated
 abbrev pub repeated : Text → Rule
 repeated name = valued Append name
 
@@ -30,11 +30,11 @@ positional name = record (new_rule name) { action = Some Set }
 abbrev pub secret_rules : List Rule
 secret_rules = repeated (codes "vault-id") ∷ repeated (codes "vault-password-file") ∷ []
 
--- those of the salt
+-- the options for the salt
 abbrev pub salt_rules : List Rule
 salt_rules = option (codes "salt-file") ∷ option (codes "salt") ∷ []
 
--- those that name the password file of a new secret
+-- the options that name the password file of a new secret
 abbrev pub new_secret_rules : List Rule
 new_secret_rules = option (codes "new-vault-id") ∷ option (codes "new-vault-password-file") ∷ []
 
@@ -46,7 +46,7 @@ name_rule = record (option (codes "name")) { short = Some 110 }
 abbrev pub name_rules : List Rule
 name_rules = name_rule ∷ option (codes "stdin-name") ∷ []
 
--- a command with a name and what it takes
+-- a command with a name and the arguments it takes
 abbrev pub shape_with : Text → List Rule → Shape
 shape_with name rules = record (new_shape name) { rules = rules }
 
@@ -78,7 +78,7 @@ rekey = app_with (codes "rekey")
     (secret_rules ++ salt_rules ++ new_secret_rules
     ++ flag (codes "require-id-match") ∷ option (codes "output") ∷ positional (codes "FILE") ∷ [])
 
--- a STRING or plaintext to a block of YAML
+-- a STRING or plaintext to a YAML block
 abbrev pub encrypt_string : App
 encrypt_string = app_with (codes "encrypt_string")
     (secret_rules ++ salt_rules ++ name_rules

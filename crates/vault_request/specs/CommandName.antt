@@ -7,7 +7,7 @@ use Rattle.vault_request.specs.declared.command_name.CommandName.TheVariants.{En
 use Rattle.vault_request.specs.declared.command_name.CommandName.TheVariants.{View, Rekey}
 use Rattle.vault_request.specs.declared.command_name.CommandName.TheVariants.{EncryptString}
 
--- the command of a name
+-- the command with a name
 abbrev pub command_of : List ℕ → Option CommandName
 command_of name =
     if bytes_eq name (codes "encrypt") then Some Encrypt
@@ -23,7 +23,7 @@ encrypts Encrypt = true
 encrypts EncryptString = true
 encrypts _ = false
 
--- the command that seals again, under a new secret
+-- the command that seals an envelope again, under a new secret
 abbrev pub rekeys : CommandName → Bool
 rekeys Rekey = true
 rekeys _ = false

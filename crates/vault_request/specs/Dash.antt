@@ -1,4 +1,4 @@
--- `-` in the place of a file or of a STRING.
+-- `-` in place of a file or a STRING.
 use Rattle.std.specs.Prelude.{ℕ, if◌then◌else◌, List, codes, Option, Some, None}
 use Rattle.std.specs.Str.{bytes_eq}
 

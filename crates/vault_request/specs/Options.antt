@@ -9,7 +9,7 @@ use Rattle.vault_request.specs.CommandName.{encrypts, has_output, rekeys, seals,
 use Rattle.vault_request.specs.Dash.{unless_dash}
 use Rattle.vault_request.specs.declared.command_name.CommandName.{CommandName}
 
--- what a command was given under the options that it has
+-- the values that a command was given under its options
 pub record Options : Type 0 where
   pub command : CommandName
   pub vault_ids : List (List ℕ)
@@ -26,7 +26,7 @@ pub record Options : Type 0 where
   pub file : Option (List ℕ)
   pub output : Option (List ℕ)
 
--- the values under an option, in their order
+-- the values under an option, in order
 abbrev pub values_of : List ℕ → List Row → List (List ℕ)
 values_of option rows = unwrap_or (all_of option rows) []
 
@@ -34,7 +34,7 @@ values_of option rows = unwrap_or (all_of option rows) []
 abbrev pub value_if : Bool → List ℕ → List Row → Option (List ℕ)
 value_if has option rows = if has then first_of option rows else None
 
--- the parser puts `true` under a flag that was given
+-- the parser gives `true` as the value of a flag that was given
 abbrev pub is_true : Option (List ℕ) → Bool
 is_true None = false
 is_true (Some value) = bytes_eq value (codes "true")
@@ -48,7 +48,7 @@ abbrev pub rule_of : CommandName → List Row → LabelRule
 rule_of command rows =
     if not (encrypts command) && is_given (codes "require-id-match") rows then Required else Hint
 
--- what is given under each option
+-- the values under each option
 abbrev pub options_of : CommandName → List Row → Options
 options_of command rows = record {
   command = command;

@@ -19,13 +19,13 @@ use Rattle.vault_request.specs.declared.limits.TheConstants.{SALT_TEXT_LIMIT}
 abbrev pub refused_if : Bool → Fault → Option Fault
 refused_if bad fault = if bad then Some fault else None
 
--- no more secrets than a list takes
+-- there are no more secrets than a list may have
 abbrev pub count_fault : Options → Option Fault
 count_fault given =
     let count = length given.vault_ids + length given.password_files in
     refused_if (nat_lt SECRET_COUNT_LIMIT count) TooManySecrets
 
--- the label of `--encrypt-vault-id` is one
+-- the label of `--encrypt-vault-id` is valid
 abbrev pub label_fault : Option (List ℕ) → Option Fault
 label_fault None = None
 label_fault (Some label) = refused_if (not (is_label label)) BadLabel
@@ -37,7 +37,7 @@ new_secret_fault None (Some path) = None
 new_secret_fault (Some id) None = fault_of_id id
 new_secret_fault (Some id) (Some path) = Some NeedNewSecret
 
--- which only `rekey` asks for
+-- only `rekey` needs one
 abbrev pub rekey_fault : Options → Option Fault
 rekey_fault given =
     if rekeys given.command then new_secret_fault given.new_vault_id given.new_password_file
@@ -49,22 +49,22 @@ mismatch_fault given =
     let other = if is_some given.string then given.stdin_name else given.name in
     refused_if (is_some other) NameMismatch
 
--- the bytes that no name holds: those below the space, and DEL
+-- the bytes that no name contains: the bytes below the space, and DEL
 abbrev pub is_control : ℕ → Bool
 is_control byte = nat_lt byte 32 || byte == 127
 
--- a variable's name holds no control byte of ASCII
+-- a variable's name contains no ASCII control byte
 abbrev pub name_fault : Option (List ℕ) → Option Fault
 name_fault None = None
 name_fault (Some name) = refused_if (list_any is_control name) BadName
 
--- a file is never rewritten in its place unasked
+-- a file is never rewritten in place unasked
 abbrev pub output_fault : Options → Option Fault
 output_fault given =
     refused_if (has_output given.command && is_some given.file && not (is_some given.output))
     OutputNeeded
 
--- a salt comes from a text, neither empty nor longer than the limit, or from a file, not from both
+-- a salt comes from a text, neither empty nor longer than the limit, or from a file, but not both
 abbrev pub salt_fault : Option (List ℕ) → Option (List ℕ) → Option Fault
 salt_fault None path = None
 salt_fault (Some text) None =
@@ -76,7 +76,7 @@ abbrev pub first_some : List (Option Fault) → Option Fault
 first_some [] = None
 first_some (fault ∷ faults) = option_or fault (first_some faults)
 
--- the first fault of these options, in the order in which they are looked for
+-- the first fault of these options, in the order in which faults are checked
 unfoldable pub refusal : Options → Option Fault
 refusal given = first_some (
     count_fault given

@@ -1,4 +1,4 @@
--- What settles a request: the command, and the values under its options.
+-- Settling a request from its command and the values under its options.
 use Rattle.std.specs.Prelude.{◌≡◌, ◌⊎◌, ℕ, if◌then◌else◌, List, ◌++◌, map, codes, unwrap_or, Option}
 use Rattle.std.specs.Prelude.{Some, None, option_and_then, is_some, Result, Ok, Err}
 use Rattle.std.specs.Option.{option_map, option_or}
@@ -24,7 +24,7 @@ file_of_id id = record { label = label_of_id id; path = source_of_id id }
 abbrev pub file_of_path : List ℕ → SecretFile
 file_of_path path = record { label = default_label; path = path }
 
--- what `rekey` seals with
+-- the secret that `rekey` seals with
 abbrev pub new_secret_of : Options → Option SecretFile
 new_secret_of given =
     if rekeys given.command
@@ -32,7 +32,7 @@ new_secret_of given =
     (option_map file_of_path given.new_password_file)
     else None
 
--- the salt file, `/dev/urandom` if none is given; none beside a salt text, nor if no salt is used
+-- the salt file, `/dev/urandom` if none is given; none with a salt text, or if no salt is used
 abbrev pub salt_path_of : Options → Option (List ℕ)
 salt_path_of given =
     if is_some given.salt_text then None
@@ -55,16 +55,16 @@ request_of given = record {
   output = unless_dash given.output;
 }
 
--- a fault if there is one, else the request
+-- the fault if there is one, or else the request
 abbrev pub refused_or : Option Fault → Request → Result Request Fault
 refused_or (Some fault) request = Err fault
 refused_or None request = Ok request
 
--- the request of what was given, or its first fault
+-- the request of the given options, or their first fault
 abbrev pub settled_by : Options → Result Request Fault
 settled_by given = refused_or (refusal given) (request_of given)
 
--- the request of a command and of the values under its options, or the first fault
+-- the request of a command and the values under its options, or the first fault
 abbrev pub settled : CommandName → List Row → Result Request Fault
 settled command rows = settled_by (options_of command rows)
 
@@ -74,7 +74,7 @@ command_in parse =
     option_and_then
     (λ given. option_map (λ command. (command, given.1)) (command_of given.0)) parse
 
--- what a parse asks for, if it names a command
+-- the request of a parse, or its first fault, if it names a command
 abbrev pub requested : Option (Text × List Row) → Option (Result Request Fault)
 requested parse = option_map (λ found. settled found.0 found.1) (command_in parse)
 
@@ -82,7 +82,7 @@ requested parse = option_map (λ found. settled found.0 found.1) (command_in par
 abbrev pub requested_by : List Text → Option (Result Request Fault)
 requested_by words = requested (subcommand_of vault_app words)
 
--- what `settle` returns: what is settled, or Memory if that is a request
+-- what `settle` returns: what was settled, or perhaps Memory if that is a request
 abbrev pub Settles : Result Request Fault → Result Request Fault → Type 0
 Settles (Ok request) answer = (answer ≡ Ok request) ⊎ (answer ≡ Err Memory)
 Settles (Err fault) answer = answer ≡ Err fault

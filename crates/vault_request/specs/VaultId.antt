@@ -13,15 +13,15 @@ use Rattle.vault_fault.specs.declared.fault.Fault.TheVariants.{BadLabel, PromptS
 abbrev pub is_at_sign : ℕ → Bool
 is_at_sign b = b == 64
 
--- there is an `@` in it
+-- the vault id has an `@`
 abbrev pub has_at_sign : List ℕ → Bool
 has_at_sign id = nat_lt (position_or_len is_at_sign id) (length id)
 
--- what comes before the first `@`
+-- the part before the first `@`
 abbrev pub label_part : List ℕ → List ℕ
 label_part id = if has_at_sign id then before_first is_at_sign id else []
 
--- what comes after it, or all if there is none
+-- the part after the first `@`, or all if there is none
 abbrev pub source_of_id : List ℕ → List ℕ
 source_of_id id = if has_at_sign id then after_first is_at_sign id else id
 
@@ -29,7 +29,7 @@ source_of_id id = if has_at_sign id then after_first is_at_sign id else id
 abbrev pub label_of_id : List ℕ → List ℕ
 label_of_id id = label_or_default (label_part id)
 
--- why a vault id is refused: first for its label, then for a source that would be asked for
+-- why a vault id is refused: first for its label, then for a source that would prompt
 abbrev pub fault_of_id : List ℕ → Option Fault
 fault_of_id id =
     if not (is_label (label_of_id id)) then Some BadLabel

@@ -1,4 +1,4 @@
-//! The arguments of the parser, each made from its entry in the table of options.
+//! The parser's arguments, each made from its entry in the table of options.
 ghost use Rattle.vault_request.specs.Built.{IsArg};
 ghost use Rattle.vault_request.specs.CommandLine.{flag, name_rule, option};
 ghost use Rattle.vault_request.specs.CommandLine.{positional, repeated};

@@ -1,4 +1,4 @@
-//! The description of the command line, and the parse of arguments by it.
+//! The description of the command line, and the parsing of arguments.
 ghost use Rattle.std.specs.Prelude.{◌≡◌, ◌++◌, [], IfErr, IfOk, codes, is_some, map, true};
 ghost use Rattle.std.specs.String.{string_bytes};
 ghost use Rattle.clap.specs.Words.{FailsBy, app_of, fault_of, subcommand_of, subcommand_rows_of};
@@ -37,9 +37,9 @@ pub fn command<'a>(alloc: Global) -> Result<Command<'a>, Fault>
     Ok(command)
 }
 
-/// Parses the arguments, of which the first is the program's name: the command and the values under
-/// its options are those that the parser's definition gives for this command line, and an error is
-/// of a kind that it gives, or says that memory ran out. Arguments that parse name a command.
+/// Parses the arguments, the first of which is the program's name. The command and the values of
+/// its options are as the parser's definition gives them for this command line. An error is of a
+/// kind that it gives, or says that memory ran out. Arguments that parse name a command.
 pub fn parse<'a>(alloc: Global, words: &'a [String]) -> Result<ArgMatches<'a>, Error>
     ensures matches { IfOk result (λ matches.
         subcommand_rows_of matches ≡ subcommand_of vault_app (map string_bytes words.now)) }
@@ -134,7 +134,7 @@ fn with_salt<'a>(alloc: Global, name: &'a str, about: &'a str) -> Result<Command
         .arg(option(alloc, table::SALT))
 }
 
-/// The command `rekey` with the options of its new secret.
+/// The command `rekey` with the options for its new secret.
 fn with_new_secret<'a>(alloc: Global) -> Result<Command<'a>, AllocError>
     ensures { IfOk result (λ command. IsCommand command
         (app_with (codes "rekey") (secret_rules ++ salt_rules ++ new_secret_rules))) }
@@ -145,7 +145,7 @@ fn with_new_secret<'a>(alloc: Global) -> Result<Command<'a>, AllocError>
         .arg(option(alloc, table::NEW_VAULT_PASSWORD_FILE))
 }
 
-/// The command `encrypt_string` with the options of the variable's name.
+/// The command `encrypt_string` with the options for the variable's name.
 fn with_name<'a>(alloc: Global) -> Result<Command<'a>, AllocError>
     ensures { IfOk result (λ command. IsCommand command
         (app_with (codes "encrypt_string") (secret_rules ++ salt_rules ++ name_rules))) }

@@ -3,7 +3,7 @@ ghost use Rattle.std.specs.Prelude.{◌≡◌};
 ghost use Rattle.vault_request.specs.CommandName.{encrypts, has_output, command_of, rekeys, seals};
 ghost use Rattle.vault_request.specs.CommandName.{takes_string};
 
-/// What is to be done.
+/// A command of the program.
 #[derive(Clone, Copy, Debug, PartialEq, Eq)]
 pub enum CommandName {
     /// Plaintext to an envelope.
@@ -14,12 +14,12 @@ pub enum CommandName {
     View,
     /// An envelope to one under another secret.
     Rekey,
-    /// A STRING, or standard input, to a block of YAML.
+    /// A STRING, or standard input, to a YAML block.
     EncryptString,
 }
 
 impl CommandName {
-    /// The command of this name.
+    /// The command with this name.
     pub(crate) fn named(name: &str) -> Option<Self>
         ensures { result ≡ command_of name.now }
     {

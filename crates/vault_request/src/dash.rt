@@ -1,4 +1,4 @@
-//! `-` in the place of a file or of a STRING.
+//! `-` in place of a file or a STRING.
 ghost use Rattle.std.specs.Prelude.{◌≡◌};
 ghost use Rattle.std.specs.Option.{option_copied};
 ghost use Rattle.vault_request.specs.Dash.{unless_dash};

@@ -1,9 +1,9 @@
-//! Laws of requests, each the contract of a function that does nothing.
+//! Laws of requests, each stated as the contract of a function that does nothing.
 ghost use Rattle.std.specs.Prelude.{◌≡◌};
 ghost use Rattle.vault_request.specs.Laws.{SettledRequests, WordsNameACommand};
 ghost use Rattle.vault_request.specs.declared.limits.TheConstants.{SALT_TEXT_LIMIT};
 
-/// How many bytes the text of `--salt` may have.
+/// The length of the longest text of `--salt`, in bytes.
 pub fn limits()
     ensures salt_text { SALT_TEXT_LIMIT ≡ 64 }
 {}

@@ -1,4 +1,4 @@
-//! The command line of `ansible-vault`, and what it asks for.
+//! The command line of `ansible-vault`, and the requests that it makes.
 //!
 //! ```rust
 //! let mut words = Vec::new(alloc);

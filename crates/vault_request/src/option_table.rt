@@ -1,13 +1,13 @@
-//! The table of options: the name of each, the name of its value, and its help.
+//! The table of options: the name of each, the name of its value, and its help text.
 
 /// The entry of an option, or of a positional argument, in the table.
 #[derive(Clone, Copy)]
 pub struct OptionEntry {
-    /// The name, without the dashes before it.
+    /// The name, without the leading dashes.
     pub name: &'static str,
-    /// What the help calls the value; empty if the name says it, and for a flag.
+    /// The name of the value in the help; empty for a flag, or if the option's name is enough.
     pub value_name: &'static str,
-    /// What the help says of it.
+    /// The help text.
     pub help: &'static str,
 }
 

@@ -11,7 +11,7 @@ use clap::ArgMatches;
 use std::marker::Model;
 use vault_fault::LabelRule;
 
-/// What a command was given under the options that it has.
+/// The values that a command was given under its options.
 #[derive(Drop)]
 pub(crate) struct Options<'m, 'a> {
     pub command: CommandName,
@@ -56,7 +56,7 @@ impl<'m, 'a> Model for Options<'m, 'a> {
 }
 
 impl<'m, 'a> Options<'m, 'a> {
-    /// What the matches give to their command, beside the values of its repeated options.
+    /// The options of a command: the values of its repeated options, and the rest from the matches.
     pub(crate) fn of(
         command: CommandName,
         given: &ArgMatches<'a>,
@@ -103,7 +103,7 @@ fn value_if<'a>(has: bool, given: &ArgMatches<'a>, option: &str) -> Option<&'a s
     if has { value(given, option) } else { None }
 }
 
-/// Whether a flag was given, under which the parser puts `true`.
+/// Whether a flag was given; the parser then gives `true` as its value.
 fn is_given(given: &ArgMatches<'_>, flag: &str) -> bool
     ensures { result ≡ is_given flag.now (rows_of (found_of given.now)) }
 {

@@ -1,4 +1,4 @@
-//! Why options are refused, before memory is asked for, and what is read of them on the way.
+//! Why options are refused, before anything is allocated, and what is read from them on the way.
 ghost use Rattle.std.specs.Prelude.{◌≡◌, IfOk, map};
 ghost use Rattle.std.specs.List.{list_any};
 ghost use Rattle.std.specs.Option.{option_copied};
@@ -14,12 +14,12 @@ use crate::vault_id::{self, BorrowedSecretFile, BorrowedSecretFiles};
 use vault_fault::{Fault, SECRET_COUNT_LIMIT};
 use vault_text::Label;
 
-/// What was read of options that are not refused.
+/// What was read from options that are not refused.
 #[derive(Drop)]
 pub(crate) struct Checked<'a> {
     /// The password files of `--vault-id`.
     pub labelled: BorrowedSecretFiles<'a>,
-    /// What `rekey` seals with.
+    /// The secret that `rekey` seals with.
     pub new_secret: Option<BorrowedSecretFile<'a>>,
     /// The label of the secret to encrypt with.
     pub choice: Option<Label>,
@@ -62,7 +62,7 @@ fn check_count(options: &Options<'_, '_>) -> Result<(), Fault>
     Ok(())
 }
 
-/// What `rekey` seals with; refused if not exactly one new secret is given.
+/// The secret that `rekey` seals with; refused unless exactly one is given.
 fn new_secret_of<'a>(options: &Options<'_, 'a>) -> Result<Option<BorrowedSecretFile<'a>>, Fault>
     ensures file { IfOk result (λ file. file ≡ new_secret_of options.now) }
     ensures refused { result_err result ≡ rekey_fault options.now }
@@ -91,7 +91,7 @@ fn check_mismatch(options: &Options<'_, '_>) -> Result<(), Fault>
     }
 }
 
-/// Refuses a FILE whose output is not named.
+/// Refuses a FILE without a named output.
 fn check_output(options: &Options<'_, '_>) -> Result<(), Fault>
     ensures { result_err result ≡ output_fault options.now }
 {

@@ -1,4 +1,4 @@
-//! What a command line asks for.
+//! The request that a command line makes.
 ghost use Rattle.std.specs.Prelude.{◌≡◌, ◌+◌, ◌<◌, ◌≤◌, Some, IfSome, is_some, length, slice_get};
 ghost use Rattle.std.specs.Option.{option_copied, option_map};
 ghost use Rattle.vault_fault.specs.declared.limits.TheConstants.{SECRET_COUNT_LIMIT};
@@ -26,8 +26,8 @@ impl Model for SecretFile {
     ghost view = { λ f. record { label = f.label; path = string_bytes f.path } };
 }
 
-/// A request that was settled from a command line. It has no more password files than the limit of
-/// secrets, and one more if the command is `rekey`.
+/// A request that was settled from a command line. It has at most as many password files as the
+/// limit of secrets allows, and one more if the command is `rekey`.
 #[derive(Drop)]
 pub struct Request {
     pub(crate) command: CommandName,
@@ -69,14 +69,14 @@ impl Model for Request {
 }
 
 impl Request {
-    /// What is to be done.
+    /// The command to carry out.
     pub fn command(&self) -> CommandName
         ensures { result ≡ self.now.command }
     {
         self.command
     }
 
-    /// How many password files there are, the new one of `rekey` counted.
+    /// The number of password files, including the new one of `rekey`.
     pub fn files(&self) -> usize
         ensures count { result ≡ length (files_of self.now) }
         ensures limit { result ≤ SECRET_COUNT_LIMIT + 1 }
@@ -84,7 +84,7 @@ impl Request {
         self.secrets.len() + self.new_secret.iter().count()
     }
 
-    /// How many password files there are without the new one of `rekey`.
+    /// The number of password files, without the new one of `rekey`.
     pub fn secret_count(&self) -> usize
         ensures count { result ≡ length self.now.secrets }
         ensures limit { result ≤ SECRET_COUNT_LIMIT }
@@ -120,7 +120,7 @@ impl Request {
         }
     }
 
-    /// The label of what `rekey` seals with; `None` for every other command.
+    /// The label of the secret that `rekey` seals with; `None` for every other command.
     pub fn new_label(&self) -> Option<&Label>
         ensures label { option_copied result
             ≡ option_map (λ file. file.label) self.now.new_secret }
@@ -175,7 +175,7 @@ impl Request {
         self.command.seals()
     }
 
-    /// Whether the label of an envelope is a hint, or binding.
+    /// Whether the label of an envelope is a hint or binding.
     pub fn rule(&self) -> LabelRule
         ensures { result ≡ self.now.rule }
     {

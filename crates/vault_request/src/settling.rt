@@ -1,4 +1,4 @@
-//! From the matches of a command line to a request.
+//! Making a request from the matches of a command line.
 ghost use Rattle.std.specs.Prelude.{◌≡◌, ◌++◌, true, None, map, is_some};
 ghost use Rattle.std.specs.Prelude.{IfSome, IfOk, IfErr, OnOk};
 ghost use Rattle.std.specs.Option.{option_copied, option_map};
@@ -22,7 +22,7 @@ use clap::ArgMatches;
 use std::alloc::{AllocError, Global};
 use vault_fault::Fault;
 
-/// The command that the matches hold, and what was given to it.
+/// The command in the matches, and the matches of its own arguments.
 fn command_in<'m, 'a>(matches: &'m ArgMatches<'a>) -> Option<(CommandName, &'m ArgMatches<'a>)>
     ensures { option_map (λ found. (found.0, rows_of (found_of found.1.now))) result
         ≡ command_in (subcommand_rows_of matches.now) }
@@ -98,7 +98,7 @@ fn secret_files_of(
     Ok(secret_files)
 }
 
-/// What `rekey` seals with.
+/// The password file of the secret that `rekey` seals with.
 fn new_file_of(
     alloc: Global,
     new_secret: Option<&BorrowedSecretFile<'_>>,
@@ -111,7 +111,7 @@ fn new_file_of(
     }
 }
 
-/// The request of options that are not refused, and of what was read of them.
+/// The request made from options that are not refused, and from what was read from them.
 fn request_of(
     alloc: Global,
     options: &Options<'_, '_>,
@@ -140,7 +140,7 @@ fn request_of(
     })
 }
 
-/// What the options settle: all is checked before the first allocation.
+/// The request of the options, all of which are checked before the first allocation.
 fn settled_by(alloc: Global, options: &Options<'_, '_>) -> Result<Request, Fault>
     ensures { Settles (settled_by options.now) result }
 {

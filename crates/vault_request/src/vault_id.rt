@@ -10,7 +10,7 @@ use std::marker::Model;
 use vault_fault::{Fault, SECRET_COUNT_LIMIT};
 use vault_text::Label;
 
-/// A `SecretFile` whose path lies in the command line.
+/// A `SecretFile` whose path is borrowed from the command line.
 #[derive(Drop)]
 pub(crate) struct BorrowedSecretFile<'a> {
     pub label: Label,
@@ -37,7 +37,7 @@ impl<'a> BorrowedSecretFile<'a> {
     }
 }
 
-/// An unused place of a list.
+/// An unused slot of a list.
 impl<'a> Default for BorrowedSecretFile<'a> {
     fn default() -> Self {
         BorrowedSecretFile::with_default_label("")
@@ -71,7 +71,7 @@ pub(crate) fn parse(id: &str) -> Result<BorrowedSecretFile<'_>, Fault>
     Ok(BorrowedSecretFile { label, path })
 }
 
-/// Reads vault ids in their order; refused by the first that has a fault.
+/// Reads vault ids in order; refused by the first one that has a fault.
 pub(crate) fn parse_all<'a>(ids: &[&'a str]) -> Result<BorrowedSecretFiles<'a>, Fault>
     requires { length ids.now ≤ SECRET_COUNT_LIMIT }
     ensures files { IfOk result (λ secret_files.

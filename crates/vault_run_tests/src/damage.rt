@@ -1,4 +1,4 @@
-//! Envelopes that are damaged.
+//! Damaged envelopes.
 use crate::leaving::assert_leaves;
 use crate::ran::Left;
 use crate::trial::Trial;
@@ -23,13 +23,13 @@ const NO_SECRET_FITS: &str = "ERROR! no secret decrypts this vault\n";
 
 const WRONG_PADDING: &str = "ERROR! the padding of the decrypted data is wrong\n";
 
-/// Decrypting these bytes is refused with this line, and the output is not begun.
+/// Asserts that decrypting these bytes is refused with this line, and begins no output.
 fn assert_refused(rt: &impl Abort, alloc: Global, input: &[u8], line: &str) -> Result<(), Fail> {
     let trial = Trial::new(DECRYPT, FIRST, &[]).at_the_limit();
     assert_leaves(rt, alloc, &trial, input, Left::refused(line))
 }
 
-/// The same where a byte takes the place of one of the vault.
+/// The same if a byte of the vault is replaced.
 fn assert_damage_refused(
     rt: &impl Abort,
     alloc: Global,
@@ -43,7 +43,7 @@ fn assert_damage_refused(
     assert_refused(rt, alloc, damaged.as_slice(), line)
 }
 
-/// These bytes as ciphertext under the tests' password and salt, without padding.
+/// The ciphertext of these bytes under the tests' password and salt, without padding.
 fn enciphered(alloc: Global, bytes: &[u8]) -> Result<Vec<u8>, Fail> {
     let keys = derive(b"first", SALT, &mut Meter::new());
     let mut ciphertext = Vec::from_slice(alloc, bytes)?;
@@ -67,7 +67,7 @@ fn refuses_another_tag(rt: HostRuntime) -> Result<(), Fail> {
     let alloc = rt.alloc();
     let zeros = spelled(alloc, "default", SALT, &[0; 32], &[0; 16])?;
     assert_refused(&rt, alloc, zeros.as_slice(), NO_SECRET_FITS)?;
-    // The last digit of the tag, which was an `f`.
+    // The last digit of the tag was an `f`.
     let vault = envelope(alloc, "default", b"first", SALT, b"text")?;
     let vault = vault.as_slice();
     assert_eq!(rt; vault.get(286).copied(), Some(b'6'));
@@ -109,7 +109,7 @@ fn refuses_a_short_body(rt: HostRuntime) -> Result<(), Fail> {
     )
 }
 
-/// The tag is right over ciphertext that is no whole block, and over wrong last bytes.
+/// The tag is right, but the ciphertext is not a whole block, or its last bytes are wrong.
 #[test]
 fn refuses_wrong_padding(rt: HostRuntime) -> Result<(), Fail> {
     let alloc = rt.alloc();

@@ -1,4 +1,4 @@
-//! Devices that fail at each of their calls in turn, and are not called again.
+//! Devices that fail at each of their calls in turn, and are then not called again.
 use crate::ran::Left;
 use crate::sinks::{assert_output_leaves, output_failed};
 use crate::sources::{assert_program_reports_read, assert_read_reported};
@@ -22,7 +22,7 @@ const ENCRYPT_STRING: &[&str] = &["encrypt_string", "--vault-id=f1"];
 
 const REKEY: &[&str] = &["rekey", "--vault-id=f1", "--new-vault-id=f2"];
 
-/// The source gives the input one byte a call. It fails at each call in turn, and then at none.
+/// The source gives the input one byte per call. It fails at each call in turn, and then at none.
 fn assert_reads_reported<'a>(
     rt: &impl Abort,
     alloc: Global,
@@ -49,7 +49,7 @@ fn reports_each_read_that_fails(rt: HostRuntime) -> Result<(), Fail> {
     assert_reads_reported(&rt, alloc, ENCRYPT_STRING, ONE, b"text")
 }
 
-/// The same of the program.
+/// The same for the program.
 fn assert_program_reports_reads(
     rt: &impl Abort,
     alloc: Global,
@@ -71,7 +71,7 @@ fn the_program_reports_each_read_that_fails(rt: HostRuntime) -> Result<(), Fail>
     assert_program_reports_reads(&rt, alloc, &encrypt, b"text")
 }
 
-/// The sink takes one byte a call. It fails at each call in turn, and then at none.
+/// The sink takes one byte per call. It fails at each call in turn, and then at none.
 fn assert_writes_reported<'a>(
     rt: &impl Abort,
     alloc: Global,

@@ -8,12 +8,12 @@ use std::test::Fail;
 use vault_made::{EMPTY_ENVELOPE, block, envelope};
 use vault_text::FailingSource;
 
-/// How an envelope under a salt of 32 zero bytes begins.
+/// The start of an envelope with a salt of 32 zero bytes.
 const UNDER_ZEROS: &[u8] = b"$ANSIBLE_VAULT;1.1;AES256\n\
     30303030303030303030303030303030303030303030303030303030303030303030303030303030\n\
     3030303030303030303030303030303030303030303030300a";
 
-/// The header line under the label `default`.
+/// The header line for the label `default`.
 const HEADER: &[u8] = b"$ANSIBLE_VAULT;1.1;AES256\n";
 
 const FIRST: &[&[u8]] = &[b"one\n"];
@@ -26,20 +26,20 @@ const ENCRYPT: &[&str] = &["encrypt", "--vault-password-file", "f1"];
 
 const DECRYPT: &[&str] = &["decrypt", "--vault-password-file", "f1"];
 
-/// The length of each line, and of what comes after the last line feed.
+/// The length of each line, and of the rest after the last line feed.
 fn line_lengths(alloc: Global, text: &[u8]) -> Result<Vec<usize>, AllocError> {
     text.split(|byte| *byte == b'\n')
         .map(|line| line.len())
         .collect(alloc)
 }
 
-/// How an envelope is laid out.
+/// The layout of an envelope.
 #[derive(Clone, Copy)]
 struct Form<'a> {
     length: usize,
-    /// The length of each line, and of what comes after the last line feed.
+    /// The length of each line, and of the rest after the last line feed.
     lines: &'a [usize],
-    /// How it begins.
+    /// The start of the envelope.
     prefix: &'a [u8],
 }
 
@@ -54,8 +54,8 @@ fn assert_form(rt: &impl Abort, alloc: Global, vault: &[u8], form: &Form<'_>) ->
     Ok(())
 }
 
-/// The trial on these bytes succeeds with an envelope of this form, which decrypts to them with the
-/// password in this file.
+/// Asserts that the trial on these bytes succeeds with an envelope of this form, which decrypts to
+/// them with the password in this file.
 fn assert_encrypts<'a>(
     rt: &impl Abort,
     alloc: Global,
@@ -110,7 +110,7 @@ fn pads_whole_blocks(rt: HostRuntime) -> Result<(), Fail> {
     assert_encrypts(&rt, alloc, &trial, short, &form, b"one\n")
 }
 
-/// The trial on these bytes is refused with this line.
+/// Asserts that the trial on these bytes is refused with this line.
 fn assert_refused(
     rt: &impl Abort,
     alloc: Global,
@@ -177,8 +177,8 @@ fn chooses_a_secret(rt: HostRuntime) -> Result<(), Fail> {
     assert_encrypts(&rt, rt.alloc(), &trial, b"text", &form, b"two\n")
 }
 
-/// Under a salt that is this text, these bytes are encrypted to an envelope of this form. No salt
-/// is drawn.
+/// Asserts that, with this text as the salt, these bytes are encrypted to an envelope of this form.
+/// No salt is drawn.
 fn assert_salted(
     rt: &impl Abort,
     alloc: Global,
@@ -219,7 +219,7 @@ fn takes_salt_texts_of_any_length(rt: HostRuntime) -> Result<(), Fail> {
     assert_salted(&rt, alloc, longest, b"", &form)
 }
 
-/// A block has this length, this first line, and six indented lines after it.
+/// Asserts that a block has this length, this first line, and six indented lines after it.
 fn assert_block_form(rt: &impl Abort, block: &[u8], length: usize, first: &[u8]) {
     let mut lines = block.split(|byte| *byte == b'\n');
     let first_line = lines.next();
@@ -228,7 +228,7 @@ fn assert_block_form(rt: &impl Abort, block: &[u8], length: usize, first: &[u8])
     assert_eq!(rt; found, (length, Some(first), 6));
 }
 
-/// Encrypting a STRING gives this block, and does not read the source.
+/// Asserts that encrypting a STRING gives this block, and does not read the source.
 fn assert_block<'a>(
     rt: &impl Abort,
     alloc: Global,

@@ -26,15 +26,15 @@ fn vault_of_first(alloc: Global) -> Result<Vec<u8>, AllocError> {
     envelope(alloc, "default", b"first", &[7; 32], PLAINTEXT)
 }
 
-/// How many bytes the writer of the output takes, and that of the message.
+/// How many bytes the writer of the output takes, and the writer of the message.
 #[derive(Clone, Copy, Debug)]
 struct Room {
     output: usize,
     message: usize,
 }
 
-/// The program, run on these words between these bytes and two narrow writers, ends with this
-/// status, output and message.
+/// Asserts that the program, run on these words between these bytes and two narrow writers, ends
+/// with this status, output and message.
 fn assert_writes(
     rt: &(impl Abort + Files),
     alloc: Global,
@@ -53,7 +53,7 @@ fn assert_writes(
     Ok(())
 }
 
-/// The writer of the output takes this and no more, which the message says.
+/// Asserts that the writer of the output takes this and no more, and that the message says so.
 fn assert_writer_fails(
     rt: &(impl Abort + Files),
     alloc: Global,
@@ -87,7 +87,7 @@ fn reports_help_that_cannot_be_written(rt: HostRuntime) -> Result<(), Fail> {
     assert_writer_fails(&rt, alloc, &["--version"], b"", b"ansible-va")
 }
 
-/// The writer of the message takes this and no more, and the status stays.
+/// Asserts that the writer of the message takes this and no more, and that the status is the same.
 fn assert_message_lost(
     rt: &(impl Abort + Files),
     alloc: Global,
@@ -101,14 +101,14 @@ fn assert_message_lost(
     assert_writes(rt, alloc, &["view"], b"", room, expected)
 }
 
-/// A message is lost where its writer is full, and the status stays.
+/// A message is lost if its writer is full, but the status is the same.
 #[test]
 fn keeps_the_status_where_the_writer_of_the_message_fails(rt: HostRuntime) -> Result<(), Fail> {
     assert_message_lost(&rt, rt.alloc(), b"")?;
     assert_message_lost(&rt, rt.alloc(), b"ERROR! input is not ")
 }
 
-/// The sink of the message fails after `calls` calls, and has taken this.
+/// Asserts that the sink of the message fails after `calls` calls, and has taken this.
 fn assert_message_fails(
     rt: &impl Abort,
     alloc: Global,
@@ -124,8 +124,8 @@ fn assert_message_fails(
     Ok(())
 }
 
-/// The error sink fails at `begin`, at a byte and at `finish`, or, with many calls, not at all.
-/// Where it failed it is not called again.
+/// The error sink fails at `begin`, at a byte and at `finish`, or, with many calls, not at all. It
+/// is not called again after a failure.
 #[test]
 fn keeps_the_status_where_the_message_fails(rt: HostRuntime) -> Result<(), Fail> {
     let alloc = rt.alloc();
@@ -137,7 +137,7 @@ fn keeps_the_status_where_the_message_fails(rt: HostRuntime) -> Result<(), Fail>
     assert_message_fails(&rt, alloc, 100, NO_VAULT)
 }
 
-/// The sink of the message fails at once, that of the output after `calls` calls.
+/// The sink of the message fails at once, the sink of the output after `calls` calls.
 fn assert_ends_silently(
     rt: &impl Abort,
     alloc: Global,

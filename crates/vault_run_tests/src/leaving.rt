@@ -1,4 +1,4 @@
-//! What runs leave, asserted as a whole.
+//! Asserting what runs leave, as a whole.
 ghost use Rattle.std.specs.Prelude.{◌≤◌};
 
 use crate::ran::{Left, Ran};
@@ -7,7 +7,7 @@ use std::alloc::Global;
 use std::process::Abort;
 use std::test::Fail;
 
-/// The run on these words left this.
+/// Asserts that the run on these words left this.
 pub fn assert_left(rt: &impl Abort, words: &[&str], ran: &Ran, expected: Left<'_>) {
     assert_eq!(rt; ran.left(), expected, "{words:?}");
 }

@@ -1,5 +1,5 @@
-//! Tests of whole runs: what each command writes; envelopes that are damaged, or spelled otherwise
-//! than they are written; inputs at the limits; devices that fail.
+//! Tests of whole runs: the output of each command; envelopes that are damaged, or spelled
+//! differently from how they are written; inputs at the limits; devices that fail.
 #![tactic(auto)]
 
 #[cfg(test)]

@@ -1,4 +1,4 @@
-//! Inputs at the limits of length: what is answered, and how many bytes are read.
+//! Inputs at the limits of length: the answers, and how many bytes are read.
 use crate::leaving::{assert_leaves, assert_leaves_in_steps, assert_left};
 use crate::program::run_on_system;
 use crate::ran::Left;
@@ -23,13 +23,13 @@ const TWO: &[&[u8]] = &[b"one\n", b"two\n"];
 
 const HEADER_LINE: &[u8] = b"$ANSIBLE_VAULT;1.1;AES256\n";
 
-/// The beginning of an envelope whose body is no hexadecimal text.
+/// The beginning of an envelope whose body is not hexadecimal.
 const DAMAGED: &[u8] = b"$ANSIBLE_VAULT;1.1;AES256\nzz";
 
-/// The line of an input that is too long.
+/// The line for an input that is too long.
 const TOO_LONG: &str = "ERROR! input is longer than the limit\n";
 
-/// The line of a body that is no hexadecimal text.
+/// The line for a body that is not hexadecimal.
 const NOT_HEXADECIMAL: &str = "ERROR! vault body is not hexadecimal\n";
 
 #[test]
@@ -38,7 +38,7 @@ fn have_their_sizes(rt: HostRuntime) {
     assert_eq!(rt; limits, (16_777_216, 16_777_232, 100_671_488));
 }
 
-/// A plaintext of this byte alone.
+/// A plaintext of this byte, repeated.
 fn repeated(alloc: Global, byte: u8, length: usize) -> Result<Vec<u8>, AllocError> {
     vec![in alloc; byte; length]
 }
@@ -52,7 +52,7 @@ fn count_lines(text: &[u8]) -> usize {
     text.iter().filter(|byte| **byte == b'\n').count()
 }
 
-/// Behind the header line there are 67,109,188 digits.
+/// There are 67,109,188 digits after the header line.
 #[test]
 fn take_the_longest_plaintext(rt: HostRuntime) -> Result<(), Fail> {
     let alloc = rt.alloc();
@@ -66,7 +66,7 @@ fn take_the_longest_plaintext(rt: HostRuntime) -> Result<(), Fail> {
     Ok(())
 }
 
-/// A plaintext of 15 bytes more than `encrypt` takes fills the longest ciphertext with its padding.
+/// A plaintext 15 bytes longer than `encrypt` takes fills the longest ciphertext with its padding.
 /// The step of the source changes nothing.
 #[test]
 fn take_the_longest_envelope(rt: HostRuntime) -> Result<(), Fail> {
@@ -84,7 +84,7 @@ fn take_the_longest_envelope(rt: HostRuntime) -> Result<(), Fail> {
     )
 }
 
-/// The same vault under another password, label and salt: more than `encrypt` takes is sealed anew.
+/// The same vault with another password, label and salt: more than `encrypt` takes is resealed.
 #[test]
 fn rekey_the_longest_envelope(rt: HostRuntime) -> Result<(), Fail> {
     let alloc = rt.alloc();
@@ -108,7 +108,7 @@ fn take_more_than_a_mib(rt: HostRuntime) -> Result<(), Fail> {
     assert_leaves_in_steps(&rt, alloc, &trial, vault.as_slice(), 4_096, left)
 }
 
-/// An input: some bytes, and line feeds after them up to a length.
+/// An input: some bytes, followed by line feeds up to a length.
 #[derive(Clone, Copy)]
 struct Long<'a> {
     words: &'a [&'a str],
@@ -116,11 +116,11 @@ struct Long<'a> {
     length: usize,
     /// How many bytes of it are read.
     read: usize,
-    /// What is written on standard error.
+    /// The line on standard error.
     line: &'a str,
 }
 
-/// A text without end that is no vault.
+/// An endless text that is not a vault.
 const ENDLESS: Long<'static> = Long {
     words: DECRYPT,
     prefix: b"",
@@ -129,20 +129,20 @@ const ENDLESS: Long<'static> = Long {
     line: TOO_LONG,
 };
 
-/// A plaintext without end.
+/// An endless plaintext.
 const ENDLESS_PLAINTEXT: Long<'static> = Long {
     words: ENCRYPT,
     read: 16_777_217,
     ..ENDLESS
 };
 
-/// A vault without end that is damaged at its beginning.
+/// An endless vault that is damaged at its beginning.
 const ENDLESS_DAMAGED: Long<'static> = Long {
     prefix: DAMAGED,
     ..ENDLESS
 };
 
-/// The input, read in steps, is refused with its line, after `long.read` bytes of it.
+/// Asserts that the input, read in steps, is refused with its line after `long.read` bytes of it.
 fn assert_refused_in_steps(
     rt: &impl Abort,
     alloc: Global,
@@ -164,8 +164,8 @@ fn assert_refused(rt: &impl Abort, alloc: Global, long: &Long<'_>) -> Result<(),
     assert_refused_in_steps(rt, alloc, long, 65_536)
 }
 
-/// Inputs that are too long by one byte or without end, where damage to the body comes after that;
-/// and a damaged one that is longer than a limit of one MiB allows.
+/// Inputs that are one byte too long or endless, which is reported before damage to the body; and a
+/// damaged one that is longer than a limit of one MiB would allow.
 #[test]
 fn are_refused(rt: HostRuntime) -> Result<(), Fail> {
     let alloc = rt.alloc();
@@ -212,7 +212,7 @@ fn tell_the_damage_up_to_the_limit(rt: HostRuntime) -> Result<(), Fail> {
     assert_refused_at_each_step(&rt, rt.alloc(), &damaged(100_671_488))
 }
 
-/// The length comes before the damage.
+/// The length is reported before the damage.
 #[test]
 fn tell_the_length_past_the_limit(rt: HostRuntime) -> Result<(), Fail> {
     let too_long = Long {
@@ -222,7 +222,7 @@ fn tell_the_length_past_the_limit(rt: HostRuntime) -> Result<(), Fail> {
     assert_refused_at_each_step(&rt, rt.alloc(), &too_long)
 }
 
-/// At the limit itself the input is read, and what it holds is reported.
+/// At the limit itself the input is read, and its damage is reported.
 #[test]
 fn tell_the_damage_of_the_longest_input(rt: HostRuntime) -> Result<(), Fail> {
     let mut stdin = CountingReader::with_line_feeds(DAMAGED, 100_671_488, 65_536);
@@ -238,14 +238,14 @@ fn tell_the_damage_of_the_longest_input(rt: HostRuntime) -> Result<(), Fail> {
     Ok(())
 }
 
-/// A vault under a label of this many letters.
+/// A vault with a label of this many letters.
 fn vault_under(alloc: Global, length: usize) -> Result<Vec<u8>, Fail> {
     let letters = vec![in alloc; b'x'; length]?;
     let label = String::from_utf8(letters)?;
     Ok(envelope(alloc, label.as_str(), b"one", &[7; 32], b"text")?)
 }
 
-/// Decrypting a vault under a label of this many letters leaves this.
+/// Asserts that decrypting a vault with a label of this many letters leaves this.
 fn assert_label_leaves(
     rt: &impl Abort,
     alloc: Global,

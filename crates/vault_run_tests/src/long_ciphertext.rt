@@ -1,4 +1,4 @@
-//! Ciphertext that is longer by a byte than an envelope may hold.
+//! Ciphertext that is one byte longer than an envelope may contain.
 ghost use Rattle.std.specs.Prelude.{◌≡◌, ◌<◌, length};
 ghost use Rattle.vault_text.specs.declared.limits.TheConstants.{CIPHERTEXT_LIMIT};
 
@@ -15,13 +15,13 @@ const DECRYPT: &[&str] = &["decrypt", "--vault-password-file", "one"];
 
 const FIRST: &[&[u8]] = &[b"first\n"];
 
-/// What the last byte of the ciphertext, and the line feed after it, may become, and how that is
-/// refused. A fault of the digits, or of the inner text, comes before that of the length.
+/// A replacement for the last byte of the ciphertext and the line feed after it, and how it is
+/// refused. A fault of the digits or of the inner text comes before the fault of the length.
 #[derive(Clone, Copy)]
 struct End<'a> {
     bytes: &'a [u8],
     fault: TextFault,
-    /// What is written on standard error.
+    /// The line on standard error.
     line: &'a str,
 }
 
@@ -59,7 +59,7 @@ fn ended(vault: &Vec<u8>, end: &[u8]) -> Result<Vec<u8>, AllocError> {
     Ok(whole)
 }
 
-/// The envelope with this end is refused with its line.
+/// Asserts that the envelope with this end is refused with its line.
 fn assert_refused(rt: &impl Abort, alloc: Global, end: &End<'_>) -> Result<(), Fail> {
     let vault = ended(&prefix(rt, alloc)?, end.bytes)?;
     let trial = Trial::new(DECRYPT, FIRST, &[]).at_the_limit();
@@ -94,7 +94,7 @@ fn fault_of(work: &mut [u8], input: &[u8], step: usize) -> Option<TextFault>
     reader.finish().err()
 }
 
-/// Reading these bytes in steps has this fault.
+/// Asserts that reading these bytes in steps has this fault.
 fn assert_fault(rt: &impl Abort, work: &mut Vec<u8>, input: &[u8], step: usize, fault: TextFault)
     requires { 0 < step }
 {
@@ -103,7 +103,7 @@ fn assert_fault(rt: &impl Abort, work: &mut Vec<u8>, input: &[u8], step: usize, 
     assert_eq!(rt; found, Some(fault), "{step}");
 }
 
-/// The reader refuses the envelope with this end, at any step.
+/// Asserts that the reader refuses the envelope with this end, at any step.
 fn assert_refused_by_the_reader(
     rt: &impl Abort,
     work: &mut Vec<u8>,

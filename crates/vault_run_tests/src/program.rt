@@ -1,4 +1,4 @@
-//! Runs of the program over files in memory, and over those of the system.
+//! Runs of the program over files in memory, and over the files of the system.
 use crate::leaving::assert_left;
 use crate::ran::{Ended, Left, Ran, left_by, text_of};
 use std::alloc::Global;
@@ -10,8 +10,8 @@ use vault_cli::{MemFile, MemFiles, MemSink, ReadSource, System, WriteSink, drive
 use vault_core_tests::{CountingReader, line_of};
 use vault_text::Source;
 
-/// A file of every Linux system, which holds "Linux" and a line end. It serves as a password file
-/// where a test has no files of its own.
+/// A file on every Linux system, which contains "Linux" and a line end. It serves as a password
+/// file if a test has no files of its own.
 pub const LINUX_FILE: &str = "/proc/sys/kernel/ostype";
 
 /// Runs the program on these words after its name, over these files. Its messages go to a writer.
@@ -46,7 +46,7 @@ pub fn run_on_system<F: Files, R: Read + Drop>(
     })
 }
 
-/// The program, run on these words over these files, leaves this.
+/// Asserts that the program, run on these words over these files, leaves this.
 pub fn assert_program_leaves<'a, S: Source>(
     rt: &impl Abort,
     alloc: Global,
@@ -60,7 +60,7 @@ pub fn assert_program_leaves<'a, S: Source>(
     Ok(())
 }
 
-/// The same where it reads `read` bytes of its input.
+/// The same, and that it reads `read` bytes of its input.
 pub fn assert_program_reads<'a>(
     rt: &impl Abort,
     alloc: Global,

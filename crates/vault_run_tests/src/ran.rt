@@ -1,9 +1,9 @@
-//! What a run left.
+//! The outcome of a run.
 use std::alloc::Global;
 use std::test::Fail;
 use vault_cli::{MemSink, Status};
 
-/// What a run left: its status, whether its output was begun, and what both sinks hold.
+/// What a run left: its status, whether its output was begun, and the contents of both sinks.
 #[derive(Drop)]
 pub struct Ran {
     pub status: Status,
@@ -22,7 +22,7 @@ pub struct Left<'a> {
 }
 
 impl<'a> Left<'a> {
-    /// Its whole output, and no message.
+    /// The whole output, and no message.
     pub const fn success(output: &'a [u8]) -> Self {
         Left {
             status: Status::Success,
@@ -32,7 +32,7 @@ impl<'a> Left<'a> {
         }
     }
 
-    /// A message alone.
+    /// Only a message.
     pub const fn failure(status: Status, message: &'a str) -> Self {
         Left {
             status,
@@ -60,7 +60,7 @@ impl Ran {
     }
 }
 
-/// What a run left where no one knows whether its output was begun.
+/// What a run left, if it is not known whether its output was begun.
 #[derive(Drop)]
 pub struct Ended {
     pub status: Status,
@@ -68,7 +68,7 @@ pub struct Ended {
     pub message: String,
 }
 
-/// A message as a text; fails where it is none.
+/// A message as a text; fails if it is not UTF-8.
 pub(crate) fn text_of(message: Vec<u8>) -> Result<String, Fail> {
     match String::from_utf8(message) {
         Ok(text) => Ok(text),
@@ -76,8 +76,8 @@ pub(crate) fn text_of(message: Vec<u8>) -> Result<String, Fail> {
     }
 }
 
-/// What a run of this status left in the sink of its output, with its message; fails where that is
-/// no text.
+/// What a run with this status left in the sink of its output, with its message; fails if that is
+/// not UTF-8.
 pub(crate) fn left_by(
     alloc: Global,
     status: Status,

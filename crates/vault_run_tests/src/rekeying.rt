@@ -7,7 +7,7 @@ use std::process::Abort;
 use std::test::Fail;
 use vault_made::envelope;
 
-/// How a vault under the label `prod` and a salt of 20 bytes 01 and more begins.
+/// The start of a vault with the label `prod` and a salt that begins with 20 bytes 01.
 const REKEYED: &[u8] = b"$ANSIBLE_VAULT;1.2;AES256;prod\n\
     30313031303130313031303130313031303130313031303130313031303130313031303130313031\n";
 
@@ -32,7 +32,7 @@ const REKEY_REQUIRED: &[&str] = &[
     "--require-id-match",
 ];
 
-/// The request of these words, with one password file, leaves this of the vault.
+/// Asserts that the request of these words, with one password file, leaves this for the vault.
 fn assert_answers<'a>(
     rt: &impl Abort,
     alloc: Global,
@@ -46,8 +46,8 @@ fn assert_answers<'a>(
     assert_leaves(rt, alloc, &trial, vault, left)
 }
 
-/// A vault of nothing, rekeyed to the label `prod`, the password `two` and a salt of ones, is
-/// opened by that password alone.
+/// Asserts that a vault of nothing, rekeyed to the label `prod`, the password `two` and a salt of
+/// ones, opens only with that password.
 fn assert_rekeyed(rt: &impl Abort, alloc: Global, vault: &[u8]) -> Result<(), Fail> {
     let nothing = Left::success(b"");
     let refused = Left::refused(NO_SECRET_FITS);
@@ -64,7 +64,7 @@ fn assert_rekeyed(rt: &impl Abort, alloc: Global, vault: &[u8]) -> Result<(), Fa
     assert_answers(rt, alloc, &words, b"two\n", vault, refused)
 }
 
-/// The old secret has the label of the vault, so that it is tried where the label is required too.
+/// The old secret has the label of the vault, so it is tried even if the label is required.
 #[test]
 fn rekeys(rt: HostRuntime) -> Result<(), Fail> {
     let alloc = rt.alloc();

@@ -21,7 +21,7 @@ fn files() -> [MemFile<'static>; 2] {
     ]
 }
 
-/// The program, run on these words, reads the whole vault in steps and shows this plaintext.
+/// Asserts that the program, run on these words, reads the vault in steps and shows this plaintext.
 fn assert_shows(
     rt: &impl Abort,
     alloc: Global,
@@ -72,7 +72,7 @@ fn refuses_without_secrets(rt: HostRuntime) -> Result<(), Fail> {
     assert_leaves(&rt, alloc, &trial, EMPTY_ENVELOPE, no_secret)
 }
 
-/// The vault, in steps, is decrypted to this plaintext, which comes out in steps too.
+/// Asserts that the vault, read in steps, decrypts to this plaintext, which is written in steps.
 fn assert_runs_in_steps(
     rt: &impl Abort,
     alloc: Global,

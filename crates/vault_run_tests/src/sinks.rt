@@ -1,4 +1,4 @@
-//! Runs between sinks that fail, and all that these take.
+//! Runs between sinks that fail, and all that these sinks take.
 use crate::ran::Left;
 use crate::trial::Trial;
 use crate::watched::Watched;
@@ -15,7 +15,7 @@ pub struct Calls {
     pub message: usize,
 }
 
-/// What a run leaves that cannot write its output: the first bytes, and a message that says so.
+/// What a run that cannot write its output leaves: the first bytes, and a message that says so.
 pub const fn output_failed<'a>(begun: bool, output: &'a [u8]) -> Left<'a> {
     Left {
         status: Status::DeviceFailed,
@@ -25,9 +25,9 @@ pub const fn output_failed<'a>(begun: bool, output: &'a [u8]) -> Left<'a> {
     }
 }
 
-/// Runs the trial on these bytes, between sinks that take one byte a call and fail as `calls` says.
-/// Asserts what that leaves, and that neither sink is called again once it failed. Returns whether
-/// the message was begun.
+/// Runs the trial on these bytes, between sinks that take one byte per call and fail as `calls`
+/// says. Asserts what that leaves, and that neither sink is called again after it failed. Returns
+/// whether the message was begun.
 pub fn assert_leaves(
     rt: &impl Abort,
     alloc: Global,
@@ -53,7 +53,7 @@ pub fn assert_leaves(
     Ok(err.device.begun())
 }
 
-/// The same where the sink of the message does not fail.
+/// The same if the sink of the message does not fail.
 pub fn assert_output_leaves(
     rt: &impl Abort,
     alloc: Global,

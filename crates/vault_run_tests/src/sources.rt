@@ -1,4 +1,4 @@
-//! Runs on sources that fail, and how these end.
+//! Runs on sources that fail, and how the runs end.
 use crate::program::run_program;
 use crate::ran::{Left, Ran};
 use crate::trial::Trial;
@@ -9,8 +9,8 @@ use std::test::Fail;
 use vault_cli::{MemFile, MemFiles, Status};
 use vault_text::FailingSource;
 
-/// Asserts how a run ended on this source of one byte a call, which fails after `calls` of them,
-/// and that the source was not called again once it failed or reported the end.
+/// Asserts how a run ended on this source of one byte per call, which fails after `calls` calls,
+/// and that the source was not called again after it failed or reported the end.
 fn assert_ended(
     rt: &impl Abort,
     words: &[&str],
@@ -28,8 +28,8 @@ fn assert_ended(
     assert_eq!(rt; src.asked_after, 0, "{words:?} {calls}");
 }
 
-/// The trial, run on a source that gives the input one byte a call and fails after `calls` calls,
-/// says so, or succeeds where no call fails.
+/// Asserts that the trial, run on a source that gives one byte per call and fails after `calls`
+/// calls, reports the failure, or succeeds if no call fails.
 pub fn assert_read_reported(
     rt: &impl Abort,
     alloc: Global,
@@ -43,7 +43,7 @@ pub fn assert_read_reported(
     Ok(())
 }
 
-/// The same of the program, which has the password files "f1" and "f2".
+/// The same for the program, which has the password files "f1" and "f2".
 pub fn assert_program_reports_read(
     rt: &impl Abort,
     alloc: Global,

@@ -1,4 +1,4 @@
-//! Envelopes that are spelled otherwise than they are written.
+//! Envelopes that are spelled differently from how they are written.
 use crate::leaving::assert_leaves;
 use crate::ran::Left;
 use crate::trial::Trial;
@@ -14,10 +14,10 @@ const PLAINTEXT: &[u8; 16] = &[b'a'; 16];
 /// The header line, with its end.
 const HEADER: &[u8] = b"$ANSIBLE_VAULT;1.1;AES256\n";
 
-/// A header line that names the label `default` by an empty field.
+/// A header line that names the label `default` with an empty field.
 const LONG_HEADER: &[u8] = b"$ANSIBLE_VAULT; 1.2 ;AES256; ;x\n";
 
-/// The text, where each line ends with a carriage return and a line feed.
+/// The text, with a carriage return and a line feed at the end of each line.
 fn with_carriage_returns(alloc: Global, text: &[u8]) -> Result<Vec<u8>, AllocError> {
     let mut spelled = Vec::new(alloc);
     for byte in text {
@@ -55,13 +55,13 @@ fn without_last(alloc: Global, text: &[u8]) -> Result<Vec<u8>, AllocError> {
     Ok(shorter)
 }
 
-/// The envelope, however it is spelled, holds the plaintext.
+/// Asserts that the envelope, however it is spelled, decrypts to the plaintext.
 fn assert_decrypts(rt: &impl Abort, alloc: Global, spelled: &[u8]) -> Result<(), Fail> {
     let trial = Trial::new(DECRYPT, &[b"one\n"], &[]);
     assert_leaves(rt, alloc, &trial, spelled, Left::success(PLAINTEXT))
 }
 
-/// The same of this header line and the body after it.
+/// The same for this header line and the body after it.
 fn assert_body_decrypts(
     rt: &impl Abort,
     alloc: Global,
@@ -73,13 +73,13 @@ fn assert_body_decrypts(
 }
 
 /// As it is written, with carriage returns, without the last line feed, in upper case, with one
-/// digit a line, and with spaces in the header line.
+/// digit per line, and with spaces in the header line.
 #[test]
 fn are_decrypted(rt: HostRuntime) -> Result<(), Fail> {
     let alloc = rt.alloc();
     let vault = envelope(alloc, "default", b"one", &[0; 32], PLAINTEXT)?;
     assert_eq!(rt; vault.len(), 419);
-    // Behind the 26 bytes of the header line.
+    // The body begins after the 26 bytes of the header line.
     let body = &vault[26..];
     let vault = vault.as_slice();
     assert_decrypts(&rt, alloc, vault)?;

@@ -8,10 +8,10 @@ use vault_cli::{MemSink, MemSource, Status, parse, run, settle};
 use vault_core_tests::{CountingReader, line_of};
 use vault_text::{CIPHERTEXT_LIMIT, PADDING_LIMIT, ReadSource, Sink, Source, Stage};
 
-/// Memory for 64 KiB of plaintext with its padding.
+/// The length of memory for 64 KiB of plaintext with its padding.
 pub const LITTLE_WORK: usize = 65_552;
 
-/// A request, and what it is run on beside its input.
+/// A request, and what it is run on besides its input.
 #[derive(Clone, Copy)]
 pub struct Trial<'a> {
     pub words: &'a [&'a str],
@@ -32,7 +32,7 @@ impl<'a> Trial<'a> {
         }
     }
 
-    /// In all the memory that the limits ask for.
+    /// The same request, in as much memory as the limits need.
     pub fn at_the_limit(self) -> Self {
         Trial {
             work_length: CIPHERTEXT_LIMIT,
@@ -52,12 +52,12 @@ impl<'a> Trial<'a> {
         self.run_from(alloc, &mut MemSource::new(input, step))
     }
 
-    /// Runs the request on what the reader gives.
+    /// Runs the request on the bytes that the reader gives.
     pub fn run_on_reader(&self, alloc: Global, reader: &mut CountingReader) -> Result<Ran, Fail> {
         self.run_from(alloc, &mut ReadSource::new(reader))
     }
 
-    /// Runs the request on what the source gives; fails where a success begins its message.
+    /// Runs the request on the bytes that the source gives; fails if a success begins its message.
     pub fn run_from<S: Source>(&self, alloc: Global, src: &mut S) -> Result<Ran, Fail> {
         let mut out = MemSink::new(alloc, 4_096);
         let mut err = MemSink::new(alloc, 4_096);

@@ -1,10 +1,10 @@
-//! Devices that are watched.
+//! Devices whose calls are watched.
 ghost use Rattle.std.specs.Prelude.{◌≡◌};
 
 use vault_text::{Sink, SinkFailed, Source, SourceFailed};
 
-/// A source or a sink that counts how often it is called after a call of it failed, or reported the
-/// end.
+/// A source or a sink that counts how often it is called after one of its calls failed or reported
+/// the end.
 #[derive(Drop)]
 pub struct Watched<D: Drop> {
     pub device: D,

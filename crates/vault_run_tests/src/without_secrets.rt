@@ -1,4 +1,4 @@
-//! Whole runs of the program that need no password file.
+//! Whole runs of the program that do not need a password file.
 use crate::program::run_program;
 use crate::ran::{Left, Ran};
 use std::alloc::Global;
@@ -7,13 +7,13 @@ use std::test::Fail;
 use vault_cli::{MemFiles, MemSource, Status};
 use vault_made::EMPTY_ENVELOPE;
 
-/// Runs the program on these words and this input, where there is no file.
+/// Runs the program on these words and this input, without any files.
 fn ran_alone(alloc: Global, words: &[&str], input: &[u8]) -> Result<Ran, Fail> {
     let mut files = MemFiles::new(alloc, &[]);
     run_program(alloc, &mut files, words, &mut MemSource::new(input, 4_096))
 }
 
-/// Asserts that this command of the input is refused with this message.
+/// Asserts that this command on the input is refused with this message.
 fn assert_refused(
     rt: &impl Abort,
     alloc: Global,
@@ -75,7 +75,7 @@ fn explains_the_command_line(rt: HostRuntime) -> Result<(), Fail> {
     assert_misspelled(&rt, alloc, &["--vault-id", "one", "view"])
 }
 
-/// Asserts that the message shows an argument too many in this form.
+/// Asserts that the message shows a surplus argument in this form.
 fn assert_shown(rt: &impl Abort, alloc: Global, argument: &str, form: &str) -> Result<(), Fail> {
     let refused = ran_alone(alloc, &["view", "x", argument], b"")?;
     let start = format!(in alloc; "error: unexpected argument '{form}' found\n")?;

@@ -12,7 +12,7 @@ key_of name = if length name == 0 then [] else name ++ codes ": "
 abbrev pub first_line : List ℕ → List ℕ
 first_line name = key_of name ++ codes "!vault |" ++ 10 ∷ []
 
--- what comes before each line of the envelope: ten spaces
+-- the indentation of each line of the envelope: ten spaces
 abbrev pub block_indentation : List ℕ
 block_indentation = replicate 10 32
 

@@ -1,5 +1,5 @@
 -- The envelope of a vault, formats 1.1 and 1.2: a header line, and a body that spells the inner
--- text. It is read in nine steps, of which the first that fails gives the fault.
+-- text. It is read in nine steps; the first one that fails gives the fault.
 use Rattle.std.specs.Prelude.{ℕ, nat_lt, nat_eq, not, if◌then◌else◌, List, length, drop, filter}
 use Rattle.std.specs.Prelude.{Result, Ok, Err}
 use Rattle.std.specs.List.{starts_with}
@@ -14,14 +14,14 @@ use Rattle.vault_text.specs.declared.fault.TextFault.{TextFault}
 use Rattle.vault_text.specs.declared.fault.TextFault.TheVariants.{TooLong, NotVault}
 use Rattle.vault_text.specs.declared.fault.TextFault.TheVariants.{BadHex, CipherTooLong}
 
--- what an envelope holds
+-- the contents of an envelope
 pub record Payload : Type 0 where
   pub label : List ℕ
   pub salt : List ℕ
   pub tag : List ℕ
   pub ciphertext : List ℕ
 
--- a text, every CR and LF dropped
+-- a text without its CRs and LFs
 abbrev pub without_line_ends : List ℕ → List ℕ
 without_line_ends text = filter (λ b. not (is_line_end b)) text
 
@@ -32,12 +32,12 @@ body input = without_line_ends (drop (length (header_line input)) input)
 -- steps 2 to 6: the label of the header line
 abbrev pub read_head : List ℕ → Result (List ℕ) TextFault
 read_head input =
-    -- 2: the input begins as every vault does
+    -- 2: the input begins like every vault
     if not (starts_with nat_eq input marker) then Err NotVault
     -- 3 to 6
     else read_header (header_line input)
 
--- steps 8 and 9: the payload of an inner text, under the label of the header line
+-- steps 8 and 9: the payload of an inner text, with the label of the header line
 abbrev pub read_inner : ℕ → List ℕ → List ℕ → Result Payload TextFault
 read_inner limit label text = do
   -- 8: it has three parts that fit
@@ -51,7 +51,7 @@ read_inner limit label text = do
         ciphertext = parts.ciphertext;
       })
 
--- steps 7 to 9: the payload of a body, under the label of the header line
+-- steps 7 to 9: the payload of a body, with the label of the header line
 unfoldable pub read_body : ℕ → List ℕ → List ℕ → Result Payload TextFault
 read_body limit label digits = do
   -- 7: it is hexadecimal
@@ -59,8 +59,8 @@ read_body limit label digits = do
   -- 8 and 9
   read_inner limit label inner
 
--- the payload of an envelope, or the fault of the first of the nine steps that fails, if the
--- plaintext has this limit
+-- the payload of an envelope under this limit of the plaintext, or the fault of the first of the
+-- nine steps that fails
 unfoldable pub read_within : ℕ → List ℕ → Result Payload TextFault
 read_within limit input =
     -- 1: the input is no longer than the limit allows

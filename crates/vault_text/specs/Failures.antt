@@ -18,8 +18,8 @@ abbrev pub CountsFailure : {T E : Type 0} → ℕ → ℕ → Result T E → Typ
 CountsFailure before after (Ok x) = after ≡ before
 CountsFailure before after (Err e) = HasRisen before after
 
--- a source or a sink over memory that fails at each call after a number of them: the memory, how
--- many calls are left, and its failures, those of the memory among them
+-- a source or a sink over memory that fails at every call after a given number: the memory, how
+-- many calls are left, and its failures, including the memory's
 pub record FailingState (Memory : Type 0) : Type 0 where
   pub memory : Memory
   pub calls : ℕ

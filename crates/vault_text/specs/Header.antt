@@ -1,4 +1,4 @@
--- The header line of an envelope, with semicolons between its fields: one that begins with
+-- The header line of an envelope. Semicolons separate its fields: one that begins with
 -- `$ANSIBLE_VAULT`, the version, the cipher and perhaps a label. Later fields are ignored.
 use Rattle.std.specs.Prelude.{ℕ, ◌==◌, ◌&&◌, ◌||◌, nat_lt, nat_le, not, Bool, if◌then◌else◌, List}
 use Rattle.std.specs.Prelude.{[], length, slice_index_or, codes, Result, Ok, Err}
@@ -23,11 +23,11 @@ is_line_end b = b == 10 || b == 13
 abbrev pub header_line : List ℕ → List ℕ
 header_line input = before_first is_line_end input
 
--- the parts between semicolons, bytes 59
+-- the parts between semicolons (byte 59)
 abbrev pub parts_of_line : List ℕ → List (List ℕ)
 parts_of_line line = slice_split (λ b. b == 59) line
 
--- the part at a place, from 0, without whitespace at its ends; empty if there is no such part
+-- the part at a place, counted from 0, without whitespace at its ends; empty if there is none
 abbrev pub field : ℕ → List ℕ → List ℕ
 field place line = strip (slice_index_or (parts_of_line line) place [])
 
@@ -43,7 +43,7 @@ label_of line = label_or_default (field 3 line)
 abbrev pub is_ascii : ℕ → Bool
 is_ascii b = nat_lt b 128
 
--- ASCII, three fields or more, and a label in the fourth, unless that is empty
+-- ASCII, three fields or more, and a label in the fourth, unless it is empty
 abbrev pub is_well_formed : List ℕ → Bool
 is_well_formed line =
     list_all is_ascii line && nat_le 3 (length (parts_of_line line)) && is_label (label_of line)

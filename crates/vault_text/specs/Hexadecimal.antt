@@ -1,4 +1,4 @@
--- Hexadecimal text: two digits a byte, the high four bits first.
+-- Hexadecimal text: two digits per byte, the high four bits first.
 use Rattle.std.specs.Prelude.{◌≡◌, ℕ, ◌/◌, Bool, false, ◌++◌, if◌then◌else◌, List, length}
 use Rattle.std.specs.Prelude.{Option, None, unwrap_or}
 use Rattle.std.specs.Option.{option_map, option_to_list}
@@ -14,16 +14,16 @@ abbrev pub value_or_invalid : ℕ → ℕ
 value_or_invalid digit = unwrap_or (hex_digit_value digit) 255
 
 -- a decoder of text in pieces: the first digit of a byte whose second has not come yet, and whether
--- there was a byte that is no digit
+-- there was a byte that is not a digit
 pub record DecoderState : Type 0 where
   pub high : Option ℕ
   pub is_bad : Bool
 
--- nothing of a text
+-- a decoder that has taken no text
 abbrev pub new_decoder : DecoderState
 new_decoder = record { high = None; is_bad = false }
 
--- the bytes that a text spells if it goes on after what a decoder has taken
+-- the bytes that a text spells if it continues the text that a decoder has taken
 abbrev pub unhex_on : DecoderState → List ℕ → Option (List ℕ)
 unhex_on decoder text = if decoder.is_bad then None else unhex (option_to_list decoder.high ++ text)
 

@@ -20,7 +20,7 @@ pub record Parts : Type 0 where
 abbrev pub is_line_feed : ℕ → Bool
 is_line_feed b = b == 10
 
--- the text cut at its first two LF; none if there are fewer
+-- the text cut at its first two LFs; none if there are fewer
 unfoldable pub cut : List ℕ → Option Parts
 cut text =
     if nat_lt (count_by is_line_feed text) 2 then None
@@ -49,7 +49,7 @@ ciphertext_of limit digits = do
 -- step 8: the bytes of the three parts, if each is hexadecimal and the parts fit
 unfoldable pub parts_of : List ℕ → Result Parts TextFault
 parts_of text = do
-  -- it has two LF
+  -- it has two LFs
   digits ← ok_or (cut text) BadPayload
   -- each part is hexadecimal
   salt ← part_bytes digits.salt

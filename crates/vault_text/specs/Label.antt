@@ -8,7 +8,7 @@ use Rattle.vault_text.specs.declared.limits.TheConstants.{LABEL_LIMIT}
 abbrev pub is_label_character : ℕ → Bool
 is_label_character c = nat_le 32 c && nat_le c 126 && not (c == 59)
 
--- 1 to 128 such characters, of which the first and the last are not spaces
+-- 1 to 128 such characters, neither the first nor the last of them a space
 abbrev pub is_label : List ℕ → Bool
 is_label text =
     nat_le 1 (length text) && nat_le (length text) LABEL_LIMIT && list_all is_label_character text

@@ -2,13 +2,13 @@
 -- so far.
 use Rattle.std.specs.Prelude.{◌≡◌, ℕ, List, ◌++◌}
 
--- whatever text a reader was given, with this piece it was given both, one after the other
+-- a reader that was given a text before has now been given that text followed by this piece
 abbrev pub TakesPiece : {State : Type 0} → (State → List ℕ → Type 0) → State → List ℕ → State
     → Type 0
 TakesPiece WasGiven old piece new =
     (text : List ℕ) → WasGiven old text → WasGiven new (text ++ piece)
 
--- the same of a prefix of a piece, as far as the rest of it
+-- the same for a prefix of a piece, up to the rest of it
 abbrev pub TakesUpTo : {State : Type 0} → (State → List ℕ → Type 0) → State → List ℕ → List ℕ
     → State → Type 0
 TakesUpTo WasGiven old piece rest new =

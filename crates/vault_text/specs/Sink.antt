@@ -6,12 +6,12 @@ use Rattle.vault_text.specs.Failures.{FailingState}
 use Rattle.vault_text.specs.declared.sink.Stage.{Stage}
 use Rattle.vault_text.specs.declared.sink.Stage.TheVariants.{Unbegun, Begun, Finished}
 
--- the bytes that a call took, of those that it was offered
+-- the bytes that a call took of the bytes it was offered
 abbrev pub taken : {E : Type 0} → Result ℕ E → List ℕ → List ℕ
 taken (Ok n) bytes = take n bytes
 taken (Err e) bytes = []
 
--- a sink: the bytes that it holds, if they are known, its stage, and its failures
+-- a sink: its bytes, if they are known, its stage, and its failures
 pub record SinkState : Type 0 where
   pub held : Option (List ℕ)
   pub stage : Stage
@@ -28,8 +28,7 @@ has_begun Unbegun = false
 has_begun Begun = true
 has_begun Finished = true
 
--- a sink over memory: its bytes, its stage, its failures, and how many bytes it takes per call at
--- most
+-- a sink over memory: its bytes, its stage, its failures, and the most bytes that it takes per call
 pub record MemSinkState : Type 0 where
   pub held : List ℕ
   pub stage : Stage
@@ -44,7 +43,7 @@ state_of m = record { held = Some m.held; stage = m.stage; failures = m.failures
 abbrev pub MemoryTakes : MemSinkState → List ℕ → MemSinkState → Type 0
 MemoryTakes old taken new = Takes (state_of old) taken (state_of new) × (new.step ≡ old.step)
 
--- the same if it fails after a number of calls
+-- the same for a sink that fails after a number of calls
 abbrev pub failing_state_of : FailingState MemSinkState → SinkState
 failing_state_of f =
     record { held = Some f.memory.held; stage = f.memory.stage; failures = f.failures }

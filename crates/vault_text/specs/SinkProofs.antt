@@ -22,7 +22,7 @@ Appends-more (Some a) (Some b) (Some c) xs ys p q = rw (q, p) (append_assoc a xs
 pub Takes-none : (s : SinkState) → Takes s [] s
 Takes-none s = record { appended = Appends-none s.held; failures_monotone = omega arith }
 
--- what was taken first and what was taken then are taken one after the other
+-- the bytes taken first and the bytes taken next are taken one after the other
 pub Takes-more : (s t u : SinkState) (xs ys : List ℕ)
     → Takes s xs t → Takes t ys u → Takes s (xs ++ ys) u
 Takes-more s t u xs ys p q = record {

@@ -23,8 +23,8 @@ pub record Gives (old : SourceState) (given : List ℕ) (new : SourceState) : Ty
   pub end_is_real : (IsTrue old.ended → IsAtEnd old.left) → IsTrue new.ended → IsAtEnd new.left
   pub failures_monotone : old.failures ≤ new.failures
 
--- a source over memory, which never fails: its bytes left, whether it reported its end, and how
--- many bytes it gives per call at most
+-- a source over memory, which never fails: its remaining bytes, whether it reported its end, and
+-- the most bytes that it gives per call
 pub record MemSourceState : Type 0 where
   pub left : List ℕ
   pub ended : Bool
@@ -38,7 +38,7 @@ state_of m = record { left = Some m.left; ended = m.ended; failures = 0 }
 abbrev pub MemoryGives : MemSourceState → List ℕ → MemSourceState → Type 0
 MemoryGives old given new = Gives (state_of old) given (state_of new) × (new.step ≡ old.step)
 
--- the same if it fails after a number of calls
+-- the same for a source that fails after a number of calls
 abbrev pub failing_state_of : FailingState MemSourceState → SourceState
 failing_state_of f =
     record { left = Some f.memory.left; ended = f.memory.ended; failures = f.failures }

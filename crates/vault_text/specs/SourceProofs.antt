@@ -26,7 +26,7 @@ Gives-none s = record {
   failures_monotone = omega arith;
 }
 
--- what was given first and what was given then are given one after the other
+-- the bytes given first and the bytes given next are given one after the other
 pub Gives-more : (s t u : SourceState) (xs ys : List ℕ)
     → Gives s xs t → Gives t ys u → Gives s (xs ++ ys) u
 Gives-more s t u xs ys p q = record {

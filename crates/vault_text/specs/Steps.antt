@@ -1,4 +1,4 @@
--- Steps of which each may be refused.
+-- Steps that may each be refused.
 use Rattle.std.specs.Prelude.{Result, Ok, Err}
 
 -- bind of `Result`, as Rust's `and_then`: the step on the right gets the value of the one on the

@@ -1,4 +1,4 @@
--- The memory that holds a text while it is read and worked on.
+-- Memory for a text while it is read and processed.
 use Rattle.std.specs.Prelude.{◌≡◌, ℕ, ◌≤◌, List, length, take, vec_capacity}
 use Rattle.vault_text.specs.declared.text_memory.Place.{Place}
 use Rattle.vault_text.specs.declared.text_memory.Place.TheVariants.{Borrowed, Reserved}

@@ -7,7 +7,7 @@ use Rattle.std.specs.Str.{bytes_eq}
 use Rattle.hex.specs.Hex.{encode_lower}
 use Rattle.vault_text.specs.Label.{default_label}
 
--- format 1.1 for the label `default`, and for any other format 1.2, which names it
+-- format 1.1 for the label `default`, and format 1.2 for any other label, which it names
 unfoldable pub written_header : List ℕ → List ℕ
 written_header label =
     if bytes_eq label default_label then codes "$ANSIBLE_VAULT;1.1;AES256"
@@ -39,11 +39,11 @@ abbrev pub written_lines : List ℕ → List ℕ → List ℕ → List ℕ → L
 written_lines label salt tag ciphertext =
     written_header label ∷ body_lines (encode_lower (inner_text salt tag ciphertext))
 
--- lines after an indentation, each ended by LF
+-- indented lines, each ended by LF
 unfoldable pub text_of_lines : List ℕ → List (List ℕ) → List ℕ
 text_of_lines indentation lines = flat_map (λ line. indentation ++ line ++ 10 ∷ []) lines
 
--- bytes in hexadecimal, on lines after an indentation
+-- bytes in hexadecimal, on indented lines
 abbrev pub hexadecimal_lines : List ℕ → List ℕ → List ℕ
 hexadecimal_lines indentation bytes = text_of_lines indentation (body_lines (encode_lower bytes))
 

@@ -4,7 +4,7 @@ ghost use Rattle.vault_text.specs.Failures.{HasRisen, IsSaturated, u64_max};
 
 use std::marker::Model;
 
-/// How many calls of a source or a sink failed. It saturates at `u64::MAX`.
+/// The number of failed calls of a source or a sink, saturating at `u64::MAX`.
 #[derive(Drop)]
 pub struct FailureCount {
     count: u64,
@@ -26,7 +26,7 @@ impl FailureCount {
         FailureCount { count: 0 }
     }
 
-    /// Counts the failure of a call, and returns the error of that call.
+    /// Counts a failed call, and returns the call's error.
     pub fn fail<T, E>(&mut self, error: E) -> Result<T, E>
         ensures error { result ≡ Err error }
         ensures risen { HasRisen self.old self.new }
@@ -36,7 +36,7 @@ impl FailureCount {
         Err(error)
     }
 
-    /// Whether it is saturated: then each call must fail, since a failure could not be counted.
+    /// Whether it is saturated. Each call must then fail, since a failure could not be counted.
     pub fn is_saturated(&self) -> bool
         ensures saturated { IsTrue result ↔ IsSaturated self.now }
         ensures bound { self.now ≤ u64_max }

@@ -1,7 +1,7 @@
 //! The faults of a text.
 use thiserror::Error;
 
-/// Why bytes are no envelope, in the order in which the faults are looked for.
+/// Why bytes are not an envelope, in the order in which the faults are checked.
 #[derive(Clone, Copy, Debug, PartialEq, Eq, Error)]
 pub enum TextFault {
     #[error("input is longer than the limit")]

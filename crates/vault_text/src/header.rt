@@ -11,11 +11,11 @@ use crate::label::Label;
 use crate::limits::HEADER_LIMIT;
 use crate::whitespace::strip;
 
-/// What every vault begins with.
+/// The bytes that every vault begins with.
 pub const MARKER: &[u8; 14] = b"$ANSIBLE_VAULT";
 
-/// The fields of a header line that are read, without whitespace at their ends. The label is empty
-/// if the line has none.
+/// The fields that are read from a header line, without whitespace at their ends. The label is
+/// empty if the line has none.
 #[derive(Drop)]
 struct Fields<'a> {
     version: &'a [u8],
@@ -42,7 +42,7 @@ pub(crate) fn before_line_end(input: &[u8]) -> &[u8]
     &input[..end]
 }
 
-/// The first place of the byte, or the length if it does not occur.
+/// The position of the first such byte, or the length if there is none.
 pub(crate) fn position_of(bytes: &[u8], byte: u8) -> usize
     ensures place { result ≡ position_or_len (λ b. b == byte) bytes.now }
     ensures inside { result ≤ length bytes.now }
@@ -54,7 +54,7 @@ pub(crate) fn position_of(bytes: &[u8], byte: u8) -> usize
     place
 }
 
-/// What comes before the first such byte, and what comes after it if there is one.
+/// The part before the first such byte, and the part after it if there is one.
 pub(crate) fn split_at_byte(bytes: &[u8], byte: u8) -> (&[u8], Option<&[u8]>)
     ensures before { result.0.now ≡ before_first (λ b. b == byte) bytes.now }
     ensures found { IfSome result.1 (λ rest. bytes.now ≡ result.0.now ++ byte ∷ rest.now) }
@@ -100,7 +100,7 @@ fn is_ascii(line: &[u8]) -> bool
     line.iter().all(|byte| *byte < 128)
 }
 
-/// The label that a header line names, given without its line end.
+/// The label that a header line names. The line is given without its line end.
 #[tactic(auto, unfolding(crate::specs::Header::read_header))]
 pub(crate) fn read_header(line: &[u8]) -> Result<Label, TextFault>
     ensures { result ≡ read_header line.now }

@@ -9,16 +9,16 @@ ghost use Rattle.vault_text.specs.Hexadecimal.{value_or_invalid};
 use crate::line::LINE_DIGITS;
 use std::marker::Model;
 
-/// The digits of a block: half of a line, or all the digits that a line spells.
+/// The number of digits in a block: half of a line, or all the digits that a line spells.
 const BLOCK_DIGITS: usize = LINE_DIGITS / 2;
 
-/// The bytes that a block spells.
+/// The number of bytes that a block spells.
 const BLOCK_BYTES: usize = BLOCK_DIGITS / 2;
 
 /// The largest value of a digit.
 const LARGEST: u8 = 15;
 
-/// In the place of the value of a byte that is no digit; it has bits that no digit has.
+/// Stands in for the value of a byte that is not a digit; it has bits that no digit has.
 const INVALID: u8 = 255;
 
 /// The value of a digit of either case.
@@ -30,9 +30,9 @@ fn digit_value(digit: u8) -> Option<u8>
     Some(value[0])
 }
 
-/// Decodes pairs of digits, each to a byte, and returns whether all were digits. If one was not,
-/// the bytes mean nothing. A bad digit ends no loop early: that branch would be mispredicted.
-// Inlined, as what it calls and is called by, since most calls have a length that is known there.
+/// Decodes each pair of digits to a byte, and returns whether all were digits. If not, the bytes
+/// are meaningless. No loop ends early at a bad digit: that branch would be mispredicted.
+// Inlined, since most callers know the length.
 #[inline(always)]
 fn decode_pairs(pairs: &[u8], bytes: &mut [u8]) -> bool
     requires { length pairs.now ≡ 2 * length bytes.old }
@@ -48,9 +48,8 @@ fn decode_pairs(pairs: &[u8], bytes: &mut [u8]) -> bool
     is_good & decode_one_by_one(&pairs[2 * done..], &mut bytes[done..])
 }
 
-/// Decodes a block of digits. Its length is always the same, so the compiler can use vector
-/// instructions.
-// Out of line there is one copy of it, and profiles show what digits cost.
+/// Decodes a block of digits. Its length is fixed, so the compiler can use vector instructions.
+// Kept out of line: there is only one copy, and profiles show the cost of decoding.
 #[inline(never)]
 fn decode_block(digits: &[u8], bytes: &mut [u8]) -> bool
     requires digits { length digits.now ≡ BLOCK_DIGITS }
@@ -63,7 +62,7 @@ fn decode_block(digits: &[u8], bytes: &mut [u8]) -> bool
     is_good
 }
 
-/// The values of a block of digits, and whether all were digits.
+/// Writes the values of a block of digits, and returns whether all were digits.
 fn digit_values(digits: &[u8], values: &mut [u8; BLOCK_DIGITS]) -> bool
     requires { length digits.now ≡ BLOCK_DIGITS }
     ensures values { values.new ≡ map value_or_invalid digits.now }
@@ -78,7 +77,7 @@ fn digit_values(digits: &[u8], values: &mut [u8; BLOCK_DIGITS]) -> bool
     seen <= LARGEST
 }
 
-/// Joins the values of a block, each two to a byte.
+/// Joins each pair of values of a block into a byte.
 fn join_halves(values: &[u8; BLOCK_DIGITS], bytes: &mut [u8])
     requires { length bytes.old ≡ BLOCK_BYTES }
     ensures { (digits : List ℕ) → values.now ≡ map value_or_invalid digits
@@ -89,7 +88,7 @@ fn join_halves(values: &[u8; BLOCK_DIGITS], bytes: &mut [u8])
     }
 }
 
-/// Decodes pairs of digits, of which there are too few for a block.
+/// Decodes pairs of digits that are too few for a block.
 #[inline(always)]
 fn decode_one_by_one(pairs: &[u8], bytes: &mut [u8]) -> bool
     requires { length pairs.now ≡ 2 * length bytes.old }
@@ -105,12 +104,12 @@ fn decode_one_by_one(pairs: &[u8], bytes: &mut [u8]) -> bool
     is_good
 }
 
-/// Decodes hexadecimal text that may be cut anywhere, also between the two digits of a byte.
+/// Decodes hexadecimal text that may be cut anywhere, even between the two digits of a byte.
 #[derive(Drop)]
 pub(crate) struct HexDecoder {
-    /// The first digit of a byte whose second has not come yet.
+    /// The first digit of a byte whose second digit has not come yet.
     high: Option<u8>,
-    /// Whether there was a byte that is no digit.
+    /// Whether there was a byte that is not a digit.
     is_bad: bool,
 }
 
@@ -132,8 +131,8 @@ impl HexDecoder {
         }
     }
 
-    /// Decodes the bytes that these digits complete, to the start of `bytes`, and returns how many.
-    /// After a bad digit the bytes mean nothing.
+    /// Decodes the bytes that these digits complete into the start of `bytes`, and returns how
+    /// many there are. After a bad digit the bytes are meaningless.
     #[inline(always)]
     pub(crate) fn decode(&mut self, digits: &[u8], bytes: &mut [u8]) -> usize
         requires { byte_count self.old digits.now ≤ length bytes.old }
@@ -151,8 +150,8 @@ impl HexDecoder {
         1 + self.decode_aligned(rest, &mut bytes[1..])
     }
 
-    /// Decodes pairs of digits, each to a byte. It returns false if a digit is bad, here or before,
-    /// or if one waits for its second; then the bytes mean nothing.
+    /// Decodes each pair of digits to a byte. Returns false if a digit is bad, here or earlier, or
+    /// if one still waits for its second; the bytes are then meaningless.
     pub(crate) fn decode_whole(&self, pairs: &[u8], bytes: &mut [u8]) -> bool
         requires { length pairs.now ≡ 2 * length bytes.old }
         ensures value { unhex_on self.now pairs.now ≡ (if result then Some bytes.new else None) }
@@ -162,7 +161,7 @@ impl HexDecoder {
         self.is_complete() && decode_pairs(pairs, bytes)
     }
 
-    /// Decodes digits while none waits for its second.
+    /// Decodes digits when no earlier digit waits for its second.
     #[inline(always)]
     fn decode_aligned(&mut self, digits: &[u8], bytes: &mut [u8]) -> usize
         requires aligned { self.old.high ≡ None }

@@ -18,8 +18,8 @@ use thiserror::Error;
 #[error("a vault id label is not allowed")]
 pub struct BadLabel;
 
-/// The label of a vault id: 1 to 128 characters of printable ASCII without semicolons, of which
-/// the first and the last are not spaces.
+/// The label of a vault id: 1 to 128 characters of printable ASCII without semicolons, neither the
+/// first nor the last of them a space.
 #[derive(Debug, Drop)]
 pub struct Label {
     text: ArrayString<LABEL_LIMIT>,
@@ -71,7 +71,7 @@ impl Label {
         })
     }
 
-    /// The label of this text, `default` if it is empty.
+    /// The label with this text, or `default` if it is empty.
     pub fn new_or_default(text: &str) -> Result<Self, BadLabel>
         ensures allowed { is_ok result ≡ is_label (label_or_default text.now) }
         ensures text { IfOk result (λ label. label ≡ label_or_default text.now) }
@@ -83,7 +83,7 @@ impl Label {
         }
     }
 
-    /// The label of these bytes, `default` if there are none; None if they are not allowed as one.
+    /// The label with these bytes, or `default` if there are none; None if they are not allowed.
     pub(crate) fn from_bytes_or_default(bytes: &[u8]) -> Option<Self>
         ensures allowed { is_some result ≡ is_label (label_or_default bytes.now) }
         ensures text { IfSome result (λ label. label ≡ label_or_default bytes.now) }
@@ -94,7 +94,7 @@ impl Label {
         }
     }
 
-    /// The label of vaults that name none, `default`.
+    /// `default`, the label of vaults that name none.
     pub fn default_label() -> Self
         ensures { result ≡ default_label }
     {
@@ -103,7 +103,7 @@ impl Label {
         Label { text }
     }
 
-    /// A second label of this text.
+    /// A second label with the same text.
     pub fn copy(&self) -> Self
         ensures { result ≡ self.now }
     {

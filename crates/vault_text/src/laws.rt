@@ -1,5 +1,5 @@
-//! Laws of the definitions that the contracts of this crate cite, each the contract of a function
-//! that does nothing.
+//! Laws of the definitions that the contracts of this crate cite, each stated as the contract of a
+//! function that does nothing.
 ghost use Rattle.std.specs.Prelude.{◌≡◌, ◌+◌, ◌*◌};
 ghost use Rattle.vault_text.specs.Laws.{LargerLimits, ShortInputs, WrittenReadsBack};
 ghost use Rattle.vault_text.specs.declared.limits.TheConstants.{CIPHERTEXT_LIMIT, ENVELOPE_LIMIT};
@@ -24,13 +24,13 @@ pub fn written_reads_back()
     ensures { WrittenReadsBack }
 {}
 
-/// What is read under a limit is read as before under a larger one.
+/// An input that can be read under a limit reads the same under a larger one.
 pub fn larger_limits()
     ensures { LargerLimits }
 {}
 
-/// An input of at most four times a limit is read alike under it and under each larger one, since
-/// an envelope spells each byte of its ciphertext with four digits.
+/// An input of at most four times a limit reads the same under it and under every larger one,
+/// since an envelope spells each byte of its ciphertext with four digits.
 pub fn short_inputs()
     ensures { ShortInputs }
 {}

@@ -1,5 +1,5 @@
-//! Text of the Ansible Vault formats 1.1 and 1.2: where bytes come from and go to, labels, salts
-//! and envelopes.
+//! Text of the Ansible Vault formats 1.1 and 1.2: sources and sinks of bytes, labels, salts and
+//! envelopes.
 //!
 //! ```rust
 //! let salt = Salt::new(&[7; 32]).ok_or("the salt is too long")?;

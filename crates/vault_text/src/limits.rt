@@ -1,4 +1,4 @@
-//! The limits. All are in bytes.
+//! The limits, all in bytes.
 
 ghost use Rattle.std.specs.Prelude.{◌≡◌, ◌≤◌};
 ghost use Rattle.vault_text.specs.Limits.{envelope_limit};
@@ -34,7 +34,7 @@ pub const LABEL_LIMIT: usize = 128;
 /// The length of a tag, which is a SHA-256 digest.
 pub const TAG_LENGTH: usize = 32;
 
-/// The longest envelope that is read if the plaintext has this limit.
+/// The longest envelope that is read under this limit of the plaintext.
 pub(crate) fn envelope_limit(limit: usize) -> usize
     requires { limit ≤ PLAINTEXT_LIMIT }
     ensures value { result ≡ envelope_limit limit }

@@ -1,4 +1,4 @@
-//! What an envelope holds.
+//! The contents of an envelope.
 ghost use Rattle.std.specs.Prelude.{◌≡◌};
 
 use crate::label::Label;
@@ -6,7 +6,7 @@ use crate::limits::TAG_LENGTH;
 use crate::salt::Salt;
 use std::marker::Model;
 
-/// What an envelope holds. The tag and the ciphertext are not checked against each other.
+/// The contents of an envelope. The tag is not checked against the ciphertext.
 #[derive(Drop)]
 pub struct Payload<'a> {
     pub(crate) label: Label,
@@ -29,28 +29,28 @@ impl<'a> Model for Payload<'a> {
 }
 
 impl<'a> Payload<'a> {
-    /// The label that the header line names, `default` if it names none.
+    /// The label that the header line names, or `default` if it names none.
     pub fn label(&self) -> &Label
         ensures { result.now ≡ self.now.label }
     {
         &self.label
     }
 
-    /// The salt: at most `SALT_LIMIT` bytes, and perhaps none.
+    /// The salt: at most `SALT_LIMIT` bytes. It may be empty.
     pub fn salt(&self) -> &Salt
         ensures { result.now ≡ self.now.salt }
     {
         &self.salt
     }
 
-    /// The tag as it was read: nothing says that it fits the ciphertext.
+    /// The tag as it was read. It need not match the ciphertext.
     pub fn tag(&self) -> &[u8; TAG_LENGTH]
         ensures { result.now ≡ self.now.tag }
     {
         &self.tag
     }
 
-    /// The ciphertext, which may be empty or of a length that no padding gives.
+    /// The ciphertext. It may be empty, or have a length that no padded text has.
     pub fn cipher(&self) -> &[u8]
         ensures { result.now ≡ self.now.ciphertext }
     {

@@ -1,5 +1,5 @@
 //! Reading an envelope that comes in pieces: the header line, then the digits of the body, then the
-//! parts of the inner text that these spell. Each layer takes what the one above hands it.
+//! parts of the inner text that these spell. Each layer takes what the layer above passes on.
 ghost use Rattle.std.specs.Prelude.{◌≡◌, ◌≤◌, ℕ, List, [], ◌++◌, length};
 ghost use Rattle.vault_text.specs.Envelope.{read_within};
 ghost use Rattle.vault_text.specs.EnvelopeReader.{HasRead};
@@ -20,13 +20,13 @@ use header_line::HeaderLine;
 use std::marker::Model;
 
 /// Reads an envelope that comes in pieces of any length. Only `finish` reports a fault, since one
-/// that comes earlier in the order may still be found. The ciphertext lies in the memory
-/// that the reader borrows; of the rest of the input it keeps no more than its type has room for.
+/// that comes earlier in the order may still be found. The ciphertext goes into the memory that the
+/// reader borrows; the reader keeps no more of the other input than its type has room for.
 #[derive(Drop)]
 pub struct EnvelopeReader<'a> {
     /// The limit of the plaintext.
     limit: usize,
-    /// How many bytes were read so far; it saturates at `usize::MAX`.
+    /// The number of bytes read so far, saturating at `usize::MAX`.
     bytes_read: usize,
     line: HeaderLine,
     body: BodyReader<'a>,
@@ -60,8 +60,8 @@ impl<'a> EnvelopeReader<'a> {
         EnvelopeReader::in_memory(TextMemory::borrowed(work))
     }
 
-    /// A reader that puts the ciphertext into memory that holds no text. Its limits follow from
-    /// that of the memory as those of `new` follow from the length of `work`.
+    /// A reader that puts the ciphertext into memory that has no text yet. Its limits are as for
+    /// `new`, with the limit of the memory in place of the length of `work`.
     pub fn in_memory(memory: TextMemory<'a>) -> Self
         requires empty { memory.bytes ≡ [] }
         requires room { IsWorkLength memory.limit }
@@ -76,7 +76,7 @@ impl<'a> EnvelopeReader<'a> {
         }
     }
 
-    /// How many bytes of input are read at most, line ends included.
+    /// The most bytes of input that are read, line ends included.
     pub fn input_limit(&self) -> usize
         ensures value { result ≡ envelope_limit self.now.limit }
         ensures bound { result ≤ ENVELOPE_LIMIT }
@@ -84,7 +84,7 @@ impl<'a> EnvelopeReader<'a> {
         envelope_limit(self.limit)
     }
 
-    /// Takes the piece of the input that comes next.
+    /// Takes the next piece of the input.
     pub fn feed(&mut self, piece: &[u8])
         ensures limit { self.new.limit ≡ self.old.limit }
         ensures taken { (input : List ℕ) →
@@ -96,8 +96,8 @@ impl<'a> EnvelopeReader<'a> {
     }
 
     /// The payload of the input, or its first fault in the order of the nine steps: `TooLong` over
-    /// `input_limit`, then those of the header line, `BadHex`, `BadPayload`, and `CipherTooLong` if
-    /// the ciphertext does not fit in the memory.
+    /// `input_limit`, then the faults of the header line, `BadHex`, `BadPayload`, and
+    /// `CipherTooLong` if the ciphertext does not fit in the memory.
     pub fn finish(self) -> Result<Payload<'a>, TextFault>
         ensures { (input : List ℕ) →
             HasRead self.entry input → result ≡ read_within self.entry.limit input }

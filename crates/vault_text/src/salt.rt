@@ -24,7 +24,7 @@ impl Model for Salt {
 }
 
 impl Salt {
-    /// None over 256 bytes.
+    /// The salt with these bytes; None if there are more than 256.
     pub fn new(bytes: &[u8]) -> Option<Self>
         ensures fits { IsSome result ↔ (length bytes.now ≤ SALT_LIMIT) }
         ensures bytes { IfSome result (λ salt. salt ≡ bytes.now) }
@@ -34,7 +34,7 @@ impl Salt {
         Some(Salt { bytes: copy })
     }
 
-    /// The bytes that it was made of, at most 256.
+    /// The bytes of the salt, at most 256.
     pub fn as_bytes(&self) -> &[u8]
         ensures bytes { result.now ≡ self.now }
         ensures fits { length result.now ≤ SALT_LIMIT }

@@ -18,18 +18,18 @@ pub use write::WriteSink;
 #[error("the sink cannot be written")]
 pub struct SinkFailed;
 
-/// How far the use of a sink has come.
+/// The stage of a sink's use.
 #[derive(Clone, Copy, Debug, PartialEq, Eq)]
 pub enum Stage {
-    /// `begin` has not returned `Ok` yet: nothing is taken.
+    /// `begin` has not returned `Ok` yet: the sink takes no bytes.
     Unbegun,
-    /// Bytes are taken.
+    /// The sink takes bytes.
     Begun,
-    /// `finish` has returned `Ok`: all that was taken has been flushed.
+    /// `finish` has returned `Ok`: all bytes taken have been flushed.
     Finished,
 }
 
-/// A destination of bytes that is opened before the first and flushed after the last.
+/// A destination for bytes, opened before the first and flushed after the last.
 pub trait Sink {
     ghost use Rattle.vault_text.specs.declared.sink.Stage.{Stage};
 
@@ -38,7 +38,7 @@ pub trait Sink {
 
     ghost stage: { Self → Stage };
 
-    // How many calls failed; it saturates at `u64::MAX`.
+    // The number of failed calls, saturating at `u64::MAX`.
     ghost failures: { Self → ℕ };
 
     /// Opens the sink.
@@ -61,7 +61,7 @@ pub trait Sink {
         ensures failed { CountsFailure (failures self.old) (failures self.new) result }
         ensures full { IsSaturated (failures self.old) → IsErr result };
 
-    /// Flushes what was taken.
+    /// Flushes the bytes taken.
     fn finish(&mut self) -> Result<(), SinkFailed>
         requires { stage self.old ≡ Stage.Begun }
         ensures takes { takes self.old [] self.new }
@@ -79,7 +79,7 @@ pub trait Sink {
         → takes s xs t → failures s ≤ failures t };
 }
 
-/// Makes the sink take all of `bytes`; after a failure it has taken a prefix of them.
+/// Puts all of `bytes` into the sink. After a failure it has taken a prefix of them.
 pub fn put_all<K: Sink>(sink: &mut K, bytes: &[u8]) -> Result<(), SinkFailed>
     requires { K.stage sink.old ≡ Stage.Begun }
     ensures takes { OnOk result (K.takes sink.old bytes.now sink.new) }

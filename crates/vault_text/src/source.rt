@@ -26,11 +26,11 @@ pub trait Source {
     // Whether the end was reported.
     ghost ended: { Self → Bool };
 
-    // How many calls failed; it saturates at `u64::MAX`.
+    // The number of failed calls, saturating at `u64::MAX`.
     ghost failures: { Self → ℕ };
 
-    /// Gives the next bytes at the start of `buf` and returns how many: 0 means the end, after
-    /// which each call returns 0 or fails. A failed call gives none.
+    /// Puts the next bytes at the start of `buf` and returns how many there are. 0 means the end,
+    /// after which each call returns 0 or fails. A failed call gives no bytes.
     fn fill(&mut self, buf: &mut [u8]) -> Result<usize, SourceFailed>
         requires { 0 < length buf.old }
         ensures gives { gives self.old (given result buf.new) self.new }
@@ -51,8 +51,8 @@ pub trait Source {
         → gives s xs t → failures s ≤ failures t };
 }
 
-/// Reads until the end or until `buf` is full, and returns how many bytes it has read. For an empty
-/// `buf` the source is not called. After a failure the contents of `buf` are unspecified.
+/// Reads until the end or until `buf` is full, and returns how many bytes it read. It does not call
+/// the source for an empty `buf`. After a failure the contents of `buf` are unspecified.
 pub fn fill_up<S: Source>(source: &mut S, buf: &mut [u8]) -> Result<usize, SourceFailed>
     ensures empty { length buf.old ≡ 0 → (result ≡ Ok 0) × (source.new ≡ source.old) }
     ensures gives { IfOk result (λ n. S.gives source.old (take n buf.new) source.new) }

@@ -1,20 +1,20 @@
-//! The memory that holds a text while it is read and worked on.
+//! Memory for a text while it is read and processed.
 ghost use Rattle.std.specs.Prelude.{◌≡◌, ◌+◌, ◌≤◌, ◌++◌, [], length, take, vec_capacity};
 
 use std::marker::Model;
 
-/// Where the text lies, at the start.
+/// Where the text is stored.
 #[derive(Drop)]
 pub(crate) enum Place<'a> {
-    /// In a slice, of which this many bytes are the text.
+    /// At the start of a slice, with this length.
     Borrowed(&'a mut [u8], usize),
     /// In a vector, all of which is the text.
     Reserved(&'a mut Vec<u8>),
 }
 
-/// Memory for one text, which grows at its end up to a limit and never asks for more memory. The
-/// bytes of a slice were all written when it was made. The system provides a vector's capacity only
-/// as far as the text reaches, so a short text takes little memory.
+/// Memory for one text, which grows at its end up to a limit and never allocates. All bytes of a
+/// slice were written when it was made. The system provides a vector's capacity only as far as the
+/// text reaches, so a short text takes little memory.
 #[derive(Drop)]
 pub struct TextMemory<'a> {
     place: Place<'a>,
@@ -43,7 +43,7 @@ impl<'a> TextMemory<'a> {
         }
     }
 
-    /// `limit` bytes of the vector's capacity, with no text in them: what it held is dropped.
+    /// `limit` bytes of the vector's capacity, with no text in them. The vector is cleared.
     pub fn reserved(memory: &'a mut Vec<u8>, limit: usize) -> Self
         requires { limit ≤ vec_capacity memory.old }
         ensures { result ≡ record { bytes = []; limit = limit } }
@@ -55,7 +55,7 @@ impl<'a> TextMemory<'a> {
         }
     }
 
-    /// How many bytes more fit.
+    /// How many more bytes fit.
     pub fn room(&self) -> usize
         ensures { length self.now.bytes + result ≡ self.now.limit }
     {
@@ -65,7 +65,7 @@ impl<'a> TextMemory<'a> {
         }
     }
 
-    /// Puts bytes after the text.
+    /// Appends bytes to the text.
     pub fn put(&mut self, bytes: &[u8])
         requires { length self.old.bytes + length bytes.now ≤ self.old.limit }
         ensures { self.new

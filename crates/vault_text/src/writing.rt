@@ -1,4 +1,4 @@
-//! Envelopes, written into a sink.
+//! Writing envelopes into a sink.
 ghost use Rattle.std.specs.Prelude.{◌≡◌, ◌+◌, ◌<◌, ◌≤◌, ◌++◌, ◌∷◌, [], ℕ, IsErr, OnOk, length};
 ghost use Rattle.std.specs.Prelude.{take};
 ghost use Rattle.arrayvec.specs.ArrayVec.{array_vec_len};
@@ -18,10 +18,10 @@ pub use block::write_block;
 use body::{first_lines, put_ciphertext};
 use lines::{HEAD_ROOM, INDENTATION_LIMIT, TEXT_LIMIT, Text, append, append_lines};
 
-/// What may come before the header line.
+/// The length of the longest start before the header line.
 const START_LIMIT: usize = 11;
 
-/// Writes an envelope of format 1.1 for the label `default`, and of format 1.2 for any other. After
+/// Writes an envelope in format 1.1 for the label `default`, and in format 1.2 for any other. After
 /// a failure the sink has taken a prefix of it.
 #[tactic(auto, unfolding(crate::specs::Written::written))]
 pub fn write_envelope<K: Sink>(
@@ -43,9 +43,8 @@ pub fn write_envelope<K: Sink>(
     put_lines(sink, &[], &[], label, salt, tag, ciphertext)
 }
 
-/// Writes what begins a text, and the lines of an envelope after an indentation. The header line is
-/// put together with the first lines of the body: after `| head -n 1` no write of a short envelope
-/// fails.
+/// Writes `start`, then the indented lines of an envelope. The header line is put together with the
+/// first lines of the body, so that with `| head -n 1` no write of a short envelope fails.
 // Inlined, so that the indentation is known.
 #[inline(always)]
 fn put_lines<K: Sink>(
@@ -77,7 +76,7 @@ fn put_lines<K: Sink>(
     put_ciphertext(sink, &mut text, indentation, rest)
 }
 
-/// Begins a text with its start, and the header line after an indentation, with its end.
+/// Begins a text with `start` and the indented header line, with its end.
 #[tactic(auto, unfolding(crate::specs::Written::text_of_lines))]
 fn append_head(text: &mut Text, start: &[u8], indentation: &[u8], label: &Label)
     requires empty { text.old.items ≡ [] }
@@ -94,7 +93,7 @@ fn append_head(text: &mut Text, start: &[u8], indentation: &[u8], label: &Label)
     append(text, b"\n");
 }
 
-/// Appends the header line of a label, without its end.
+/// Appends the header line for a label, without its end.
 #[tactic(auto, unfolding(crate::specs::Written::written_header))]
 fn append_header(line: &mut Text, label: &str)
     requires { array_vec_len line.old + 26 + length label.now ≤ TEXT_LIMIT }

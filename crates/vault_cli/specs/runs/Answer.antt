@@ -1,7 +1,7 @@
 -- The answer to a request, as a function of the request, the password files, the salt and the
--- input: steps 9 to 14 of docs/verification.md, of which the first that refuses decides. The task
--- has steps 9 to 11: the passwords, the index of the secret that encrypts, and the salt. Then the
--- text is read (12); its length is checked (13), and the command is carried out (14).
+-- input: steps 9 to 14 of docs/verification.md. The first step that refuses decides. The task has
+-- steps 9 to 11: the passwords, the index of the secret to encrypt with, and the salt. Then the
+-- text is read (12), its length is checked (13), and the command is carried out (14).
 use Rattle.std.specs.Prelude.{ℕ, ◌*◌, if◌then◌else◌, List, Option, Some, None, unwrap_or}
 use Rattle.std.specs.Prelude.{Result, Ok, Err}
 use Rattle.vault_text.specs.Limits.{envelope_limit}
@@ -20,16 +20,16 @@ use Rattle.vault_request.specs.declared.command_name.CommandName.{CommandName}
 use Rattle.vault_request.specs.declared.command_name.CommandName.TheVariants.{Encrypt, Decrypt}
 use Rattle.vault_request.specs.declared.command_name.CommandName.TheVariants.{Rekey}
 
--- the bytes to be written, or why there are none
+-- the bytes to write, or why there are none
 abbrev pub output_of : Result Ready Fault → Result (List ℕ) Fault
 output_of (Ok ready) = Ok ready.output
 output_of (Err fault) = Err fault
 
--- how much input a command takes, by how much plaintext is encrypted
+-- how much input a command takes, under this limit of the plaintext
 abbrev pub input_limit : ℕ → CommandName → ℕ
 input_limit limit command = if encrypts command then limit else envelope_limit limit
 
--- how long a text may be that has room wherever a plaintext up to the limit does: an envelope
+-- the length of the longest text that fits wherever a plaintext up to the limit does: an envelope
 -- spells each byte with four digits
 abbrev pub room_limit : ℕ → CommandName → ℕ
 room_limit limit command = if encrypts command then limit else 4 * limit
@@ -40,17 +40,17 @@ task_limit limit (task.Encrypt secrets index form salt) = input_limit limit Encr
 task_limit limit (task.Decrypt secrets) = input_limit limit Decrypt
 task_limit limit (task.Rekey secrets new salt) = input_limit limit Rekey
 
--- the text that a request speaks of: its STRING, or the input
+-- the text of a request: its STRING, or the input
 abbrev pub text_of_request : Request → List ℕ → List ℕ
 text_of_request request input = unwrap_or request.string input
 
--- the STRING where there is one, or else the input, or why that cannot be read
+-- the STRING if there is one, or else the input, or why the input cannot be read
 abbrev pub text_or : Option (List ℕ) → Result (List ℕ) Fault → Result (List ℕ) Fault
 text_or (Some string) input = Ok string
 text_or None input = input
 
--- how much of the input is asked for beside one byte more: the limit, where steps 9 to 11 do not
--- refuse and there is no STRING, and else none
+-- how much of the input is requested, apart from one byte more: the limit if steps 9 to 11 do not
+-- refuse and there is no STRING, or else none
 abbrev pub input_needed_by : Result Task Fault → Option (List ℕ) → ℕ → Option ℕ
 input_needed_by (Err fault) string limit = None
 input_needed_by (Ok task) (Some string) limit = None
@@ -63,7 +63,7 @@ prepared limit (task.Encrypt secrets index form salt) text =
 prepared limit (task.Decrypt secrets) text = decryption limit secrets text
 prepared limit (task.Rekey secrets new salt) text = rekeying limit secrets new salt text
 
--- steps 9 to 14, where plaintext up to the limit is encrypted
+-- steps 9 to 14, under this limit of the plaintext
 abbrev pub ready_by : ℕ → Result Task Fault → Option (List ℕ) → Result (List ℕ) Fault
     → Result Ready Fault
 ready_by limit task_or_fault string input = do
@@ -73,13 +73,13 @@ ready_by limit task_or_fault string input = do
   -- steps 13 and 14
   prepared limit task text
 
--- how much of the input a request asks for
+-- how much of the input a request needs
 abbrev pub input_needed : ℕ → Request → List (List ℕ) → List ℕ → Option ℕ
 input_needed limit request contents salt =
     input_needed_by (task_of request contents salt) request.string
     (input_limit limit request.command)
 
--- the answer to a request where plaintext up to the limit is encrypted
+-- the answer to a request under this limit of the plaintext
 unfoldable pub run_answer_within : ℕ → Request → List (List ℕ) → List ℕ → List ℕ
     → Result (List ℕ) Fault
 run_answer_within limit request contents salt input =

@@ -1,4 +1,4 @@
--- What the files of a request hold, as far as they are read.
+-- The contents of a request's files, as far as they are read.
 use Rattle.std.specs.Prelude.{ℕ, ◌+◌, List, [], ◌∷◌, ◌++◌, map, option_to_list, Option, Some, None}
 use Rattle.std.specs.Prelude.{Result, Ok}
 use Rattle.std.specs.Result.{result_map_both}
@@ -13,7 +13,7 @@ use Rattle.vault_files.specs.declared.fault.FileFault.TheVariants as file
 use Rattle.vault_text.specs.Steps.{◌>>=◌}
 use Rattle.vault_request.specs.Request.{Request, files_of}
 
--- what is found at a path, where there is one
+-- what is found at a path, if there is one
 abbrev pub AtPath : {A : Type 0} → (List ℕ → A → Type 0) → Option (List ℕ) → Option A → Type 0
 AtPath finds None None = Unit {0}
 AtPath finds None (Some found) = ⊥
@@ -38,8 +38,8 @@ abbrev pub request_paths : Request → List (List ℕ)
 request_paths request =
     secret_paths request ++ option_to_list request.salt_path ++ option_to_list request.input
 
--- the contents of password files, each up to one byte more than is taken, or the fault of the first
--- that gives none
+-- the contents of password files, each up to one byte past the limit, or the fault of the first one
+-- that has a fault
 unfoldable pub contents_of : List FileState → Result (List (List ℕ)) Fault
 contents_of [] = Ok []
 contents_of (file ∷ files) = do

@@ -1,5 +1,5 @@
--- The lines on standard error, of a fault and of arguments that are not UTF-8, and what a sink has
--- taken that was to take one.
+-- The lines on standard error, for a fault and for arguments that are not UTF-8, and how much of a
+-- line a sink took.
 use Rattle.std.specs.Prelude.{◌≡◌, ℕ, List, [], ◌∷◌, ◌++◌, codes, take}
 use Rattle.vault_text.specs.Failures.{HasRisen}
 use Rattle.vault_text.specs.declared.sink.Stage.TheVariants.{Finished}
@@ -11,12 +11,12 @@ use Rattle.vault_cli.specs.Call.{SinkCall}
 abbrev pub line_of : Fault → List ℕ
 line_of fault = codes "ERROR! " ++ text_of fault ++ 10 ∷ []
 
--- the line on arguments that are not UTF-8
+-- the line about arguments that are not UTF-8
 abbrev pub not_text_line : List ℕ
 not_text_line = codes "error: an argument is not UTF-8" ++ 10 ∷ []
 
 module _ {E : Type 0} (err : SinkCall E) where
-  -- the line, after which the sink was finished, or a prefix of it where the sink failed
+  -- the sink took the line and was finished, or took a prefix of the line and failed
   pub record Reports (line : List ℕ) : Type 0 where
     pub whole : (HasRisen (err.failures err.old) (err.failures err.new) → ⊥)
         → err.takes err.old line err.new × (err.stage err.new ≡ Finished)

@@ -16,14 +16,14 @@ use Rattle.vault_cli.specs.declared.runs.status.Status.{Status}
 use Rattle.vault_cli.specs.declared.runs.status.Status.TheVariants.{DeviceFailed, OutOfMemory}
 use Rattle.vault_cli.specs.declared.runs.status.Status.TheVariants.{Success}
 
--- What became of an output: it was left alone; it received these bytes and was finished; or it took
--- these and failed.
+-- What happened to an output: it was left alone; it received these bytes and was finished; or it
+-- took these bytes and failed.
 pub record OutputEnd : Type 1 where
   pub untouched : Type 0
   pub received : List ℕ → Type 0
   pub cut : List ℕ → Type 0
 
--- of a sink
+-- what happened to a sink
 abbrev pub to_sink : {K : Type 0} → SinkCall K → OutputEnd
 to_sink out = record {
   untouched = out.new ≡ out.old;
@@ -33,16 +33,16 @@ to_sink out = record {
       out.takes out.old bytes out.new × HasRisen (out.failures out.old) (out.failures out.new);
 }
 
--- This was read of a source. If nothing of it is needed, it was left alone.
+-- This was read from a source. If nothing is needed from it, it was left alone.
 abbrev pub Reads : {S : Type 0} → SourceCall S → Option ℕ → List ℕ → Type 0
 Reads src None input = (src.new ≡ src.old) × (input ≡ [])
 Reads src (Some limit) input = ReadsInput src limit input
 
--- A run that needs this much of a source, and whose answer to what it reads is the bytes to be
--- written, or a fault.
+-- A run that needs this much of a source, and whose answer to what it reads is the bytes to write,
+-- or a fault.
 module _ {S E : Type 0} (src : SourceCall S) (out : OutputEnd) (err : SinkCall E) (result : Status)
     (needed : Option ℕ) (answers : List ℕ → Result (List ℕ) Fault) where
-  -- It succeeded: the answer was written whole, and nothing was said.
+  -- The run succeeded: the whole answer was written, and nothing was reported.
   pub record Succeeds : Type 0 where
     pub input : List ℕ
     pub reads : Reads src needed input
@@ -52,7 +52,7 @@ module _ {S E : Type 0} (src : SourceCall S) (out : OutputEnd) (err : SinkCall E
     pub output : out.received bytes
     pub message : err.new ≡ err.old
 
-  -- It was refused: the answer is a fault, which was reported, and the output was left alone.
+  -- The run was refused: the answer is a fault, which was reported; the output was left alone.
   pub record Refuses : Type 0 where
     pub input : List ℕ
     pub reads : Reads src needed input
@@ -63,7 +63,7 @@ module _ {S E : Type 0} (src : SourceCall S) (out : OutputEnd) (err : SinkCall E
     pub output : out.untouched
     pub message : Reports err (line_of fault)
 
-  -- The output failed: of the answer, the first bytes were written.
+  -- The output failed: only the first bytes of the answer were written.
   pub record OutputFails : Type 0 where
     pub input : List ℕ
     pub reads : Reads src needed input
@@ -74,7 +74,7 @@ module _ {S E : Type 0} (src : SourceCall S) (out : OutputEnd) (err : SinkCall E
     pub output : out.cut (take count bytes)
     pub message : Reports err (line_of Write)
 
-  -- The source failed, after it gave this much of what was needed; the output was left alone.
+  -- The source failed after it gave this much of the needed input; the output was left alone.
   pub record InputFails : Type 0 where
     pub input : List ℕ
     pub limit : ℕ
@@ -86,15 +86,15 @@ module _ {S E : Type 0} (src : SourceCall S) (out : OutputEnd) (err : SinkCall E
     pub output : out.untouched
     pub message : Reports err (line_of (Read Input))
 
-  -- one of the four
+  -- one of these four
   pub data RunEnds : Type 0 where
     Succeeded : Succeeds → RunEnds
     HasRefused : Refuses → RunEnds
     OutputFailed : OutputFails → RunEnds
     InputFailed : InputFails → RunEnds
 
--- a run, under a limit of the plaintext, of a request, of the contents of its password files, in
--- their order, and of a salt
+-- a run of a request, under a limit of the plaintext, with the contents of its password files, in
+-- order, and a salt
 module _ (limit : ℕ) (request : Request) (contents : List (List ℕ)) (salt : List ℕ)
     {S K E : Type 0} (src : SourceCall S) (out : SinkCall K) (err : SinkCall E)
     (result : Status) where

@@ -6,7 +6,7 @@ use Rattle.vault_cli.specs.declared.runs.status.Status.{Status}
 use Rattle.vault_cli.specs.declared.runs.status.Status.TheVariants.{Success, Refused, ParseFault}
 use Rattle.vault_cli.specs.declared.runs.status.Status.TheVariants.{DeviceFailed, OutOfMemory}
 
--- the number that the program ends with
+-- the exit status as a number
 abbrev pub code_of : Status → ℕ
 code_of Success = 0
 code_of Refused = 1

@@ -1,4 +1,4 @@
--- Tasks as the code keeps them.
+-- Tasks, as the code represents them.
 use Rattle.vault_core.specs.Form.{form_of}
 use Rattle.vault_cli.specs.runs.Task.{Task, Encrypt, Decrypt, Rekey}
 use Rattle.vault_cli.specs.declared.runs.task.Task.{Task as StoredTask}

@@ -1,5 +1,5 @@
 -- The task of a request, steps 9 to 11 of docs/verification.md: the passwords, the index of the
--- secret that encrypts, and the salt.
+-- secret to encrypt with, and the salt.
 use Rattle.std.specs.Prelude.{ℕ, ◌<◌, nat_lt, if◌then◌else◌, List, [], ◌∷◌, length, take}
 use Rattle.std.specs.Prelude.{slice_index_or, Option, Some, None, Result, Ok, Err}
 use Rattle.std.specs.Result.{result_map_both}
@@ -18,8 +18,8 @@ use Rattle.vault_cli.specs.declared.limits.TheConstants.{SEALING_SALT_LENGTH}
 use Rattle.vault_request.specs.declared.command_name.CommandName.{CommandName}
 use Rattle.vault_request.specs.declared.command_name.CommandName.TheVariants as command
 
--- what is to be done with the input: to encrypt it in a form, with the secret at an index; to
--- decrypt it; to decrypt it and to encrypt the plaintext with a new secret
+-- what to do with the input: encrypt it in a form, with the secret at an index; decrypt it; or
+-- decrypt it and encrypt the plaintext with a new secret
 pub data Task : Type 0 where
   Encrypt : (secrets : List Secret) (index : ℕ) (form : Form) (salt : List ℕ) → Task
   Decrypt : (secrets : SecretList) → Task
@@ -31,18 +31,18 @@ HasValidIndex (Encrypt secrets index form salt) = index < length secrets
 HasValidIndex (Decrypt secrets) = Unit {0}
 HasValidIndex (Rekey secrets new salt) = Unit {0}
 
--- the password in a file that holds these bytes
+-- the password in a file with these bytes
 abbrev pub password_or_fault : List ℕ → Result (List ℕ) Fault
 password_or_fault bytes = result_map_both (λ password. password) of_secret (password_of bytes)
 
--- the secret of a password file that holds these bytes
+-- the secret of a password file with these bytes
 abbrev pub secret_of : SecretFile → List ℕ → Result Secret Fault
 secret_of file bytes = do
   password ← password_or_fault bytes
   Ok (record { label = file.label; password = password })
 
--- step 9: the secrets of password files, in their order, or the first fault; a file without
--- contents, which no run has, gives no password
+-- step 9: the secrets of password files, in order, or the first fault; a file without contents,
+-- which no run has, gives no password
 unfoldable pub secrets_of : List SecretFile → List (List ℕ) → Result (List Secret) Fault
 secrets_of [] contents = Ok []
 secrets_of (file ∷ files) [] = Err SecretEmpty
@@ -62,11 +62,11 @@ abbrev pub new_secret_of : Option SecretFile → List ℕ → Result Secret Faul
 new_secret_of None bytes = Err NeedNewSecret
 new_secret_of (Some file) bytes = secret_of file bytes
 
--- step 10: the index of the secret that encrypts
+-- step 10: the index of the secret to encrypt with
 abbrev pub index_of : List Secret → Option (List ℕ) → Result ℕ Fault
 index_of secrets label = result_map_both (λ index. index) of_choice (chosen_index secrets label)
 
--- step 11: the bytes of the salt text where there is one, else the first 32 of the salt
+-- step 11: the bytes of the salt text if there is one, or else the first 32 bytes of the salt
 abbrev pub salt_of : Option (List ℕ) → List ℕ → Result (List ℕ) Fault
 salt_of (Some text) salt = Ok text
 salt_of None salt =
@@ -80,15 +80,15 @@ encrypt_task request secrets form salt = do
   used ← salt_of request.salt_text salt
   Ok (Encrypt secrets index form used)
 
--- the last of step 9, and step 11, of `rekey`, whose last password file holds these bytes
+-- the end of step 9, and step 11, of `rekey`, whose last password file has these bytes
 abbrev pub rekey_task : Request → SecretList → List ℕ → List ℕ → Result Task Fault
 rekey_task request secrets last salt = do
   new ← new_secret_of request.new_secret last
   used ← salt_of request.salt_text salt
   Ok (Rekey secrets new used)
 
--- the task of each command, of the secrets without the new one, of what the last password file
--- holds, and of a salt
+-- the task of each command, from the secrets without the new one, the contents of the last password
+-- file, and a salt
 abbrev pub command_task : CommandName → Request → SecretList → List ℕ → List ℕ → Result Task Fault
 command_task command.Encrypt request list last salt =
     encrypt_task request list.secrets Envelope salt
@@ -98,8 +98,8 @@ command_task command.Decrypt request list last salt = Ok (Decrypt list)
 command_task command.View request list last salt = Ok (Decrypt list)
 command_task command.Rekey request list last salt = rekey_task request list last salt
 
--- steps 9 to 11: the task of a request, of the contents of its password files, of which that of the
--- new secret is the last, and of a salt, or the first fault
+-- steps 9 to 11: the task of a request, with the contents of its password files, the new secret's
+-- file last, and a salt; or the first fault
 unfoldable pub task_of : Request → List (List ℕ) → List ℕ → Result Task Fault
 task_of request contents salt = do
   -- step 9

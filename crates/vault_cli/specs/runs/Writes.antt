@@ -1,4 +1,4 @@
--- What becomes of a text that is ready, or of the fault in its place.
+-- What happens to a text that is ready, or to the fault in its place.
 use Rattle.std.specs.Prelude.{◌≡◌, ◌⊎◌, ℕ, take, Result, Ok, Err}
 use Rattle.vault_core.specs.Ready.{Ready}
 use Rattle.vault_fault.specs.declared.fault.Fault.{Fault}
@@ -11,7 +11,7 @@ use Rattle.vault_cli.specs.declared.runs.status.Status.{Status}
 use Rattle.vault_cli.specs.declared.runs.status.Status.TheVariants.{DeviceFailed, Success}
 
 module _ {K E : Type 0} (out : SinkCall K) (err : SinkCall E) (result : Status) where
-  -- the text was written, or its first bytes were and the output failed; the fault was reported
+  -- the text was written, or only its first bytes and the output failed; a fault was reported
   abbrev pub Writes : Result Ready Fault → Type 0
   Writes (Ok ready) =
       ((result ≡ Success) × (to_sink out).received ready.output × (err.new ≡ err.old))

@@ -11,13 +11,13 @@ use vault_core::Fault;
 use vault_fault::FAULT_TEXT_LIMIT;
 use vault_text::{Sink, Stage};
 
-/// What each line begins with.
+/// The start of each line.
 const PREFIX: &[u8; 7] = b"ERROR! ";
 
-/// The bytes of the longest line: the prefix, the longest text of a fault, and the line end.
+/// The length of the longest line: the prefix, the longest text of a fault, and the line end.
 const REPORT_LIMIT: usize = PREFIX.len() + FAULT_TEXT_LIMIT + 1;
 
-/// Makes `err` take the fault's line, `ERROR! ` and the fault's text, and returns the fault's
+/// Writes the fault's line to `err`, `ERROR! ` and the fault's text, and returns the fault's
 /// status. A failure of `err` changes nothing else.
 pub fn report<E: Sink>(fault: Fault, err: &mut E) -> Status
     requires { E.stage err.old ≡ Stage.Unbegun }
@@ -28,7 +28,7 @@ pub fn report<E: Sink>(fault: Fault, err: &mut E) -> Status
     status_of(fault)
 }
 
-/// The fault's line, whole: lines of several runs on one stream do not mix.
+/// The fault's whole line, so that the lines of several runs on one stream do not mix.
 fn line_of(fault: Fault) -> ArrayVec<u8, REPORT_LIMIT>
     ensures { result.items ≡ line_of fault }
 {

@@ -1,4 +1,4 @@
-//! The secrets of a request, out of its password files.
+//! The secrets of a request, from its password files.
 ghost use Rattle.std.specs.Prelude.{◌≡◌, length, map, slice_index_or, true, []};
 ghost use Rattle.vault_request.specs.CommandName.{rekeys};
 ghost use Rattle.vault_request.specs.Request.{files_of};

@@ -4,10 +4,10 @@ ghost use Rattle.vault_cli.specs.runs.Status.{code_of, status_of};
 
 use vault_core::Fault;
 
-/// How a run ends, as the exit status of the program says.
+/// How a run ends, as the program's exit status reports it.
 #[derive(Clone, Copy, Debug, PartialEq, Eq)]
 pub enum Status {
-    /// The output is whole.
+    /// The whole output was written.
     Success,
     /// The input, a secret or an option was refused.
     Refused,
@@ -15,7 +15,7 @@ pub enum Status {
     ParseFault,
     /// A file, a source or a sink failed.
     DeviceFailed,
-    /// There was no memory; no output was begun.
+    /// Memory ran out; no output was begun.
     OutOfMemory,
 }
 

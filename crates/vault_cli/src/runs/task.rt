@@ -1,4 +1,4 @@
-//! What is to be done with the input of a request, and the output that is prepared so.
+//! What to do with the input of a request, and the preparation of the output.
 ghost use Rattle.std.specs.Prelude.{◌≡◌, ◌≢◌, ℕ, List, [], length, map, slice_index_or, true};
 ghost use Rattle.std.specs.Prelude.{Err, IfErr, IfOk};
 ghost use Rattle.vault_core.specs.Form.{form_of};
@@ -25,21 +25,21 @@ use vault_kdf::Meter;
 use vault_request::{CommandName, Request};
 use vault_text::{Salt, Source, TextMemory};
 
-/// What is to be done with the input, once passwords, secret and salt are found.
+/// What to do with the input, once the passwords, the secret and the salt are found.
 #[derive(Drop)]
 pub(crate) enum Task<'p> {
-    /// To encrypt it with the secret at an index of the list.
+    /// Encrypt it with the secret at an index of the list.
     Encrypt {
         secrets: Secrets<'p>,
         index: usize,
         form: Form<'p>,
         salt: Salt,
     },
-    /// To decrypt it.
+    /// Decrypt it.
     Decrypt {
         secrets: Secrets<'p>,
     },
-    /// To decrypt it, and to encrypt the plaintext with another secret.
+    /// Decrypt it, and encrypt the plaintext with another secret.
     Rekey {
         secrets: Secrets<'p>,
         new: SealingSecret<'p, 'p>,
@@ -47,7 +47,7 @@ pub(crate) enum Task<'p> {
     },
 }
 
-/// Finds the passwords of a request, the secret that encrypts and the salt; faults come in this
+/// Finds the passwords of a request, the secret to encrypt with and the salt; faults come in this
 /// order.
 #[tactic(auto, unfolding(crate::specs::runs::Task::task_of))]
 pub(crate) fn task_of<'p>(
@@ -76,7 +76,7 @@ pub(crate) fn task_of<'p>(
     }
 }
 
-/// The task of a request that encrypts.
+/// The task of a request to encrypt.
 fn encrypt_task<'p>(
     request: &'p Request,
     secrets: Secrets<'p>,
@@ -136,7 +136,7 @@ fn salt_of(request: &Request, salt: &[u8]) -> Result<Salt, Fault>
 }
 
 impl<'p> Task<'p> {
-    /// Reads the input into the memory, and does with it there what is to be done.
+    /// Reads the input into the memory, and carries out the task on it there.
     pub(crate) fn prepare<'a, S: Source>(
         &'a self,
         src: &mut S,

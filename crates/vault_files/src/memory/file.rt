@@ -28,7 +28,7 @@ impl<'a> Model for MemFile<'a> {
 }
 
 impl<'a> MemFile<'a> {
-    /// A file of these bytes.
+    /// A file with these bytes.
     pub fn whole(path: &'a str, bytes: &'a [u8]) -> Self
         ensures { result ≡ record { path = path.now; file = Whole bytes.now } }
     {
@@ -39,7 +39,7 @@ impl<'a> MemFile<'a> {
         }
     }
 
-    /// A file that cannot be read on after these bytes.
+    /// A file that cannot be read past these bytes.
     pub fn broken(path: &'a str, bytes: &'a [u8]) -> Self
         ensures { result ≡ record { path = path.now; file = Broken bytes.now } }
     {

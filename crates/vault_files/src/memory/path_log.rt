@@ -1,4 +1,4 @@
-//! A log of paths, in memory that is reserved for them.
+//! A log of paths, in reserved memory.
 ghost use Rattle.std.specs.Prelude.{◌≡◌, IfOk, map};
 ghost use Rattle.std.specs.String.{string_bytes};
 ghost use Rattle.vault_files.specs.PathLog.{new_log, with_path};
@@ -6,8 +6,8 @@ ghost use Rattle.vault_files.specs.PathLog.{new_log, with_path};
 use std::alloc::{AllocError, Global};
 use std::marker::Model;
 
-/// The paths that were logged, in their order, and an empty text with room for each that can still
-/// be logged.
+/// The logged paths, in order, and an empty text with enough room for each path that can still be
+/// logged.
 #[derive(Drop)]
 pub struct PathLog {
     longest: usize,
@@ -51,7 +51,7 @@ impl PathLog {
         })
     }
 
-    /// The log with a path after its others; None if it has no room for it.
+    /// The log with a path added at its end; None if there is no room for it.
     pub(super) fn with(self, path: &str) -> Option<Self>
         ensures { result ≡ with_path self path.now }
     {

@@ -17,7 +17,7 @@ use std::io;
 use std::io::ErrorKind;
 use std::marker::Model;
 
-/// The length of the longest path at which a file can be created in memory: that of Linux.
+/// The length of the longest path at which a file can be created in memory, as on Linux.
 pub const PATH_LIMIT: usize = 4_095;
 
 /// A file that was created.
@@ -41,9 +41,9 @@ impl Model for Created {
 }
 
 /// A system whose files are in memory. Of two files under one path the first counts. `create` makes
-/// an empty file, which is at its path in place of what was there, and which `open` does not read.
-/// A log keeps the paths that were opened, whether or not there was a file, as long as all of them
-/// have room.
+/// an empty file, which replaces whatever was at its path, and which `open` does not read. A log
+/// keeps the paths that were opened, whether or not there was a file, as long as it has room for
+/// all of them.
 #[derive(Drop)]
 pub struct MemFiles<'a> {
     entries: &'a [MemFile<'a>],
@@ -98,8 +98,8 @@ impl<'a> MemFiles<'a> {
         Ok(())
     }
 
-    /// The paths that were opened since the log was begun, in their order; None if there is no log,
-    /// or if it had no room for one of them.
+    /// The paths that were opened since the log was begun, in order; None if there is no log, or if
+    /// it had no room for one of them.
     pub fn log(&self) -> Option<&[String]>
         ensures { option_map (λ log. map string_bytes log.now) result
             ≡ option_map (λ log. log.paths) self.now.log }

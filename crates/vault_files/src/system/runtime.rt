@@ -1,4 +1,4 @@
-//! The calls of the operating system. This file is trusted, and not proved.
+//! The calls of the operating system. This file is trusted, not proved.
 use super::System;
 use std::fs::{Files, OpenFile, OpenOptions, Permissions};
 use std::io::{ErrorKind, Write};
@@ -9,8 +9,8 @@ use vault_text::ReadSource;
 /// Readable and writable by its owner only.
 const OWNER_ONLY: u32 = 0o600;
 
-/// The system itself. No contract covers it: that each method asks for what the trait says, and for
-/// nothing else, is trusted.
+/// The system itself. No contract covers it: each method is trusted to do what the trait says, and
+/// nothing else.
 impl<R: Files> System for &R {
     ghost use Rattle.vault_files.specs.File.FileState.{Missing};
     ghost use Rattle.vault_files.specs.FileProofs.{any-break, any-prefix};

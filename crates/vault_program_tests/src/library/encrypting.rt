@@ -1,10 +1,10 @@
-//! Encrypts a plaintext that is held in memory.
+//! Encrypts a plaintext in memory.
 use std::alloc::Global;
 use vault_core::{Fault, Form, Secrets, password_of, prepare_encrypt_in};
 use vault_kdf::Meter;
 use vault_text::{CIPHERTEXT_LIMIT, Label, MemSink, MemSource, Salt, TextMemory};
 
-/// A vault of a plaintext, under a label and the password in a password file. No other plaintext
+/// A vault of a plaintext, with a label and the password in a password file. No other plaintext
 /// may have the same salt.
 pub fn encrypt<'a>(
     alloc: Global,

@@ -1,4 +1,4 @@
-//! A `System` of one's own: a password that a program has in memory, under every path.
+//! A custom `System`: a password that a program has in memory, under every path.
 ghost use Rattle.std.specs.Prelude.{◌≡◌};
 ghost use Rattle.vault_program_tests.specs.OnePassword.{no_output};
 
@@ -8,7 +8,7 @@ use std::io::ErrorKind;
 use std::marker::Model;
 use vault_cli::{MemSink, MemSource, Stage, Status, System, drive_over};
 
-/// Every path holds the password, and the output of `--output` is kept in memory.
+/// Every path has the password, and the output of `--output` is kept in memory.
 #[derive(Drop)]
 pub struct OnePassword<'a> {
     password: &'a [u8],
@@ -33,7 +33,7 @@ impl<'a> OnePassword<'a> {
         }
     }
 
-    /// What was written to the output.
+    /// The bytes written to the output.
     pub fn output(&self) -> &[u8]
         ensures { result.now ≡ self.now.output }
     {
@@ -101,7 +101,7 @@ impl<'a> System for OnePassword<'a> {
     }
 }
 
-/// Runs `ansible-vault decrypt` over these files, to which the plaintext goes.
+/// Runs `ansible-vault decrypt` over these files, which also receive the plaintext.
 pub fn decrypt_with(
     alloc: Global,
     files: &mut OnePassword<'_>,

@@ -6,7 +6,7 @@ use std::alloc::Global;
 use vault_cli::{MemSink, MemSource, Status, parse, report, run, settle};
 use vault_text::{PADDING_LIMIT, PLAINTEXT_LIMIT, Stage};
 
-/// Writes the YAML block of a variable to `out`, or to `err` the line that says why there is none.
+/// Writes the YAML block of a variable to `out`, or the line that says why there is none to `err`.
 /// `salt` has 32 bytes that no other text was encrypted with.
 pub fn encrypt_variable(
     alloc: Global,
@@ -52,7 +52,7 @@ pub fn encrypt_variable(
     ))
 }
 
-/// The contents of this many password files, here all the same.
+/// The contents of this many password files, which are all the same here.
 fn copies(alloc: Global, file: &[u8], count: usize) -> Result<Vec<Vec<u8>>>
     ensures { IfOk result (λ copies. vec_len copies ≡ count) }
 {

@@ -83,8 +83,8 @@ fn says_why_there_is_no_variable(rt: HostRuntime) -> Result<(), Fail> {
     assert_variable(&rt, rt.alloc(), "", Status::Refused, b"", message)
 }
 
-/// Asserts which vault Ansible's vault becomes under the password "two", where a file holds the
-/// old password, and what is said of it.
+/// Asserts which vault Ansible's vault becomes under the password "two" if a file contains the old
+/// password, and what is reported about it.
 fn assert_rekeyed(
     rt: &impl Abort,
     alloc: Global,

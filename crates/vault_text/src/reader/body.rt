@@ -1,4 +1,4 @@
-//! The body of an envelope, as it comes in pieces: the inner text in hexadecimal, in lines.
+//! The body of an envelope, read in pieces: the inner text in lines of hexadecimal digits.
 ghost use Rattle.std.specs.Prelude.{◌≡◌, ◌<◌, ℕ, List, [], IfNone, IfSome, length};
 ghost use Rattle.vault_text.specs.Envelope.{read_body, without_line_ends};
 ghost use Rattle.vault_text.specs.EnvelopeReader.{BodyHas};
@@ -52,7 +52,7 @@ impl<'a> BodyReader<'a> {
         }
     }
 
-    /// Takes a line end, or digits of a line, and returns what follows.
+    /// Takes a line end, or digits of a line, and returns the rest.
     fn extend_chunk<'t>(&mut self, text: &'t [u8]) -> &'t [u8]
         requires { 0 < length text.now }
         ensures shorter { length result.now < length text.now }
@@ -70,8 +70,8 @@ impl<'a> BodyReader<'a> {
         &text[digits.len()..]
     }
 
-    /// Takes as many digits as a written line has, if the text begins with them, and returns what
-    /// follows. This looks for no line end.
+    /// Takes as many digits as a full written line has, if the text begins with them, and returns
+    /// the rest. It does not look for a line end.
     fn extend_line<'t>(&mut self, text: &'t [u8]) -> Option<&'t [u8]>
         ensures shorter { IfSome result (λ rest. length rest.now < length text.now) }
         ensures taken { IfSome result (λ rest. (limit : ℕ) → TakesUpTo (BodyHas limit) self.old
@@ -87,8 +87,8 @@ impl<'a> BodyReader<'a> {
         Some(rest)
     }
 
-    /// Takes the digits that come next. With one that waits for its second, they are no more than a
-    /// line has.
+    /// Takes the next digits. With one that waits for its second, they are no more than a line
+    /// has.
     fn extend_digits(&mut self, digits: &[u8])
         requires { length digits.now < LINE_DIGITS }
         ensures { (limit : ℕ) → TakesPiece (BodyHas limit) self.old digits.now self.new }
@@ -98,7 +98,7 @@ impl<'a> BodyReader<'a> {
         self.inner.extend(&text[..count]);
     }
 
-    /// The payload under this label, if no digit follows.
+    /// The payload with this label, if no more digits follow.
     pub(super) fn finish(self, label: Label) -> Result<Payload<'a>, TextFault>
         ensures { (limit : ℕ) (digits : List ℕ) → BodyHas (ciphertext_limit limit) self.entry digits
             → result ≡ read_body limit label digits }

@@ -1,4 +1,4 @@
-//! The header line of an envelope, as it comes in pieces.
+//! The header line of an envelope, read in pieces.
 ghost use Rattle.std.specs.Prelude.{◌≡◌, ℕ, List, ◌++◌, []};
 ghost use Rattle.vault_text.specs.Envelope.{body, read_head, without_line_ends};
 ghost use Rattle.vault_text.specs.EnvelopeReader.{LineHas};
@@ -11,14 +11,14 @@ use crate::limits::HEADER_LIMIT;
 use arrayvec::ArrayVec;
 use std::marker::Model;
 
-/// A line of which one byte more than the limit is kept is known to be too long.
+/// One byte more than the limit, which shows that a line is too long.
 const KEPT_LIMIT: usize = HEADER_LIMIT + 1;
 
 /// The header line so far.
 #[derive(Drop)]
 pub(super) struct HeaderLine {
     kept: ArrayVec<u8, KEPT_LIMIT>,
-    /// Whether its line end was found.
+    /// Whether the line end was found.
     has_ended: bool,
 }
 
@@ -40,7 +40,7 @@ impl HeaderLine {
         }
     }
 
-    /// Takes what belongs to the header line, and returns what follows it.
+    /// Takes the part of the text that belongs to the header line, and returns the rest.
     pub(super) fn extend<'t>(&mut self, text: &'t [u8]) -> &'t [u8]
         ensures line { TakesPiece LineHas self.old text.now self.new }
         ensures body { (input : List ℕ) → LineHas self.old input →
@@ -56,7 +56,7 @@ impl HeaderLine {
         &text[line.len()..]
     }
 
-    /// The label that the line names, if nothing follows.
+    /// The label that the line names, if nothing more follows.
     pub(super) fn finish(&self) -> Result<Label, TextFault>
         ensures { (input : List ℕ) → LineHas self.now input → result ≡ read_head input }
     {

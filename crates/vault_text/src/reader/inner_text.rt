@@ -1,5 +1,5 @@
-//! The inner text of an envelope, as it comes in pieces: salt, tag and ciphertext in hexadecimal,
-//! with LF between them.
+//! The inner text of an envelope, read in pieces: salt, tag and ciphertext in hexadecimal, with LF
+//! between them.
 ghost use Rattle.std.specs.Prelude.{◌≡◌, ◌<◌, ◌≤◌, ◌++◌, ◌∷◌, ℕ, List, [], length};
 ghost use Rattle.std.specs.Prelude.{IfNone, IfSome};
 ghost use Rattle.vault_text.specs.Envelope.{read_inner};
@@ -27,7 +27,7 @@ pub(super) enum Part {
 }
 
 impl Part {
-    /// What a text gives to the part, and what follows the LF that ends it, if there is one.
+    /// The digits that a text has for the part, and the text after the LF that ends them, if any.
     fn split(self, text: &[u8]) -> (&[u8], Option<&[u8]>)
         ensures digits { MayHave self result.0.now }
         ensures whole { IfNone result.1 (text.now ≡ result.0.now) }
@@ -42,7 +42,7 @@ impl Part {
         }
     }
 
-    /// The part after it; the ciphertext is the last.
+    /// The next part; the ciphertext is the last.
     fn next(self) -> Part
         ensures { result ≡ next_part self }
     {
@@ -56,7 +56,7 @@ impl Part {
 /// The inner text so far.
 #[derive(Drop)]
 pub(super) struct InnerReader<'a> {
-    /// The part that comes next.
+    /// The part that the next text belongs to.
     part: Part,
     salt: ShortPart<SALT_LIMIT>,
     tag: ShortPart<TAG_LENGTH>,
@@ -89,8 +89,8 @@ impl<'a> InnerReader<'a> {
         }
     }
 
-    /// Takes the text that comes next.
-    // Inlined, and with no loop for ciphertext, it knows the length of the text that a line spells.
+    /// Takes the next piece of text.
+    // Inlined, and without a loop for ciphertext, so that the length of a line's text is known.
     #[inline(always)]
     pub(super) fn extend(&mut self, text: &[u8])
         requires { length text.now ≤ LINE_BYTES }
@@ -106,7 +106,7 @@ impl<'a> InnerReader<'a> {
         }
     }
 
-    /// Takes what the text gives to the part that comes next, and returns what follows.
+    /// Takes the digits that the text has for the current part, and returns the rest.
     fn extend_part<'t>(&mut self, text: &'t [u8]) -> &'t [u8]
         requires some { 0 < length text.now }
         requires short { length text.now ≤ LINE_BYTES }
@@ -123,7 +123,7 @@ impl<'a> InnerReader<'a> {
         rest
     }
 
-    /// Gives digits to the part that comes next.
+    /// Passes digits to the current part.
     #[inline(always)]
     fn extend_digits(&mut self, digits: &[u8])
         requires short { length digits.now ≤ LINE_BYTES }
@@ -138,7 +138,7 @@ impl<'a> InnerReader<'a> {
         }
     }
 
-    /// The payload under this label, if no text follows.
+    /// The payload with this label, if no more text follows.
     pub(super) fn finish(self, label: Label) -> Result<Payload<'a>, TextFault>
         ensures { (limit : ℕ) (text : List ℕ) → InnerHas (ciphertext_limit limit) self.entry text
             → result ≡ read_inner limit label text }

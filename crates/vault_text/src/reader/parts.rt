@@ -1,5 +1,5 @@
-//! The parts of the inner text, of which the digits come in pieces: the salt and the tag, which are
-//! short, and the ciphertext.
+//! The parts of the inner text, whose digits come in pieces: the salt and the tag, which are short,
+//! and the ciphertext.
 ghost use Rattle.std.specs.Prelude.{◌≡◌, ◌<◌, ◌≤◌, ℕ, List, [], IfErr, IfOk, IfSome, OnErr, Err};
 ghost use Rattle.std.specs.Prelude.{Ok, Some, length};
 ghost use Rattle.vault_text.specs.EnvelopeReader.{PartHas};
@@ -48,7 +48,7 @@ impl<const LIMIT: usize> ShortPart<LIMIT> {
         }
     }
 
-    /// Takes the digits that come next.
+    /// Takes the next digits.
     pub(super) fn extend(&mut self, digits: &[u8])
         requires { length digits.now ≤ LINE_BYTES }
         ensures { TakesPiece (PartHas LIMIT) self.old digits.now self.new }
@@ -60,7 +60,7 @@ impl<const LIMIT: usize> ShortPart<LIMIT> {
         }
     }
 
-    /// The bytes of the part, if no digit follows.
+    /// The bytes of the part, if no more digits follow.
     pub(super) fn finish(&self) -> Result<&[u8], TextFault>
         ensures bytes { (digits : List ℕ) → PartHas LIMIT self.now digits
             → IfOk result (λ bytes. unhex digits ≡ Some bytes.now) }
@@ -76,7 +76,7 @@ impl<const LIMIT: usize> ShortPart<LIMIT> {
     }
 }
 
-/// The ciphertext so far, in the memory of the reader.
+/// The ciphertext so far, in the reader's memory.
 #[derive(Drop)]
 pub(super) struct CiphertextPart<'a> {
     memory: TextMemory<'a>,
@@ -110,7 +110,7 @@ impl<'a> CiphertextPart<'a> {
         }
     }
 
-    /// Takes the digits that come next.
+    /// Takes the next digits.
     #[inline(always)]
     pub(super) fn extend(&mut self, digits: &[u8])
         requires { length digits.now ≤ LINE_BYTES }
@@ -125,7 +125,7 @@ impl<'a> CiphertextPart<'a> {
         }
     }
 
-    /// The ciphertext, if no digit follows.
+    /// The ciphertext, if no more digits follow.
     pub(super) fn finish(self) -> Result<&'a mut [u8], TextFault>
         ensures bytes { (limit : ℕ) (digits : List ℕ) → PartHas limit self.entry digits
             → IfOk result (λ bytes. ciphertext_of limit digits ≡ Ok bytes.now) }

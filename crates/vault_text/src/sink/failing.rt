@@ -1,4 +1,4 @@
-//! A sink for tests, which fails after some calls.
+//! A sink for tests that fails after some calls.
 ghost use Rattle.std.specs.Prelude.{◌≡◌, ◌-◌, ◌<◌, ◌≤◌, ◌⊎◌, ◌↔◌, [], IsErr, IfOk, OnOk};
 ghost use Rattle.std.specs.Prelude.{OnErr, length, min};
 ghost use Rattle.vault_text.specs.Failures.{CountsFailure, IsSaturated};
@@ -9,8 +9,8 @@ use crate::failure_count::FailureCount;
 use std::alloc::Global;
 use std::marker::Model;
 
-/// A sink that keeps what it took in memory, and fails at each call after a number of them. An
-/// allocation that fails counts as a failure too, and takes nothing.
+/// A sink that keeps the bytes it takes in memory, and fails at every call after a given number of
+/// calls. A failed allocation also counts as a failure, and takes nothing.
 #[derive(Drop)]
 pub struct FailingSink {
     memory: MemSink,
@@ -62,7 +62,7 @@ impl FailingSink {
         self.memory.begun()
     }
 
-    /// Uses up one call; fails if none was left, or if the count of failures is full.
+    /// Uses up one call; fails if none was left, or if the count of failures is saturated.
     fn use_call(&mut self) -> Result<(), SinkFailed>
         ensures takes { Takes (failing_state_of self.old) [] (failing_state_of self.new) }
         ensures memory { self.new.memory ≡ self.old.memory }

@@ -9,7 +9,7 @@ use crate::failure_count::FailureCount;
 use std::alloc::Global;
 use std::marker::Model;
 
-/// A sink that keeps what it took in memory. An allocation that fails counts as a failure, and
+/// A sink that keeps the bytes it takes in memory. A failed allocation counts as a failure, and
 /// takes nothing.
 #[derive(Drop)]
 pub struct MemSink {

@@ -29,7 +29,7 @@ impl<W: Write> Model for WriteSink<W> {
 }
 
 impl<W: Write> WriteSink<W> {
-    /// Writes after what `writer` holds. Opening the sink does not call it.
+    /// Appends to the contents of `writer`. Opening the sink does not call the writer.
     pub fn new(writer: W) -> Self
         ensures { result
             ≡ record { held = W.contents writer; stage = Stage.Unbegun; failures = 0 } }
@@ -41,7 +41,7 @@ impl<W: Write> WriteSink<W> {
         }
     }
 
-    /// The writer, with what it holds by now.
+    /// The writer, with its contents so far.
     pub fn into_inner(self) -> W
         ensures { W.contents result ≡ self.held }
     {

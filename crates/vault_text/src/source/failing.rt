@@ -1,4 +1,4 @@
-//! A source for tests, which fails after some calls.
+//! A source for tests that fails after some calls.
 ghost use Rattle.std.specs.Prelude.{◌≡◌, ◌-◌, ◌<◌, ◌≤◌, ◌↔◌, IsTrue, IsErr, IfOk, false};
 ghost use Rattle.std.specs.Prelude.{length, min};
 ghost use Rattle.vault_text.specs.Failures.{CountsFailure, IsSaturated};
@@ -8,7 +8,7 @@ use super::{MemSource, Source, SourceFailed};
 use crate::failure_count::FailureCount;
 use std::marker::Model;
 
-/// A source over bytes in memory that fails at each call after a number of them.
+/// A source over bytes in memory that fails at every call after a given number of calls.
 #[derive(Drop)]
 pub struct FailingSource<'a> {
     memory: MemSource<'a>,

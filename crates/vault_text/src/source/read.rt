@@ -8,8 +8,8 @@ use crate::failure_count::FailureCount;
 use std::io::Read;
 use std::marker::Model;
 
-/// A source over a reader. Every error of the reader is a failure, an interruption too; after the
-/// reader's first `Ok(0)` it is not called again.
+/// A source over a reader. Every error of the reader is a failure, even an interruption. After its
+/// first `Ok(0)` the reader is not called again.
 #[derive(Drop)]
 pub struct ReadSource<R: Read> {
     reader: R,
@@ -30,7 +30,7 @@ impl<R: Read> Model for ReadSource<R> {
 }
 
 impl<R: Read> ReadSource<R> {
-    /// Gives what `reader` gives from where it stands.
+    /// Gives the bytes that `reader` gives from its current position on.
     pub fn new(reader: R) -> Self
         ensures { result ≡ record { left = R.remaining reader; ended = false; failures = 0 } }
     {

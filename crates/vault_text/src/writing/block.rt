@@ -1,4 +1,4 @@
-//! Blocks of YAML: an envelope as the value of a variable, written into a sink.
+//! YAML blocks: an envelope as the value of a variable, written into a sink.
 ghost use Rattle.std.specs.Prelude.{◌≡◌, ◌≤◌, ◌++◌, ℕ, IsErr, OnOk, length, take};
 ghost use Rattle.std.specs.Option.{option_copied};
 ghost use Rattle.vault_text.specs.Block.{block, first_line};
@@ -11,7 +11,7 @@ use crate::limits::TAG_LENGTH;
 use crate::salt::Salt;
 use crate::sink::{Sink, SinkFailed, Stage, put_all};
 
-/// What comes before each line of an envelope in a block.
+/// The indentation of each line of an envelope in a block.
 const BLOCK_INDENTATION: &[u8; INDENTATION_LIMIT] = b"          ";
 
 /// Writes an envelope as a YAML block for the variable `name`, or without a name if it is absent or
@@ -41,7 +41,7 @@ pub fn write_block<K: Sink>(
     put_lines(sink, start, BLOCK_INDENTATION, label, salt, tag, ciphertext)
 }
 
-/// What follows the name on the first line of a block, with the end of the line.
+/// The rest of the first line of a block, after the name, with the end of the line.
 fn block_start(name: &str) -> &[u8]
     ensures line { name.now ++ result.now ≡ first_line name.now }
     ensures short { length result.now ≤ START_LIMIT }

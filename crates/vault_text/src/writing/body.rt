@@ -14,7 +14,7 @@ use crate::limits::TAG_LENGTH;
 use crate::salt::Salt;
 use crate::sink::{Sink, SinkFailed, Stage, put_all};
 
-/// The inner text as far as it fits into the first lines, and the ciphertext that is left.
+/// The inner text as far as it fits into the first lines, and the rest of the ciphertext.
 pub(super) fn first_lines<'c>(
     salt: &Salt,
     tag: &[u8; TAG_LENGTH],
@@ -47,9 +47,9 @@ fn salt_and_tag(salt: &Salt, tag: &[u8; TAG_LENGTH]) -> First
     inner
 }
 
-/// Writes what `text` holds, and lines that spell the digits of the ciphertext. Batches of lines
-/// take the same memory, one after another.
-// Inlined, as what it calls, so that the length of a line of a whole batch is known.
+/// Writes the contents of `text`, then lines that spell the digits of the ciphertext. All batches
+/// of lines use the same memory.
+// Inlined, like its callees, so that the length of a line in a whole batch is known.
 #[inline(always)]
 pub(super) fn put_ciphertext<K: Sink>(
     sink: &mut K,

@@ -9,37 +9,37 @@ use arrayvec::ArrayVec;
 
 pub(super) const INDENTATION_LIMIT: usize = 10;
 
-/// A line with what comes before it and its end.
+/// The longest line, with its indentation and its end.
 const LINE_LIMIT: usize = INDENTATION_LIMIT + LINE_DIGITS + 1;
 
-/// Lines that have room for the longest salt, and the tag.
+/// The number of first lines, which have room for the longest salt and the tag.
 const FIRST_LINES: usize = 15;
 
-/// Bytes that the first lines spell.
+/// The number of bytes that the first lines spell.
 pub(super) const FIRST_BYTES: usize = FIRST_LINES * LINE_BYTES;
 
-/// Lines of ciphertext that are handed to a sink at once, some 16 KiB of text.
+/// The number of lines of ciphertext that are passed to a sink at once, some 16 KiB of text.
 const BATCH_LINES: usize = 203;
 
-/// Bytes of ciphertext on the lines of a batch.
+/// The number of bytes of ciphertext on the lines of a batch.
 pub(super) const BATCH_CIPHERTEXT: usize = BATCH_LINES * LINE_CIPHERTEXT;
 
-/// Room for the text before the lines of a body: what begins a block, and the header line.
+/// Room for the text before the lines of a body: the start of a block, and the header line.
 pub(super) const HEAD_ROOM: usize = 256;
 
 /// The longest text before the lines of a batch: the head, and the first lines of the body.
 pub(super) const OPENING_LIMIT: usize = HEAD_ROOM + FIRST_LINES * LINE_LIMIT;
 
-/// The longest text that is handed to a sink at once.
+/// The longest text that is passed to a sink at once.
 pub(super) const TEXT_LIMIT: usize = OPENING_LIMIT + BATCH_LINES * LINE_LIMIT;
 
-/// Text that is collected before it is handed to a sink.
+/// Text that is collected before it is passed to a sink.
 pub(super) type Text = ArrayVec<u8, TEXT_LIMIT>;
 
 /// The inner text as far as the first lines of a body spell it.
 pub(super) type First = ArrayVec<u8, FIRST_BYTES>;
 
-/// Appends bytes for which there is room.
+/// Appends bytes, for which there must be room.
 pub(super) fn append<const LIMIT: usize>(text: &mut ArrayVec<u8, LIMIT>, bytes: &[u8])
     requires { array_vec_len text.old + length bytes.now ≤ LIMIT }
     ensures text { text.new.items ≡ text.old.items ++ bytes.now }
@@ -48,7 +48,7 @@ pub(super) fn append<const LIMIT: usize>(text: &mut ArrayVec<u8, LIMIT>, bytes: 
     text.try_extend_from_slice(bytes).unwrap();
 }
 
-/// The digits of bytes, at the start of memory that has room for them.
+/// Writes the digits of bytes to the start of memory that has room for them, and returns them.
 pub(super) fn digits_of<'d>(bytes: &[u8], memory: &'d mut [u8]) -> &'d [u8]
     requires { 2 * length bytes.now ≤ length memory.old }
     ensures digits { result.now ≡ encode_lower bytes.now }
@@ -74,7 +74,7 @@ fn append_line(text: &mut Text, indentation: &[u8], bytes: &[u8])
     append(text, b"\n");
 }
 
-/// Appends the first lines of a body, which spell these bytes, after an indentation.
+/// Appends the first lines of a body, indented, which spell these bytes.
 pub(super) fn append_lines(text: &mut Text, indentation: &[u8], bytes: &[u8])
     requires head { array_vec_len text.old ≤ HEAD_ROOM }
     requires narrow { length indentation.now ≤ INDENTATION_LIMIT }
@@ -103,7 +103,7 @@ fn append_ciphertext_line(text: &mut Text, indentation: &[u8], ciphertext: &[u8]
 {
     let mut memory = [0; LINE_BYTES];
     let digits = digits_of(ciphertext, &mut memory);
-    // Loops over half of a line are unrolled as a whole; over a whole line they are not.
+    // The compiler fully unrolls loops over half of a line, but not over a whole line.
     let (first, second) = digits.split_at(digits.len() / 2);
     append(text, indentation);
     append(text, digits_of(first, &mut [0; LINE_BYTES]));
