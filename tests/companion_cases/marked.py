@@ -10,7 +10,12 @@ from companion_cases.repository import under_git
 from lib.needs import needs
 from lib.subtests import SubTests
 
-ATTRIBUTES = "*.vault.yml diff=ansible-vault\nsecrets/** ansible-vault\n*.vault.md diff=ansible-vault\n"
+ATTRIBUTES = """\
+*.vault.yml diff=ansible-vault
+secrets/** ansible-vault
+*.vault.md diff=ansible-vault
+both.vault.yml ansible-vault
+"""
 MERGE = b"<<<<<<< HEAD\na: 1\n=======\na: 2\n>>>>>>> branch\n"
 
 
@@ -21,6 +26,7 @@ def test_marked_files(place: Place, subtests: SubTests) -> None:
         "a.vault.yml": (TEXT, "is not encrypted"),
         "deep/b.vault.yml": (b"", "is not encrypted"),
         "secrets/vars.yml": (block("old"), "is not encrypted"),
+        "both.vault.yml": (block("old"), "is not encrypted"),
         "notes.vault.md": (TEXT, "is not encrypted"),
         "c.vault.yml": (block("old") + MERGE, "has git's conflict markers"),
         "d.yml": (MERGE + block("old"), "has git's conflict markers"),
