@@ -78,6 +78,21 @@ def test_merge_commits(place: Place) -> None:
     refused("the merge", done, f"{merged[:10]}: vars.yml", why=WHOLE, hint=meant("vars.yml"))
 
 
+def test_merge_of_several_branches(place: Place) -> None:
+    """The staged content is compared with every branch that is being merged."""
+    under_git(place, "")
+    committed(place, "vars.yml", b"a: 1\n")
+    for name in ("one", "two"):
+        place.shell(f"git checkout -qb {name}")
+        committed(place, f"{name}.yml", sealed("old"))
+        place.shell("git checkout -q -")
+    place.shell("git merge -q --no-commit one two")
+    for name in ("one", "two"):
+        place.put(f"{name}.yml", TEXT)
+    place.shell("git add -A")
+    ended("the merge", place.run(HOOK), 1, "one.yml is not a vault, but was", "two.yml is not a vault, but was")
+
+
 def test_cherry_picks(place: Place) -> None:
     """git runs no hook for a cherry-pick, nor with --no-verify, but --since checks these commits."""
     under_git(place, "")

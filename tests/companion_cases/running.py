@@ -217,6 +217,15 @@ def test_those_that_fail(place: Place) -> None:
     assert (place.tree / "big.yml").stat().st_size == 16_777_217, "stays"
 
 
+def test_rekey_needs_a_new_secret(place: Place) -> None:
+    """The old secret is not taken for the new one, even if it has the label that was chosen."""
+    prepare(place)
+    before = place.files()
+    done = place.run(WITH, "rekey", *place.by_id("prod", "old"), "--encrypt-vault-id", "prod", "a.yml")
+    ended("the old one alone", done, 1, "no new secret has the label that was chosen for encryption, prod")
+    assert place.files() == before
+
+
 def test_highest_status(place: Place) -> None:
     prepare(place)
     memory = 'echo "ERROR! out of memory" >&2; exit 4'

@@ -67,6 +67,15 @@ def test_links(place: Place) -> None:
     ended("a path that leads nowhere", done, 1, "tree/dangling.yml: No such file")
 
 
+def test_link_to_a_sibling(place: Place) -> None:
+    """A directory whose name begins with the one that was named is outside it."""
+    place.put("tree-old/vault.yml", sealed("old"))
+    (place.tree / "tree").mkdir()
+    (place.tree / "tree/link.yml").symlink_to("../tree-old/vault.yml")
+    ended("its file", place.run(ROTATE, *to_new(place), "tree"), 1, "outside the paths you named", "1 failed")
+    assert place.get("tree-old/vault.yml") == sealed("old"), "stays"
+
+
 def test_checked_links(place: Place) -> None:
     """The check follows links to files. It follows a link to a directory only if the link itself is a path."""
     place.put("tree/all.yml", sealed("old"))
