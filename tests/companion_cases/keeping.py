@@ -214,6 +214,16 @@ def test_folders_that_go(cases: Companions, name: str, editor: str) -> None:
     assert place.files() == {"all.yml": sealed("old")}, f"{name}: the vault stays, and nothing is left"
 
 
+def test_folder_of_the_vault_that_goes(place: Place) -> None:
+    """The encrypted copy is then kept in $TMPDIR."""
+    temporary = place.path / "temporary"
+    temporary.mkdir()
+    place.put("folder/all.yml", sealed("old"))
+    words = [*place.by_file("old"), "folder/all.yml"]
+    done = edit(place, f"{CHANGE}; rm -r folder", *words, TMPDIR=str(temporary))
+    check_encrypted("the folder", place, done, "No such file or directory", temporary)
+
+
 def test_folder_and_tool_that_go(place: Place) -> None:
     """If no encrypted copy can be made either, the saved text is written to $TMPDIR."""
     place.put("all.yml", sealed("old"))

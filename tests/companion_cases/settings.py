@@ -38,6 +38,7 @@ FILES = {
     "and no other": (NAMED, {"far/away/my.cfg": "", "tree/ansible.cfg": BOTH, ".ansible.cfg": BOTH}, set()),
     "a list of it": (NAMED, {"far/away/my.cfg": LIST.format("dev@../secrets/dev")}, {"dev"}),
     "a folder that is named": ({"CONFIG": "~/far"}, {"far/ansible.cfg": FILE.format("../secrets/dev")}, {"dev"}),
+    "a variable beside it": (NAMED | {"PASSWORD_FILE": "../secrets/old"}, {"far/away/my.cfg": ""}, {"old"}),
     "a missing one": (NAMED, {"tree/ansible.cfg": FILE.format("../secrets/old")}, {"old"}),
     "the current folder": (NAMED, {"far/away/my.cfg": FILE.format("{{CWD}}/../secrets/old")}, {"old"}),
     "a comment": ({}, {"tree/ansible.cfg": FILE.format("../secrets/dev ; not old") + "# it = x\n"}, {"dev"}),
