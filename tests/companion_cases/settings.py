@@ -300,7 +300,7 @@ def test_world_writable_folders(place: Place) -> None:
     """A configuration file in a world-writable directory is ignored with a warning."""
     by_settings(place)
     place.tree.chmod(0o777)
-    warning = f"{place.tree}/ansible.cfg is ignored, since its folder is world-writable"
+    warning = f"{place.tree}/ansible.cfg is ignored, since its directory is world-writable"
     ended("the current folder", place.run(CHECK, "."), 2, f"{CHECK}: {warning}", "no secret is given")
     (place.path / ".ansible.cfg").write_text(FILE.format("secrets/old"))
     done = place.run(CHECK, ".")

@@ -139,9 +139,9 @@ def test_named_paths(cases: Companions, subtests: SubTests) -> None:
         for path in ("pipe", "/dev/null"):
             with subtests.test(f"{words[0]} {path}"):
                 done = place.run(*words, path, "a.yml")
-                ended("it is refused", done, 1, f"{path}: it is neither a file nor a folder")
+                ended("it is refused", done, 1, f"{path}: it is neither a file nor a directory")
     done = place.shell(f"{CHECK} {' '.join(place.by_file('new'))} <(cat a.yml)", "bash")
-    ended("a pipe of the shell", done, 1, "it is neither a file nor a folder", "0 decrypted, 1 not")
+    ended("a pipe of the shell", done, 1, "it is neither a file nor a directory", "0 decrypted, 1 not")
     place = cases.place()
     place.put("tree/a.yml", sealed("old"))
     place.put("closed/b.yml", sealed("old"))

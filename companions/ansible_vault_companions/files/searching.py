@@ -61,7 +61,7 @@ def files_below(
                     refuse(file, fault)
                 continue
             if is_named and not is_file:
-                refuse(file, Refused("it is neither a file nor a folder"))
+                refuse(file, Refused("it is neither a file nor a directory"))
             target = os.path.realpath(file)
             if is_file and target not in seen:
                 seen.add(target)

@@ -101,7 +101,7 @@ def _configuration(trusts_folder: bool, warn: Callable[[str], None]) -> str | No
     elif not _is_world_writable("."):
         places.insert(0, NAME)
     elif os.path.exists(NAME):
-        warn(f"{shown(os.path.abspath(NAME))} is ignored, since its folder is world-writable")
+        warn(f"{shown(os.path.abspath(NAME))} is ignored, since its directory is world-writable")
     return next((place for place in places if _is_readable(place)), None)
 
 
