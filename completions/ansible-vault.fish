@@ -45,7 +45,7 @@ for name in ansible-vault ansible-vault-with
     complete -c $name -n "$none" -a decrypt -d 'Decrypt a vault'
     complete -c $name -n "$none" -a view -d 'Print the plaintext of a vault'
     complete -c $name -n "$none" -a rekey -d 'Re-encrypt a vault with a new secret'
-    complete -c $name -n "$none" -a encrypt_string -d 'Encrypt a text as a YAML block'
+    complete -c $name -n "$none" -a encrypt_string -d 'Encrypt text as a YAML block'
     complete -c $name -n "not $given $commands" -s V -l version -d 'Print version'
     complete -c $name -s h -l help -d 'Print help'
     complete -c $name -n "$given rekey" -l new-vault-id -x -a '(__ansible_vault_ids)' \

@@ -2,7 +2,7 @@
 use Rattle.std.proofs.Common.{◌≡◌, ℕ, ◌+◌, ◌<◌, Bool, List, [], ◌∷◌, ◌++◌, length}
 use Rattle.std.proofs.Common.{length-append, inl, inr, sym, ◌∙◌, Some, Result, Ok, Err, refl, arith}
 use Rattle.std.proofs.Common.{map, get_or, drop, Vec, Global, ap, append_assoc}
-use Rattle.std.specs.Prelude.{IsTrue, option_to_list, slice_get}
+use Rattle.std.specs.Prelude.{IsTrue, option_to_list, slice_get, zip}
 use Rattle.std.specs.Option.{option_map}
 use Rattle.std.proofs.lemmas.Bool.{lt-ltb}
 use Rattle.std.proofs.lemmas.List.{append-nil, get_or_append_left, drop_more, get_or-map}
@@ -69,18 +69,19 @@ no_file = record { label = []; path = [] }
 module _ (i : ℕ) (files : List SecretFile) (contents : List (List ℕ)) (file : SecretFile)
     (bytes : List ℕ) (at_file : drop i files ≡ file ∷ drop (i + 1) files)
     (at_bytes : drop i contents ≡ bytes ∷ drop (i + 1) contents) (prefix : List Secret)
-    (before : with_prefix prefix (secrets_of (drop i files) (drop i contents))
-    ≡ secrets_of files contents) where
+    (before : with_prefix prefix (secrets_of (zip (drop i files) (drop i contents)))
+    ≡ secrets_of (zip files contents)) where
   -- a password file that is refused refuses all
   pub secrets_of-refused : (fault : Fault) → password_or_fault bytes ≡ Err fault
-      → Err fault ≡ secrets_of files contents
+      → Err fault ≡ secrets_of (zip files contents)
   unfolding secrets_of
   secrets_of-refused fault refused = rw (at_file, at_bytes, refused) at before
 
   -- a password file that gives a password adds a secret
   pub secrets_of-added : (password : List ℕ) → password_or_fault bytes ≡ Ok password
       → with_prefix (prefix ++ record { label = file.label; password = password } ∷ [])
-      (secrets_of (drop (i + 1) files) (drop (i + 1) contents)) ≡ secrets_of files contents
+      (secrets_of (zip (drop (i + 1) files) (drop (i + 1) contents)))
+      ≡ secrets_of (zip files contents)
   unfolding secrets_of
   secrets_of-added password found =
       sym (with_prefix-more prefix (record { label = file.label; password = password }) _)

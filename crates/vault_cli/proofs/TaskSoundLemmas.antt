@@ -1,7 +1,7 @@
 -- What steps 9 to 11 prepare of a request: a sound task, which takes as much input as the command.
 use Rattle.std.proofs.Common.{◌≡◌, ℕ, ◌<◌, ◌≤◌, nat_lt, true, List, [], ◌∷◌, ◌++◌, length, All}
 use Rattle.std.proofs.Common.{length-take, Option, Some, None, Ok, refl, sym, arith}
-use Rattle.std.specs.Prelude.{IfSome, option_to_list, slice_index_or}
+use Rattle.std.specs.Prelude.{IfSome, option_to_list, slice_index_or, zip}
 use Rattle.std.specs.List.{AllByRecursion}
 use Rattle.std.proofs.lemmas.List.Elements.{All-cons, All-nil}
 use Rattle.vault_text.specs.Label.{is_label}
@@ -62,10 +62,10 @@ keeps-secret file bytes =
 
 keeps-secrets : (files : List SecretFile) (contents : List (List ℕ))
     → Keeps (λ secrets. AllByRecursion HasLabel files → All IsLabelled secrets)
-    (secrets_of files contents)
+    (secrets_of (zip files contents))
 unfolding secrets_of
 keeps-secrets [] contents = λ _. All-nil IsLabelled
-keeps-secrets (file ∷ files) [] = refl
+keeps-secrets (file ∷ files) [] = λ _. All-nil IsLabelled
 keeps-secrets (file ∷ files) (bytes ∷ contents) =
     next (λ secret. HasLabel file → IsLabelled secret) _ _ _ (keeps-secret file bytes)
     (λ secret first.
@@ -143,7 +143,8 @@ module _ (request : Request) (salt : List ℕ) where
   keeps-task_of contents =
       next (λ list. IsGiven → All IsLabelled list.secrets) _
       (secret_list_of request contents) _
-      (next _ _ (secrets_of request.secrets contents) _ (keeps-secrets request.secrets contents)
+      (next _ _ (secrets_of (zip request.secrets contents)) _
+      (keeps-secrets request.secrets contents)
       (λ secrets labels given.
       labels (label-parts request.secrets request.new_secret given.known.labels).0)) (λ list labels.
       keeps-task request.command list (slice_index_or contents (length request.secrets) []) labels)

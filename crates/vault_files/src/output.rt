@@ -1,4 +1,4 @@
-//! The output of a program, into a file of a system.
+//! Output that goes to a file of a system.
 ghost use Rattle.std.specs.Prelude.{◌≡◌, ◌++◌, List, MatchResult};
 ghost use Rattle.vault_files.specs.System.{SystemCall, if_failed};
 ghost use Rattle.vault_files.specs.Output.{FailsToBegin, beginning, restricting};

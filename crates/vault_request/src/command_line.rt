@@ -150,7 +150,7 @@ fn with_name<'a>(alloc: Global) -> Result<Command<'a>, AllocError>
     ensures { IfOk result (λ command. IsCommand command
         (app_with (codes "encrypt_string") (secret_rules ++ salt_rules ++ name_rules))) }
 {
-    let about = "Encrypts a text as a YAML block";
+    let about = "Encrypts text as a YAML block";
     with_salt(alloc, "encrypt_string", about)?
         .arg(arguments::name(alloc))?
         .arg(option(alloc, table::STDIN_NAME))

@@ -1,6 +1,6 @@
 -- The task of a request, steps 9 to 11 of docs/verification.md: the passwords, the index of the
 -- secret to encrypt with, and the salt.
-use Rattle.std.specs.Prelude.{ℕ, ◌<◌, nat_lt, if◌then◌else◌, List, [], ◌∷◌, length, take}
+use Rattle.std.specs.Prelude.{ℕ, ◌<◌, nat_lt, if◌then◌else◌, List, [], ◌∷◌, length, take, zip}
 use Rattle.std.specs.Prelude.{slice_index_or, Option, Some, None, Result, Ok, Err}
 use Rattle.std.specs.Result.{result_map_both}
 use Rattle.vault_core.specs.Choice.{chosen_index}
@@ -12,7 +12,6 @@ use Rattle.vault_core.specs.Password.{password_of}
 use Rattle.vault_core.specs.Secrets.{Secret, SecretList}
 use Rattle.vault_fault.specs.declared.fault.Fault.{Fault}
 use Rattle.vault_fault.specs.declared.fault.Fault.TheVariants.{NeedNewSecret, SaltShort}
-use Rattle.vault_fault.specs.declared.fault.Fault.TheVariants.{SecretEmpty}
 use Rattle.vault_request.specs.Request.{Request, SecretFile}
 use Rattle.vault_cli.specs.declared.limits.TheConstants.{SEALING_SALT_LENGTH}
 use Rattle.vault_request.specs.declared.command_name.CommandName.{CommandName}
@@ -41,20 +40,18 @@ secret_of file bytes = do
   password ← password_or_fault bytes
   Ok (record { label = file.label; password = password })
 
--- step 9: the secrets of password files, in order, or the first fault; a file without contents,
--- which no run has, gives no password
-unfoldable pub secrets_of : List SecretFile → List (List ℕ) → Result (List Secret) Fault
-secrets_of [] contents = Ok []
-secrets_of (file ∷ files) [] = Err SecretEmpty
-secrets_of (file ∷ files) (bytes ∷ contents) = do
+-- step 9: the secrets of password files with their bytes, in order, or the first fault
+unfoldable pub secrets_of : List (SecretFile × List ℕ) → Result (List Secret) Fault
+secrets_of [] = Ok []
+secrets_of ((file, bytes) ∷ files) = do
   secret ← secret_of file bytes
-  secrets ← secrets_of files contents
+  secrets ← secrets_of files
   Ok (secret ∷ secrets)
 
 -- the secrets of a request, and its rule for labels
 abbrev pub secret_list_of : Request → List (List ℕ) → Result SecretList Fault
 secret_list_of request contents = do
-  secrets ← secrets_of request.secrets contents
+  secrets ← secrets_of (zip request.secrets contents)
   Ok (record { secrets = secrets; rule = request.rule })
 
 -- step 9 of `rekey`: its new secret, which a settled request names
