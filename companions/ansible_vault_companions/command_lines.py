@@ -3,12 +3,20 @@
 from __future__ import annotations
 
 import argparse
-from typing import Any
+from typing import Any, NoReturn
 
 from ansible_vault_companions import VERSION
+from ansible_vault_companions.program import shown
 
 NOT_PROVED = "This program is tested, not proved"
 BY_TOOL = "it leaves encryption to ansible-vault"
+
+
+class Parser(argparse.ArgumentParser):
+    """A parser whose message is one write, with the words of the command line in printable form."""
+
+    def error(self, message: str) -> NoReturn:
+        self.exit(2, f"{self.format_usage()}{self.prog}: error: {shown(message)}\n")
 
 
 def parser(
@@ -16,7 +24,7 @@ def parser(
 ) -> argparse.ArgumentParser:
     """A parser that exits with status 2 if the command line is invalid. `ciphers` says what does the encryption."""
     shown_example = f"Example:\n  {example}\n\n" if example else ""
-    made = argparse.ArgumentParser(
+    made = Parser(
         prog=name,
         description=summary,
         epilog=f"{shown_example}Exit status: {statuses}\n\nFor more, see `man {name}`.\n{NOT_PROVED}; {ciphers}.",

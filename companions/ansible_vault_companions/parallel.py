@@ -4,21 +4,18 @@ from __future__ import annotations
 
 import os
 from concurrent.futures import ThreadPoolExecutor
-from typing import Callable, Iterable, TypeVar
+from typing import Callable, Iterable, Iterator, TypeVar
 
 Item = TypeVar("Item")
 Result = TypeVar("Result")
 
 
-def work_on(
-    items: Iterable[Item], jobs: int, work: Callable[[Item], Result], take: Callable[[Result], None]
-) -> None:
-    """Calls `work` for several items at once, and `take` for each result, in order. If `take` raises, items in progress
-    are finished, and no new ones are begun."""
-    with ThreadPoolExecutor(jobs) as pool:
+def results(work: Callable[[Item], Result], items: Iterable[Item], jobs: int | None = None) -> Iterator[Result]:
+    """Calls `work` for several items at once, by default one for each processor, and yields each result, in order. If
+    the caller stops early, items in progress are finished, and no new ones are begun."""
+    with ThreadPoolExecutor(jobs or processors()) as pool:
         # When this loop ends early, `map` cancels the items that have not begun.
-        for result in pool.map(work, items):
-            take(result)
+        yield from pool.map(work, items)
 
 
 def processors() -> int:

@@ -28,12 +28,6 @@ def shown(name: str) -> str:
     return name if name.isprintable() else ascii(name)
 
 
-def counted_labels(counts: dict[str, int]) -> str:
-    """The number of envelopes with other labels, in total and for each label, as text."""
-    labels = ", ".join(f"{shown(label)} {count}" for label, count in sorted(counts.items()))
-    return f"{sum(counts.values())} of other labels" + (f" ({labels})" if labels else "")
-
-
 def write(data: bytes) -> None:
     """Writes to standard output. A signal ends the wait for a slow reader."""
     try:
@@ -51,8 +45,8 @@ def write_line(text: str) -> None:
 
 
 def write_error(text: str) -> None:
-    """Prints a line on standard error."""
-    print(text, file=sys.stderr, flush=True)
+    """Prints a line on standard error, in one write."""
+    print(f"{text}\n", end="", file=sys.stderr, flush=True)
 
 
 def reason(fault: Exception) -> str:

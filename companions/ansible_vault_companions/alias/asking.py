@@ -8,7 +8,7 @@ from ansible_vault_companions.alias.run import Run
 from ansible_vault_companions.alias.table import ENCRYPT_ID, ENCRYPTING, REKEY
 from ansible_vault_companions.program import Refused
 from ansible_vault_companions.secrets import options, sources
-from ansible_vault_companions.secrets.sources import ASKED, NoTerminal, Secret, Source
+from ansible_vault_companions.secrets.sources import ASKED, NoTerminal, Secret
 from ansible_vault_companions.tool import finding
 from ansible_vault_companions.tool.tool import Tool
 
@@ -22,7 +22,7 @@ NO_NEW = (
 
 
 def obtained(
-    companion: str, tool: Tool, run: Run, named: list[Source], line: list[str]
+    companion: str, tool: Tool, run: Run, named: list[Secret], line: list[str]
 ) -> tuple[list[Secret], list[Secret]]:
     """The secrets, and the new ones of rekey. Starts noting signals, and lets the tool check the command line first."""
     stopping.listen()

@@ -19,7 +19,6 @@ class Run:
         self.found = found
         self.secrets: list[Secret] = []
         self.new: list[Secret] = []
-        self.notes_signals = False
         # Whether to try only secrets with the vault's label, whatever the settings say.
         self.heeds_label = False
         # The label of the secret to encrypt with.

@@ -6,7 +6,7 @@ import os
 from contextlib import suppress
 from typing import Callable, NamedTuple
 
-from ansible_vault_companions import program, stopping
+from ansible_vault_companions import program
 from ansible_vault_companions.alias.run import Run
 from ansible_vault_companions.alias.table import DECRYPT, ENCRYPT_STRING, OUTPUT, PROMPT, REKEY, SHOW_INPUT
 from ansible_vault_companions.alias.table import STDIN_NAME, VARIABLE, VIEW
@@ -115,13 +115,7 @@ def _typed(words: Words) -> list[Text]:
 def _read(words: Words) -> list[Text]:
     if STANDARD_INPUT not in words.arguments and not words.value(STDIN_NAME):
         return []
-    return [Text(_all_of(0), words.value(STDIN_NAME), "standard input")]
-
-
-def _all_of(file: str | int) -> bytes:
-    """The whole input, or its beginning if it is too long for the tool. A signal ends the wait for it."""
-    with stopping.interruptible(), open(file, "rb", closefd=file != 0) as opened:
-        return opened.read(reading.LIMIT + 1)
+    return [Text(reading.input_of(0), words.value(STDIN_NAME), "standard input")]
 
 
 def _given(words: Words) -> list[Text]:
@@ -140,7 +134,7 @@ def _kept_input(words: Words) -> bytes:
     path = next(iter(words.arguments), STANDARD_INPUT)
     if os.path.isfile(path) and path != STANDARD_INPUT:
         return reading.named(path)
-    data = _all_of(0 if path == STANDARD_INPUT else path)
+    data = reading.input_of(0 if path == STANDARD_INPUT else path)
     descriptor = os.memfd_create("input")
     with open(descriptor, "wb", closefd=False) as file:
         file.write(data)

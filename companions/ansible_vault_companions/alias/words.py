@@ -56,9 +56,6 @@ class Words:
             return self.has(PROMPT) or is_more or bool(self.arguments and self.has(STDIN_NAME))
         return self.has_files() and (is_more if self.command == VIEW else not self.has(OUTPUT))
 
-    def names_secrets(self) -> bool:
-        return bool(self.ids or self.paths)
-
     def secret_options(self) -> list[str]:
         """The options that name secrets, under the names that the tool has for them."""
         return [

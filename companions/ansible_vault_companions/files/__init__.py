@@ -2,6 +2,6 @@
 
 `searching` and `reading` find files and read them up to a limit. `finding` finds the `envelopes` in a file, and
 `changes` replaces some bytes with others. `replacing` writes new content to a file beside the old one, and renames it.
-`private_folder` and `last_save` are for an editor.
+`reports` says what was found in each file. `private_folder` and `last_save` are for an editor.
 May import no other package.
 """

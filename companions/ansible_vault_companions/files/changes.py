@@ -2,6 +2,7 @@
 
 from __future__ import annotations
 
+from bisect import bisect_right
 from typing import Iterable, NamedTuple
 
 
@@ -11,6 +12,18 @@ class Change(NamedTuple):
     start: int
     end: int
     text: bytes
+
+
+class Spans:
+    """Ranges that do not overlap, each from a first position to the one behind its last."""
+
+    def __init__(self, spans: Iterable[tuple[int, int]]) -> None:
+        self.spans = sorted(spans)
+        self.starts = [start for start, _ in self.spans]
+
+    def __contains__(self, place: int) -> bool:
+        number = bisect_right(self.starts, place) - 1
+        return number >= 0 and place < self.spans[number][1]
 
 
 def changed(data: bytes, changes: Iterable[Change]) -> bytes:

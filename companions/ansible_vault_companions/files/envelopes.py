@@ -83,5 +83,10 @@ def written_label(text: bytes) -> str | None:
     return (fields[3] if len(fields) > 3 else b"").decode()
 
 
+def is_envelope(text: bytes) -> bool:
+    """Whether a text, or the text of a value, is encrypted."""
+    return text.lstrip(b"\"' \t\r\n").startswith(MAGIC)
+
+
 def mentions_envelope(data: bytes) -> bool:
     return MAGIC in data or any(each in data for each in UTF_16)

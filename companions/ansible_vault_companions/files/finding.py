@@ -17,11 +17,11 @@ IN_A_LINE = (
     "an envelope in quotes or within a line; write it as a block (`NAME: !vault |` and its lines below, "
     "indented with spaces), or encrypt the whole file"
 )
-COMMENTED = "an envelope in a comment; remove it, or the comment's marks"
+COMMENTED = "an envelope in a comment; remove the envelope, or uncomment it"
 BEHIND_TABS = "an envelope after tabs; indent with spaces"
 FOLDED = "an envelope in a folded scalar (`>`); write `!vault |` instead"
 BEHIND_MARK = "an envelope after a byte order mark; remove the mark"
-BEHIND_SPACE = "an envelope after empty lines or spaces at the start of the file; remove them, or it is not a vault"
+BEHIND_SPACE = "the empty lines or spaces before this envelope keep the file from being a vault; remove them"
 IN_UTF_16 = "envelopes in UTF-16; save the file as UTF-8"
 
 # The lines of a block, without the newline of the last one.

@@ -39,6 +39,12 @@ def named(path: str) -> bytes:
     return content
 
 
+def input_of(file: str | int) -> bytes:
+    """The whole of an input such as standard input, or a bit more than any vault has. A signal ends the wait for it."""
+    with stopping.interruptible(), open(file, "rb", closefd=file != 0) as opened_file:
+        return opened_file.read(LIMIT + 1)
+
+
 def pieces(path: str) -> Iterator[bytes]:
     """Yields the content of a file, up to its stated size if that exceeds LIMIT. A signal ends the reading."""
     with opened(path) as file:

@@ -5,6 +5,7 @@ from __future__ import annotations
 import os
 import subprocess
 from contextlib import suppress
+from functools import lru_cache
 
 from ansible_vault_companions.git.commands import command, environment, git
 from ansible_vault_companions.program import Refused
@@ -42,7 +43,7 @@ class Blobs:
         self.git = subprocess.Popen(command(("cat-file", "--batch")), stdin=pipe, stdout=pipe, env=environment())
         assert self.git.stdin and self.git.stdout
         self.stdin, self.stdout = self.git.stdin, self.git.stdout
-        self.recent: dict[str, bytes] = {}
+        self.read = lru_cache(maxsize=RECENT)(self._read)
         return self
 
     def __exit__(self, *_: object) -> None:
@@ -52,12 +53,6 @@ class Blobs:
             self.stdin.close()
         self.stdout.close()
         self.git.wait()
-
-    def read(self, blob: str) -> bytes:
-        if blob not in self.recent:
-            self.recent = dict([*self.recent.items()][1 - RECENT :])
-            self.recent[blob] = self._read(blob)
-        return self.recent[blob]
 
     def _read(self, blob: str) -> bytes:
         self.stdin.write(blob.encode() + b"\n")

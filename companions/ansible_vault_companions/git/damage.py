@@ -15,7 +15,10 @@ NOT_ENCRYPTED = "is not encrypted"
 DAMAGED = "is a damaged vault"
 UNMERGED = "has git's conflict markers"
 TORN = "has git's conflict markers within an envelope, since it was merged without ansible-vault-merge"
-MERGE_AGAIN = "set up the merge driver (see `ansible-vault-merge --help`), and run `git checkout --merge {}`"
+MERGE_AGAIN = (
+    "set up the merge driver (see `ansible-vault-merge --help`), and run `git checkout --merge {}`; if a commit has "
+    "these markers, `man ansible-vault-merge` says how to merge the file again"
+)
 WITHOUT_THEIRS = "is not merged: the merge driver failed, so the file has only your side's version"
 
 HEADER = re.compile(rb"\$ANSIBLE_VAULT;1\.(?:1;AES256|2;AES256;[^;\r\n]{1,128})[ \t]*(?=[\r\n]|\Z)")

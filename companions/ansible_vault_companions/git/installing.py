@@ -5,7 +5,6 @@ from __future__ import annotations
 import os
 import shlex
 import shutil
-from typing import NamedTuple
 
 from ansible_vault_companions.files.searching import is_prose
 from ansible_vault_companions.git import attributes, commands, repositories
@@ -34,21 +33,12 @@ MOST_LINES = 10
 ENVELOPE = r"^ *\$ANSIBLE_VAULT;1\.[12];AES256"
 
 
-class Hooks(NamedTuple):
-    """The directory in which git looks for hooks, and the program that they link to."""
-
-    folder: str
-    program: str
-
-    def paths(self) -> list[str]:
-        return [os.path.join(self.folder, name) for name in HOOKS]
-
-
-def hooks(program: str) -> Hooks:
-    """The hooks of this repository. Changes to its top directory, where a relative core.hooksPath starts."""
+def hooks() -> list[str]:
+    """The paths of the hooks of this repository. Changes to its top directory, where a relative core.hooksPath
+    starts."""
     os.chdir(repositories.top())
-    folder = os.fsdecode(commands.git("rev-parse", "--git-path", "hooks").removesuffix(b"\n"))
-    return Hooks(os.path.abspath(folder), program)
+    folder = os.path.abspath(os.fsdecode(commands.git("rev-parse", "--git-path", "hooks").removesuffix(b"\n")))
+    return [os.path.join(folder, name) for name in HOOKS]
 
 
 def install_hook(hook: str, program: str) -> str:

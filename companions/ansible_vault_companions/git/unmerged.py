@@ -2,7 +2,6 @@
 
 from __future__ import annotations
 
-import hashlib
 import os
 from typing import NamedTuple
 
@@ -32,15 +31,19 @@ def note_conflict(content: bytes, folder: str | None = None) -> None:
     """Notes in the repository of a directory, if there is one, that a content still has to be merged."""
     notes = _notes(folder)
     if notes:
-        hashed = [git("hash-object", "--stdin", data=each, folder=folder) for each in as_stored(content)]
-        with open(notes, "ab") as file:
-            file.writelines(hashed)
+        with open(notes, "a", encoding="ascii", opener=_private) as file:
+            file.writelines(f"{blob}\n" for blob in _blobs(content, folder))
 
 
-def as_stored(content: bytes) -> set[bytes]:
-    """The forms in which git may store a content, depending on attributes: unchanged, or with other line endings. git
-    is not asked, since it would run a filter that the repository names."""
-    return {content, content.replace(b"\r\n", b"\n")}
+def _private(path: str, flags: int) -> int:
+    return os.open(path, flags, 0o600)
+
+
+def _blobs(content: bytes, folder: str | None) -> list[str]:
+    """The blobs that git may store for a content, depending on attributes: unchanged, or with other line endings. git
+    does not learn the file's name, since it would run a filter that the repository names."""
+    forms = {content, content.replace(b"\r\n", b"\n")}
+    return [git("hash-object", "--stdin", data=each, folder=folder).decode().strip() for each in forms]
 
 
 def conflicts() -> set[str]:
@@ -53,7 +56,7 @@ def note_unmerged(name: str, ours: str, theirs: str) -> None:
     notes = _notes()
     if notes:
         blobs = git("hash-object", "--no-filters", "--", ours, theirs).decode().split()
-        with open(notes, "a", encoding="ascii") as file:
+        with open(notes, "a", encoding="ascii", opener=_private) as file:
             file.write(f"{' '.join(blobs)} {os.fsencode(name).hex()} {_head()}\n")
 
 
@@ -63,7 +66,7 @@ def forget_unmerged(name: str) -> None:
     lines = _lines(notes)
     kept = [words for words in lines if words[2:3] != [os.fsencode(name).hex()]]
     if notes and len(kept) < len(lines):
-        with open(notes, "w", encoding="ascii") as file:
+        with open(notes, "w", encoding="ascii", opener=_private) as file:
             file.writelines(f"{' '.join(words)}\n" for words in kept)
 
 
@@ -83,7 +86,7 @@ def unmerged_of(paths: list[str]) -> set[str]:
     for repository, names in by_repository(paths).items():
         for each in unmerged(repository):
             path = names.get(each.name)
-            if path is not None and each.ours in _blobs_of(path, each.ours):
+            if path is not None and each.ours in _blobs_of(path, repository):
                 found.add(path)
     return found
 
@@ -94,15 +97,13 @@ def unmerged_in_index() -> list[tuple[bytes, str]]:
     return [(name, blob) for name, blob in noted if entry(name)[1] == blob]
 
 
-def _blobs_of(path: str, like: str) -> list[str]:
-    """The blob IDs that a file's content may have, with the hash function of another ID. git is not asked, since it
-    would run a filter that the repository names."""
+def _blobs_of(path: str, repository: str) -> list[str]:
+    """The blobs for a file's content; empty if it cannot be read."""
     try:
         content = reading.read(path) or b""
     except (Refused, OSError):
         return []
-    new = hashlib.sha1 if len(like) == hashlib.sha1().digest_size * 2 else hashlib.sha256
-    return [new(b"blob %d\0%b" % (len(each), each)).hexdigest() for each in as_stored(content)]
+    return _blobs(content, repository)
 
 
 def _theirs(folder: str | None) -> set[tuple[bytes, str]]:

@@ -9,7 +9,6 @@ from ansible_vault_companions.program import Refused
 from ansible_vault_companions.secrets import labels
 from ansible_vault_companions.secrets.sources import Secret
 from ansible_vault_companions.tool.tool import Tool
-from ansible_vault_companions.yaml import blocks
 from ansible_vault_companions.yaml.nodes import LITERAL, NotYaml
 from ansible_vault_companions.yaml.values import Scan, Value
 
@@ -36,7 +35,7 @@ def check_values(content: bytes, restored: list[bytes], known: list[Value]) -> N
     """Refuses a result that is not YAML, or that has an unexpected value: the envelopes of blocks must be the restored
     ones, and every other encrypted value must be known from one of the sides."""
     try:
-        values = [value for value in Scan(content).values if blocks.is_envelope(value)]
+        values = [value for value in Scan(content).values if value.is_encrypted]
     except NotYaml as fault:
         raise Refused(NO_YAML.format(fault)) from None
     found = [value.content.strip() for value in values if value.style == LITERAL]
@@ -54,7 +53,7 @@ def check_labels(opened: dict[bytes, Opened], base: Version, sides: dict[str, Ve
             found = opened.get(block.envelope)
             fault = labels.fault(found.secret, block.envelope) if found else ""
             if fault and block.envelope not in known:
-                raise Refused(f"{side}: line {block.value.line}: {blocks.named(block.value)}: {fault}")
+                raise Refused(f"{side}: {block.value.place}: {fault}")
 
 
 def _readable(data: bytes) -> set[bytes]:

@@ -15,7 +15,7 @@ from ansible_vault_companions.files.changes import Change, changed
 from ansible_vault_companions.merging import checks
 from ansible_vault_companions.merging.alignment import aligned
 from ansible_vault_companions.merging.lines import OURS, THEIRS, Merged, merged_lines
-from ansible_vault_companions.merging.versions import Place, Version, opened, scanned
+from ansible_vault_companions.merging.versions import Version, opened, scanned
 from ansible_vault_companions.program import Refused
 from ansible_vault_companions.tool.tool import Decrypt, Tool
 from ansible_vault_companions.yaml import blocks
@@ -50,14 +50,12 @@ class Values:
         self.made: dict[bytes, bytes] = {}
 
     def _give_tokens(self, version: Version) -> None:
-        equal: dict[Hashable, list[Place]] = defaultdict(list)
+        equal: dict[Hashable, list[Block]] = defaultdict(list)
         for block in version.blocks:
-            place = Place(block, self.opened.get(block.envelope))
-            version.by_path[block.value.path].append(place)
-            equal[_known_by(place)].append(place)
-        for what, places in equal.items():
-            for number, place in zip(self._numbers(what, [each.block.envelope for each in places]), places):
-                version.places[self._token((what, number))] = place
+            equal[self._known_by(block)].append(block)
+        for what, same in equal.items():
+            for number, block in zip(self._numbers(what, [each.envelope for each in same]), same):
+                version.places[self._token((what, number))] = block
 
     def _numbers(self, what: Hashable, envelopes: list[bytes]) -> list[int]:
         """Numbers for equal values. A value with an unchanged envelope keeps its number, whatever the others do."""
@@ -70,18 +68,18 @@ class Values:
         """Forces a conflict if a side gave a value another secret, and the other side moved its old envelope to other
         keys or another tag. Otherwise the old envelope would be all that is left of the value."""
         found = {}
-        for token, place in side.places.items():
+        for token, block in side.places.items():
             before = self.base.places.get(token)
-            is_rekeyed = before and before.opened and place.opened and not place.is_under_same(before)
-            there = other.at(place.block.value.path)
-            is_kept = token in other.places or before and there and there.block.envelope == before.block.envelope
-            is_moved = before and not is_kept and _digits(before.block.envelope) in other.data
-            found[self._token((token, place.block.envelope)) if is_rekeyed and is_moved else token] = place
+            is_rekeyed = before and self._are_under_same(block, before) is False
+            there = other.at(block.value.path)
+            is_kept = token in other.places or before and there and there.envelope == before.envelope
+            is_moved = before and not is_kept and _digits(before.envelope) in other.data
+            found[self._token((token, block.envelope)) if is_rekeyed and is_moved else token] = block
         side.places = found
 
     def _put_tokens(self, version: Version) -> None:
         tokens = version.places.items()
-        changes = [each for token, place in tokens for each in self._tokenized(version.data, place.block, token)]
+        changes = [each for token, block in tokens for each in self._tokenized(version.data, block, token)]
         version.text = changed(version.data, changes)
 
     def _tokenized(self, data: bytes, block: Block, token: bytes) -> list[Change]:
@@ -123,45 +121,51 @@ class Values:
         """The block for a token, and a new envelope if the other side gave the value a new secret."""
         ours, base, theirs = (each.places.get(token) for each in self.versions)
         if ours and theirs:
-            return (theirs if base and _is_newer(ours, base, theirs) else ours).block, None
+            return theirs if base and self._is_newer(ours, base, theirs) else ours, None
         if ours:
-            return ours.block, self._anew(tool, token, self.ours, self.theirs)
+            return ours, self._anew(tool, token, self.ours, self.theirs)
         if theirs:
-            return theirs.block, self._anew(tool, token, self.theirs, self.ours)
-        return self.base.places[token].block, None
+            return theirs, self._anew(tool, token, self.theirs, self.ours)
+        return self.base.places[token], None
 
     def _anew(self, tool: Tool, token: bytes, side: Version, other: Version) -> bytes | None:
         """The value of a side, encrypted with the new secret of the other side, if that kept label and text; otherwise
         None. If it also changed the text, its envelope may be a copy from anywhere, so this is a conflict."""
         mine = side.places[token]
-        path = mine.block.value.path
+        path = mine.value.path
         new, before = other.at(path), self.base.at(path)
-        if not (mine.opened and new and new.opened and before and side.at(path) is mine):
+        if not (new and before and side.at(path) is mine):
             return None
-        is_rekeyed = _known_by(new) == _known_by(before) and not new.is_under_same(before)
-        if not (is_rekeyed and mine.is_under_same(before) and mine.is_of_same_label(before)):
+        is_rekeyed = self._known_by(new) == self._known_by(before) and self._are_under_same(new, before) is False
+        if not (is_rekeyed and self._are_under_same(mine, before) and self._labels(mine) == self._labels(before)):
             return None
         if token not in self.made:
-            self.made[token] = checks.encrypted(tool, mine.opened.plaintext, new.opened.secret, mine.block.label)
+            plaintext, secret = self.opened[mine.envelope].plaintext, self.opened[new.envelope].secret
+            self.made[token] = checks.encrypted(tool, plaintext, secret, mine.label)
         return self.made[token]
 
+    def _known_by(self, block: Block) -> Hashable:
+        """The properties that stay the same unless somebody changes the value, even if it is encrypted again."""
+        looks = block.value.path, block.header, INK.sub(b"", block.body)
+        opened = self.opened.get(block.envelope)
+        return (looks, self._labels(block), opened.plaintext) if opened else (looks, block.envelope)
 
-def _known_by(place: Place) -> Hashable:
-    """The properties that stay the same unless somebody changes the value, even if it is encrypted again."""
-    block = place.block
-    looks = block.value.path, block.header, INK.sub(b"", block.body)
-    if not place.opened:
-        return looks, block.envelope
-    return looks, block.label, place.opened.secret.label, place.opened.plaintext
+    def _labels(self, block: Block) -> tuple[str, str]:
+        """The label of a block that was decrypted, and the label of its secret."""
+        return block.label, self.opened[block.envelope].secret.label
+
+    def _are_under_same(self, one: Block, two: Block) -> bool | None:
+        """Whether both are encrypted with the same password; None if one of them was not decrypted."""
+        first, second = self.opened.get(one.envelope), self.opened.get(two.envelope)
+        return first.secret.is_same(second.secret) if first and second else None
+
+    def _is_newer(self, ours: Block, base: Block, theirs: Block) -> bool:
+        """Whether theirs is the side that gave a value another secret or, if neither did, that encrypted it again."""
+        if self._are_under_same(ours, theirs) is False:
+            return bool(self._are_under_same(ours, base))
+        return ours.envelope == base.envelope
 
 
 def _digits(envelope: bytes) -> bytes:
     """A line with digits of the envelope's tag or ciphertext, which no other envelope has."""
     return envelope.split()[1:][-2:][0]
-
-
-def _is_newer(ours: Place, base: Place, theirs: Place) -> bool:
-    """Whether theirs is the side that gave a value another secret or, if neither did, that encrypted it again."""
-    if ours.opened and theirs.opened and not ours.is_under_same(theirs):
-        return ours.is_under_same(base)
-    return ours.block.envelope == base.block.envelope

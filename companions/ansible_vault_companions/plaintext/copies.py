@@ -74,7 +74,7 @@ class Copies:
         except OSError:
             return self.folder.keep(why, self.name, self.text)
         count = len(self.vault.keys)
-        layered = f", under {count} secrets in turn" if count > 1 and not is_finished else ""
+        layered = f", with {count} secrets, one inside the other" if count > 1 and not is_finished else ""
         steps = self.replacing_steps(copy) if is_finished else self.mending_steps(copy)
         where = f"what you saved is encrypted in {program.shown(copy)}{layered}"
         return Refused("\n".join([f"{program.reason(why)}; {where}", *map(program.shown, steps)]))

@@ -84,11 +84,10 @@ class Edit(Copies):
 
     def opens_again(self, why: Exception) -> bool:
         """Whether the user, asked at the terminal, wants to correct the saved text."""
-        if not os.isatty(0) or isinstance(self.vault, SingleValue):
+        if isinstance(self.vault, SingleValue):
             return False
-        question = f"{program.shown(self.path)}: {program.reason(why)}. Open the editor again?"
         try:
-            return prompts.choice(question, ["yes", "no"]) == "yes"
+            return prompts.agrees(f"{program.shown(self.path)}: {program.reason(why)}. Open the editor again?")
         # A signal arrived, or the terminal is gone.
         except (stopping.Stopped, Refused, OSError):
             return False
@@ -139,8 +138,7 @@ def set_value(tool: Tool, value: SingleValue, path: str, args: argparse.Namespac
 def _standard_input() -> bytes:
     if os.isatty(0):
         raise Refused(AT_TERMINAL)
-    with stopping.interruptible(), open(0, "rb", closefd=False) as file:
-        text = file.read(reading.LIMIT + 1)
+    text = reading.input_of(0)
     if len(text) > reading.LIMIT:
         raise Refused("standard input has more bytes than a vault can hold; split it")
     return text

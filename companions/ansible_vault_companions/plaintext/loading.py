@@ -17,7 +17,7 @@ from ansible_vault_companions.secrets.sources import Secret
 from ansible_vault_companions.tool import layers
 from ansible_vault_companions.tool.faults import NotDecrypted
 from ansible_vault_companions.tool.tool import Key, Tool
-from ansible_vault_companions.yaml import blocks, inline
+from ansible_vault_companions.yaml import inline
 from ansible_vault_companions.yaml.inline import Showing
 from ansible_vault_companions.yaml.matching import Choice
 
@@ -25,8 +25,10 @@ NO_VAULT = (
     "it is not a vault, and no value in it has the tag `!vault`; encrypt it with `ansible-vault-with encrypt`, or "
     "write `NAME: !vault TEXT` in it for a single value and run this again"
 )
+NO_SUCH_LABEL = "no secret has the label of --encrypt-vault-id"
+UNCLEAR = "it does not exist; choose the secret for a new vault with --encrypt-vault-id"
 NO_OPTION = "its label {} has an @, so no option can name it; change it in its first line"
-TO_ADD = "; or to add values without seeing the others, choose their secret with --encrypt-vault-id"
+TO_ADD = "; or, to add values without seeing the others, choose a secret for the new ones with --encrypt-vault-id"
 
 
 @dataclass
@@ -81,27 +83,14 @@ class Values:
         return layers.different([*shown, *chosen] or [(each, each.label) for each in self.choice.secrets])
 
     def is_as_it_was(self, text: bytes) -> bool:
-        return text == self.plaintext and all(map(blocks.is_envelope, self.showing.found.values))
+        return text == self.plaintext and all(value.is_encrypted for value in self.showing.found.values)
 
     def label_faults(self) -> list[str]:
-        found = [
-            (each.block.value, labels.fault(each.secret, each.block.envelope))
-            for each in self.showing.decrypted
-        ]
-        return [f"line {value.line}: {blocks.named(value)}: {fault}" for value, fault in found if fault]
+        found = [(each.block, labels.fault(each.secret, each.block.envelope)) for each in self.showing.decrypted]
+        return [f"{block.value.place}: {fault}" for block, fault in found if fault]
 
     def encrypted(self, tool: Tool, text: bytes) -> bytes:
         return inline.encrypted(self.showing, text, tool, self.choice)
-
-
-def _choose_secret(secrets: list[Secret], label: str | None) -> Secret:
-    """The secret for a new vault: the one with the label or, without a label, the only one."""
-    fitting = [secret for secret in secrets if label in (None, secret.label)]
-    if not fitting:
-        raise Refused("no secret has the label of --encrypt-vault-id")
-    if label is None and len(fitting) > 1:
-        raise Refused("it does not exist; choose the secret for a new vault with --encrypt-vault-id")
-    return fitting[0]
 
 
 def load(tool: Tool, secrets: list[Secret], path: str, new_label: str | None) -> Vault | Values:
@@ -109,13 +98,16 @@ def load(tool: Tool, secrets: list[Secret], path: str, new_label: str | None) ->
     target = os.path.realpath(path)
     with stopping.interruptible():
         content = reading.read(target)
+    choice = Choice(secrets, new_label)
     if content is None:
-        secret = _choose_secret(secrets, new_label)
-        return Vault(target, [(secret, secret.label)])
+        keys = choice.keys()
+        if not keys:
+            raise Refused(UNCLEAR if new_label is None else NO_SUCH_LABEL)
+        return Vault(target, keys)
     if damage.is_torn(content):
         raise Refused(f"{damage.TORN}; {damage.merge_again(path)}")
     if not content.startswith(MAGIC):
-        return _load_values(tool, target, content, Choice(secrets, new_label))
+        return _load_values(tool, target, content, choice)
     [envelope] = envelopes(content)
     keys, plaintext = layers.decrypted(lambda vault: tool.decrypt(vault, secrets), content)
     for _, label in keys:
@@ -134,5 +126,5 @@ def _load_values(tool: Tool, target: str, content: bytes, choice: Choice) -> Val
     are_locked = all(isinstance(each.why, NotDecrypted) for each in showing.still_encrypted)
     if all_encrypted and choice.label is None and are_locked:
         value, why = showing.still_encrypted[0]
-        raise Refused(f"line {value.line}: {blocks.named(value)}: {why}{TO_ADD}")
+        raise Refused(f"{value.place}: {why}{TO_ADD}")
     return Values(target, content, showing, choice)

@@ -3,9 +3,8 @@
 from __future__ import annotations
 
 import os
-from collections import Counter
 from concurrent.futures import ThreadPoolExecutor
-from dataclasses import dataclass, field
+from dataclasses import dataclass
 from typing import Any, Callable, Iterable
 
 from ansible_vault_companions import program
@@ -13,42 +12,18 @@ from ansible_vault_companions.files import replacing, searching
 from ansible_vault_companions.files.changes import Change, changed
 from ansible_vault_companions.files.envelopes import MAGIC, Envelope
 from ansible_vault_companions.files.finding import envelopes
+from ansible_vault_companions.files.reports import Report
 from ansible_vault_companions.program import Refused
 from ansible_vault_companions.secrets import labels
 from ansible_vault_companions.secrets.sources import Secret
 from ansible_vault_companions.tool.remembering import RememberingTool
 
-LEFT = "it is in a document and was not rotated; to ignore documents, add --skip-documents"
+IN_DOCUMENT = "it is in a document and was not rotated; to ignore documents, add --skip-documents"
+# What is counted: envelopes that get a new secret, and those of them that are within a plaintext; those that have it
+# already; and those in documents that may still be under an old secret.
+CHANGED, WITHIN, HAD_IT, LEFT = "changed", "within", "had it", "left"
 # A placeholder for the new envelope in a dry run.
 DRY = b"$ANSIBLE_VAULT"
-
-
-@dataclass
-class Report:
-    """The results for the vaults and blocks of a file, or of all files."""
-
-    lines: list[str] = field(default_factory=list)
-    # Messages that are not failures.
-    notes: list[str] = field(default_factory=list)
-    faults: list[str] = field(default_factory=list)
-    # Messages on envelopes in documents that may still be under an old secret.
-    left: list[str] = field(default_factory=list)
-    changed: int = 0
-    # How many of these are within the plaintext of another.
-    changed_within: int = 0
-    had_it: int = 0
-    others: Counter[str] = field(default_factory=Counter)
-    # The labels of new secrets that some envelope has.
-    labels: set[str] = field(default_factory=set)
-
-    def add(self, other: "Report") -> None:
-        self.changed += other.changed
-        self.changed_within += other.changed_within
-        self.had_it += other.had_it
-        self.others += other.others
-        self.labels |= other.labels
-        self.faults += other.faults
-        self.left += other.left
 
 
 @dataclass
@@ -65,30 +40,25 @@ class Rotation:
     # Works on the vaults and blocks of all files.
     pool: ThreadPoolExecutor
 
-    def rotate_file(self, path: str) -> Report:
-        """Rotates a file. Failures are in the report, so that the other files are still processed."""
-        report = Report()
-        try:
-            data = searching.contents(path)
-            after = self._rotated(data, lambda envelope: envelope.place(path), report, self.pool.map)
-            if after != data:
+    def rotate_file(self, path: str, report: Report) -> None:
+        data = searching.contents(path)
+        after = self._rotated(data, lambda envelope: envelope.place(path), report, self.pool.map)
+        if after != data:
+            try:
                 self._put(path, after, data)
-            if searching.is_prose(path) and not data and not self.skips_documents:
-                self._find_left(path, report)
-        except searching.Unsearched as fault:
-            report.notes.append(program.refusal(path, fault))
-        except (Refused, OSError) as fault:
-            report.faults.append(program.refusal(path, fault))
-            report.changed = 0
-        else:
-            self._report_changes(path, data, report)
-        return report
+            except (Refused, OSError):
+                report.counts[CHANGED] = 0
+                raise
+        if searching.is_prose(path) and not data and not self.skips_documents:
+            self._find_left(path, report)
+        self._report_changes(path, data, report)
 
     def _find_left(self, path: str, report: Report) -> None:
         """Reports the envelopes of a document. They may be examples, so they are not rotated."""
         for envelope in envelopes(searching.contents(path, with_prose=True)):
             if envelope.label in self.new and self._is_left(envelope, self.new[envelope.label]):
-                report.left.append(f"{envelope.place(path)}: {LEFT}")
+                report.notes.append(f"{envelope.place(path)}: {IN_DOCUMENT}")
+                report.counts[LEFT] += 1
 
     def _is_left(self, envelope: Envelope, new: Secret) -> bool:
         """Whether an old secret decrypts it, or cannot be tried."""
@@ -128,7 +98,7 @@ class Rotation:
         except Refused as fault:
             report.faults.append(f"{where}: {fault}")
             # Changes within it are not written either.
-            report.changed = report.changed_within = 0
+            report.counts[CHANGED] = report.counts[WITHIN] = 0
             return None, report
 
     def _change(self, envelope: Envelope, where: str, report: Report) -> bytes | None:
@@ -150,8 +120,7 @@ class Rotation:
             raise Refused(fault)
         after = self._within(plaintext, where, report)
         had_it = secret.is_same(new)
-        report.had_it += had_it
-        report.changed += not had_it
+        report.counts[HAD_IT if had_it else CHANGED] += 1
         return None if had_it and after == plaintext else self._encrypted(text, after, new, label)
 
     def _change_within(self, envelope: Envelope, label: str, where: str, report: Report) -> bytes | None:
@@ -170,21 +139,22 @@ class Rotation:
         """The plaintext of an envelope, with the blocks in it rotated."""
         if plaintext.startswith(MAGIC):
             raise Refused("its plaintext is itself a vault, which ansible-vault does not encrypt; decrypt it first")
-        before = report.changed
+        before = report.counts[CHANGED]
         after = self._rotated(plaintext, lambda inner: f"{where}: in its plaintext, line {inner.line}", report)
-        report.changed_within += report.changed - before
+        report.counts[WITHIN] += report.counts[CHANGED] - before
         return after
 
     def _encrypted(self, envelope: bytes, plaintext: bytes, secret: Secret, label: str) -> bytes:
         return DRY if self.is_dry else self.tool.encrypt_again(envelope, plaintext, secret, label)
 
     def _report_changes(self, path: str, data: bytes, report: Report) -> None:
-        if not report.changed:
+        within = report.counts[WITHIN]
+        changed = report.counts[CHANGED] - within
+        if not (changed or within):
             return
-        changed = report.changed - report.changed_within
         parts = [_blocks(changed)] if changed and not data.startswith(MAGIC) else []
-        if report.changed_within:
-            parts.append(f"{_blocks(report.changed_within)} within a plaintext")
+        if within:
+            parts.append(f"{_blocks(within)} within a plaintext")
         what = f"{' and '.join(parts)} " if parts else ""
         target = f" ({program.shown(os.path.realpath(path))})" if os.path.islink(path) else ""
         report.lines.append(f"{program.shown(path)}{target}: {what}{'would be ' if self.is_dry else ''}rotated")

@@ -18,7 +18,7 @@ from ansible_vault_companions.yaml.blocks import Decrypted
 from ansible_vault_companions.yaml.matching import Choice
 from ansible_vault_companions.yaml.nodes import ALIAS, LIST, MAPPING, Node, NotYaml, decoded, nodes
 from ansible_vault_companions.yaml.typed_paths import LAST_KEY, is_at, no_value, node_at, quoted, typed, value_at
-from ansible_vault_companions.yaml.values import LINE_END, Value
+from ansible_vault_companions.yaml.values import LINE_END, Offsets, Value
 
 TO_ENCRYPT = "; to encrypt it there, choose its secret with --encrypt-vault-id"
 WHOLE = "the whole file is a vault; edit it without --value"
@@ -48,7 +48,7 @@ class SingleValue:
         # If there is no encrypted value yet, a tag and a text are added.
         self.text = content
         found = value_at(content, path)
-        if not (found and blocks.is_envelope(found)):
+        if not (found and found.is_encrypted):
             self.text = _prepared(content, path, found, self.is_chosen)
             found = value_at(self.text, path)
         if not found:
@@ -76,7 +76,7 @@ class SingleValue:
 
     def _decrypted(self, decrypt: Decrypt) -> Decrypted | None:
         """The old value. None if it was not encrypted, or cannot be decrypted but gets another secret anyway."""
-        if not blocks.is_envelope(self.value):
+        if not self.value.is_encrypted:
             return None
         block = blocks.block_of(self.text, self.value)
         try:
@@ -87,7 +87,7 @@ class SingleValue:
             raise
 
     def _with_envelope(self, envelope: bytes) -> bytes:
-        if blocks.is_envelope(self.value):
+        if self.value.is_encrypted:
             changes = blocks.block_of(self.text, self.value).replace(self.value, envelope)
         else:
             changes = blocks.new_block(self.text, self.value, envelope)
@@ -129,7 +129,7 @@ def _prepared(content: bytes, path: str, value: Value | None, is_chosen: bool) -
 
 
 def _with_tag(content: bytes, node: Node) -> bytes:
-    place = _offset(content, node.start)
+    place = Offsets(decoded(content)).of(node.start)
     return changed(content, [Change(place, place, b"!vault " if node.end > node.start else b' !vault ""')])
 
 
@@ -143,7 +143,8 @@ def _with_key(content: bytes, path: str) -> bytes:
     if not words or len(found) != 1:
         raise no_value(content, path)
     [mapping] = found
-    last = _offset(content, max(node.end for node in every if mapping.path in node.path.upwards()))
+    end_of_mapping = max(node.end for node in every if mapping.path in node.path.upwards())
+    last = Offsets(decoded(content)).of(end_of_mapping)
     key = words["key"] if SIMPLE_KEY.fullmatch(words["key"]) or words["key"][0] == '"' else quoted(words["key"])
     line = b" " * mapping.column + key.encode(errors="surrogateescape") + b": " + NO_PLAINTEXT
     ending = LINE_END.search(content)
@@ -153,8 +154,3 @@ def _with_key(content: bytes, path: str) -> bytes:
     following = LINE_END.search(content, last)
     place = following.start() if following else len(content)
     return changed(content, [Change(place, place, end + line)])
-
-
-def _offset(content: bytes, place: int) -> int:
-    """The offset, in bytes, of a position in characters."""
-    return len(decoded(content)[:place].encode(errors="surrogateescape"))

@@ -2,11 +2,10 @@
 
 from __future__ import annotations
 
-from bisect import bisect_right
 from contextlib import suppress
 
 from ansible_vault_companions import parallel, program
-from ansible_vault_companions.files.changes import Change, changed
+from ansible_vault_companions.files.changes import Change, Spans, changed
 from ansible_vault_companions.files.envelopes import MAGIC, TAG_NAME, Envelope
 from ansible_vault_companions.program import Refused, write_error
 from ansible_vault_companions.secrets.sources import Secret
@@ -42,9 +41,8 @@ class SkippingTool(RememberingTool):
 def converted(data: bytes, path: str, found: list[Envelope], decrypt: Decrypt) -> bytes:
     """The file's data with plaintext in place of its blocks and its other envelopes."""
     changes, values = _literals(decrypt, path, data)
-    spans = {value.line_end: value.end for value in values}
-    starts = sorted(spans)
-    left = [each for each in found if not _is_within(each.start, starts, spans)]
+    spans = Spans((value.line_end, value.end) for value in values)
+    left = [each for each in found if each.start not in spans]
     return changed(data, [*changes, *_others(decrypt, path, left)])
 
 
@@ -67,25 +65,18 @@ def _literals(decrypt: Decrypt, path: str, data: bytes) -> tuple[list[Change], l
 
 def _others(decrypt: Decrypt, path: str, found: list[Envelope]) -> list[Change]:
     """The changes that replace each other envelope with its plaintext, as far as it can be decrypted."""
-    changes: list[Change] = []
 
-    def change(envelope: Envelope) -> Change | str:
+    def shown(envelope: Envelope) -> Change | Refused:
         try:
             _, plaintext = layers.decrypted(decrypt, envelope.readable())
         except Refused as fault:
-            return f"{NAME}: {envelope.place(path)}: shown as it is: {fault}"
+            return fault
         return Change(envelope.start, envelope.end, envelope.in_place(plaintext))
 
-    def take(result: Change | str) -> None:
-        if isinstance(result, str):
-            write_error(result)
-        else:
+    changes = []
+    for result, envelope in zip(parallel.results(shown, found), found):
+        if isinstance(result, Change):
             changes.append(result)
-
-    parallel.work_on(found, parallel.processors(), change, take)
+        else:
+            write_error(f"{NAME}: {envelope.place(path)}: shown as it is: {result}")
     return changes
-
-
-def _is_within(place: int, starts: list[int], spans: dict[int, int]) -> bool:
-    number = bisect_right(starts, place) - 1
-    return number >= 0 and place < spans[starts[number]]

@@ -19,7 +19,7 @@ def value_of(data: bytes, path: str, decrypt: Decrypt) -> bytes:
     is_vault = data.startswith(MAGIC)
     text = layers.decrypted(decrypt, data)[1] if is_vault else data
     value = value_at(text, path)
-    if value and blocks.is_envelope(value):
+    if value and value.is_encrypted:
         return decrypt(blocks.block_of(text, value).envelope)[1]
     node = node_at(text, path)
     if not node:

@@ -4,7 +4,7 @@ from __future__ import annotations
 
 from ansible_vault_companions.files.envelopes import written_label
 from ansible_vault_companions.program import shown
-from ansible_vault_companions.secrets.sources import DEFAULT, Secret
+from ansible_vault_companions.secrets.sources import ASKING, DEFAULT, Secret
 
 
 def in_order(secrets: list[Secret], label: str | None) -> list[Secret]:
@@ -25,10 +25,11 @@ def fault(secret: Secret, envelope: bytes) -> str:
     if not label or secret.label == label or secret.is_only:
         return ""
     other, meant = shown(secret.label), shown(label)
+    place = "prompt" if secret.given in ASKING else secret.given.partition("@")[2] or secret.given
     return (
         f"its label is {meant}, but {shown(secret.given)}, a secret with the label {other}, decrypts it; find out who "
         f"changed the label or copied the text here; then either write {other} as the label in its first line or, if "
-        f"that secret also belongs to {meant}, name it with --vault-id {shown(f'{label}@{secret.place}')}"
+        f"that secret also belongs to {meant}, name it with --vault-id {shown(f'{label}@{place}')}"
     )
 
 

@@ -7,7 +7,7 @@ import argparse
 from ansible_vault_companions.program import write_error
 from ansible_vault_companions.secrets import configuration, prompts, scripts, sources
 from ansible_vault_companions.secrets.settings import Settings
-from ansible_vault_companions.secrets.sources import ASKED, ASKING, DEFAULT, READ_AT_MOST, Secret, Source
+from ansible_vault_companions.secrets.sources import ASKED, ASKING, READ_AT_MOST, Secret
 
 SOURCES = """\
 FILE contains the password. If it is executable, it is run, and its output
@@ -70,18 +70,19 @@ def from_options(
     return secrets
 
 
-def password(source: Source, encrypts: bool) -> bytes:
+def password(secret: Secret, encrypts: bool) -> bytes:
     """The password from a prompt, a script or a file. To encrypt, the user has to type it twice."""
-    if source.is_prompt:
-        return prompts.password(source.place, source.label or DEFAULT, encrypts)
-    if source.is_script():
-        return scripts.password(source.place, source.label)[:READ_AT_MOST]
-    return sources.password_of_file(source, encrypts)
+    if secret.is_prompt:
+        return prompts.password(secret.place, secret.label, encrypts)
+    if secret.is_script():
+        return scripts.password(secret.place, secret.given_label)[:READ_AT_MOST]
+    return sources.password_of_file(secret, encrypts)
 
 
 def of_options(ids: list[str], paths: list[str], encrypts: bool = False) -> list[Secret]:
-    named = [*map(sources.of_id, ids), *map(sources.of_path, paths)]
-    return [sources.obtain(source, encrypts, password) for source in named]
+    secrets = [*map(sources.of_id, ids), *map(sources.of_path, paths)]
+    sources.obtain(secrets, encrypts, password)
+    return secrets
 
 
 def words(ids: list[str], paths: list[str]) -> list[str]:

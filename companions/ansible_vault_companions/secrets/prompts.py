@@ -57,6 +57,11 @@ def choice(question: str, answers: list[str]) -> str:
     return typed
 
 
+def agrees(question: str) -> bool:
+    """Whether the user says yes; False if nobody is at a terminal."""
+    return os.isatty(0) and choice(question, ["yes", "no"]) == "yes"
+
+
 def _answer(question: str) -> bytes:
     typed = _hidden(question).strip()
     if not typed:

@@ -1,4 +1,4 @@
-"""The sources of passwords that a command line and Ansible's settings name, in Ansible's order, and the secrets."""
+"""The secrets that a command line and Ansible's settings name, in Ansible's order, with passwords from files."""
 
 from __future__ import annotations
 
@@ -28,19 +28,31 @@ class NoTerminal(Refused):
     """There is no terminal to ask for a password."""
 
 
-class Source:
-    """Where a password comes from."""
+class Secret:
+    """A password, with its label and where it comes from."""
 
-    def __init__(self, label: str, place: str, given: str, is_prompt: bool = False) -> None:
+    def __init__(self, label: str, place: str, given: str, is_prompt: bool = False, is_path: bool = False) -> None:
         # Empty if none is given.
-        self.label = label
+        self.given_label = label
+        self.label = label or DEFAULT
         # A path, or PROMPT or ASK.
         self.place = place
+        # As written on the command line or in a setting.
         self.given = given
         self.is_prompt = is_prompt
         # Whether it was given as a path alone, for the label default.
-        self.is_path = False
+        self.is_path = is_path
         self.is_setting = False
+        # For the tool. As the value of --vault-id, a bare `prompt` would ask for a password.
+        self.path = "./prompt" if place == PROMPT else place
+        # A file in memory that contains the password; None if it could not be obtained.
+        self.descriptor: int | None = None
+        # The reason, if it was refused.
+        self.fault: Refused | None = None
+        # Whether it may decrypt only envelopes with its label.
+        self.requires_match = False
+        # Whether no other password is named.
+        self.is_only = False
 
     def is_active(self) -> bool:
         """Whether getting the password runs a script or asks the user."""
@@ -54,32 +66,6 @@ class Source:
             return False
         return stat.S_ISREG(mode) and mode & 0o111 != 0
 
-
-class Secret:
-    """A password and its label."""
-
-    def __init__(self, source: Source) -> None:
-        self.label = source.label or DEFAULT
-        # As the value of --vault-id, a bare `prompt` would ask for a password.
-        self.path = "./prompt" if source.place == PROMPT else source.place
-        # As written on the command line or in a setting.
-        self.given = source.given
-        self.is_setting = source.is_setting
-        self.is_prompt = source.is_prompt
-        self.is_path = source.is_path
-        # A file in memory that contains the password; None if it could not be obtained.
-        self.descriptor: int | None = None
-        # The reason, if it was refused.
-        self.fault: Refused | None = None
-        # Whether it may decrypt only envelopes with its label.
-        self.requires_match = False
-        # Whether no other password is named.
-        self.is_only = False
-
-    @property
-    def place(self) -> str:
-        """The source of the password, as written on the command line or in a setting."""
-        return "prompt" if self.given in ASKING else self.given.partition("@")[2] or self.given
 
     def word(self) -> str:
         """The word that names it to the tool, with the kind of option that named it here."""
@@ -112,12 +98,12 @@ class Secret:
         return 0 < len(content.strip()) and len(content) <= LIMIT and not content.startswith(NO_PASSWORD)
 
 
-# Gets the password from a source; the second argument says whether it is for encrypting.
-Password = Callable[[Source, bool], bytes]
+# Gets a password; the second argument says whether it is for encrypting.
+Password = Callable[[Secret, bool], bytes]
 
 
-def named(ids: list[str], paths: list[str], found: Settings) -> list[Source]:
-    """All sources that are named, in Ansible's order."""
+def named(ids: list[str], paths: list[str], found: Settings) -> list[Secret]:
+    """All secrets that are named, in Ansible's order, without their passwords."""
     password_file = found.password_file()
     asked = [ASKED] if ASKED in ids or found.asks() else []
     return [
@@ -129,15 +115,15 @@ def named(ids: list[str], paths: list[str], found: Settings) -> list[Source]:
     ]
 
 
-def load(companion: str, found: list[Source], encrypts: bool, password: Password) -> list[Secret]:
+def load(companion: str, found: list[Secret], encrypts: bool, password: Password) -> list[Secret]:
     """The secrets, except those from the settings that cannot be obtained, which are ignored if any other is left."""
-    secrets = [obtain(source, encrypts, password) for source in found]
-    left_out = [secret for secret in secrets if _may_be_left_out(secret, encrypts)]
-    if len(left_out) == len(secrets):
-        return secrets
+    obtain(found, encrypts, password)
+    left_out = [secret for secret in found if _may_be_left_out(secret, encrypts)]
+    if len(left_out) == len(found):
+        return found
     for secret in left_out:
         write_error(f"{companion}: {shown(secret.given)}: {secret.why_missing()}; it is ignored")
-    return [secret for secret in secrets if secret not in left_out]
+    return [secret for secret in found if secret not in left_out]
 
 
 def _may_be_left_out(secret: Secret, encrypts: bool) -> bool:
@@ -148,49 +134,46 @@ def _may_be_left_out(secret: Secret, encrypts: bool) -> bool:
     return not secret.is_prompt or (isinstance(secret.fault, NoTerminal) and not encrypts)
 
 
-def _by_setting(found: Iterable[Source]) -> Iterator[Source]:
-    for source in found:
-        source.is_setting = True
-        yield source
+def _by_setting(found: Iterable[Secret]) -> Iterator[Secret]:
+    for secret in found:
+        secret.is_setting = True
+        yield secret
 
 
-def of_id(text: str) -> Source:
+def of_id(text: str) -> Secret:
     label, at, place = text.partition("@")
     if not at:
         label, place = "", text
     if place in (PROMPT, ASK):
-        return Source(label, place, ASKING[1] if text == ASKED else text, is_prompt=True)
-    return Source(label, settings.expanded(place), text)
+        return Secret(label, place, ASKING[1] if text == ASKED else text, is_prompt=True)
+    return Secret(label, settings.expanded(place), text)
 
 
-def of_path(path: str) -> Source:
-    source = Source(DEFAULT, settings.expanded(path), path)
-    source.is_path = True
-    return source
+def of_path(path: str) -> Secret:
+    return Secret(DEFAULT, settings.expanded(path), path, is_path=True)
 
 
-def obtain(source: Source, encrypts: bool, password: Password) -> Secret:
-    """Reads the password, and keeps it in memory for all runs of the tool: a file such as `<(..)` can be read only
-    once, or may be gone before the last run. If it cannot be read, the tool will report that."""
-    secret = Secret(source)
-    try:
-        content = password(source, encrypts)
-    except Refused as fault:
-        secret.fault = fault
-        return secret
-    except OSError:
-        return secret
-    secret.descriptor = os.memfd_create("password")
-    os.write(secret.descriptor, content)
-    secret.path = f"/dev/fd/{secret.descriptor}"
-    return secret
+def obtain(secrets: list[Secret], encrypts: bool, password: Password) -> None:
+    """Reads the passwords, and keeps them in memory for all runs of the tool: a file such as `<(..)` can be read only
+    once, or may be gone before the last run. If one cannot be read, the tool will report that."""
+    for secret in secrets:
+        try:
+            content = password(secret, encrypts)
+        except Refused as fault:
+            secret.fault = fault
+        except OSError:
+            pass
+        else:
+            secret.descriptor = os.memfd_create("password")
+            os.write(secret.descriptor, content)
+            secret.path = f"/dev/fd/{secret.descriptor}"
 
 
-def password_of_file(source: Source, encrypts: bool) -> bytes:
-    """The password from a source that is not active."""
-    if os.path.isfile(source.place):
-        with open(source.place, "rb") as file:
+def password_of_file(secret: Secret, encrypts: bool) -> bytes:
+    """The password of a secret that is not active."""
+    if os.path.isfile(secret.place):
+        with open(secret.place, "rb") as file:
             return file.read(READ_AT_MOST)
     # A pipe may block until something is written to it.
-    with stopping.interruptible(), open(source.place, "rb") as file:
+    with stopping.interruptible(), open(secret.place, "rb") as file:
         return file.read(READ_AT_MOST)

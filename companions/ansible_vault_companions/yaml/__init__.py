@@ -3,6 +3,6 @@
 `nodes`, `paths` and `values` find the values and the keys that lead to them, even on each side of `conflicts`, and
 `typed_paths` finds the value at a path that the user types. `literals` and `blocks` write a value as text or as a
 block. `inline` shows a file to an editor and encrypts the result; `matching` tells which value of the result is which,
-and `mistakes` and `lookalikes` find values that would stay in plaintext.
+and `mistakes` finds values that would stay in plaintext.
 May import files, secrets, tool.
 """

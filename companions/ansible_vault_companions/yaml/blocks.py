@@ -9,7 +9,7 @@ from typing import NamedTuple
 from ansible_vault_companions.files.changes import Change
 from ansible_vault_companions.files.envelopes import label_of, matched
 from ansible_vault_companions.files.finding import FOLDED, IN_A_LINE
-from ansible_vault_companions.program import Refused, shown
+from ansible_vault_companions.program import Refused
 from ansible_vault_companions.secrets.sources import Secret
 from ansible_vault_companions.yaml import literals, nodes
 from ansible_vault_companions.yaml.paths import Path
@@ -30,10 +30,6 @@ def replacement(value: Value, header: bytes, body: bytes, end: int) -> list[Chan
 def line_end(data: bytes, place: int) -> bytes:
     """The line ending at this position, or a newline if there is none."""
     return matched(SIMPLE_END, data, place)[0] or b"\n"
-
-
-def named(value: Value) -> str:
-    return shown(value.name) if value.name else "this value"
 
 
 @dataclass(frozen=True)
@@ -69,10 +65,6 @@ def new_block(data: bytes, value: Value, envelope: bytes) -> list[Change]:
 
 def _body(value: Value, envelope: bytes, indentation: int, end: bytes) -> bytes:
     return literals.lines(envelope, max(value.column, 0) + indentation, end)
-
-
-def is_envelope(value: Value) -> bool:
-    return literals.is_envelope(value.content)
 
 
 def block_of(data: bytes, value: Value) -> Block:

@@ -15,7 +15,7 @@ from ansible_vault_companions.files.envelopes import matched
 from ansible_vault_companions.program import Refused
 from ansible_vault_companions.tool.tool import Decrypt, Tool
 from ansible_vault_companions.yaml import blocks, literals, matching, mistakes
-from ansible_vault_companions.yaml.blocks import Decrypted, named
+from ansible_vault_companions.yaml.blocks import Decrypted
 from ansible_vault_companions.yaml.matching import Choice, Typed
 from ansible_vault_companions.yaml.nodes import NotYaml
 from ansible_vault_companions.yaml.values import LINE_END, Scan, Value
@@ -70,7 +70,7 @@ class Showing:
         if self.needs_final_newline(each):
             body += end
         elif self.note and header.endswith(b"+") and EMPTY_LINE.match(self.data, value.content_end):
-            body += end + b" " * base + self.note + b"the empty lines above belong to %s" % _named(value)
+            body += end + b" " * base + self.note + b"the empty lines above belong to " + value.shown.encode()
         self.changes += blocks.replacement(value, header, body, value.content_end)
         self.decrypted.append(each)
 
@@ -79,7 +79,7 @@ class Showing:
         if self.note and not value.in_flow:
             spaces = matched(SPACES, self.data, value.line_start)[0]
             end = blocks.line_end(self.data, value.line_end)
-            text = spaces + self.note + b"%s stays encrypted: %s" % (_named(value), str(why).encode()) + end
+            text = spaces + self.note + f"{value.shown} stays encrypted: {why}".encode() + end
             self.changes.append(Change(value.line_start, value.line_start, text))
 
     def needs_final_newline(self, each: Decrypted) -> bool:
@@ -92,19 +92,14 @@ class Showing:
         return [texts.get(value, value.content) for value in self.found.values]
 
 
-def _named(value: Value) -> bytes:
-    return named(value).encode()
-
-
 def showing(data: bytes, decrypt: Decrypt, with_notes: bool) -> Showing:
     """A file with its values in plaintext. Notes, if wanted, say which of them stay encrypted."""
     made = Showing(data, Scan(data), NOTE if with_notes else b"")
     while made.note and made.note in data:
         made.note = b"#" + made.note
-    vaults = [value for value in made.found.values if blocks.is_envelope(value)]
-    decrypted: list[Decrypted | Refused] = []
-    parallel.work_on(vaults, parallel.processors(), lambda value: _decrypted(data, value, decrypt), decrypted.append)
-    for value, each in zip(vaults, decrypted):
+    vaults = [value for value in made.found.values if value.is_encrypted]
+    decrypted = parallel.results(lambda value: _decrypted(data, value, decrypt), vaults)
+    for each, value in zip(decrypted, vaults):
         try:
             if isinstance(each, Refused):
                 raise each
@@ -112,7 +107,7 @@ def showing(data: bytes, decrypt: Decrypt, with_notes: bool) -> Showing:
         except Refused as fault:
             made.keep_encrypted(value, fault)
     if _contents(made.text()) != made.contents():
-        raise Refused("ansible-vault-edit cannot show its values as literals of YAML; write each as `NAME: !vault |`")
+        raise Refused("its values cannot be shown as YAML block literals; write each as `NAME: !vault |`")
     return made
 
 
@@ -134,7 +129,7 @@ def encrypted(shown: Showing, text: bytes, tool: Tool, choice: Choice) -> bytes:
     mistakes.check_encoding(shown.text(), text)
     found = Scan(text)
     mistakes.check_lookalikes(shown.found, found, shown.note.decode())
-    typed = [Typed(value, _plain(value)) for value in found.values if not blocks.is_envelope(value)]
+    typed = [Typed(value, _plain(value)) for value in found.values if not value.is_encrypted]
     changes = [Change(start, end, b"") for start, end in found.comments(shown.note.strip().decode())]
     envelopes = {}
     for (value, plaintext), (old, key) in zip(typed, matching.actions(shown.decrypted, typed, choice)):
@@ -165,4 +160,4 @@ def _plain(value: Value) -> bytes:
     try:
         return literals.plain(value)
     except Refused as fault:
-        raise Refused(f"line {value.line}: {named(value)} {fault}") from None
+        raise Refused(f"{value.place} {fault}") from None

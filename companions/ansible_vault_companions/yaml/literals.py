@@ -8,7 +8,7 @@ from __future__ import annotations
 import re
 
 from ansible_vault_companions.files.changes import indented
-from ansible_vault_companions.files.envelopes import MAGIC
+from ansible_vault_companions.files.envelopes import is_envelope
 from ansible_vault_companions.program import Refused
 from ansible_vault_companions.yaml import nodes
 from ansible_vault_companions.yaml.values import LINE_END, Value
@@ -43,11 +43,6 @@ def obstacle(text: bytes) -> str:
     except UnicodeDecodeError:
         return NOT_UTF_8
     return CONTROL if UNSHOWN.search(characters) else ""
-
-
-def is_envelope(text: bytes) -> bool:
-    """Whether a text, or the text of a value, is encrypted."""
-    return text.lstrip(b"\"' \t\r\n").startswith(MAGIC)
 
 
 def header(text: bytes, indentation: int) -> bytes:

@@ -7,20 +7,21 @@ determine which secret it gets, it is refused.
 from __future__ import annotations
 
 import os
+from collections import defaultdict
 from typing import NamedTuple
 
 from ansible_vault_companions.program import Refused
 from ansible_vault_companions.secrets import prompts
 from ansible_vault_companions.secrets.sources import Secret
 from ansible_vault_companions.tool.tool import Key
-from ansible_vault_companions.yaml.blocks import Decrypted, named
+from ansible_vault_companions.yaml.blocks import Decrypted
 from ansible_vault_companions.yaml.paths import Path
 from ansible_vault_companions.yaml.values import Value
 
 NEW = "is new; choose its secret with --encrypt-vault-id"
 NO_SUCH_LABEL = "is new, and no secret has the label of --encrypt-vault-id"
 SEVERAL = "is in a place where values had different labels or secrets; choose one with --encrypt-vault-id"
-NEW_OR_CHANGED = "may be a new value or a changed one, which would get different secrets; save one change at a time"
+NEW_OR_CHANGED = "may be a new value or a changed one, and the secret depends on which; save one change at a time"
 
 
 class Typed(NamedTuple):
@@ -58,7 +59,7 @@ class Choice(NamedTuple):
         labels = [*dict.fromkeys(secret.label for secret in secrets)]
         if len(labels) == 1 or not os.isatty(0):
             raise unclear(value, NEW)
-        label = prompts.choice(f"Label to encrypt {named(value)} with", labels)
+        label = prompts.choice(f"Label to encrypt {value.shown} with", labels)
         return [secret for secret in secrets if secret.label == label]
 
     def keys(self) -> list[Key]:
@@ -72,56 +73,51 @@ class Choice(NamedTuple):
 
 
 def unclear(value: Value, why: str) -> Refused:
-    return Refused(f"line {value.line}: {named(value)} {why}")
+    return Refused(f"{value.place} {why}")
 
 
 def actions(blocks: list[Decrypted], typed: list[Typed], choice: Choice) -> list[Action]:
     """The action for each value, in order."""
     found: dict[int, Action] = {}
-    left: dict[Path, list[Decrypted]] = {}
+    left: dict[Path, list[Decrypted]] = defaultdict(list)
     for block in blocks:
-        left.setdefault(block.path, []).append(block)
-    _keep_in_place(found, left, typed)
-    _keep(found, left, typed)
-    kept = [action.block for action in found.values()]
-    unkept = [block for block in blocks if block not in kept]
-    for path in dict.fromkeys(each.value.path for each in typed):
-        numbers = [number for number, each in enumerate(typed) if each.value.path == path and number not in found]
-        if left.get(path):
-            _change(found, left[path], [(number, typed[number]) for number in numbers], choice)
+        left[block.path].append(block)
+    by_path: dict[Path, dict[int, Typed]] = defaultdict(dict)
+    for number, each in enumerate(typed):
+        by_path[each.value.path][number] = each
+    for path, values in by_path.items():
+        found.update(_keep(left[path], values))
+    unkept = [block for block in blocks if block in left[block.path]]
+    for path, values in by_path.items():
+        changed = {number: each for number, each in values.items() if number not in found}
+        if left[path]:
+            found.update(_change(left[path], changed, choice))
     for number, each in enumerate(typed):
         if number not in found:
             found[number] = _moved(unkept, each.plaintext) or Action(None, choice.key(each.value))
     return [found[number] for number in range(len(typed))]
 
 
-def _keep_in_place(found: dict[int, Action], left: dict[Path, list[Decrypted]], typed: list[Typed]) -> None:
-    """Keeps values that are unchanged in their positions, if their keys lead to as many values as before. Position
-    matters since two items of a list may have the same text under different secrets."""
-    for path, before in left.items():
-        there = [(number, each) for number, each in enumerate(typed) if each.value.path == path]
-        for (number, each), block in zip(there, [*before]) if len(there) == len(before) else ():
-            if each.plaintext == block.plaintext:
-                before.remove(block)
-                found[number] = Action(block)
+def _keep(left: list[Decrypted], values: dict[int, Typed]) -> dict[int, Action]:
+    """Keeps unchanged values, whose blocks are no longer left: first those in their positions, if the keys lead to as
+    many values as before, since two items of a list may have the same text under different secrets."""
+    pairs = zip(values, left) if len(values) == len(left) else ()
+    kept = {number: block for number, block in pairs if values[number].plaintext == block.plaintext}
+    for block in kept.values():
+        left.remove(block)
+    for number, each in values.items():
+        same = next((block for block in left if block.plaintext == each.plaintext), None)
+        if same and number not in kept:
+            left.remove(same)
+            kept[number] = same
+    return {number: Action(block) for number, block in kept.items()}
 
 
-def _keep(found: dict[int, Action], left: dict[Path, list[Decrypted]], typed: list[Typed]) -> None:
-    """Keeps other unchanged values, by their keys and text."""
-    for number, each in enumerate(typed):
-        if number in found:
-            continue
-        candidates = left.get(each.value.path, [])
-        same = next((block for block in candidates if block.plaintext == each.plaintext), None)
-        if same:
-            candidates.remove(same)
-            found[number] = Action(same)
-
-
-def _change(found: dict[int, Action], left: list[Decrypted], typed: list[tuple[int, Typed]], choice: Choice) -> None:
+def _change(left: list[Decrypted], typed: dict[int, Typed], choice: Choice) -> dict[int, Action]:
     """Decides on changed values whose keys led to blocks before: as many as there are blocks, or fewer, or more."""
     keys = {block.key for block in left}
-    for place, (number, each) in enumerate(typed):
+    found = {}
+    for place, (number, each) in enumerate(typed.items()):
         if len(typed) == len(left):
             found[number] = Action(left[place], left[place].key)
         elif len(typed) > len(left) and keys != {*choice.keys()}:
@@ -132,6 +128,7 @@ def _change(found: dict[int, Action], left: list[Decrypted], typed: list[tuple[i
             found[number] = Action(None, choice.key(each.value))
         else:
             raise unclear(each.value, SEVERAL)
+    return found
 
 
 def _moved(unkept: list[Decrypted], plaintext: bytes) -> Action | None:

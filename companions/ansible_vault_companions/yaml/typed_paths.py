@@ -10,7 +10,6 @@ import re
 from typing import TypeVar
 
 from ansible_vault_companions.program import Refused, shown
-from ansible_vault_companions.yaml import literals
 from ansible_vault_companions.yaml.nodes import Node, nodes
 from ansible_vault_companions.yaml.paths import Path, Step
 from ansible_vault_companions.yaml.values import Scan, Value
@@ -53,7 +52,7 @@ def node_at(data: bytes, path: str) -> Node | None:
 
 def no_value(data: bytes, path: str) -> Refused:
     """The exception for a path that leads nowhere. It lists the paths of encrypted values."""
-    values = [value for value in Scan(data, typed).values if literals.is_envelope(value.content)]
+    values = [value for value in Scan(data, typed).values if value.is_encrypted]
     names = ", ".join(shown("".join(value.path)) for value in values)
     listed = f"; encrypted here: {names}" if 0 < len(values) <= MOST_LISTED else ""
     return Refused(f"there is no value {shown(path)}{listed}")

@@ -7,13 +7,13 @@ Between git's conflict markers, each side is read without the other.
 from __future__ import annotations
 
 import re
-from bisect import bisect_right
 from functools import cached_property
 from typing import Collection, Iterable, Iterator, NamedTuple
 
-from ansible_vault_companions.files.envelopes import matched
+from ansible_vault_companions.files.changes import Spans
+from ansible_vault_companions.files.envelopes import is_envelope, matched
+from ansible_vault_companions.program import shown
 from ansible_vault_companions.yaml import conflicts, nodes
-from ansible_vault_companions.yaml.lookalikes import lookalikes
 from ansible_vault_companions.yaml.nodes import Node
 from ansible_vault_companions.yaml.paths import Extend, Path, by_keys
 
@@ -56,6 +56,20 @@ class Value(NamedTuple):
     def name(self) -> str:
         return self.path.last
 
+    @property
+    def shown(self) -> str:
+        """Its name, for a message."""
+        return shown(self.name) if self.name else "this value"
+
+    @property
+    def place(self) -> str:
+        """Where it is, for a message."""
+        return f"line {self.line}: {self.shown}"
+
+    @property
+    def is_encrypted(self) -> bool:
+        return is_envelope(self.content)
+
 
 class Scan:
     """The tagged values of a file."""
@@ -64,28 +78,28 @@ class Scan:
         self.data = data
         self.text = nodes.decoded(data)
         self.extend = extend
-        self.tagged = _Places(node for node in self._nodes(nodes.TAGS) if node.style != nodes.ALIAS)
+        self.tagged = [node for node in self._nodes(nodes.TAGS) if node.style != nodes.ALIAS]
         self.values = list(self._values())
 
-    def lookalikes(self) -> Iterator[tuple[int, str, str]]:
-        """Text that resembles the tag but is not one, or is the tag within a comment or a text: the line number, the
-        line, and that text."""
-        for number, (place, line) in enumerate(self._lines(), 1):
-            for start, like in lookalikes(line):
-                if not self.tagged.at(place + start):
-                    yield number, line.strip(), like
+    def lines(self) -> Iterator[tuple[int, str]]:
+        """The position of each line, and the line."""
+        content = self.text.lstrip(nodes.BYTE_ORDER_MARK)
+        place = len(self.text) - len(content)
+        for line in content.splitlines(keepends=True):
+            yield place, line
+            place += len(line)
 
     def comments(self, beginning: str) -> Iterator[tuple[int, int]]:
         """The start and end offsets of the lines that are comments with this beginning."""
-        offsets = _Offsets(self.text)
-        for place, line in self._lines():
+        offsets = Offsets(self.text)
+        for place, line in self.lines():
             comment = line.lstrip()
-            if comment.startswith(beginning) and self._texts.at(place + len(line) - len(comment)) is None:
+            if comment.startswith(beginning) and place + len(line) - len(comment) not in self._texts:
                 yield offsets.of(place), offsets.of(place + len(line))
 
     def _values(self) -> Iterator[Value]:
-        offsets = _Offsets(self.text)
-        for node in self.tagged.nodes:
+        offsets = Offsets(self.text)
+        for node in self.tagged:
             head = self.text[node.start - node.column : node.start]
             yield _value(self.data, node, head, offsets.of(node.start), offsets.of(node.end))
 
@@ -97,31 +111,12 @@ class Scan:
         return [found[place] for place in sorted(found)]
 
     @cached_property
-    def _texts(self) -> _Places:
+    def _texts(self) -> Spans:
         collections = (nodes.LIST, nodes.MAPPING)
-        return _Places(node for node in self._nodes() if node.style not in collections)
-
-    def _lines(self) -> Iterator[tuple[int, str]]:
-        content = self.text.lstrip(nodes.BYTE_ORDER_MARK)
-        place = len(self.text) - len(content)
-        for line in content.splitlines(keepends=True):
-            yield place, line
-            place += len(line)
+        return Spans((node.start, node.end) for node in self._nodes() if node.style not in collections)
 
 
-class _Places:
-    """Finds a node by position. No node is within another."""
-
-    def __init__(self, nodes: Iterable[Node]) -> None:
-        self.nodes = list(nodes)
-        self.starts = [node.start for node in self.nodes]
-
-    def at(self, place: int) -> Node | None:
-        number = bisect_right(self.starts, place) - 1
-        return self.nodes[number] if number >= 0 and place < self.nodes[number].end else None
-
-
-class _Offsets:
+class Offsets:
     """Converts positions in characters to offsets in bytes. Fast if the positions increase."""
 
     def __init__(self, text: str) -> None:
