@@ -4,7 +4,7 @@ SHELL := bash
 
 PREFIX ?= /usr/local
 DESTDIR ?=
-# The program to test, measure and install. If you name another, make does not build it.
+# The program to test, measure and install. If you name one, make does not build it.
 PROGRAM := bin/ansible-vault
 # The processor to build for, such as x86-64-v3. The default is the last build's, and at first x86-64-v2.
 CPU ?= $(shell cat bin/processor 2> /dev/null)
@@ -79,7 +79,7 @@ SHARE ?= 1
 .PHONY: all demo packages check mutants test planted coverage fuzz faults bench install uninstall portable dist package lint \
 	fresh-machine releases clean FORCE
 
-all: $(PROGRAM)
+all: $(if $(filter file,$(origin PROGRAM)),$(PROGRAM))
 
 # Prove a program and the crates below it, if they changed, and build it.
 BUILD = mkdir -p bin && cd crates/$(1) && "$(CURDIR)/tools/progress.py" "$(CURDIR)/bin/$(1).log" rt run
@@ -170,6 +170,8 @@ bench: all bin/vault_bench
 # Refuse to overwrite another program's file.
 install: all
 	@tools/installed install "$(TOP)" $(SUMS) $(REPLACE) $(INSTALLED) -- $(LINKS)
+# Compiled companions start faster. A package compiles them where it is installed.
+	@$(if $(DESTDIR),,python3 -m compileall -q "$(TOP)/$(LIBRARY)" || true)
 	@$(if $(DESTDIR),,echo "Type next: hash -r; ansible-vault --version")
 
 # Remove the installed files that are unchanged, and list the others.

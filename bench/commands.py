@@ -29,6 +29,7 @@ sys.path.insert(0, str(TESTS))
 
 from lib.ansible import ansible_vault
 from lib.counts import count_instructions, parts_of
+from lib.installed import run_make
 from measured import CLOCK, PROCESSOR, Spread, Task, Times, measure_in_turn, options, spread
 from model.vaults import seal
 
@@ -40,7 +41,7 @@ RUNS = 5
 RIGHT = b"the right password"
 OURS, THEIRS, ALIAS = "ours", "theirs", "the alias"
 # The alias should take at most this many times as long as the tool.
-ALIAS_GOAL = 2.5
+ALIAS_GOAL = 2.0
 PYTHON = "/usr/bin/python3"
 # How many times faster these rows should be.
 GOALS = {
@@ -121,12 +122,12 @@ class Rows:
         return Row(f"rekey, {name}", size, theirs)
 
     def alias(self) -> Row:
-        """Compare `view` by the tool, by ansible-vault-with beside it, and by Ansible's tool."""
+        """Compare `view` by the tool, by ansible-vault-with, as `make install` puts it there, and by Ansible's tool."""
         text = plaintext(1 << 10)
         path = self.file("vault", seal(RIGHT, text))
-        companion = self.folder / "ansible-vault-with"
-        companion.symlink_to(HERE.parent / "companions" / companion.name)
-        (self.folder / "ansible-vault").symlink_to(self.program)
+        prefix = self.folder / "installed"
+        run_make(str(self.program), "install", "DESTDIR=", f"PREFIX={prefix}", check=True)
+        companion = prefix / "bin/ansible-vault-with"
         accepts = lambda output: output == text
         tasks = {
             OURS: Task([self.program, "view", *self.alone, path], b"", accepts),

@@ -1,6 +1,5 @@
 """Install the program below a directory with `make install`, and uninstall it again."""
 
-import os
 import pathlib
 import re
 import shutil
@@ -10,8 +9,10 @@ from functools import partial
 
 import pytest
 
-from lib.installed import NAMES, PREFIX_FILES, check_program, files_below, printed, run_make
+from lib.installed import NAMES, PREFIX_FILES, SHARED, check_program, files_below, printed, run_make
+from lib.links import dead_links
 from lib.needs import needs
+from lib.scripts import searched_first, write_script
 
 LOCAL_FILES = PREFIX_FILES | {"lib/ansible-vault/installed.sha256"}
 
@@ -24,8 +25,14 @@ Make = Callable[..., subprocess.CompletedProcess[str]]
 
 
 @pytest.fixture
-def make(program: str) -> Make:
-    return partial(run_make, program)
+def place(tmp_path: pathlib.Path) -> pathlib.Path:
+    return tmp_path / "prefix"
+
+
+@pytest.fixture
+def make(program: str, place: pathlib.Path) -> Make:
+    """Return a function that runs make for the prefix `place`, unless its words name another."""
+    return partial(run_make, program, "DESTDIR=", f"PREFIX={place}")
 
 
 @pytest.fixture(scope="module")
@@ -49,7 +56,7 @@ def test_found_by_fish(prefix: pathlib.Path) -> None:
     offered = printed("fish", "-c", ask, XDG_DATA_DIRS=share)
     assert "--require-id-match" in offered, "fish finds its completion"
     # fish looks for no completion of a missing command.
-    path = f"{prefix / 'bin'}{os.pathsep}{os.environ['PATH']}"
+    path = searched_first(prefix / "bin")["PATH"]
     ask = 'complete -C "ansible-vault-rotate --dry"'
     offered = printed("fish", "-c", ask, XDG_DATA_DIRS=share, PATH=path)
     assert "--dry-run" in offered, "fish finds that of a companion"
@@ -78,6 +85,15 @@ def test_found_by_bash_completion(prefix: pathlib.Path) -> None:
     assert "_ansible_vault_companion" in loaded, "bash-completion finds that of a companion"
 
 
+def check_files(prefix: pathlib.Path) -> None:
+    """Everything is installed, and each module of the companions is compiled."""
+    found = files_below(prefix)
+    compiled = {each for each in found if each.endswith(".pyc")}
+    assert found - compiled == LOCAL_FILES, "make install puts the files below the prefix"
+    modules = {re.sub(r"__pycache__/(\w+)\..*", r"\1.py", each) for each in compiled}
+    assert modules == {f"lib/ansible-vault/{each}" for each in SHARED}, "the compiled modules"
+
+
 @pytest.mark.parametrize("destination, path", [("", "opt/vault"), ("a folder", "opt/two words")])
 def test_install(tmp_path: pathlib.Path, make: Make, destination: str, path: str) -> None:
     words = [f"DESTDIR={tmp_path / destination}", f"PREFIX=/{path}"]
@@ -85,109 +101,90 @@ def test_install(tmp_path: pathlib.Path, make: Make, destination: str, path: str
     prefix = tmp_path / destination / path
     assert files_below(prefix) == LOCAL_FILES, "make install puts the files below the prefix"
     check_program(prefix / "bin" / "ansible-vault", "the installed program")
-    dead = dead_links(prefix / "share/doc/ansible-vault")
-    assert dead == [], dead
+    documents = [*(prefix / "share/doc/ansible-vault").rglob("*.md")]
+    assert [(page.name, link) for page in documents for link in dead_links(page)] == [], "links that lead nowhere"
     assert make("uninstall", *words).returncode == 0, "make uninstall ends well"
     assert files_below(tmp_path) == set(), "make uninstall leaves no file"
     assert [*tmp_path.rglob("ansible*")] == [], "nor a folder of its own"
     assert make("uninstall", *words).returncode != 0, "make uninstall fails if nothing is installed"
 
 
-LINK = re.compile(r"\]\((?!https?:)([^)#]*)(?:#[^)]*)?\)")
-
-
-def dead_links(documents: pathlib.Path) -> list[tuple[pathlib.Path, str]]:
-    """Return the links whose target was not installed, with their documents."""
-    links = [(page, target) for page in documents.rglob("*.md") for target in LINK.findall(page.read_text()) if target]
-    return [(page, target) for page, target in links if not (page.parent / target).exists()]
-
-
 def test_next_step(tmp_path: pathlib.Path, make: Make) -> None:
     """Without DESTDIR, a line says what to type next."""
-    done = make("install", "DESTDIR=", f"PREFIX={tmp_path}")
+    done = make("install")
     wanted = (0, "Type next: hash -r; ansible-vault --version\n", "")
     assert (done.returncode, done.stdout, done.stderr) == wanted, "make install prints the next step"
     assert make("install", f"DESTDIR={tmp_path}").stdout == "", "with DESTDIR it does not"
 
 
-# In place of dpkg-query: a package owns one file.
-DPKG_QUERY = """\
-#!/bin/sh
-[ "$1" = --search ] && [ "$2" = "{owned}" ] && echo "ansible-core: $2"
-"""
-
-
 @pytest.mark.parametrize("name", ["bin/ansible-vault", "share/man/man1/ansible-vault-edit.1"])
-def test_owned(tmp_path: pathlib.Path, make: Make, name: str) -> None:
+def test_owned(tmp_path: pathlib.Path, make: Make, place: pathlib.Path, name: str) -> None:
     """No file of a package is overwritten, whichever of our files it conflicts with."""
-    prefix, tools = tmp_path / "usr", tmp_path / "tools"
-    tools.mkdir()
-    (tools / "dpkg-query").write_text(DPKG_QUERY.format(owned=prefix / name))
-    (tools / "dpkg-query").chmod(0o755)
-    (prefix / name).parent.mkdir(parents=True)
-    (prefix / name).write_text("theirs")
-    environment = os.environ | {"PATH": f"{tools}{os.pathsep}{os.environ['PATH']}"}
-    done = make("install", "DESTDIR=", f"PREFIX={prefix}", env=environment)
+    path = theirs(place / name)
+    # In place of dpkg-query: a package owns the file.
+    query = f'[ "$1" = --search ] && [ "$2" = "{path}" ] && echo "ansible-core: $2"'
+    write_script(tmp_path / "tools" / "dpkg-query", query)
+    done = make("install", env=searched_first(tmp_path / "tools"))
     assert done.returncode != 0, "make install refuses a package's file"
-    assert done.stderr.startswith(f"{prefix / name} belongs to the package ansible-core: "), "and says whose it is"
-    assert (files_below(prefix), (prefix / name).read_text()) == ({name}, "theirs"), "and writes nothing beside it"
+    assert done.stderr.startswith(f"{path} belongs to the package ansible-core: "), "and says whose it is"
+    assert (files_below(place), path.read_text()) == ({name}, "theirs"), "and writes nothing beside it"
+
+
+def theirs(path: pathlib.Path) -> pathlib.Path:
+    """Put a file that is not ours at a path."""
+    path.parent.mkdir(parents=True, exist_ok=True)
+    path.write_text("theirs")
+    return path
 
 
 @pytest.mark.parametrize("name", ["bin/ansible-vault", "bin/ansible-vault-edit"])
-def test_not_replaced(tmp_path: pathlib.Path, make: Make, name: str) -> None:
+def test_not_replaced(make: Make, place: pathlib.Path, name: str) -> None:
     """A file that another installer, such as pip, put at one of the paths stays unless the caller says otherwise."""
-    words = ["DESTDIR=", f"PREFIX={tmp_path}"]
-    path = tmp_path / name
-    path.parent.mkdir()
-    path.write_text("theirs")
-    done = make("install", *words)
+    path = theirs(place / name)
+    done = make("install")
     assert done.returncode != 0, "make install refuses to overwrite it"
     assert done.stderr.startswith(f"{path} is there already"), "and names it"
-    assert (files_below(tmp_path), path.read_text()) == ({name}, "theirs"), "and leaves it"
-    assert make("uninstall", *words).returncode != 0 and path.exists(), "make uninstall refuses, too"
+    assert (files_below(place), path.read_text()) == ({name}, "theirs"), "and leaves it"
+    assert make("uninstall").returncode != 0 and path.exists(), "make uninstall refuses, too"
 
 
-def test_replaced(tmp_path: pathlib.Path, make: Make) -> None:
-    words = ["DESTDIR=", f"PREFIX={tmp_path}"]
-    program = tmp_path / "bin/ansible-vault"
-    program.parent.mkdir()
-    program.write_text("theirs")
-    assert make("install", *words, "REPLACE=yes").returncode == 0, "REPLACE=yes overwrites it"
+def test_replaced(make: Make, place: pathlib.Path) -> None:
+    program = theirs(place / "bin/ansible-vault")
+    assert make("install", "REPLACE=yes").returncode == 0, "REPLACE=yes overwrites it"
     check_program(program, "the program that replaced another")
-    assert files_below(tmp_path) == LOCAL_FILES, "with all that is installed"
-    assert make("install", *words).returncode == 0, "and it is then ours"
-    program.write_text("theirs again")
-    assert make("install", *words).returncode != 0, "a file that was changed since is not overwritten"
-    done = make("uninstall", *words)
+    check_files(place)
+    assert make("install").returncode == 0, "and it is then ours"
+    theirs(program)
+    assert make("install").returncode != 0, "a file that was changed since is not overwritten"
+    done = make("uninstall")
     wanted = (0, f"left, since it was changed: {program}\n", {"bin/ansible-vault"})
-    assert (done.returncode, done.stdout, files_below(tmp_path)) == wanted, "nor removed"
+    assert (done.returncode, done.stdout, files_below(place)) == wanted, "nor removed"
 
 
 @pytest.mark.parametrize("replace", ["no", "yes"])
 @pytest.mark.parametrize("name", ["bin/ansible-vault", "bin/ansible-vault-edit"])
-def test_folders(tmp_path: pathlib.Path, make: Make, name: str, replace: str) -> None:
+def test_folders(make: Make, place: pathlib.Path, name: str, replace: str) -> None:
     """A directory at a path is not replaced, and nothing is put into it."""
-    path = tmp_path / name
+    path = place / name
     path.mkdir(parents=True)
-    done = make("install", "DESTDIR=", f"PREFIX={tmp_path}", f"REPLACE={replace}")
+    done = make("install", f"REPLACE={replace}")
     wanted = f"{path} is a folder: remove it, or give another PREFIX\n"
     assert done.returncode != 0 and wanted in done.stderr, "it is refused"
-    assert files_below(tmp_path) == set(), "nothing is written"
+    assert files_below(place) == set(), "nothing is written"
 
 
-def test_link_to_a_folder(tmp_path: pathlib.Path, make: Make) -> None:
-    folder, path = tmp_path / "folder", tmp_path / "linked/bin/ansible-vault"
+def test_link_to_a_folder(tmp_path: pathlib.Path, make: Make, place: pathlib.Path) -> None:
+    folder, path = tmp_path / "folder", place / "bin/ansible-vault"
     folder.mkdir()
     path.parent.mkdir(parents=True)
     path.symlink_to(folder)
-    done = make("install", "DESTDIR=", f"PREFIX={tmp_path / 'linked'}", "REPLACE=yes")
+    done = make("install", "REPLACE=yes")
     assert (done.returncode, path.is_symlink()) == (0, False), "a link to a folder is replaced"
     assert files_below(folder) == set(), "and the folder stays"
 
 
 # In place of a tool: the call with this number kills the script that runs the tool.
 ENDING = """\
-#!/bin/sh
 echo >> '{calls}'
 [ "$(wc -l < '{calls}')" -lt {number} ] || {{ kill -9 "$PPID"; exit 1; }}
 exec {tool} "$@"
@@ -195,50 +192,44 @@ exec {tool} "$@"
 
 
 @pytest.mark.parametrize("tool, number", [("mv", 1), ("mv", 2), ("mv", 12), ("install", 9), ("ln", 1), ("ln", 9)])
-def test_interrupted(tmp_path: pathlib.Path, make: Make, tool: str, number: int) -> None:
+def test_interrupted(tmp_path: pathlib.Path, make: Make, place: pathlib.Path, tool: str, number: int) -> None:
     """After an interrupted installation, another one is possible, and so is uninstalling it."""
-    tools, prefix, copy = (tmp_path / name for name in ("tools", "prefix", "copy"))
-    words = ["DESTDIR=", f"PREFIX={prefix}"]
-    environment = os.environ | {"PATH": f"{tools}{os.pathsep}{os.environ['PATH']}"}
-    tools.mkdir()
-    (tools / tool).write_text(ENDING.format(calls=tmp_path / "calls", number=number, tool=shutil.which(tool)))
-    (tools / tool).chmod(0o755)
-    assert make("install", *words, env=environment).returncode != 0, "it is interrupted"
-    shutil.copytree(prefix, copy, symlinks=True)
+    tools, copy = tmp_path / "tools", tmp_path / "copy"
+    write_script(tools / tool, ENDING.format(calls=tmp_path / "calls", number=number, tool=shutil.which(tool)))
+    assert make("install", env=searched_first(tools)).returncode != 0, "it is interrupted"
+    shutil.copytree(place, copy, symlinks=True)
     if (copy / "lib/ansible-vault/installed.sha256").exists():
-        assert (make("uninstall", "DESTDIR=", f"PREFIX={copy}").returncode, files_below(copy)) == (0, set()), "removed"
-    assert (make("install", *words).returncode, files_below(prefix)) == (0, LOCAL_FILES), "ended"
-    assert (make("uninstall", *words).returncode, files_below(prefix)) == (0, set()), "removed then"
+        assert (make("uninstall", f"PREFIX={copy}").returncode, files_below(copy)) == (0, set()), "removed"
+    assert make("install").returncode == 0, "ended"
+    check_files(place)
+    assert (make("uninstall").returncode, files_below(place)) == (0, set()), "removed then"
 
 
-def test_changed(tmp_path: pathlib.Path, make: Make) -> None:
+def test_changed(make: Make, place: pathlib.Path) -> None:
     """`make uninstall` leaves what it did not install, and lists what was changed."""
-    words = ["DESTDIR=", f"PREFIX={tmp_path}"]
-    make("install", *words)
-    program, page = tmp_path / "bin/ansible-vault", tmp_path / "share/man/man1/ansible-vault-edit.1"
-    links = [tmp_path / "bin/ansible-vault-edit", tmp_path / "share/bash-completion/completions/ansible-vault-edit"]
-    stray = tmp_path / "lib/ansible-vault/stray"
+    make("install")
+    program, page = place / "bin/ansible-vault", place / "share/man/man1/ansible-vault-edit.1"
+    links = [place / "bin/ansible-vault-edit", place / "share/bash-completion/completions/ansible-vault-edit"]
+    stray = place / "lib/ansible-vault/stray"
     for path in (program, page, *links, stray):
         path.unlink(missing_ok=True)
     program.symlink_to("/bin/true")
     links[0].symlink_to("elsewhere")
     for path in (page, links[1], stray):
-        path.write_text("another")
-    done = make("uninstall", *words)
-    kept = {str(path.relative_to(tmp_path)) for path in (program, page, *links, stray)}
-    assert files_below(tmp_path) == kept, "make uninstall leaves what is not its own"
+        theirs(path)
+    done = make("uninstall")
+    kept = {str(path.relative_to(place)) for path in (program, page, *links, stray)}
+    assert files_below(place) == kept, "make uninstall leaves what is not its own"
     listed = {f"left, since it was changed: {path}" for path in (program, page, *links)}
     assert (done.returncode, {*done.stdout.splitlines()}) == (0, listed), "and lists it"
 
 
-def test_upgraded(tmp_path: pathlib.Path, make: Make) -> None:
+def test_upgraded(make: Make, place: pathlib.Path) -> None:
     """A second `make install` remembers what the first one installed."""
-    words = ["DESTDIR=", f"PREFIX={tmp_path}"]
-    make("install", *words)
-    old = tmp_path / "lib/ansible-vault/older.py"
-    old.write_text("of an older version\n")
-    sums = tmp_path / "lib/ansible-vault/installed.sha256"
-    sums.write_text(printed("sha256sum", "lib/ansible-vault/older.py", cwd=tmp_path) + sums.read_text())
-    assert make("install", *words).returncode == 0
-    make("uninstall", *words)
-    assert files_below(tmp_path) == set(), "make uninstall removes what an older version had"
+    make("install")
+    theirs(place / "lib/ansible-vault/older.py")
+    sums = place / "lib/ansible-vault/installed.sha256"
+    sums.write_text(printed("sha256sum", "lib/ansible-vault/older.py", cwd=place) + sums.read_text())
+    assert make("install").returncode == 0
+    make("uninstall")
+    assert files_below(place) == set(), "make uninstall removes what an older version had"

@@ -13,8 +13,9 @@ import pytest
 from ansible_vault_companions import OLDEST
 from lib.installed import FILES, NAMES, VERSION, check_program, files_below, printed, run_make
 from lib.needs import needs, needs_root
-from lib.package_root import Root, later, stand_in
+from lib.package_root import Root, later, stand_in, write_files
 from lib.paths import ROOT
+from lib.scripts import searched_first, write_script
 
 PACKAGE_FILES = FILES | {
     *(f"share/man/man1/{name}.1.gz" for name in NAMES),
@@ -97,10 +98,9 @@ def test_made_again(copy: pathlib.Path, package: pathlib.Path, name: str) -> Non
     """A path with a space, and another date, umask and time zone, give the same bytes, from the program that is named
     or was built last: nothing is built again."""
     (copy / "bin/ansible-vault").rename(copy / name)
-    (copy.parent / "rt").write_text("#!/bin/sh\necho rt is run >&2\nexit 1\n")
-    (copy.parent / "rt").chmod(0o755)
+    write_script(copy.parent / "rt", "echo rt is run >&2; exit 1")
     (copy / "man/ansible-vault.1").touch()
-    environment = os.environ | {"TZ": "Asia/Tokyo", "PATH": f"{copy.parent}{os.pathsep}{os.environ['PATH']}"}
+    environment = searched_first(copy.parent) | {"TZ": "Asia/Tokyo"}
     done = run_make(name, "package", at=copy, umask=0o077, env=environment)
     assert done.returncode == 0, done.stderr
     assert (copy / "bin" / package.name).read_bytes() == package.read_bytes()
@@ -265,3 +265,13 @@ def test_before_theirs(beside: Beside) -> None:
     beside.do("purge", "-P", "ansible-vault")
     beside.check_nothing_left("both removed")
     assert files_below(beside.root.path / "usr/bin") == {"dpkg-divert", "sh"}, "both removed: no program"
+
+
+def test_compiled_companions(beside: Beside) -> None:
+    """They are compiled when the package is installed, and what was compiled is removed with the package."""
+    logs = '#!/bin/sh\necho "${0##*/}" "$@" >> /tmp/log\n'
+    write_files(beside.root.path, {"dev/null": "", "usr/bin/py3compile": logs, "usr/bin/py3clean": logs})
+    beside.do("our package", "-i", str(beside.package))
+    beside.do("removal", "-r", "ansible-vault")
+    calls = ["py3compile -p ansible-vault /usr/lib/ansible-vault", "py3clean -p ansible-vault"]
+    assert (beside.root.read("tmp/log") or "").splitlines() == calls

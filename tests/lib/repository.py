@@ -1,17 +1,15 @@
-"""A git repository where the shell commands of a document run, with the program on PATH as `ansible-vault` and its
-companions beside it.
-"""
+"""A git repository where the shell commands of a document run."""
 
 import os
 import pathlib
 import pty
-import stat
 import subprocess
 import termios
 import time
 
+from companion_cases import Place
 from lib.limits import SECONDS
-from lib.paths import COMPANIONS
+from lib.paths import ROOT
 from model.vaults import seal, yaml_block
 from shells import all_shown
 
@@ -27,65 +25,37 @@ MARKS = "*.vault.yml diff=ansible-vault merge=ansible-vault\nvault.yml diff=ansi
 SETTINGS = "[defaults]\nvault_identity_list = prod@~/.vault/prod.pass\n"
 
 
-class Repository:
-    """A directory under git, where `ansible-vault` is the program. The password files are in it, for the examples of
-    the manual page, and in the home directory."""
+class Repository(Place):
+    """A place under git. The password files are in it, for the examples of the manual page, and in ~/.vault."""
 
     def __init__(self, path: pathlib.Path, program: str):
-        self.folder = path / "repository"
-        tools = path / "tools"
-        tools.mkdir()
-        (tools / "ansible-vault").symlink_to(program)
-        for name, companion in COMPANIONS.items():
-            (tools / name).symlink_to(companion)
-        self.environment = os.environ | {
-            "GIT_AUTHOR_NAME": "a",
-            "GIT_AUTHOR_EMAIL": "a@b",
-            "GIT_COMMITTER_NAME": "a",
-            "GIT_COMMITTER_EMAIL": "a@b",
-            "GIT_CONFIG_GLOBAL": "/dev/null",
-            "HOME": str(path),
-            "PATH": f"{tools}{os.pathsep}{os.environ['PATH']}",
-        }
-        self.folder.mkdir()
+        named = path / "ansible-vault"
+        named.symlink_to(program)
+        super().__init__(path, named, ROOT / "companions")
+        people = (f"GIT_{who}_{what}" for who in ("AUTHOR", "COMMITTER") for what in ("NAME", "EMAIL"))
+        self.environment |= dict.fromkeys(people, "a@b")
         self.shell("git init -q && echo '*.pass' > .gitignore")
-        (path / ".vault").mkdir(mode=0o700)
         for name, password in PASSWORDS.items():
             self.put(name, password + b"\n")
-            (path / ".vault" / name).write_bytes(password + b"\n")
+            self.put(f"../.vault/{name}", password + b"\n")
+        (path / ".vault").chmod(0o700)
 
-    def put(self, name: str, content: bytes) -> None:
-        path = self.folder / name
-        path.parent.mkdir(parents=True, exist_ok=True)
-        path.write_bytes(content)
+    def command(self, text: str, name: str) -> None:
+        """Put a shell script on PATH."""
+        self.script(text, f"tools/{name}")
 
-    def get(self, name: str) -> bytes:
-        return (self.folder / name).read_bytes()
-
-    def mode(self, name: str) -> str:
-        return oct(stat.S_IMODE((self.folder / name).stat().st_mode))
-
-    def script(self, text: str, name: str = "script") -> str:
-        """Write a shell script that is on PATH, and return its path."""
-        path = self.folder.parent / "tools" / name
-        path.write_text(f"#!/bin/sh\n{text}\n")
-        path.chmod(0o755)
-        return str(path)
-
-    def shell(
-        self, text: str, folder: str = ".", stdin: str = "", interpreter: str = "sh", **variables: str
-    ) -> subprocess.CompletedProcess[str]:
-        where, environment = self.folder / folder, self.environment | variables
-        return subprocess.run(
-            [interpreter, "-c", text], cwd=where, env=environment, input=stdin, capture_output=True, text=True
-        )
+    def shown(self, text: str, **variables: str) -> str:
+        """Run shell commands, which must end well, and return what they print."""
+        done = self.shell(text, **variables)
+        assert (done.returncode, done.stderr) == (0, ""), text
+        return done.stdout
 
     def pasted(self, shell: str, password: str) -> str:
         """Paste shell commands into a terminal, type the password when asked, and return what it shows."""
         controller, terminal = pty.openpty()
         process = subprocess.Popen(
             ["bash", "--norc", "--noprofile", "-i"],
-            cwd=self.folder,
+            cwd=self.tree,
             env=self.environment | {"PS1": "$ ", "TERM": "dumb"},
             stdin=terminal,
             stdout=terminal,
