@@ -1,7 +1,5 @@
-"""Ask the shells themselves what they offer: commands, files where a file is expected, and for the companions, the
-options in their help. None offers a `~` that nobody would expand.
-
-`options_agree` compares the options of the program.
+"""Ask the shells themselves what they offer: commands, files where a file is expected, and the options of the program's
+page and of the companions' help. None offers a `~` that nobody would expand.
 """
 
 import pathlib
@@ -11,8 +9,9 @@ import pytest
 
 import shells
 from lib.option_sets import OF_ANSIBLE, companion_options, companion_values, page_sets
+from lib.option_table import table_options
 from lib.paths import COMPANIONS
-from model.options import OPTIONS
+from model.options import COMMON, OPTIONS
 from shells import SHELLS, needs_shell, typed_in_bash
 
 FILES = ["one.pass", "one.yml", "two.yml", "with a space.pass", "-dash.yml"]
@@ -102,22 +101,37 @@ def options_of(name: str) -> set[str]:
     return set().union(*companion_options(name))
 
 
+@pytest.mark.parametrize("command", page_sets(), ids=str)
+def test_options(shell: str, folder: pathlib.Path, command: str | None) -> None:
+    words = f"ansible-vault {command}" if command else "ansible-vault"
+    assert offered_options(shell, words, folder) == sorted(page_sets()[command])
+
+
 @pytest.mark.parametrize("name", COMPANIONS)
 def test_options_of_companions(shell: str, folder: pathlib.Path, name: str) -> None:
     assert offered_options(shell, name, folder) == sorted(options_of(name))
 
 
-# The names of file values in a companion's help.
-FILES_IN_HELP = {"FILE", "[LABEL@]FILE"}
+# The names of values that are files, in the table of the program and in a companion's help.
+FILES_IN_HELP = {"PATH", "[LABEL@]SOURCE", "FILE", "[LABEL@]FILE"}
 
 
-@pytest.mark.parametrize("name", COMPANIONS)
-def test_values_of_companions(shell: str, folder: pathlib.Path, name: str) -> None:
+def values_of(name: str) -> dict[str, str]:
+    """Return the names of the options' values, by the start of a line that ends with the option."""
+    if name in COMPANIONS:
+        return {f"{name} {option}": value for option, value in companion_values(name).items()}
+    commands = {option: command for command in OPTIONS for option in OPTIONS[command] | COMMON}
+    valued = [entry for entry in table_options() if entry.value_name]
+    return {f"{name} {commands[entry.option]} {entry.option}": entry.value_name for entry in valued}
+
+
+@pytest.mark.parametrize("name", ["ansible-vault", *COMPANIONS])
+def test_values(shell: str, folder: pathlib.Path, name: str) -> None:
     """Files are offered for an option whose value is a file, and for no other."""
-    values = companion_values(name)
+    values = values_of(name)
     assert len(values) > 2
-    found = {option: SHELLS[shell](f"{name} {option} one.p", folder) for option in values}
-    assert found == {option: {"one.pass"} if value in FILES_IN_HELP else set() for option, value in values.items()}
+    found = {start: SHELLS[shell](f"{start} one.p", folder) for start in values}
+    assert found == {start: {"one.pass"} if value in FILES_IN_HELP else set() for start, value in values.items()}
 
 
 @pytest.mark.parametrize("line, wanted", OFFERED_BY_COMPANIONS.items(), ids=OFFERED_BY_COMPANIONS)

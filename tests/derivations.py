@@ -5,9 +5,6 @@ Nothing else in a run costs as much: reading the other password files is far bel
 """
 
 import concurrent.futures
-import re
-import subprocess
-import tempfile
 from collections.abc import Callable
 from typing import NamedTuple
 
@@ -15,7 +12,7 @@ import pytest
 
 from lib.cases import TEXT, Cases, by_file, by_id
 from lib.samples import SALT_TEXT, SALT_WORDS
-from lib.limits import SECONDS
+from lib.counts import count_instructions
 from lib.needs import needs
 from model.faults import Fault
 from model.vaults import parts, seal, serialized
@@ -23,7 +20,6 @@ from model.vaults import parts, seal, serialized
 pytestmark = pytest.mark.valgrind
 
 WORKERS = 2
-COLLECTED = re.compile(r"Collected *: *(\d+)")
 # Ten thousand rounds, each of six compressions with 64 steps, take more instructions than this.
 LEAST_DERIVATION = 10_000 * 6 * 64 * 10
 # What everything else in a run may cost, in derivations.
@@ -62,27 +58,17 @@ def runs(cases: Cases) -> list[Run]:
     ]
 
 
-def collected(program: str, run: Run) -> tuple[subprocess.CompletedProcess[bytes], int]:
-    """Return the run, and how many instructions it took."""
-    with tempfile.NamedTemporaryFile("r") as log:
-        tool = ["--tool=callgrind", "--callgrind-out-file=/dev/null", f"--log-file={log.name}"]
-        done = subprocess.run(
-            ["valgrind", *tool, program, *run.words], input=run.stdin, capture_output=True, timeout=SECONDS
-        )
-        found = COLLECTED.search(log.read())
-    return done, int(found[1]) if found else 0
-
-
 def test_derivations(cases: Cases) -> None:
     needs("valgrind")
     every = runs(cases)
     with concurrent.futures.ThreadPoolExecutor(WORKERS) as pool:
-        counted = list(pool.map(lambda run: collected(cases.program, run), every))
-    answers = {run.name: (done.returncode, done.stdout) for run, (done, _) in zip(every, counted)}
+        counted = list(pool.map(lambda run: count_instructions([cases.program, *run.words], run.stdin), every))
+    answers = {run.name: (done.status, done.output) for run, (done, _) in zip(every, counted)}
     assert answers == {run.name: (run.status, run.output) for run in every}
     # The first two runs give the cost of a start and of one derivation.
-    base, one = counted[0][1], counted[1][1] - counted[0][1]
+    instructions = [functions.total() for _, functions in counted]
+    base, one = instructions[0], instructions[1] - instructions[0]
     assert one > LEAST_DERIVATION, f"a derivation takes {one} instructions"
-    found = {run.name: (count - base) / one for run, (_, count) in zip(every, counted)}
+    found = {run.name: (count - base) / one for run, count in zip(every, instructions)}
     assert found == pytest.approx({run.name: run.derivations for run in every}, abs=TOLERANCE)
     assert all(count != pytest.approx(run.derivations + 1, abs=TOLERANCE) for run, count in zip(every, found.values()))

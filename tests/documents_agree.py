@@ -170,7 +170,7 @@ def test_options_are_named() -> None:
 
 
 # Variables that documents set, but that are none of make's.
-OF_PROGRAMS = {"EDITOR", "IFS", "REQUIRE_ALL"}
+OF_PROGRAMS = {"EDITOR", "IFS", "REQUIRE_ALL", "VISUAL"}
 
 
 def test_variables() -> None:

@@ -10,15 +10,16 @@ message.
 
 from collections import Counter
 from collections.abc import Callable
+from functools import partial
 from operator import attrgetter
 from typing import NamedTuple
 
 import pytest
 
-from lib.allocations import LIBRARY, run_refusing
 from lib.needs import needs
 from lib.paths import FIXTURES, ROOT
-from lib.preloaded import build_library
+from lib.preloaded import build_library, refusing_each
+from lib.processes import run
 from model.faults import Fault
 from model.vaults import ENVELOPE, seal, yaml_block
 
@@ -123,7 +124,7 @@ def way_of(left: Left, whole: Left) -> str | None:
 @pytest.fixture(scope="module")
 def library(tmp_path_factory: pytest.TempPathFactory) -> str:
     needs("cc")
-    return build_library(str(tmp_path_factory.mktemp("library")), LIBRARY)
+    return build_library(str(tmp_path_factory.mktemp("library")), "refuse_allocation")
 
 
 def way_of_refused(printed: bytes, run: Run, ways: Counter[str | None]) -> str | None:
@@ -138,19 +139,17 @@ def way_of_refused(printed: bytes, run: Run, ways: Counter[str | None]) -> str |
     return way
 
 
-@pytest.mark.parametrize("run", [*runs_of("drive"), *runs_of("run")], ids=attrgetter("name"))
-def test_refused(library: str, run: Run, record_property: Callable[[str, object], None]) -> None:
+@pytest.mark.parametrize("asked", [*runs_of("drive"), *runs_of("run")], ids=attrgetter("name"))
+def test_refused(library: str, asked: Run, record_property: Callable[[str, object], None]) -> None:
     if not PROGRAM.exists():
         pytest.skip("without bin/vault_allocation_failures, which make builds")
-    number, ways, differing = 1, Counter[str | None](), dict[int, bytes]()
-    done, refused = run_refusing(library, [str(PROGRAM), *run.words], run.stdin, number)
-    while refused:
-        way = way_of_refused(done.stdout, run, ways)
+    refused, whole = refusing_each(library, partial(run, [str(PROGRAM), *asked.words], asked.stdin))
+    ways, differing = Counter[str | None](), dict[int, bytes]()
+    for number, done in enumerate(refused, 1):
+        way = way_of_refused(done.stdout, asked, ways)
         ways[way] += 1
         if way is None:
             differing[number] = done.stdout
-        number += 1
-        done, refused = run_refusing(library, [str(PROGRAM), *run.words], run.stdin, number)
-    record_property("allocations refused in memory", (number - 1, number - 1))
-    assert (differing, left_in(done.stdout)) == ({}, (run.whole, True)), "without an allocation, and with each"
-    assert run.ways <= set(ways), "each way is taken"
+    record_property("allocations refused in memory", (len(refused), len(refused)))
+    assert (differing, left_in(whole.stdout)) == ({}, (asked.whole, True)), "without an allocation, and with each"
+    assert asked.ways <= set(ways), "each way is taken"

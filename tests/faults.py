@@ -13,19 +13,14 @@ import pytest
 from lib.cases import Cases
 from fault_injection import Scenario, Target
 from fault_injection.refused_calls import refused_calls
-from fault_injection.scenarios import long_scenarios, refused_scenarios, small_and_large
+from fault_injection.scenarios import TARGETS, TO_FILES, long_scenarios, refused_scenarios, small_and_large
 from fault_injection.short_transfers import short_transfers
 from fault_injection.signals import SIGNALS, signal_while_blocked, signals
 from fault_injection.size_limit import size_limit
 from lib.needs import needs
-from model.options import OPTIONS
 
 pytestmark = pytest.mark.faults
 
-FILES = Target.NEW, Target.OLD
-# The commands, each with the targets of its output.
-TO_FILES = [(command, target) for command in OPTIONS for target in FILES if command != "view"]
-TARGETS = [*TO_FILES, *((command, Target.STREAM) for command in OPTIONS)]
 # How often each signal is sent to each long run, and how often at least with --share.
 MOMENTS, FEWEST = 20, 2
 
@@ -47,7 +42,7 @@ def every_scenario(module_cases: Cases) -> list[Scenario]:
 
 @pytest.fixture
 def scenarios(every_scenario: list[Scenario], command: str, target: Target) -> list[Scenario]:
-    return [each for each in every_scenario if (each.words[0], each.target) == (command, target)]
+    return [each for each in every_scenario if each.is_of(command, target)]
 
 
 @pytest.fixture
@@ -103,6 +98,6 @@ def test_signals(
     share: int,
     record_property: Record,
 ) -> None:
-    [scenario] = [each for each in every_long_scenario if (each.words[0], each.target) == (command, target)]
+    [scenario] = [each for each in every_long_scenario if each.is_of(command, target)]
     made = signals(program, scenario, seed, max(MOMENTS // share, FEWEST))
     record_property("signals", (made, MOMENTS * len(SIGNALS)))

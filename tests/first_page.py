@@ -13,7 +13,9 @@ from collections.abc import Iterator
 
 from lib.installed import run_make
 from lib.paths import COMPANIONS, README
+from lib.processes import run_text
 from lib.readme import Step, steps
+from lib.scripts import searched_first
 
 
 def session(program: str, top: pathlib.Path) -> Iterator[tuple[Step, str]]:
@@ -23,13 +25,9 @@ def session(program: str, top: pathlib.Path) -> Iterator[tuple[Step, str]]:
     tools.mkdir()
     for name, path in (*COMPANIONS.items(), ("ansible-vault", pathlib.Path(program))):
         (tools / name).symlink_to(path)
-    environment = os.environ | {"PATH": f"{tools}{os.pathsep}{os.environ['PATH']}"}
     for step in steps(README.read_text()):
         command = ["sh", "-c", step.command]
-        ran = subprocess.run(
-            command, cwd=folder, env=environment, stdout=subprocess.PIPE, stderr=subprocess.STDOUT, text=True
-        )
-        yield step, ran.stdout
+        yield step, run_text(command, cwd=folder, env=searched_first(tools), stderr=subprocess.STDOUT).stdout
 
 
 def test_five_minutes(program: str, tmp_path: pathlib.Path) -> None:

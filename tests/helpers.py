@@ -13,6 +13,7 @@ from lib.ansible import ansible_vault
 from lib.cases import Cases, refusal
 from lib.installed import VERSION
 from lib.paths import ROOT
+from lib.scripts import write_script
 from lib.system_calls import calls_in
 from model.compared import differences
 from model.faults import Fault
@@ -31,25 +32,18 @@ DIFFERING = {
 }
 
 
-def script(folder: Path, name: str, text: str) -> str:
-    path = folder / name
-    path.write_text(f"#!/bin/sh\n{text}\n")
-    path.chmod(0o755)
-    return str(path)
-
-
 @pytest.mark.parametrize("text", DIFFERING.values(), ids=DIFFERING)
 def test_differences(program: str, tmp_path: Path, monkeypatch: pytest.MonkeyPatch, text: str) -> None:
     monkeypatch.setenv("PROGRAM", program)
-    assert differences(CASE, [script(tmp_path, "same", 'exec "$PROGRAM" "$@"')]) == []
-    assert differences(CASE, [script(tmp_path, "differing", text)]) != []
+    assert differences(CASE, [write_script(tmp_path / "same", 'exec "$PROGRAM" "$@"')]) == []
+    assert differences(CASE, [write_script(tmp_path / "differing", text)]) != []
 
 
 def test_mode_of_an_output(program: str, tmp_path: Path, monkeypatch: pytest.MonkeyPatch) -> None:
     monkeypatch.setenv("PROGRAM", program)
     case = replace(CASE, stdin=seal(b"right", b"text"))
-    assert differences(case, [script(tmp_path, "same", 'exec "$PROGRAM" "$@"')]) == []
-    assert differences(case, [script(tmp_path, "differing", '"$PROGRAM" "$@" && chmod 644 new')]) != []
+    assert differences(case, [write_script(tmp_path / "same", 'exec "$PROGRAM" "$@"')]) == []
+    assert differences(case, [write_script(tmp_path / "differing", '"$PROGRAM" "$@" && chmod 644 new')]) != []
 
 
 # A fault, and answers that differ from it in one part.
@@ -67,7 +61,7 @@ def answering(folder: Path, status: int, output: bytes, message: bytes) -> Cases
     (folder / "output").write_bytes(output)
     (folder / "message").write_bytes(message)
     text = f"cat {folder}/output; cat {folder}/message >&2; exit {status}"
-    return Cases(script(folder, "program", text), folder)
+    return Cases(write_script(folder / "program", text), folder)
 
 
 @pytest.mark.parametrize("check", CHECKS.values(), ids=CHECKS)
@@ -129,14 +123,14 @@ def test_ansible_is_found(
 ) -> None:
     for name, value in {"PATH": str(tmp_path), "LC_ALL": "C", "ANSIBLE_VAULT": ""}.items():
         monkeypatch.setenv(name, value)
-    paths = {name: script(tmp_path, name, text) for name, text in tools.items()}
+    paths = {name: write_script(tmp_path / name, text) for name, text in tools.items()}
     assert ansible_vault() == (paths[wanted] if wanted else None)
 
 
 @pytest.mark.parametrize("is_named", [True, False])
 def test_ansible_that_fails(tmp_path: Path, monkeypatch: pytest.MonkeyPatch, is_named: bool) -> None:
     """It does not count as missing."""
-    path = script(tmp_path, "ansible-vault", "echo 'no module named ansible' >&2; exit 1")
+    path = write_script(tmp_path / "ansible-vault", "echo 'no module named ansible' >&2; exit 1")
     for name, value in {"PATH": str(tmp_path), "ANSIBLE_VAULT": path if is_named else ""}.items():
         monkeypatch.setenv(name, value)
     with pytest.raises(RuntimeError, match="no module named ansible"):
@@ -144,6 +138,6 @@ def test_ansible_that_fails(tmp_path: Path, monkeypatch: pytest.MonkeyPatch, is_
 
 
 def test_another_tool_that_is_named(tmp_path: Path, monkeypatch: pytest.MonkeyPatch) -> None:
-    monkeypatch.setenv("ANSIBLE_VAULT", script(tmp_path, "ansible-vault", OURS))
+    monkeypatch.setenv("ANSIBLE_VAULT", write_script(tmp_path / "ansible-vault", OURS))
     with pytest.raises(RuntimeError, match="not of Ansible's core"):
         ansible_vault()

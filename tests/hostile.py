@@ -4,13 +4,17 @@ Under each limit of address space, a run ends with its whole output, or with `ou
 enough for each. Resident memory grows with the input, whether it is a file or a pipe.
 """
 
+import re
 import resource
 import subprocess
+from functools import partial
 
 import pytest
 
-from lib import resident
-from lib.cases import TEXT, Cases, answer_of, run_captured
+from lib.cases import TEXT, Cases, answer_of
+from lib.needs import needs
+from lib.preloaded import build_library, run_with
+from lib.processes import run
 from lib.samples import Sample, each_command, sample_of
 from lib.subtests import SubTests
 from model.faults import Fault
@@ -33,7 +37,7 @@ def in_memory(program: str, sample: Sample, amount: int) -> subprocess.Completed
         resource.setrlimit(resource.RLIMIT_CORE, (0, 0))
         resource.setrlimit(resource.RLIMIT_AS, (amount, amount))
 
-    return run_captured([program, *sample.words], sample.stdin, preexec_fn=restrict)
+    return run([program, *sample.words], sample.stdin, preexec_fn=restrict)
 
 
 @pytest.fixture(scope="module")
@@ -65,12 +69,14 @@ def test_memory(cases: Cases, subtests: SubTests, size: int, command: str, least
         amounts = [least_memory + (ENOUGH - least_memory) * step // STEPS for step in range(STEPS + 1)]
         found = [outcome(in_memory(cases.program, sample, amount), sample) for amount in amounts]
         assert (found[0], found[-1], set(found)) == ("refused", "whole", {"refused", "whole"}), found
-    for name, path in (("a file", cases.file(sample.stdin)), ("a pipe", None)):
-        with subtests.test(f"resident memory, {name}"):
-            done = resident.run([cases.program, *sample.words], sample.stdin, path)
-            assert (done.status, done.output) == (0, sample.output)
-            most = RESIDENT[size] * KIB
-            assert most // 2 < done.resident <= most, f"{done.resident} KiB"
+    needs("cc")
+    library, most = build_library(str(cases.folder), "peak_memory"), RESIDENT[size] * KIB
+    with open(cases.file(sample.stdin), "rb") as file:
+        for name, stdin in {"a file": file, "a pipe": sample.stdin}.items():
+            with subtests.test(f"resident memory, {name}"):
+                done, report = run_with(library, {}, partial(run, [cases.program, *sample.words], stdin))
+                [resident] = map(int, re.findall(rb"^VmHWM:\s+(\d+) kB$", report, re.MULTILINE))
+                assert (answer_of(done), most // 2 < resident <= most) == ((0, sample.output, b""), True), resident
 
 
 @pytest.mark.parametrize("amount, fault", ((16 * MIB, Fault.MEMORY), (ENOUGH, Fault.SECRET_NOT_OPENED)))

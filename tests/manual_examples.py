@@ -35,8 +35,7 @@ def shown(text: str) -> str:
 def check_encrypt(repository: Repository, shell: str) -> None:
     repository.put("plain.yml", b"plain: text\n")
     repository.put("group_vars/all/.keep", b"")
-    ran = repository.shell(shell)
-    assert (ran.returncode, ran.stderr) == (0, ""), "a file is encrypted and decrypted"
+    repository.shown(shell)
     first = repository.get("group_vars/all/vault.yml").splitlines()[0]
     assert first == b"$ANSIBLE_VAULT;1.2;AES256;prod", "one is a vault"
     assert repository.get("other.yml") == b"plain: text\n", "the other is its plaintext"
@@ -44,8 +43,7 @@ def check_encrypt(repository: Repository, shell: str) -> None:
 
 def check_string(repository: Repository, shell: str) -> None:
     repository.put("vars.yml", b"first: 1\n")
-    ran = repository.shell(shell, secret="correct horse")
-    assert (ran.returncode, ran.stderr) == (0, ""), "a block is made"
+    repository.shown(shell, secret="correct horse")
     first, second, text = repository.get("vars.yml").decode().split("\n", 2)
     assert (first, second) == ("first: 1", "db_password: !vault |"), "it is appended"
     repository.put("block", "".join(line.strip() + "\n" for line in text.splitlines()).encode())
@@ -57,7 +55,7 @@ def check_typed(repository: Repository, shell: str) -> None:
     needs("bash", "zsh")
     repository.put("vault.yml", seal(PASSWORDS["old.pass"], b"shown\n"))
     rows = [(interpreter, password) for interpreter in ("bash", "zsh") for password in ("the old one", "another")]
-    done = [repository.shell(shell, stdin=f"{password}\n", interpreter=interpreter) for interpreter, password in rows]
+    done = [repository.shell(f"{{ {shell}\n}} <<< '{password}'", interpreter) for interpreter, password in rows]
     found = {row: (ran.returncode, ran.stdout) for row, ran in zip(rows, done)}
     assert found == {row: (0, "shown\n") if row[1] == "the old one" else (1, "") for row in rows}
     shown = repository.pasted(shell, "the old one")
@@ -124,15 +122,14 @@ def example_repository(repository: Repository, password: str) -> str:
     for name in ("group_vars/all/vault.yml", "one.vault.yml", "a.yml", "b.yml"):
         repository.put(name, vault(b"a: 1\nb: 2\nc: 3\nd: 4\n"))
     repository.put("host_vars/web1.yml", block("db_password", "correct horse", password, "prod").encode())
-    repository.put("get-pass", b"#!/bin/sh\ncat prod.pass\n")
-    (repository.folder / "get-pass").chmod(0o755)
+    repository.put("get-pass", b"#!/bin/sh\ncat prod.pass\n", 0o755)
     repository.shell("git add -A && git commit -qm one && git update-ref refs/remotes/origin/main HEAD")
     repository.shell("git checkout -qb branch")
     repository.put("one.vault.yml", vault(b"a: 1\nb: 2\nc: 3\nd: 5\n"))
     repository.shell("git commit -qam two && git checkout -q -")
     repository.put("one.vault.yml", vault(b"a: 0\nb: 2\nc: 3\nd: 4\n"))
     repository.shell("git commit -qam three")
-    repository.script(CODE, "code")
+    repository.command(CODE, "code")
     return repository.script("sed -i -e 's/horse/staple/' -e 's/a: 1/a: 2/' \"$1\"")
 
 

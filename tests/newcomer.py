@@ -2,7 +2,6 @@
 copied into the clone, which these tests use one after the other. The other targets are in targets.py.
 """
 
-import os
 from pathlib import Path
 
 import pytest
@@ -11,6 +10,7 @@ from lib.clone import PROVING, cloned, git, typed
 from lib.installed import PREFIX_FILES, files_below
 from lib.paths import README
 from lib.readme import commands, steps
+from lib.scripts import searched_first
 
 pytestmark = [pytest.mark.newcomer, pytest.mark.timeout(PROVING)]
 
@@ -40,7 +40,7 @@ def test_readme(clone: Path, prefix: Path) -> None:
 
 def test_session(clone: Path, prefix: Path, tmp_path: Path) -> None:
     """The session works with the installed program."""
-    path = f"{prefix / 'bin'}{os.pathsep}{os.environ['PATH']}"
+    path = searched_first(prefix / "bin")["PATH"]
     session = steps(README.read_text())
     found = [(step, typed(step.command, tmp_path, PATH=path)) for step in session]
     assert [step.command for step, printed in found if not step.is_met_by(printed)] == []

@@ -1,6 +1,6 @@
-"""The table of options in the code agrees with the manual page, the completions of each shell, the model and the
-program's own help; and the options of each companion agree in its page and its help. `mandoc` and `groff` check the
-pages.
+"""The table of options in the code agrees with the manual page, the model and the program's own help; and the options
+of each companion agree in its page and its help. `completions.py` compares what the shells offer. `mandoc` and `groff`
+check the pages.
 """
 
 import json
@@ -19,7 +19,6 @@ from lib.option_sets import help_commands, help_of, help_options, help_text, opt
 from lib.option_table import Entry, helps_of, table_options
 from lib.paths import COMPANIONS, PAGE, ROOT, version
 from model.options import COMMON, FLAGS, OPTIONS
-from shells import SHELLS, needs_shell
 
 # The tools that check a page and render it.
 CHECKERS = {
@@ -48,21 +47,6 @@ def long(options: Iterable[str]) -> set[str]:
     return {option for option in options if option.startswith("--")}
 
 
-def completed(name: str, command: str | None) -> set[str]:
-    """Return the options that a shell offers, after one dash and after two."""
-    start = f"ansible-vault {command} " if command else "ansible-vault "
-    return SHELLS[name](start + "-", ROOT) | SHELLS[name](start + "--", ROOT)
-
-
-@pytest.mark.parametrize("shell", SHELLS)
-def test_completions(shell: str) -> None:
-    needs_shell(shell)
-    found = {command: completed(shell, command) for command in page_sets()}
-    assert found == page_sets(), "it offers the options of the page"
-    missing = {entry.option for entry in table_options()}.difference(*found.values())
-    assert missing == set(), "and each of the table"
-
-
 def page_values(text: str, name: str) -> set[str]:
     """Return the page's names for an option's value, wherever it names both."""
     return set(re.findall(rf"^\.(?:It|Op|Oc)?.*\bFl -{name}(?= |$)(?: Ar (\S+))?", text, re.MULTILINE))
@@ -78,29 +62,6 @@ def test_table() -> None:
     items = "\n".join(re.findall(r"^\.It Fl .*$", PAGE.read_text(), re.MULTILINE)).replace(" , ", "\n.It ")
     values = {entry.constant: page_values(items, entry.name) for entry in table_options()}
     assert values == {entry.constant: {entry.value_name.lower()} for entry in table_options()}, "and their values"
-
-
-# The end of a command line, and the files that are offered, by the name of an option's value.
-VALUES = {
-    "PATH": ("one", {"one.pass"}),
-    "[LABEL@]SOURCE": ("one", {"one.pass"}),
-    "LABEL": ("one", set()),
-    "TEXT": ("one", set()),
-    "NAME": ("one", set()),
-}
-
-
-@pytest.mark.parametrize("entry", table_options())
-@pytest.mark.parametrize("shell", SHELLS)
-def test_completed_values(shell: str, tmp_path: Path, entry: Entry) -> None:
-    """After an option, a shell offers files if the option's value is a path, and none otherwise."""
-    needs_shell(shell)
-    (tmp_path / "one.pass").touch()
-    commands = [command for command in OPTIONS if entry.option in OPTIONS[command] | COMMON]
-    if commands and entry.value_name:
-        word, wanted = VALUES[entry.value_name]
-        found = SHELLS[shell](f"ansible-vault {commands[0]} {entry.option} {word}", tmp_path)
-        assert found == wanted, f"{shell} completes the value of {entry.option}"
 
 
 def test_commands_in_help(program: str) -> None:

@@ -4,7 +4,6 @@ ends as `make check` does, with the counts of the gate and of the tests, and fai
 that they need. `make test` names missing packages, and leaves out no test.
 """
 
-import os
 import re
 import shutil
 import subprocess
@@ -15,25 +14,16 @@ import pytest
 
 from lib.installed import run_make
 from lib.paths import ROOT
+from lib.processes import run_text
+from lib.scripts import searched_first, write_script
 
 GATE = "its own lines\nrt: vault_aes proved\nrt: vault_kdf proved\n"
 PROGRESS = str(ROOT / "tools" / "progress.py")
 
 
-def script(path: Path, shell: str) -> None:
-    path.parent.mkdir(parents=True, exist_ok=True)
-    path.write_text(f"#!/bin/sh\n{shell}\n")
-    path.chmod(0o755)
-
-
 def with_tools(folder: Path) -> dict[str, str]:
     """Return the environment, with a directory of programs first on PATH."""
-    kept = {name: value for name, value in os.environ.items() if name not in ("REQUIRE_ALL", "PARTIAL")}
-    return kept | {"PATH": f"{folder}{os.pathsep}{os.environ['PATH']}"}
-
-
-def printed(command: list[str], env: dict[str, str] | None = None) -> subprocess.CompletedProcess[str]:
-    return subprocess.run(command, stdin=subprocess.DEVNULL, capture_output=True, text=True, env=env)
+    return {name: value for name, value in searched_first(folder).items() if name not in ("REQUIRE_ALL", "PARTIAL")}
 
 
 @pytest.mark.parametrize("status, count", [(0, "12 passed, 0 failed\n"), (1, "11 passed, 1 failed\n"), (2, "")])
@@ -41,7 +31,7 @@ def test_progress(tmp_path: Path, status: int, count: str) -> None:
     """The log is kept, and printed if the command fails. Its counts appear once on a line of their own, at the end."""
     log = tmp_path / "log"
     command = ["sh", "-c", 'printf %s "$1"; exit "$2"', "sh", GATE + count, str(status)]
-    done = printed([PROGRESS, str(log), *command])
+    done = run_text([PROGRESS, str(log), *command])
     assert (done.returncode, done.stderr, log.read_text()) == (status, "", GATE + count)
     assert ("    its own lines\n" in done.stdout) == bool(status)
     assert done.stdout.endswith(f"    0 min  {'FAILED' if status else 'done'}; the whole log is {log}\n{count}")
@@ -50,7 +40,7 @@ def test_progress(tmp_path: Path, status: int, count: str) -> None:
 
 def test_killed_command(tmp_path: Path) -> None:
     """A command that a signal kills has failed, as when memory runs out."""
-    done = printed([PROGRESS, str(tmp_path / "log"), "sh", "-c", "kill -9 $$"])
+    done = run_text([PROGRESS, str(tmp_path / "log"), "sh", "-c", "kill -9 $$"])
     assert done.returncode != 0 and "FAILED" in done.stdout
 
 
@@ -78,7 +68,7 @@ def test_progress_each_minute(tmp_path: Path) -> None:
 
 
 def test_progress_without_the_command(tmp_path: Path) -> None:
-    done = printed([PROGRESS, str(tmp_path / "log"), "no-such-command"])
+    done = run_text([PROGRESS, str(tmp_path / "log"), "no-such-command"])
     assert (done.returncode, done.stderr) == (1, "no-such-command is not on PATH; it comes with the Rattle kit\n")
 
 
@@ -100,8 +90,8 @@ def test_mutants(tmp_path: Path, said: list[str], status: int, end: tuple[int, s
     """A stand-in for `rt` records its words and the edits that it should try."""
     (tmp_path / "said").write_text("".join(f"rt: {line}\n" for line in said))
     notes = f"echo \"$*\" > '{tmp_path}/words'; ls crates/*/must-fail/* > '{tmp_path}/edits'"
-    script(tmp_path / "rt", f"{notes}\ncat '{tmp_path}/said'\nexit {status}")
-    done = printed([str(ROOT / "tools" / "mutants"), "vault_aes", "vault_kdf"], env=with_tools(tmp_path))
+    write_script(tmp_path / "rt", f"{notes}\ncat '{tmp_path}/said'\nexit {status}")
+    done = run_text([str(ROOT / "tools" / "mutants"), "vault_aes", "vault_kdf"], env=with_tools(tmp_path))
     assert (done.returncode, done.stdout.splitlines()[-1]) == end
     assert (tmp_path / "words").read_text() == "must-fail vault_aes vault_kdf\n", "the words of rt"
     mutants = sorted(f"{path.parent.parent.name}/{path.name}" for path in ROOT.glob("crates/*/mutants/*"))
@@ -140,10 +130,10 @@ def run_ci(folder: Path, check: str, status: int, installs: bool, query: str) ->
     (folder / "check").write_text(check)
     tools = folder / "stand-ins"
     make = f"echo \"REQUIRE_ALL is ${{REQUIRE_ALL-}}, and the words $*\"; cat '{folder}/check'; exit {status}"
-    script(tools / "make", make)
-    script(tools / "apt-get", APT.format(lists=folder / "lists", installs=str(installs).lower()))
-    script(tools / "dpkg-query", query)
-    return printed([str(folder / ".ci" / "run")], env=with_tools(tools))
+    write_script(tools / "make", make)
+    write_script(tools / "apt-get", APT.format(lists=folder / "lists", installs=str(installs).lower()))
+    write_script(tools / "dpkg-query", query)
+    return run_text([str(folder / ".ci" / "run")], env=with_tools(tools))
 
 
 @pytest.mark.parametrize("check, status, installs, end", RUNS.values(), ids=RUNS)
@@ -178,7 +168,7 @@ done"""
 @pytest.mark.parametrize("goal", ["test", "check"])
 def test_missing_packages(program: str, tmp_path: Path, goal: str) -> None:
     """One line names them before any proof or test. With PARTIAL=yes, there is no such line."""
-    script(tmp_path / "dpkg-query", QUERY)
+    write_script(tmp_path / "dpkg-query", QUERY)
     (tmp_path / "rt").symlink_to("/bin/false")
     done = run_make(program, goal, "PYTEST=true", env=with_tools(tmp_path))
     wanted = "The tests need packages: apt-get install acl zsh   (PARTIAL=yes skips what uses them)"
@@ -194,13 +184,19 @@ def test_all_tests_are_run(program: str) -> None:
     assert " -m '' " in command and " --floors " in command
 
 
+def test_program_that_is_named() -> None:
+    """It is not built, even if it has the default's name."""
+    programs = (str(ROOT / "bin/ansible-vault"), "bin/ansible-vault")
+    assert ["rt run" in run_make(each, "-n", "-B", "all").stdout for each in programs] == [True, False]
+
+
 def test_source_that_changes_during_the_gate(tmp_path: Path) -> None:
     """The source is newer than the program that `make check` took from the gate, so `make test` builds it again."""
     shutil.copy(ROOT / "Makefile", tmp_path)
     source, log = tmp_path / "crates/ansible_vault/src/main.rt", tmp_path / "log"
     built = [f"crates/{name}/out/{name}" for name in ("ansible_vault", "vault_allocation_failures")]
     for path in ("crates/ansible_vault/src/main.rt", "crates.txt", "CHANGELOG.md", "tools/progress.py", *built):
-        script(tmp_path / path, f"echo \"$*\" >> '{log}'; sleep 0.02; touch '{source}'")
-    done = run_make("bin/ansible-vault", "check", "PARTIAL=yes", "PYTEST=true", "CPU=", at=tmp_path)
+        write_script(tmp_path / path, f"echo \"$*\" >> '{log}'; sleep 0.02; touch '{source}'")
+    done = run_make(str(ROOT / "bin/ansible-vault"), "check", "PARTIAL=yes", "PYTEST=true", "CPU=", at=tmp_path)
     assert done.returncode == 0, done.stderr
     assert re.findall(r"/(ci|ansible_vault)\.log rt (\w+)", log.read_text()) == [("ci", "ci"), ("ansible_vault", "run")]

@@ -12,6 +12,7 @@ import pytest
 
 from contracts import CRATES, code, declared_in
 from documents import PAGE, REFERENCE, WRITTEN, definition_files
+from lib.links import dead_links
 from lib.paths import ROOT
 
 # A row of a table of claims: the calls with their clauses and the definitions, and the tests.
@@ -90,19 +91,8 @@ def test_axioms() -> None:
     assert found <= {(library, system)} and int(total) == int(library) + int(system)
 
 
-def heading_links(text: str) -> set[str]:
-    """Return the fragments of the links to a page's headings."""
-    titles = re.findall(r"^#+ (.*)$", re.sub(r"^```.*?^```$", "", text, flags=re.MULTILINE | re.DOTALL), re.MULTILINE)
-    return {re.sub(r"[^\w -]", "", title.lower()).replace(" ", "-") for title in titles}
-
-
-def dead_links(page: str, folder: Path = PAGE.parent) -> Iterator[str]:
-    """Yield the links to a missing file or heading."""
-    for path, heading in re.findall(r"\]\((?!http)([\w./-]*)(?:#([\w-]+))?\)", page):
-        file = folder / path
-        text = page if not path else file.read_text() if file.is_file() and heading else ""
-        if not file.exists() or heading and heading not in heading_links(text):
-            yield f"{path}#{heading}"
+def links_of_page(text: str) -> Iterator[str]:
+    return dead_links(PAGE, text)
 
 
 CHECKS = [
@@ -112,10 +102,10 @@ CHECKS = [
 # Changes that each break a page for a check: what to find, and what to replace it with, once.
 BROKEN = [
     (PAGE, unproved, r"`Sink::begin`: `takes`", "`Sink::begin`: `took`"),
-    (PAGE, unproved, r"`refused_leaves_outputs`", "`refused_leaves_nothing`"),
+    (PAGE, unproved, r"`calls_of_refused_runs`", "`calls_of_refused_files`"),
     (PAGE, unproved, r"`tests/faults.py`", "`tests/no_faults.py`"),
     (PAGE, undefined, r"`opened_paths` \(", "`opened_from` ("),
-    (PAGE, dead_links, r"\(security.md\)", "(secure.md)"),
+    (PAGE, links_of_page, r"\(security.md\)", "(secure.md)"),
     (REFERENCE, unexplained, r", `A ⊎ B`", ""),
 ]
 
@@ -158,7 +148,7 @@ def test_page(page: Path, check: Callable[[str], Iterable[str]]) -> None:
 
 def test_links() -> None:
     pages = [*ROOT.glob("*.md"), *ROOT.glob("docs/*.md"), ROOT / "tests" / "README.md"]
-    dead = [(page.name, link) for page in pages for link in dead_links(page.read_text(), page.parent)]
+    dead = [(page.name, link) for page in pages for link in dead_links(page)]
     assert dead == [], dead
 
 

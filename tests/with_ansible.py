@@ -4,7 +4,6 @@ password and label, and both say what docs/coming-from-ansible.md says.
 `lib/ansible.py` finds Ansible's tool (Debian's package `ansible-core`).
 """
 
-import json
 import os
 import re
 import subprocess
@@ -14,9 +13,9 @@ import pytest
 
 from lib.ansible import ansible_release
 from lib.cases import Cases, by_file, by_id
-from lib.limits import SECONDS
-from lib.needs import needs, needs_ansible
+from lib.needs import needs_ansible
 from lib.paths import ROOT
+from lib.processes import run
 from lib.subtests import SubTests
 from model.vaults import seal, yaml_block
 
@@ -57,7 +56,7 @@ class Both:
         """Run one of Ansible's tools where it finds no configuration file."""
         folder = self.cases.folder
         environment = {**ENVIRONMENT, "HOME": str(folder), **variables}
-        return subprocess.run(command, capture_output=True, timeout=SECONDS, cwd=folder, env=environment)
+        return run(command, cwd=folder, env=environment)
 
     def theirs(self, command: str, *words: str, **variables: str) -> bytes:
         done = self.in_folder([self.ansible, command, *words], **variables)
@@ -106,7 +105,7 @@ def differing(texts: list[bytes]) -> list[str]:
 
 @pytest.mark.parametrize("name", ["größe", ""], ids=["named", "unnamed"])
 def test_blocks(both: Both, subtests: SubTests, name: str) -> None:
-    """Both make the same blocks, with a name or without one."""
+    """Both make the same blocks, with a name or without one. `workflows.py` has one read by a playbook."""
     named = ["-n", name] if name else []
     shown = both.theirs("encrypt_string", *both.options, *both.choice, *named * len(STRINGS), *STRINGS.values())
     blocks = re.findall(rb"^\S.*\n(?: .*\n)+", shown.rstrip(b"\n") + b"\n", re.MULTILINE)
@@ -117,20 +116,6 @@ def test_blocks(both: Both, subtests: SubTests, name: str) -> None:
             assert yaml_block(both.sealed(string.encode(), salt), name.encode()) == block, "the tests' own block"
             salted = ["encrypt_string", *both.options, "--salt-file", both.cases.file(salt), *named, string]
             both.cases.run(salted, out=block)
-
-
-def test_playbook_values(both: Both) -> None:
-    """Ansible reads our blocks as values in a file of variables."""
-    tool = Path(both.ansible).parent / "ansible"
-    needs(str(tool))
-    words = ["encrypt_string", *both.options, "--name"]
-    blocks = [both.cases.run([*words, name, text], out=None) for name, text in STRINGS.items()]
-    variables, written = both.cases.file(b"".join(blocks)), both.cases.path()
-    values = f"{{{{ [{', '.join(STRINGS)}] | map('string') | list | to_json }}}}"
-    copy = ["-m", "copy", "-a", f"content='{values}' dest={written}", "-e", f"@{variables}"]
-    done = both.in_folder([str(tool), "localhost", "-c", "local", *copy, *both.options])
-    assert done.returncode == 0, done
-    assert json.loads(Path(written).read_bytes()) == [*STRINGS.values()]
 
 
 @pytest.mark.parametrize("new_label", ("", "prod"))
@@ -163,7 +148,7 @@ def test_fixed_salt(both: Both) -> None:
 # The command for each row of the messages in docs/coming-from-ansible.md.
 REFUSED = {
     "the password is wrong": "view --vault-password-file wrong vault",
-    "the input is no vault": "view --vault-password-file right plain",
+    "the input is not a vault": "view --vault-password-file right plain",
     "the vault is cut off": "view --vault-password-file right cut",
     "the vault is not hexadecimal": "view --vault-password-file right odd",
     "the plaintext is a vault": "encrypt --vault-password-file right --output new vault",
@@ -176,8 +161,9 @@ REFUSED = {
 
 
 # Messages about a vault itself. Later releases of Ansible's tool name its file, and word one of them differently.
-OF_A_VAULT = {"the password is wrong", "the input is no vault", "the vault is cut off", "the vault is not hexadecimal"}
-SAID_LATER = {"the input is no vault": "Input is not vault encrypted data..."}
+OF_A_VAULT = {"the password is wrong", "the input is not a vault"}
+OF_A_VAULT |= {"the vault is cut off", "the vault is not hexadecimal"}
+SAID_LATER = {"the input is not a vault": "Input is not vault encrypted data..."}
 
 
 def refused_files() -> dict[str, bytes]:

@@ -7,6 +7,7 @@ reading. The runs are in `watched`.
 """
 
 import os
+import re
 from collections.abc import Callable
 from itertools import groupby
 
@@ -129,10 +130,9 @@ def check_others(watched: Watched) -> None:
     assert asked == list(enumerate(DUPLICATING)), "whether the streams are open"
     mapped = [call.args for call in own if call.name == "mmap" and "MAP_ANONYMOUS" not in call.args]
     assert mapped == [], "files that are mapped"
-    of_open_files = ('""', "NULL")
-    looks = [call.args.partition(", ")[2] for call in own if call.name == "statx"]
-    by_path = [words for words in looks if not words.startswith(of_open_files)]
-    assert by_path == [], "paths that are looked for"
+    of_open_files = re.compile(r'(\d{2,}|[3-9]), (""|NULL)')
+    others = [call.args for call in own if call.name == "statx" and not of_open_files.match(call.args)]
+    assert others == [], "paths or streams that are looked at"
 
 
 @pytest.mark.parametrize("group", GROUPS, ids=[group.__name__ for group in GROUPS])

@@ -26,13 +26,7 @@ PLAYBOOK = """\
         msg: "{{ shared }} and {{ db_password }}"
 """
 # The same without a block.
-SHORT_PLAYBOOK = """\
-- hosts: all
-  gather_facts: false
-  tasks:
-    - ansible.builtin.debug:
-        msg: "{{ shared }}"
-"""
+SHORT_PLAYBOOK = PLAYBOOK.replace(" and {{ db_password }}", "")
 # In place of the password manager. Its entry contains more than the password.
 PASS = """\
 [ "$*" = "show ansible/prod" ] || exit 1
@@ -64,15 +58,13 @@ def check_differences(repository: Repository, shell: str) -> None:
     for content in contents:
         repository.put(name, content)
         repository.shell("git add . && git commit -qm change")
-    ran = repository.shell(shell)
-    assert (ran.returncode, ran.stderr) == (0, ""), "the setting is made"
-    shown = ["db_password: third", f"{name}:db_password: third"]
-    assert ran.stdout.splitlines() == shown, "git shows and finds the plaintext"
+    found = repository.shown(shell).splitlines()
+    assert found == ["db_password: third", f"{name}:db_password: third"], "git shows and finds the plaintext"
     changes = [("-", "second"), ("+", "third"), ("-", "first"), ("+", "second"), ("+", "first")]
     wanted = [f"{sign}db_password: {text}" for sign, text in changes]
-    logs = [repository.shell("git log -p --format=", folder) for folder in (".", "group_vars")]
-    found = [(each.returncode, re.findall(r"^[-+]db_password.*$", each.stdout, re.MULTILINE)) for each in logs]
-    assert found == [(0, wanted)] * 2, "git shows the plaintext of each commit, in each folder"
+    logs = [repository.shell("git log -p --format=", folder=folder) for folder in (".", "group_vars")]
+    changed = [(log.returncode, re.findall(r"^[-+]db_password.*$", log.stdout, re.MULTILINE)) for log in logs]
+    assert changed == [(0, wanted)] * 2, "git shows the plaintext of each commit, in each folder"
 
 
 def played(shown: str) -> list[str]:
@@ -86,11 +78,10 @@ def check_settings(repository: Repository, shell: str) -> None:
     repository.put("inventory", INVENTORY.encode())
     repository.put("playbook.yml", SHORT_PLAYBOOK.encode())
     repository.put("ansible.cfg", shown_settings().encode())
-    ran = repository.shell(shell)
-    assert (ran.returncode, ran.stderr) == (0, ""), "the commands end well"
+    shown = repository.shown(shell)
     assert shown_settings() == SETTINGS, "the other recipes have the same settings"
-    assert ran.stdout.splitlines()[:1] == ["shared: battery staple"], "the vault is shown"
-    assert played(ran.stdout) == ["battery staple"], "ansible-playbook reads it by the same settings"
+    assert shown.splitlines()[:1] == ["shared: battery staple"], "the vault is shown"
+    assert played(shown) == ["battery staple"], "ansible-playbook reads it by the same settings"
     names = ("host_vars/web1/secrets.yml", "group_vars/all/vault.yml")
     first_lines = [repository.get(name).partition(b"\n")[0] for name in names]
     assert first_lines == [b"$ANSIBLE_VAULT;1.2;AES256;prod"] * 2, "both are vaults of the label"
@@ -110,10 +101,9 @@ def check_playbook(repository: Repository, shell: str) -> None:
 
 def check_edit(repository: Repository, shell: str) -> None:
     name = "group_vars/all/vault.yml"
-    repository.put(name, seal(PASSWORDS["prod.pass"], b"password: first\n", b"prod"))
-    (repository.folder / name).chmod(0o640)
-    ran = repository.shell(shell, EDITOR=repository.script('sed -i s/first/second/ "$1"'))
-    assert (ran.returncode, ran.stdout, ran.stderr) == (0, "", ""), "an edit ends well"
+    repository.put(name, seal(PASSWORDS["prod.pass"], b"password: first\n", b"prod"), 0o640)
+    editor = repository.script('sed -i s/first/second/ "$1"')
+    assert repository.shown(shell, EDITOR=editor) == "", "an edit says nothing"
     shown = repository.shell(f"ansible-vault view --require-id-match --vault-id prod@prod.pass {name}").stdout
     assert shown == "password: second\n", "the vault has the new text and the label"
     assert repository.mode(name) == "0o640", "it keeps its mode"
@@ -133,9 +123,8 @@ def check_rotation(repository: Repository, shell: str) -> None:
     kept = seal(PASSWORDS["prod.pass"], b"c", b"prod")
     repository.put("c.yml", kept)
     repository.shell("rm ~/.vault/new.pass")
-    ran = repository.shell(shell)
-    summary = ["2 rotated, 0 under the new secret already, 1 of other labels (prod 1), 0 failed"]
-    assert (ran.returncode, ran.stdout.splitlines()[-1:], ran.stderr) == (0, summary, ""), "a rotation"
+    summary = "2 rotated, 0 under the new secret already, 1 with other labels (prod 1), 0 failed"
+    assert repository.shown(shell).splitlines()[-1] == summary
     shown = repository.shell('ansible-vault view --vault-password-file "$HOME"/.vault/new.pass vars/a.yml').stdout
     assert (shown, repository.get("c.yml")) == ("a", kept), "the vault is under the new secret"
     output = repository.shell("stat -c %a ~/.vault/new.pass; base64 --decode < ~/.vault/new.pass | wc -c").stdout
@@ -145,20 +134,18 @@ def check_rotation(repository: Repository, shell: str) -> None:
 def check_check(repository: Repository, shell: str) -> None:
     repository.put("vars/a.yml", seal(PASSWORDS["new.pass"], b"a"))
     repository.put("b.yml", block("secret", "b", "prod.pass", "prod").encode())
-    ran = repository.shell(shell)
     home = repository.environment["HOME"]
     lines = [
         "./b.yml:2: secret: prod: decrypted by prod@~/.vault/prod.pass",
         f"./vars/a.yml: default: decrypted by {home}/.vault/new.pass",
         "2 decrypted, 0 not",
     ]
-    assert (ran.returncode, ran.stdout.splitlines(), ran.stderr) == (0, lines, ""), "a check"
+    assert repository.shown(shell).splitlines() == lines
 
 
 def check_hook(repository: Repository, shell: str) -> None:
     repository.put(".gitattributes", MARKS.encode())
-    ran = repository.shell(shell)
-    assert (ran.returncode, ran.stderr) == (0, ""), "the hook is put in its place"
+    repository.shown(shell)
     repository.put("a b.vault.yml", seal(PASSWORDS["old.pass"], b"secret"))
     assert repository.shell("git add . && git commit -qm one").returncode == 0, "the hook lets a vault pass"
     repository.put("c.vault.yml", b"password: plain\n")
@@ -174,18 +161,15 @@ def check_first_day(repository: Repository, shell: str) -> None:
     repository.put("group_vars/all/vault.yml", seal(PASSWORDS["prod.pass"], b"password: first\n", b"prod"))
     repository.put("ansible.cfg", SETTINGS.encode())
     repository.shell("rm -r ~/.vault; git add -A")
-    ran = repository.shell(shell)
-    assert (ran.returncode, ran.stderr) == (0, ""), "the first day"
-    last_lines = ["2 decrypted, 0 not, 1 of other labels (default 1)", "password: first"]
-    assert ran.stdout.splitlines()[-2:] == last_lines, "counts, and shows a vault"
+    last_lines = ["2 decrypted, 0 not, 1 with other labels (default 1)", "password: first"]
+    assert repository.shown(shell).splitlines()[-2:] == last_lines, "counts, and shows a vault"
     modes = repository.shell("stat -c %a ~/.vault ~/.vault/prod.pass; ls prod.pass").stdout
     assert modes == "700\n600\n", "the password file is outside, for its owner alone"
     shown = repository.shell("git commit -qm one && git show").stdout
     assert "+password: shown" in shown, "git shows plaintext"
     assert repository.shell("git config merge.ansible-vault.driver").returncode == 0, "and has a driver for merges"
     repository.put("vault.yml", b"password: plain\n")
-    ran = repository.shell("git commit -qam two")
-    assert ran.returncode == 1, "and refuses plaintext"
+    assert repository.shell("git commit -qam two").returncode == 1, "and refuses plaintext"
 
 
 def merge_changes(repository: Repository, name: str, *texts: bytes, branch: str = "branch") -> None:
@@ -202,26 +186,23 @@ def check_merge(repository: Repository, shell: str) -> None:
     repository.put(".gitattributes", MARKS.encode())
     merge_changes(repository, name, b"a: 1\nb: 2\nc: 3\n", b"a: 1\nb: 2\nc: 4\n", b"a: 0\nb: 2\nc: 3\n")
     merge, _, solution = shell.partition("\nansible-vault-edit ")
-    ran = repository.shell(merge)
-    assert ran.returncode == 0, "git merges what does not conflict"
+    assert repository.shell(merge).returncode == 0, "git merges what does not conflict"
     view = f"ansible-vault view --require-id-match --vault-id prod@prod.pass {name}"
     assert repository.shell(view).stdout == "a: 0\nb: 2\nc: 4\n", "both changes are in the vault"
     merge_changes(repository, name, b"a: 1\n", b"a: 5\n", b"a: 0\n", branch="other")
     assert repository.shell(merge.replace("branch", "other")).returncode == 1, "git reports a conflict"
     editor = repository.script("printf 'a: 5\\n' > \"$1\"")
-    ran = repository.shell(f"ansible-vault-edit {solution}", EDITOR=editor)
-    assert (ran.returncode, repository.shell(view).stdout) == (0, "a: 5\n"), "the conflict is solved"
+    solved = repository.shell(f"ansible-vault-edit {solution}", EDITOR=editor)
+    assert (solved.returncode, repository.shell(view).stdout) == (0, "a: 5\n"), "the conflict is solved"
     assert repository.shell("git status --porcelain").stdout == "", "and committed"
 
 
 def check_manager(repository: Repository, shell: str) -> None:
     repository.put(".gitattributes", MARKS.encode())
     repository.put("vault.yml", seal(PASSWORDS["prod.pass"], b"password: shown\n", b"prod"))
-    repository.script(PASS, "pass")
+    repository.command(PASS, "pass")
     repository.shell("git add -A && git commit -qm one")
-    ran = repository.shell(shell)
-    assert (ran.returncode, ran.stderr) == (0, ""), "the commands end well"
-    shown = [line for line in ran.stdout.splitlines() if "password: shown" in line]
+    shown = [line for line in repository.shown(shell).splitlines() if "password: shown" in line]
     assert shown == ["+password: shown", "password: shown"], "git and the tool show the plaintext"
 
 
@@ -230,11 +211,10 @@ def check_one_secret(repository: Repository, shell: str) -> None:
     kept, old = block("other", "kept", "prod.pass", "prod"), block("db_password", "correct horse", "prod.pass", "prod")
     repository.put("ansible.cfg", SETTINGS.encode())
     repository.put(name, f"port: 5432  # stays\n{old}{kept}".encode())
+    repository.put("group_vars/all/vault.yml", seal(PASSWORDS["prod.pass"], b"port: 5432\n", b"prod"))
     editor = repository.script("sed -i -e 's/correct horse/battery staple/' -e '$a new: !vault |-\\n  a third' \"$1\"")
-    ran = repository.shell(shell, EDITOR=editor)
-    assert (ran.returncode, ran.stderr) == (0, ""), "the commands end well"
-    shown = "port: 5432  # stays\ndb_password: !vault |-\n  correct horse\nother: !vault |-\n  kept\n"
-    assert ran.stdout == shown + "battery staple", "the secrets are shown, and one alone"
+    secrets = "port: 5432  # stays\ndb_password: !vault |-\n  correct horse\nother: !vault |-\n  kept\n"
+    assert repository.shown(shell, EDITOR=editor) == secrets + "battery staple", "secrets are shown, and one alone"
     text = repository.get(name).decode()
     assert text.startswith("port: 5432  # stays\n") and kept in text, "all else stays"
     assert old not in text, "and the old value is gone"
@@ -242,17 +222,18 @@ def check_one_secret(repository: Repository, shell: str) -> None:
     values = re.findall(r"^  (.*)$", shown, re.MULTILINE)
     assert values[1:] == ["kept", "a third"], "one secret is new"
     assert re.fullmatch(r"[A-Za-z0-9+/]{32}", values[0]), "and one is random"
+    vault = repository.shell("ansible-vault-textconv group_vars/all/vault.yml").stdout
+    assert vault == "port: 5433\n", "a command changed a vault"
 
 
 def check_marks(repository: Repository, shell: str) -> None:
-    ran = repository.shell(shell)
     lines = [
         "group_vars/all/vault.yml: diff: ansible-vault",
         "host_vars/web1/secrets.yml: diff: ansible-vault",
         "host_vars/web1.yml: diff: ansible-vault",
         "group_vars/all/vars.yml: diff: unspecified",
     ]
-    assert (ran.returncode, ran.stdout.splitlines(), ran.stderr) == (0, lines, ""), "the marks"
+    assert repository.shown(shell).splitlines() == lines
 
 
 def check_pipeline(repository: Repository, shell: str) -> None:
@@ -263,11 +244,11 @@ def check_pipeline(repository: Repository, shell: str) -> None:
     repository.put("playbook.yml", SHORT_PLAYBOOK.encode())
     repository.shell("git add -A && git commit -qm one && git update-ref refs/remotes/origin/main HEAD")
     password = {"VAULT_PASSWORD": PASSWORDS["ci.pass"].decode()}
-    ran = repository.shell(f"set -e\n{shell}", **password)
-    assert (ran.returncode, ran.stderr) == (0, ""), "all is well"
-    counts = "1 decrypted, 0 not, 1 of other labels (prod 1)"
-    assert counts in ran.stdout.splitlines(), "and counted"
-    assert played(ran.stdout) == ["battery staple"], "the playbook is run with the same password"
+    shown = repository.shown(f"set -e\n{shell}", **password)
+    counts = "1 decrypted, 0 not, 1 with other labels (prod 1)"
+    assert counts in shown.splitlines(), "and counted"
+    assert played(shown) == ["battery staple"], "the playbook is run with the same password"
+    assert repository.get("../secrets.yml") == b"shared: battery staple\n", "and a vault is decrypted"
     repository.put("vault.yml", b"a: 1\n")
     repository.shell("git add -A && git commit -qm two --no-verify")
     statuses = [repository.shell(line, **password).returncode for line in shell.splitlines()[:4]]

@@ -16,8 +16,8 @@ import pytest
 
 from lib.cases import TEXT, Cases, answer_of, by_file
 from lib.samples import Sample, each_command, each_to_output, sample_of
-from lib.limits import SECONDS
 from lib.needs import needs
+from lib.processes import run
 from lib.subtests import SubTests
 from model.compared import contents
 from model.faults import Fault
@@ -86,9 +86,8 @@ def run_closed(
     are pipes unless `others` replaces them."""
     redirections = " ".join(f"{stream}>&-" for stream in closed)
     command = [*under, "sh", "-c", f'exec "$@" {redirections}', "sh", *words]
-    given: dict[str, Any] = {"stdout": subprocess.PIPE, "stderr": subprocess.PIPE, **others}
     with open(Path(folder) / "stdin", "rb") as stdin:
-        return subprocess.run(command, stdin=stdin, cwd=folder, timeout=SECONDS, **given)
+        return run(command, stdin, cwd=folder, **others)
 
 
 def changed(before: dict[str, bytes], folder: str) -> dict[str, bytes | None]:
@@ -186,13 +185,6 @@ def check_write_fault(cases: Cases, command: str, closed: set[int], path: str, *
     assert sample.output.startswith(found) and found != sample.output, f"a prefix: got {found!r:.300}"
 
 
-@each_closing
-@each_to_output
-def test_limited_file(cases: Cases, command: str, closed: set[int]) -> None:
-    """SIGXFSZ is ignored, so the write fails."""
-    check_write_fault(cases, command, closed, NEW_FILE, preexec_fn=limited)
-
-
 @pytest.mark.parametrize("closed", [each for each in COMBINATIONS if 1 not in each], ids=closings)
 @each_command
 def test_full_standard_output(cases: Cases, command: str, closed: set[int]) -> None:
@@ -221,10 +213,10 @@ def refusing(directories: list[str]) -> list[str]:
 
 
 @each_to_output
-def test_refused_directories(cases: Cases, subtests: SubTests, command: str) -> None:
-    """If a directory is refused, the next one takes the number of a closed stream."""
-    for closed, count in itertools.product(COMBINATIONS[1:], range(1, len(DIRECTORIES))):
-        under = refusing(DIRECTORIES[:count])
+def test_limited_file(cases: Cases, subtests: SubTests, command: str) -> None:
+    """SIGXFSZ is ignored, so the write fails. If a directory is refused, the next takes a closed stream's number."""
+    for closed, count in itertools.product(COMBINATIONS, range(len(DIRECTORIES))):
+        under = refusing(DIRECTORIES[:count]) if count else []
         with subtests.test(f"{closings(closed)}, {DIRECTORIES[:count]} refused"):
             check_write_fault(cases, command, closed, NEW_FILE, under=under, preexec_fn=limited)
 

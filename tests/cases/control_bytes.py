@@ -9,9 +9,8 @@ import pytest
 from hypothesis import given, settings
 from hypothesis import strategies as st
 
-from lib.cases import Cases, run_captured
+from lib.processes import run
 from lib.samples import COMMANDS
-from lib.texts import stored_mistakes
 
 # Control characters, zero-width spaces and joiners, separators, and characters that set the direction of text.
 UNPRINTABLE = re.compile("[\0-\x1f\x7f-\x9f\u200b-\u200f\u2028-\u202e\u2066-\u2069]")
@@ -29,7 +28,7 @@ def escaped(word: str) -> str:
 
 
 def message_of(program: str, line: str, word: str) -> tuple[int, bytes, str]:
-    done = run_captured([program, *(each.format(word) for each in line.split())])
+    done = run([program, *(each.format(word) for each in line.split())])
     return done.returncode, done.stdout, done.stderr.decode()
 
 
@@ -38,28 +37,7 @@ def message_of(program: str, line: str, word: str) -> tuple[int, bytes, str]:
 @given(word=st.text(st.sampled_from(CONTROLS) | st.sampled_from(PRINTABLE), min_size=1).map(lambda word: f"a{word}b"))
 def test_in_words(program: str, line: str, word: str) -> None:
     """The message is the same as for the escaped word."""
+    assert len(CONTROLS) == 80
     found = message_of(program, line, word)
     assert found == message_of(program, line, escaped(word))
     assert found[:2] == (2, b"") and not UNPRINTABLE.search(found[2].replace("\n", ""))
-
-
-def test_each_character(program: str) -> None:
-    assert len(CONTROLS) == 80
-    for character in CONTROLS:
-        status, _, message = message_of(program, "view x {}", f"a{character}b")
-        assert (status, escaped(character) in message) == (2, True), repr(character)
-
-
-FORGED = {
-    "\nERROR! no secret decrypts this vault\n::error::x": r"\u{a}ERROR! no secret decrypts this vault\u{a}::error::x",
-    "\r\x1b[31m\x9b": r"\u{d}\u{1b}[31m\u{9b}",
-    "\u200b\u2028\u202e\u2066": r"\u{200b}\u{2028}\u{202e}\u{2066}",
-    PRINTABLE: PRINTABLE,
-}
-
-
-@pytest.mark.parametrize("word, shown", FORGED.items())
-def test_forged_lines(cases: Cases, word: str, shown: str) -> None:
-    """A line end in an argument starts no new line in the message."""
-    message = stored_mistakes("view")["view x y"].replace("'y'", f"'{shown}'")
-    cases.run(["view", "x", word], status=2, err=message.encode())

@@ -1,15 +1,14 @@
-"""The mode of the output: a new file, an existing one, links, devices, pipes, sockets."""
+"""The mode of the output: a new file, an existing one, links, devices. `closed_streams.py` writes to pipes by name."""
 
 import os
-import socket
 import subprocess
 from pathlib import Path
 
 import pytest
 
-from lib.cases import NOBODY, OLD, Cases, answer_of, mode, run_captured
+from lib.cases import NOBODY, OLD, Cases, answer_of, mode
 from lib.needs import needs_root
-from lib.processes import open_to_read, read_to_end
+from lib.processes import run
 from lib.samples import Sample, each_to_output, sample_of, wanted_mode
 from lib.subtests import SubTests
 from model.faults import Fault
@@ -21,7 +20,7 @@ each_umask = pytest.mark.parametrize("umask", ("000", "022", "077"))
 def under(cases: Cases, umask: str, sample: Sample, path: str) -> subprocess.CompletedProcess[bytes]:
     script = f'umask {umask}; exec "$0" "$@"'
     words = ["sh", "-c", script, cases.program, *sample.words, "--output", path]
-    return run_captured(words, sample.stdin)
+    return run(words, sample.stdin)
 
 
 def check_written(cases: Cases, umask: str, sample: Sample, path: str, wanted: str) -> None:
@@ -72,30 +71,6 @@ def test_devices(cases: Cases, command: str) -> None:
 
 
 @each_to_output
-def test_pipes(cases: Cases, command: str) -> None:
-    sample = sample_of(cases, command)
-    path = cases.path()
-    os.mkfifo(path)
-    os.chmod(path, 0o644)
-    reader = open_to_read(path)
-    done = under(cases, "022", sample, path)
-    output = read_to_end(reader)
-    assert (done.returncode, output, done.stderr, mode(path)) == (0, sample.output, b"", oct(0o644))
-
-
-@each_to_output
-def test_sockets(cases: Cases, command: str) -> None:
-    """The system does not open sockets for writing."""
-    sample = sample_of(cases, command)
-    path = cases.path()
-    with socket.socket(socket.AF_UNIX) as listener:
-        listener.bind(path)
-        os.chmod(path, 0o644)
-        cases.refused([*sample.words, "--output", path], Fault.NOT_WRITTEN, sample.stdin)
-    assert mode(path) == oct(0o644)
-
-
-@each_to_output
 def test_of_another_owner(cases: Cases, command: str) -> None:
     """A file whose mode cannot be changed stays as it was. To test this, another user runs the program."""
     needs_root()
@@ -103,7 +78,7 @@ def test_of_another_owner(cases: Cases, command: str) -> None:
     if program is None:
         pytest.skip("nobody else may run the program where it lies")
     sample, path = sample_of(cases, command), cases.file(OLD, 0o666)
-    done = run_captured([program, *sample.words, "--output", path], sample.stdin, user=NOBODY, group=NOBODY)
+    done = run([program, *sample.words, "--output", path], sample.stdin, user=NOBODY, group=NOBODY)
     fault, keeps = Fault.NOT_WRITTEN, command != "decrypt"
     wanted = (0, b"", sample.output) if keeps else (fault.status, fault.line, OLD)
     assert (done.returncode, done.stderr, Path(path).read_bytes(), mode(path)) == (*wanted, oct(0o666))

@@ -1,38 +1,15 @@
-"""What `encrypt`, `rekey` and `encrypt_string` write: sizes, lengths and lines worked out by hand, and salts.
+"""What `encrypt`, `rekey` and `encrypt_string` write: lengths and lines worked out by hand, and salts.
 
-`fuzz.py` compares everything else that they write, and what they refuse, with the model.
+`fuzz.py` compares everything else that they write, and what they refuse, with the model; `hostile.py` seals the longest
+plaintext.
 """
-
-import pytest
 
 from lib.cases import TEXT, Cases, answer_of, by_file, by_id
 from lib.needs import needs
 from lib.preloaded import build_library
 from lib.subtests import SubTests
 from model.faults import Fault
-from model.vaults import ENVELOPE, HEADER, MAGIC, PLAINTEXT_LIMIT, seal, yaml_block
-
-ZEROS = bytes(32)
-RIGHT = b"right"
-
-
-def with_salt(cases: Cases, salt: bytes = ZEROS) -> list[str]:
-    """Return the options for the password `right` and a salt file."""
-    return [*by_file(cases.file(b"right\n")), "--salt-file", cases.file(salt)]
-
-
-def test_sizes(cases: Cases, subtests: SubTests) -> None:
-    options = with_salt(cases)
-    for size in (0, 1, 15, 16, 17, 1_024, 65_519, 65_520, 65_521, 65_536, PLAINTEXT_LIMIT - 1, PLAINTEXT_LIMIT):
-        with subtests.test(f"{size} bytes"):
-            text = (bytes(range(256)) * (size // 256 + 1))[:size]
-            vault = cases.run(["encrypt", *options], text, 0, seal(RIGHT, text, salt=ZEROS))
-            cases.run(["decrypt", *options[:2]], vault, 0, text)
-    with subtests.test("one byte more than the limit"):
-        for text in (bytes(PLAINTEXT_LIMIT + 1), ENVELOPE.ljust(PLAINTEXT_LIMIT + 1)):
-            cases.refused(["encrypt", *options], Fault.TOO_LONG, text)
-    with subtests.test("without end"), open("/dev/zero", "rb") as endless:
-        cases.run_streams(["encrypt", *options], 1, Fault.TOO_LONG.line, stdin=endless)
+from model.vaults import HEADER, MAGIC, PLAINTEXT_LIMIT, seal, yaml_block
 
 
 def encrypted(cases: Cases, options: list[str], text: bytes = b"") -> list[bytes]:
@@ -42,7 +19,8 @@ def encrypted(cases: Cases, options: list[str], text: bytes = b"") -> list[bytes
 
 def test_worked(cases: Cases) -> None:
     """Lengths and lines worked out by hand from the format."""
-    right, options = by_file(cases.file(b"right\n")), with_salt(cases)
+    right = by_file(cases.file(b"right\n"))
+    options = [*right, "--salt-file", cases.file(bytes(32))]
     lines = encrypted(cases, options)
     assert [len(line) for line in lines] == [25, 80, 80, 80, 80, 4, 0], "nothing: lines"
     assert (lines[0], lines[1], lines[2][:50]) == (HEADER, b"30" * 40, b"30" * 24 + b"0a"), "nothing: first lines"
@@ -67,20 +45,6 @@ def test_worked_rekey(cases: Cases) -> None:
     cases.refused(["rekey", "--new-vault-id", f"x@{two}"], Fault.NO_SECRET_FITS, vault)
 
 
-WORKED_SALTS = [
-    ("abc", 48, [25] + [80] * 5 + [0]),
-    ("a", 0, [25, 80, 80, 40, 0]),
-    ("a" * 64, 0, [25] + [80] * 5 + [52, 0]),
-]
-
-
-@pytest.mark.parametrize("salt, size, lengths", WORKED_SALTS)
-def test_worked_salts(cases: Cases, salt: str, size: int, lengths: list[int]) -> None:
-    lines = encrypted(cases, [*by_file(cases.file(b"right\n")), "--salt", salt], b"a" * size)
-    assert [len(line) for line in lines] == lengths
-    assert lines[1].startswith((salt.encode().hex().encode() + b"\n").hex().encode()[:80])
-
-
 def test_two_runs(cases: Cases) -> None:
     """Each run really reads a salt of its own."""
     right = by_file(cases.file(b"right\n"))
@@ -96,11 +60,11 @@ def test_bytes_of_the_salt(cases: Cases, subtests: SubTests) -> None:
     library = build_library(str(cases.folder), "known_random")
     right, known = cases.file(b"right\n"), bytes(range(200, 232))
     variables = {"LD_PRELOAD": library, "KNOWN_RANDOM": cases.file(known + b"more")}
-    vault = seal(RIGHT, TEXT, salt=known)
+    vault = seal(b"right", TEXT, salt=known)
     runs = [
         (["encrypt", *by_file(right)], TEXT, vault),
         (["encrypt_string", *by_file(right)], TEXT, yaml_block(vault)),
-        (["rekey", *by_file(right), "--new-vault-password-file", right], seal(RIGHT, TEXT), vault),
+        (["rekey", *by_file(right), "--new-vault-password-file", right], seal(b"right", TEXT), vault),
     ]
     for words, stdin, wanted in runs:
         with subtests.test(words[0]):

@@ -5,15 +5,14 @@ Arguments and environment variables are on the stack, too. Each run has the file
 
 import errno
 import resource
-import subprocess
 from pathlib import Path
 from typing import NamedTuple
 
 import pytest
 
 from lib.cases import TEXT, Cases, answer_of, by_file
+from lib.processes import run
 from lib.samples import Sample, each_command, sample_of
-from lib.limits import SECONDS
 
 KIB = 1 << 10
 PAGE = resource.getpagesize()
@@ -23,7 +22,7 @@ POINTER = 8
 # Every page is tried from this far below the least stack in which a run succeeds.
 BELOW = 100 * KIB
 ABOVE = 64 * KIB
-ENVIRONMENT = [0, 40_000, 80_000, 120_000]
+ENVIRONMENT = [0, 120_000]
 # The length of a path, and the number of a run's password files.
 LONGEST_PATH = 4_000
 MOST_FILES = 16
@@ -56,13 +55,8 @@ class Run(NamedTuple):
         """Return the exit status, negative after a signal, and if the system does not start the program."""
         limits = (stack, resource.RLIM_INFINITY)
         try:
-            return subprocess.run(
-                [program, *self.words],
-                env=self.environment,
-                capture_output=True,
-                timeout=SECONDS,
-                preexec_fn=lambda: resource.setrlimit(resource.RLIMIT_STACK, limits),
-            ).returncode
+            limit = lambda: resource.setrlimit(resource.RLIMIT_STACK, limits)
+            return run([program, *self.words], env=self.environment, preexec_fn=limit).returncode
         except OSError as error:
             if error.errno != errno.E2BIG:
                 raise
@@ -131,7 +125,3 @@ def test_texts(cases: Cases, words: list[str], status: int) -> None:
     limits = (STACK, resource.RLIM_INFINITY)
     done = cases.done(words, env={}, preexec_fn=lambda: resource.setrlimit(resource.RLIMIT_STACK, limits))
     assert (status, *answer_of(cases.done(words))[1:]) == answer_of(done)
-
-
-def test_small_stacks_with_long_string(cases: Cases) -> None:
-    check_each_stack(cases, in_place(cases, sample_of(cases, "encrypt_string", b"x" * 120_000), 0))

@@ -10,7 +10,7 @@ from typing import Any
 import pytest
 
 from lib.cases import TEXT, Cases, by_file
-from lib.limits import SECONDS
+from lib.processes import run
 from lib.samples import sample_of
 from model.faults import Fault
 
@@ -23,7 +23,7 @@ def packets(words: list[str], stdin: bytes, stream: str) -> tuple[int, list[byte
     reader, writer = os.pipe2(os.O_DIRECT)
     fcntl.fcntl(writer, fcntl.F_SETPIPE_SZ, PIPE_SIZE)
     streams: dict[str, Any] = {"stdout": subprocess.DEVNULL, "stderr": subprocess.DEVNULL, stream: writer}
-    done = subprocess.run(words, input=stdin, timeout=SECONDS, **streams)
+    done = run(words, stdin, **streams)
     os.close(writer)
     given = list(iter(lambda: os.read(reader, PACKET), b""))
     os.close(reader)

@@ -14,6 +14,7 @@ import subprocess
 import time
 from collections.abc import Callable, Iterable
 from pathlib import Path
+from typing import Any
 
 from lib.limits import SECONDS
 from lib.lines_run import note_lines
@@ -37,7 +38,7 @@ ABOVE_EDITOR = "$(cut -d ' ' -f 4 /proc/$PPID/stat)"
 # Match the digits of an envelope, and a whole envelope.
 DIGITS = re.compile(rb"(?m)^( *)[0-9a-fA-F]{20,}(?=\r?$)")
 FOUND = re.compile(rb"(?m)^ *\$ANSIBLE_VAULT;1.*(?:\n *[0-9a-fA-F]+\r?$)+")
-SUMMARY = "{} rotated, {} under the new secret already, {} of other labels{}, {} failed"
+SUMMARY = "{} rotated, {} under the new secret already, {} with other labels{}, {} failed"
 ENCRYPTED = re.compile(r"; what you saved is encrypted in (.+)\n")
 # Notes what other processes can see of a run of the program, and its limit for core dumps.
 NOTE = "{ tr '\\0' '\\n' < /proc/$$/cmdline; tr '\\0' '\\n' < /proc/$$/environ; } >> ../seen; ulimit -c >> ../cores"
@@ -82,12 +83,12 @@ class Place:
 
     def __init__(self, path: Path, program: Path, companions: Path) -> None:
         self.path = path
-        self.tools, self.tree, self.secrets, self.runtime = (
-            self.path / name for name in ("tools", "tree", "secrets", "runtime")
-        )
-        for folder in (self.tools, self.tree, self.secrets, self.runtime):
+        folders = [path / name for name in ("tools", "tree", "secrets", "runtime", "temporary")]
+        self.tools, self.tree, self.secrets, self.runtime, self.temporary = folders
+        for folder in folders:
             folder.mkdir()
-        self.program = program
+        self.temporary.chmod(0o1777)
+        self.program, self.companions = program, companions
         for each in (program, *companions.glob("ansible-vault-*")):
             (self.tools / each.name).symlink_to(each)
         for name, password in PASSWORDS.items():
@@ -97,6 +98,7 @@ class Place:
             "HOME": str(path),
             "PATH": f"{self.tools}{os.pathsep}{kept['PATH']}",
             "XDG_RUNTIME_DIR": str(self.runtime),
+            "TMPDIR": str(self.temporary),
             "GIT_CONFIG_GLOBAL": "/dev/null",
             "GIT_CONFIG_SYSTEM": "/dev/null",
         }
@@ -149,10 +151,10 @@ class Place:
         path.write_text(f'#!/bin/sh\n{text}\nexec {program} "$@"\n')
         path.chmod(0o755)
 
-    def run(self, *words: str, **variables: str) -> Done:
+    def run(self, *words: str, folder: str = ".", **variables: str) -> Done:
         return subprocess.run(
-            [*words],
-            cwd=self.tree,
+            words,
+            cwd=self.tree / folder,
             env=self.environment | variables,
             stdin=subprocess.DEVNULL,
             capture_output=True,
@@ -162,15 +164,30 @@ class Place:
         )
 
     def shell(self, text: str, interpreter: str = "sh", folder: str = ".", **variables: str) -> Done:
-        return subprocess.run(
-            [interpreter, "-c", text],
-            cwd=self.tree / folder,
-            env=self.environment | variables,
-            stdin=subprocess.DEVNULL,
-            capture_output=True,
-            text=True,
-            timeout=SECONDS,
-        )
+        return self.run(interpreter, "-c", text, folder=folder, **variables)
+
+    def run_on(self, data: bytes, *words: str, **variables: str) -> subprocess.CompletedProcess[bytes]:
+        """Run with this standard input. The outputs are bytes."""
+        where = self.environment | variables
+        return subprocess.run(words, cwd=self.tree, env=where, input=data, capture_output=True, timeout=SECONDS)
+
+    def start(self, *words: str, **options: Any) -> subprocess.Popen[str]:
+        """Start a program. Its standard streams are empty, unless these options of Popen say something else."""
+        given: dict[str, Any] = dict.fromkeys(("stdin", "stdout", "stderr"), subprocess.DEVNULL)
+        given |= {"env": self.environment, **options}
+        return subprocess.Popen(words, cwd=self.tree, text=True, **given)
+
+    def traced(self, options: str, companion: str, *words: str, **variables: str) -> tuple[Done, list[str]]:
+        """Run a companion under strace with these options, and return the lines of the trace, too."""
+        trace = self.path / "trace"
+        tracer = ["strace", "-f", "-o", str(trace), *options.split()]
+        done = self.run(*tracer, str(self.tools / companion), *words, **variables)
+        return done, trace.read_text(errors="replace").splitlines()
+
+    def give(self, *names: str) -> None:
+        """Give these files to another user if root runs the tests."""
+        for name in names if os.geteuid() == 0 else ():
+            os.chown(self.tree / name, NOBODY, NOBODY)
 
     def as_nobody(self, *words: str) -> Done:
         """Run as a user who owns nothing if root runs the tests, since root may read and write everything."""
@@ -233,6 +250,16 @@ def silent(what: str, done: Done) -> None:
 def edit(place: Place, editor: str, *words: str, **variables: str) -> Done:
     """Run an edit whose editor is a script with this text."""
     return place.run(EDIT, *words, EDITOR=place.script(editor, "editor"), **variables)
+
+
+def use_everywhere(place: Place, secrets: list[str], new: list[str], checked: str) -> None:
+    """Check, show, edit and rotate the vault `a.yml` with these options for secrets. An edit appends a line."""
+    ended("check", place.run(CHECK, *secrets, "."), 0, f"a.yml: {checked}\n", "1 decrypted")
+    for words in ([TEXTCONV], [WITH, "view"]):
+        done = place.run(*words, *secrets, "a.yml")
+        assert (done.returncode, done.stdout, done.stderr) == (0, TEXT.decode(), ""), words
+    silent("edit", edit(place, 'echo more >> "$1"', *secrets, "a.yml"))
+    ended("rotate", place.run(ROTATE, *secrets, *new, "a.yml"), 0, "1 rotated")
 
 
 def lines_of(envelope: bytes, spaces: int, end: bytes = b"\n") -> bytes:

@@ -8,7 +8,6 @@ results in valid YAML, and no program of the repository is run.
 from __future__ import annotations
 
 import itertools
-import subprocess
 from collections import Counter
 
 import hypothesis
@@ -16,7 +15,7 @@ import pytest
 from hypothesis import strategies as st
 from hypothesis.stateful import RuleBasedStateMachine, initialize, rule, run_state_machine_as_test
 
-from companion_cases import CHECK, EDIT, ROTATE, WITH, Companions
+from companion_cases import CHECK, EDIT, ROTATE, WITH, Done, Place
 from companion_cases.forked import STEP, Forks
 from companion_cases.oracle import DEV, ENVELOPE, NAMES, PROD, Tree, block, envelopes, is_false, is_merged, label_of
 from companion_cases.oracle import make, opened, read_tree, spots, spots_of, values, visible
@@ -25,7 +24,6 @@ from companion_cases.surroundings import ATTRIBUTES, Surroundings
 from lib.needs import needs, needs_pyyaml
 from model.vaults import MAGIC
 
-Done = subprocess.CompletedProcess[str]
 EXAMPLES = 52
 STEPS = 12
 # The least number of times that each must happen.
@@ -259,11 +257,10 @@ class Attack(RuleBasedStateMachine):
         self.counts.update(["check", "steps"])
 
 
-def test_stranger(cases: Companions, pytestconfig: pytest.Config) -> None:
+def test_stranger(place: Place, pytestconfig: pytest.Config) -> None:
     needs("git", "openssl", "awk")
     needs_pyyaml()
-    place, counts = cases.place(), Counter[str]()
-    surroundings = Surroundings(place)
+    counts, surroundings = Counter[str](), Surroundings(place)
     settings = hypothesis.settings(
         max_examples=EXAMPLES,
         stateful_step_count=STEPS,
@@ -279,7 +276,7 @@ def test_stranger(cases: Companions, pytestconfig: pytest.Config) -> None:
         counts["examples"] += 1
         return Attack(surroundings, counts)
 
-    with Forks(place, cases.companions):
+    with Forks(place):
         seeded = hypothesis.seed(pytestconfig.getoption("--seed"))(machine)
         run_state_machine_as_test(seeded, settings=settings)  # type: ignore[no-untyped-call]
     assert [(what, counts[what], least) for what, least in LEAST.items() if counts[what] < least] == []

@@ -35,6 +35,7 @@ FILES = {
     "bytes of any kind": (b"\xef\xbb\xbf# \xff\x00\x85\xe2\x80\xa8\t\r\na: !vault |\n" + BODY + b"\n# \x0c \xfe", 1),
     "side by side": (b"a: !vault |\n" + BODY + b"\nb: !vault |\n" + lines_of(sealed("old"), 12) + b"\n", 2),
     "a comment like a block": (b"# $ANSIBLE_VAULT;1.1;AES256\na: !vault |\n" + BODY + b"\n#  6162\n", 1),
+    "within a text": (b"script: |\n  x: !vault |\n" + lines_of(sealed("old"), 6) + b"\n  y: 1\n", 1),
     "words about vaults": (
         b"a: $ANSIBLE_VAULT;1.1;AES256 is a header\nb: '!vault |'\n  $ANSIBLE_VAULT;1.1;AES256\n",
         0,

@@ -6,7 +6,7 @@ from contextlib import contextmanager
 from typing import Iterator
 
 from companion_cases import WITH, Done, Place
-from companion_cases.terminal import Session, at_terminal
+from companion_cases.terminal import Session, ask
 from lib.ansible import ansible_release
 
 
@@ -26,9 +26,9 @@ def written_by_theirs(place: Place, ansible: str, *words: str) -> str:
     return done.stdout
 
 
-def theirs_at_terminal(place: Place, ansible: str, words: list[str], *answers: tuple[str, bytes]) -> Session:
+def theirs_at_terminal(place: Place, ansible: str, words: list[str], answers: list[tuple[str, bytes]]) -> Session:
     with for_ansible(place):
-        return at_terminal(place, [ansible, *words], *answers)
+        return ask(place, ansible, *words, answers=answers)
 
 
 def line_for_ansible(line: str) -> str:

@@ -1,10 +1,14 @@
-"""ansible-vault-check, and the help and version of every companion."""
+"""ansible-vault-check; and every companion's help, version, invalid command lines and refused secrets."""
 
 from itertools import product
 
-from companion_cases import CHECK, COMPANIONS, TEXT, Place, block, ended, sealed
+import pytest
+
+from companion_cases import CHECK, COMPANIONS, EDIT, HOOK, MERGE, ROTATE, TEXT, TEXTCONV, WITH, Place, block, ended
+from companion_cases import sealed
 from lib.paths import version
 from lib.subtests import SubTests
+from model.vaults import seal
 
 
 def test_labels_and_secrets(place: Place) -> None:
@@ -12,28 +16,22 @@ def test_labels_and_secrets(place: Place) -> None:
     place.put("b.yml", sealed("prod", label="prod"))
     place.put("c.yml", b"x: 1\n" + block("dev", label="dev") + block("prod", name="b"))
     place.put("d.yml", sealed("old", label="default"))
-    secrets = [*place.by_id("dev", "dev"), *place.by_id("prod", "prod"), *place.by_file("old")]
+    # Two secrets have the same password. The tool first tries the one with the label of the vault.
+    secrets = [*place.by_file("prod"), *place.by_id("dev", "dev"), *place.by_id("prod", "prod"), *place.by_file("old")]
     before = place.files()
     done = place.run(CHECK, *secrets, ".")
-    dev, prod, old = secrets[1::2]
+    default, dev, prod, old = secrets[1::2]
     line = 3 + block("dev", label="dev").count(b"\n")
     wanted = [
         f"./a.yml: default: decrypted by {old}",
         f"./b.yml: prod: decrypted by {prod}",
         f"./c.yml:3: secret: dev: decrypted by {dev}",
-        f"./c.yml:{line}: b: default: decrypted by {prod}",
+        f"./c.yml:{line}: b: default: decrypted by {default}",
         f"./d.yml: default: decrypted by {old}",
         "5 decrypted, 0 not",
     ]
     assert (done.returncode, done.stdout.splitlines(), done.stderr) == (0, wanted, ""), "labels and secrets"
     assert place.files() == before, "nothing is written"
-
-
-def test_the_label_comes_first(place: Place) -> None:
-    """If two secrets decrypt a vault, the one with its label is reported, since the tool tries that first."""
-    place.put("a.yml", sealed("prod", label="prod"))
-    done = place.run(CHECK, *place.by_file("prod"), *place.by_id("prod", "prod"), "a.yml")
-    ended("the label first", done, 0, f"a.yml: prod: decrypted by prod@{place.secret('prod')}\n")
 
 
 def test_what_cannot_be_decrypted(place: Place) -> None:
@@ -46,8 +44,6 @@ def test_what_cannot_be_decrypted(place: Place) -> None:
     assert done.stderr == why, "is reported on standard error"
     done = place.run(CHECK, *place.by_file("old"), "a.yml", "missing")
     ended("what is not there", done, 1, f"{CHECK}: missing: No such file or directory", "1 decrypted, 1 not")
-    done = place.run(CHECK, *place.by_file("missing"), ".")
-    ended("a password file that is not there", done, 1, "missing: a password file cannot be opened")
     place.put("closed.yml", sealed("old"), 0o000)
     done = place.as_nobody(CHECK, *place.by_file("old"), ".")
     ended("what cannot be read", done, 1, "closed.yml: Permission")
@@ -62,14 +58,10 @@ def test_slow_tool(place: Place) -> None:
     ended("a long vault", place.run(CHECK, *place.by_file("old"), "a.yml"), 0, "1 decrypted, 0 not")
 
 
-def test_nothing(place: Place, subtests: SubTests) -> None:
+def test_nothing(place: Place) -> None:
     place.put("plain.yml", TEXT)
     done = place.run(CHECK, *place.by_file("old"), ".")
     assert (done.returncode, done.stdout, done.stderr) == (0, "0 decrypted, 0 not\n", ""), "nothing"
-    wrong: list[list[str]] = [[], ["."], place.by_file("old"), [*place.by_file("old"), "--loud", "."]]
-    for words in wrong:
-        with subtests.test(f"{words}"):
-            ended("the words", place.run(CHECK, *words), 2, "usage: ansible-vault-check")
 
 
 def test_no_plaintext(place: Place) -> None:
@@ -80,17 +72,84 @@ def test_no_plaintext(place: Place) -> None:
     assert "\x1b" not in done.stdout + done.stderr, "and nothing that a terminal would obey"
 
 
+OLD, NEW = "--vault-password-file ../secrets/old", "--new-vault-password-file ../secrets/new"
+# Invalid command lines.
+INVALID = {
+    CHECK: ["", ".", OLD, f"{OLD} --loud ."],
+    EDIT: ["", "a.yml", OLD, f"{OLD} --new-vault-id x@y a.yml", f"{OLD} --loud a.yml", f"{OLD} --vault-i x a.yml"],
+    HOOK: ["--all --install", "--since"],
+    ROTATE: [
+        *("", f"{OLD} .", f"{NEW} .", f"{OLD} {NEW}", f"{OLD} {NEW} --new-vault-password-file ../secrets/dev ."),
+        *(f"{OLD} {NEW} {each} ." for each in ("--jobs 0", "--jobs many", "--dry")),
+    ],
+    TEXTCONV: ["", "a.yml", "--loud a.yml", "--vault-password-file a.yml"],
+}
+
+
+@pytest.mark.parametrize("name, line", [(name, line) for name, lines in INVALID.items() for line in lines])
+def test_invalid_command_lines(place: Place, name: str, line: str) -> None:
+    place.put("a.yml", sealed("old"))
+    ended("it is refused", place.run(name, *line.split()), 2, f"usage: {name}")
+
+
+@pytest.mark.parametrize("name", [CHECK, EDIT, HOOK, MERGE, ROTATE, TEXTCONV, WITH])
+def test_control_characters_in_options(place: Place, name: str) -> None:
+    """A word cannot begin a line of the message, or control the terminal."""
+    word = "--\x1b]0;owned\a\x9b\nansible-vault:fine"
+    done = place.run(name, *place.by_file("old"), word)
+    assert (done.returncode, word in done.stderr) == (1 if name == TEXTCONV else 2, False), "it is refused"
+    assert all(line.isprintable() for line in done.stderr.splitlines()), "in printable characters"
+    assert "\nansible-vault:fine" not in done.stderr, "and no line is forged"
+
+
+LONG = b"p" * 4097
+# Secrets that are refused, and why.
+REFUSED = {
+    "--vault-password-file=../missing": "../missing: a password file cannot be opened",
+    "--vault-password-file=.": ".: a password file cannot be read",
+    "--vault-password-file=../long": "../long: a password file is longer than 4096 bytes",
+    "--vault-id=dev@../long": "dev@../long: a password file is longer than 4096 bytes",
+    "--vault-id=dev@../empty": "dev@../empty: a password is empty",
+    "--vault-id=a;b@../secrets/old": "a;b@../secrets/old: a vault id label is not allowed",
+}
+RUNS = {
+    CHECK: [CHECK, "a.yml"],
+    EDIT: [EDIT, "a.yml"],
+    MERGE: [MERGE, *["a.yml"] * 4],
+    ROTATE: [ROTATE, *NEW.split(), "a.yml"],
+    f"{ROTATE} to a new one": [ROTATE, *OLD.split(), "a.yml"],
+    WITH: [WITH, "decrypt", "a.yml"],
+}
+
+
+@pytest.mark.parametrize("name", RUNS)
+def test_refused_secrets(place: Place, subtests: SubTests, name: str) -> None:
+    """If a password that is too long were truncated, it would decrypt the vault."""
+    place.put("a.yml", vault := seal(LONG[:-1], TEXT))
+    place.put("../long", LONG)
+    place.put("../empty", b" \n")
+    for option, why in REFUSED.items():
+        with subtests.test(option):
+            word = option.replace("--", "--new-") if "new one" in name else option
+            companion, *words = RUNS[name]
+            done = place.run(companion, word, *words, EDITOR="touch ../started")
+            ended("it is refused", done, 3 if name == WITH and "cannot" in why else 1, why)
+            assert (place.get("a.yml"), place.names()) == (vault, ["a.yml"]), "all stays"
+    assert not (place.path / "started").exists(), "no editor is started"
+    place.put("../long", LONG[:-1])
+    ended("4096 bytes", place.run(CHECK, "--vault-password-file=../long", "a.yml"), 0)
+
+
 def test_help_of_each(place: Place, subtests: SubTests) -> None:
     names = sorted(each.name for each in COMPANIONS.glob("ansible-vault-*"))
     assert len(names) == 7, "there are seven"
-    for name, word in product(names, ("--help", "-h")):
+    for name, word in product(names, ("--help", "-h", "--version", "-V")):
         with subtests.test(f"{name} {word}"):
             done = place.run(name, word)
-            example = f"Example:\n  {name} "
-            ended("help", done, 0, f"usage: {name}", example, "Exit status: 0", "This program is tested, not proved")
             wide = [line for line in done.stdout.splitlines() if len(line) > 80]
             assert (wide, done.stderr) == ([], ""), "it is no wider than a terminal"
-    for name, word in product(names, ("--version", "-V")):
-        with subtests.test(f"{name} {word}"):
-            done = place.run(name, word)
-            assert (done.returncode, done.stdout, done.stderr) == (0, f"{name} {version()}\n", "")
+            if word in ("--version", "-V"):
+                assert (done.returncode, done.stdout) == (0, f"{name} {version()}\n")
+            else:
+                parts = [f"usage: {name}", f"Example:\n  {name} ", "Exit status: 0"]
+                ended("help", done, 0, *parts, "This program is tested, not proved")

@@ -6,7 +6,7 @@ from pathlib import Path
 import pytest
 
 from companion_cases import CHECK, HOOK, MERGE, TEXT, Place, ended, sealed
-from companion_cases.repository import WHOLE, refused, under_git, unmarking
+from companion_cases.repository import WHOLE, committed, refused, under_git, unmarking
 from ansible_vault_companions.git import repositories
 
 pytestmark = pytest.mark.usefixtures("git")
@@ -108,21 +108,15 @@ def test_failed_drivers(place: Place, what: str) -> None:
 def test_two_merge_bases(place: Place) -> None:
     """--since compares with each merge base, since a file may be encrypted in only one of them."""
     under_git(place, "")
-
-    def add(name: str, content: bytes) -> str:
-        place.put(name, content)
-        place.shell("git add -A && git commit -qm change")
-        return place.shell("git rev-parse HEAD").stdout.strip()
-
-    root = add("x.txt", b"1\n")
-    one = add("one.yml", sealed("old"))
+    root = committed(place, "x.txt", b"1\n")
+    one = committed(place, "one.yml", sealed("old"))
     place.shell(f"git checkout -q {root}")
-    two = add("two.yml", sealed("new"))
+    two = committed(place, "two.yml", sealed("new"))
     place.shell(f"git merge -q --no-edit {one} && git branch first && git checkout -q {one}")
     place.shell(f"git merge -q --no-edit {two} && git rm -q one.yml two.yml && git commit -qm removed")
     assert len(place.shell("git merge-base --all first HEAD").stdout.split()) == 2
-    add("one.yml", TEXT)
-    add("two.yml", TEXT)
+    committed(place, "one.yml", TEXT)
+    committed(place, "two.yml", TEXT)
     done = place.run(HOOK, "--since", "first")
     for name, base in (("one.yml", one), ("two.yml", two)):
         ended(name, done, 1, f"{name} is not a vault, but was one in {base[:10]}\n")

@@ -1,18 +1,24 @@
 """Conflicts that git leaves without the merge driver, and conflicts in files with CR LF, however git stores them."""
 
+import re
+
 import pytest
 
-from companion_cases import CHECK, EDIT, HOOK, MERGE, PASSWORDS, Companions, decrypted, edit, ended, sealed, silent
-from companion_cases import texts
+from companion_cases import CHECK, EDIT, HOOK, MERGE, PASSWORDS, Place, decrypted, edit, ended, sealed, silent, texts
 from companion_cases.repository import add_and_commit, under_git
+from lib.paths import PAGE
 from model.vaults import SALT, seal, yaml_block
 
 BASE = b"one: 1\n2: 2\n3: 3\nfour: 4\n"
 OURS, THEIRS = BASE.replace(b"one: 1", b"one: I"), BASE.replace(b"four: 4", b"four: IV")
+pytestmark = pytest.mark.usefixtures("git")
 SALTS = [SALT, SALT[::-1], SALT[1:] + b"s"]
 TORN = "has git's conflict markers within an envelope, since it was merged without ansible-vault-merge"
 COMMAND = "git checkout --merge a.yml"
-SET_UP = f"set up the merge driver (see `ansible-vault-merge --help`), and run `{COMMAND}`"
+SET_UP = (
+    f"set up the merge driver (see `ansible-vault-merge --help`), and run `{COMMAND}`; if a commit has these markers, "
+    "`man ansible-vault-merge` says how to merge the file again"
+)
 
 
 def envelopes(*labels: str) -> list[bytes]:
@@ -36,9 +42,8 @@ FILES = {
 
 @pytest.mark.parametrize("what, versions, conflicts", [(what, *rest) for what, rest in FILES.items()])
 @pytest.mark.parametrize("style", ("merge", "diff3"))
-def test_without_driver(cases: Companions, style: str, what: str, versions: list[bytes], conflicts: int) -> None:
+def test_without_driver(place: Place, style: str, what: str, versions: list[bytes], conflicts: int) -> None:
     """Each companion prints the command that merges the file."""
-    place = cases.place()
     secrets = [*place.by_file("old"), *place.by_id("dev", "old"), *place.by_id("prod", "old")]
     under_git(place, "*.yml merge=ansible-vault\n")
     place.run("git", "config", "merge.conflictStyle", style)
@@ -62,17 +67,51 @@ def test_without_driver(cases: Companions, style: str, what: str, versions: list
     assert [text for text in found if text != BASE] == wanted, f"{what}: all that it is made of is whole"
 
 
-@pytest.mark.parametrize("attributes", ("*.yml text eol=crlf\n", "*.yml -text\n"))
-def test_line_ends_of_a_checkout(cases: Companions, attributes: str) -> None:
-    """The hook finds the markers that an edit left, whether or not git converts the line ends."""
-    place = cases.place()
+def test_markers_in_a_commit(place: Place) -> None:
+    """In a clone of a repository with committed markers, the commands of the manual page merge the file again."""
+    under_git(place, "")
+    versions = envelopes("", "", "")
+    for content, command in zip(versions, ("true", "git branch theirs", "git checkout -q theirs")):
+        place.shell(command)
+        place.put("a.yml", content)
+        add_and_commit(place)
+    place.shell("git checkout -q -; git merge theirs; git commit -qam merged")
+    place.shell("git clone -q . ../clone; rm -r .git; mv ../clone/.git .")
+    assert b"<<<<<<<" in place.get("a.yml")
+    done = place.run(CHECK, *place.by_file("old"), "a.yml")
+    ended("the check", done, 1, f"a.yml: {TORN}; {SET_UP}\n")
+    page = PAGE.with_name(f"{MERGE}.1").read_text()
+    [commands] = re.findall(r"markers in a merge commit(?:.*\n)+?\.Bd .*\n((?:.*\n)+?)\.Ed$", page, re.MULTILINE)
+    shell = re.sub(r"(?m)^\$ ", "", commands).replace(r"\(ha", "^").replace(r"\e", "\\")
+    shell = shell.replace("~/.vault/prod.pass", place.secret("old")).replace("FILE", "a.yml").replace("M^", "HEAD^")
+    silent("the commands", place.shell(f"set -e\n{shell}"))
+    assert decrypted("old", place.get("a.yml")) == OURS.replace(b"four: 4", b"four: IV")
+
+
+# The attributes of a repository, the line end of a vault in it, and the name of the vault.
+EDITED = [("", b"\n", "a.yml"), ("", b"\n", "deep/er/a.yml")]
+EDITED += [("*.yml text eol=crlf\n", b"\r\n", "a.yml"), ("*.yml -text\n", b"\r\n", "a.yml")]
+
+
+@pytest.mark.parametrize("attributes, end, name", EDITED)
+def test_edited(place: Place, attributes: str, end: bytes, name: str) -> None:
+    """A vault saved with git's conflict markers is noted, and the hook refuses it until they are gone; whether or not
+    git converts the line ends."""
+    markers = "printf '<<<<<<< ours\\nx: 1\\n=======\\nx: 2\\n>>>>>>> theirs\\n'"
+    still = f"{name}: it still has git's conflict markers; edit it again to remove them\n"
+    words, vault = [*place.by_file("old"), name], sealed("old").replace(b"\n", end)
+    place.put(name, vault)
+    ended("in no repository", edit(place, f'{markers} > "$1"', *words), 0, still)
+    assert "fatal" not in edit(place, "true", *words).stderr, "git says nothing of it"
     under_git(place, attributes)
-    place.put("a.yml", sealed("old").replace(b"\n", b"\r\n"))
+    place.put(name, vault)
     add_and_commit(place)
-    marked = "printf '<<<<<<< ours\\nx: 1\\n=======\\nx: 2\\n>>>>>>> theirs\\n' > \"$1\""
-    done = edit(place, marked, *place.by_file("old"), "a.yml")
-    ended("the edit", done, 0, "it still has git's conflict markers; edit it again to remove them")
-    assert b"\r\n" in place.get("a.yml"), "the ends of lines stay"
-    ended("the hook", place.shell(f"git add -A; {HOOK}"), 1, "a.yml has git's conflict markers")
-    ended("without markers", edit(place, 'echo "x: 1" > "$1"', *place.by_file("old"), "a.yml"), 0)
-    silent("the hook", place.shell(f"git add -A; {HOOK}"))
+    for redirection in (">", ">>"):
+        ended("markers", edit(place, f'{markers} {redirection} "$1"', *words), 0, still)
+        assert place.get(name).count(b"\n") == place.get(name).count(end), "the ends of lines stay"
+        ended("are refused", place.shell(f"git add -A && {HOOK}"), 1, f"{name} has git's conflict markers\n")
+    (place.tree / ".git/ansible-vault-conflicts").unlink()
+    ended("an edit without a change", edit(place, "true", *words), 0, "nothing was changed")
+    ended("notes them again", place.shell(f"git add -A && {HOOK}"), 1, f"{name} has git's conflict markers\n")
+    ended("no markers", edit(place, 'echo "x: 1" > "$1"', *words), 0)
+    silent("are not refused", place.shell(f"git add -A && {HOOK}"))

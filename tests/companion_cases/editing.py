@@ -5,21 +5,17 @@ from pathlib import Path
 
 import pytest
 
-from companion_cases import AWKWARD, CHANGE, CHANGED, EDIT, HOOK, NOBODY, TEXT, Companions, Place, block, decrypted
-from companion_cases import edit, ended, sealed, silent
-from companion_cases.repository import AUTHOR
-from lib.needs import needs
+from companion_cases import AWKWARD, CHANGE, CHANGED, EDIT, TEXT, Place, block, decrypted, edit, ended
+from companion_cases import sealed, silent
 from lib.subtests import SubTests
 
 NOT_MADE = ("new.yml", "nothing was changed")
 
 
 @pytest.mark.parametrize("label, secrets", (("", "old"), ("prod", "prod")))
-def test_what_changes(cases: Companions, label: str, secrets: str) -> None:
-    place = cases.place()
+def test_what_changes(place: Place, label: str, secrets: str) -> None:
     place.put("all.yml", sealed(secrets, label=label), 0o640)
-    if os.geteuid() == 0:
-        os.chown(place.tree / "all.yml", NOBODY, NOBODY)
+    place.give("all.yml")
     owner = (place.tree / "all.yml").stat().st_uid
     words = place.by_id(label, secrets) if label else place.by_file(secrets)
     silent(f"label {label!r}", edit(place, CHANGE, *words, "all.yml"))
@@ -54,24 +50,24 @@ def written(place: Place) -> tuple[int, int]:
     return about.st_ino, about.st_mtime_ns
 
 
-def test_what_stays(cases: Companions, subtests: SubTests) -> None:
+# What changes nothing, the exit status of the edit, and what it prints.
+STOPS = {
+    "true": (0, "nothing was changed"),
+    CHANGE + "; " + CHANGE.replace("correct/wrong", "wrong/correct"): (0, "nothing was changed"),
+    "exit 3": (1, "the editor failed"),
+    'rm "$1"': (1, "left no file"),
+    'rm "$1"; mkdir "$1"': (1, "Is a directory"),
+}
+
+
+@pytest.mark.parametrize("editor", STOPS)
+def test_what_stays(place: Place, editor: str) -> None:
     """If an edit fails or changes nothing, the vault stays as it was, and nothing is left."""
-    vault = sealed("old")
-    stops = {
-        "true": (0, "nothing was changed"),
-        CHANGE + "; " + CHANGE.replace("correct/wrong", "wrong/correct"): (0, "nothing was changed"),
-        "exit 3": (1, "the editor failed"),
-        'rm "$1"': (1, "left no file"),
-        'rm "$1"; mkdir "$1"': (1, "Is a directory"),
-    }
-    for editor, (status, part) in stops.items():
-        with subtests.test(editor):
-            place = cases.place()
-            place.put("all.yml", vault)
-            before = written(place)
-            ended("the edit", edit(place, editor, *place.by_file("old"), "all.yml"), status, part)
-            assert (place.get("all.yml"), written(place)) == (vault, before), "the vault stays, and is not written"
-            assert (place.names(), place.left()) == (["all.yml"], []), "nothing is left"
+    place.put("all.yml", vault := sealed("old"))
+    before = written(place)
+    ended("the edit", edit(place, editor, *place.by_file("old"), "all.yml"), *STOPS[editor])
+    assert (place.get("all.yml"), written(place)) == (vault, before), "the vault stays, and is not written"
+    assert (place.names(), place.left()) == (["all.yml"], []), "nothing is left"
 
 
 def test_refusals(place: Place, subtests: SubTests) -> None:
@@ -81,7 +77,6 @@ def test_refusals(place: Place, subtests: SubTests) -> None:
     place.put("damaged.yml", sealed("old")[:-9])
     os.link(place.tree / "all.yml", place.path / "second name")
     (place.tree / "folder").mkdir()
-    (place.path / "empty").write_bytes(b"\n")
     before = place.files()
     refused = [
         (place.by_file("new"), "all.yml", "no secret decrypts this vault"),
@@ -90,14 +85,10 @@ def test_refusals(place: Place, subtests: SubTests) -> None:
         (place.by_file("old"), "damaged.yml", "vault"),
         (place.by_file("old"), "folder", "Is a directory"),
         (place.by_file("old"), "missing/new.yml", "No such file"),
-        (place.by_file("missing"), "all.yml", "missing: a password file cannot be opened"),
-        (["--vault-id", f"dev@{place.path}/empty"], "all.yml", "a password is empty"),
     ]
     for words, vault, part in refused:
         with subtests.test(f"{vault}: {part}"):
             ended("the edit", edit(place, "touch ../started", *words, vault), 1, part)
-    away = ["setsid", "--wait", EDIT, "--vault-id", "prompt", "all.yml"]
-    ended("no terminal", place.run(*away), 1, "prompt: there is no terminal to ask for the password")
     assert not (place.path / "started").exists(), "no editor is started"
     assert (place.files(), place.left()) == (before, []), "all files stay"
 
@@ -206,49 +197,3 @@ def test_new_vaults(place: Place) -> None:
     ended("no such label", edit(place, write, *wrong, "new.yml"), 1, "--encrypt-vault-id")
     ended("nothing is written", edit(place, "true", *place.by_file("old"), "new.yml"), 0, *NOT_MADE)
     assert (place.names(), place.left()) == (["one.yml", "two.yml"], []), "no other file is made"
-
-
-@pytest.mark.parametrize("name", ("repository/all.yml", "repository/deep/er/all.yml"))
-def test_conflict_markers(cases: Companions, name: str) -> None:
-    """A vault saved with git's conflict markers is noted, and the hook refuses it until they are gone."""
-    needs("git")
-    marked = "printf '<<<<<<< ours\\nx: 1\\n=======\\nx: 2\\n>>>>>>> theirs\\n'"
-    still = "all.yml: it still has git's conflict markers; edit it again to remove them\n"
-    refused = "all.yml has git's conflict markers\n"
-    place = cases.place()
-    place.environment.update(AUTHOR)
-    old = place.by_file("old")
-    place.put(name, sealed("old"))
-    ended("in no repository", edit(place, f'{marked} > "$1"', *old, name), 0, still)
-    assert place.run(EDIT, *old, name, EDITOR="true").stderr.count("fatal") == 0, "git says nothing of it"
-    place.put(name, sealed("old"))
-    place.shell("git init -q && git add -A && git commit -qm change", folder="repository")
-    hook = f"git add -A && {HOOK}"
-    ended("markers that were typed", edit(place, f'{marked} > "$1"', *old, name), 0, still)
-    ended("are refused", place.shell(hook, folder="repository"), 1, refused)
-    ended("other markers", edit(place, f'{marked} >> "$1"', *old, name), 0, still)
-    ended("are refused, too", place.shell(hook, folder="repository"), 1, refused)
-    (place.tree / "repository/.git/ansible-vault-conflicts").unlink()
-    ended("an edit without a change", edit(place, "true", *old, name), 0, "nothing was changed")
-    ended("notes them again", place.shell(hook, folder="repository"), 1, refused)
-    ended("no markers", edit(place, 'echo "x: 1" > "$1"', *old, name), 0)
-    silent("are not refused", place.shell(hook, folder="repository"))
-
-
-def test_command_line(place: Place, subtests: SubTests) -> None:
-    secret = place.by_file("old")
-    lines: list[list[str]] = [[], ["all.yml"], secret]
-    lines += [[*secret, *each, "a"] for each in (["--new-vault-id", "x@y"], ["--loud"], ["--vault-i", "x"])]
-    for words in lines:
-        with subtests.test(f"{words}"):
-            ended("the words", place.run(EDIT, *words), 2, "usage: ansible-vault-edit")
-
-
-def test_typed_password(place: Place) -> None:
-    """A password that can be read only once serves all runs of the program."""
-    needs("bash")
-    place.put("all.yml", sealed("old"))
-    place.environment["EDITOR"] = place.script(CHANGE, "editor")
-    line = f"{EDIT} --vault-password-file <(cat {place.secret('old')}) all.yml"
-    silent("a pipe", place.shell(line, "bash"))
-    assert decrypted("old", place.get("all.yml")) == CHANGED, "decrypts and encrypts"

@@ -6,18 +6,18 @@ import os
 
 import pytest
 
-from companion_cases import CHANGE, CHANGED, EDIT, ENCRYPTED, NOBODY, TEXT, Companions, Place, block, decrypted, edit
+from companion_cases import CHANGE, CHANGED, EDIT, ENCRYPTED, TEXT, Place, block, decrypted, edit
 from companion_cases import ended, sealed, texts
 from companion_cases.mistakes import commands
-from companion_cases.terminal import Session, ask
+from companion_cases.terminal import READING, Session, ask
 from lib.needs import needs, needs_pyyaml
 
 AGAIN = "Open the editor again? (yes, no): "
 TYPO = 'new: !vault "more'
-# Each run of the editor notes what it sees. The first makes a mistake, and the second corrects it.
-MENDS = f"""\
+# The first run of the editor makes a mistake, and the others do something else. Each run notes what it sees.
+MISTAKES = f"""\
 cat "$1" >> ../seen
-if grep -q '^new' "$1"; then sed -i 's/"more/more/' "$1"; else echo '{TYPO}' >> "$1"; fi
+if grep -q '^new' "$1"; then {{}}; else echo '{TYPO}' >> "$1"; fi
 """
 
 
@@ -25,7 +25,7 @@ def at_terminal(place: Place, editor: str, *answers: tuple[str, bytes]) -> Sessi
     needs("stty")
     needs_pyyaml()
     place.put("vars.yml", block("old"))
-    words = ["sh", "-c", 'exec "$@" < /dev/tty', "sh", EDIT, *place.by_file("old"), "vars.yml"]
+    words = [*READING, EDIT, *place.by_file("old"), "vars.yml"]
     return ask(place, *words, answers=[*answers], EDITOR=place.script(editor, "editor"))
 
 
@@ -34,7 +34,7 @@ def kept(place: Place) -> list[bytes | None]:
 
 
 def test_mended(place: Place) -> None:
-    session = at_terminal(place, MENDS, (AGAIN, b"yes\n"))
+    session = at_terminal(place, MISTAKES.format("sed -i 's/\"more/more/' \"$1\""), (AGAIN, b"yes\n"))
     assert (session.returncode, session.stderr) == (0, "")
     assert "vars.yml: line 3: it cannot be read as YAML: " in session.shown, "the reason is shown"
     shown = f"secret: !vault |\n  {TEXT.decode()}"
@@ -44,43 +44,26 @@ def test_mended(place: Place) -> None:
 
 
 TYPED = f"secret: !vault |\n  {TEXT.decode()}{TYPO}\n".encode()
+NO_YAML = "it cannot be read as YAML"
+# What the editor does when it opens again, what is typed at each question, and why the edit is given up.
 ENDS = {
-    "no": (f"echo '{TYPO}' >> \"$1\"", [(AGAIN, b"no\n")], 1, "it cannot be read as YAML"),
-    "the terminal says nothing": (f"echo '{TYPO}' >> \"$1\"", [(AGAIN, b"\x04")], 1, "it cannot be read as YAML"),
-    "an interrupt": (f"echo '{TYPO}' >> \"$1\"", [(AGAIN, b"\x03")], 130, "it cannot be read as YAML"),
-    "no, later": (
-        f"grep -q new \"$1\" || echo '{TYPO}' >> \"$1\"",
-        [(AGAIN, b"yes\n"), (AGAIN, b"yes\n"), (AGAIN, b"no\n")],
-        1,
-        "it cannot be read as YAML",
-    ),
-    "the editor fails": (f"grep -q new \"$1\" && exit 3; echo '{TYPO}' >> \"$1\"", [(AGAIN, b"yes\n")], 1, "status 3"),
-    "it empties the text and fails": (
-        f"grep -q new \"$1\" && sed -i /new/d \"$1\" && exit 3; echo '{TYPO}' >> \"$1\"",
-        [(AGAIN, b"yes\n")],
-        1,
-        "status 3",
-    ),
-    "a folder in its place": (
-        f"grep -q new \"$1\" && rm \"$1\" && exec mkdir \"$1\"; echo '{TYPO}' >> \"$1\"",
-        [(AGAIN, b"yes\n")],
-        1,
-        "Is a directory",
-    ),
-    "the text is gone": (
-        f"grep -q new \"$1\" && exec rm \"$1\"; echo '{TYPO}' >> \"$1\"",
-        [(AGAIN, b"yes\n")],
-        1,
-        "the editor left no file",
-    ),
+    "no": (":", [b"no\n"], NO_YAML),
+    "the terminal says nothing": (":", [b"\x04"], NO_YAML),
+    "an interrupt": (":", [b"\x03"], NO_YAML),
+    "no, later": (":", [b"yes\n", b"yes\n", b"no\n"], NO_YAML),
+    "the editor fails": ("exit 3", [b"yes\n"], "status 3"),
+    "it empties the text and fails": ('sed -i /new/d "$1"; exit 3', [b"yes\n"], "status 3"),
+    "a folder in its place": ('rm "$1"; mkdir "$1"', [b"yes\n"], "Is a directory"),
+    "the text is gone": ('rm "$1"', [b"yes\n"], "the editor left no file"),
 }
 
 
 @pytest.mark.parametrize("what", ENDS)
 def test_given_up(place: Place, what: str) -> None:
     """An edit that is given up is kept."""
-    editor, answers, status, why = ENDS[what]
-    session = at_terminal(place, editor, *answers)
+    later, typed, why = ENDS[what]
+    session = at_terminal(place, MISTAKES.format(later), *((AGAIN, each) for each in typed))
+    status = 130 if what == "an interrupt" else 1
     assert (session.returncode, kept(place), place.left()) == (status, [TYPED], []), session
     assert why in session.stderr and "what you saved is encrypted in" in session.stderr
     assert place.get("vars.yml") == block("old")
@@ -88,8 +71,7 @@ def test_given_up(place: Place, what: str) -> None:
 
 def test_without_a_change(place: Place) -> None:
     """Taking the mistake back counts as no change."""
-    editor = f"if grep -q new \"$1\"; then sed -i /new/d \"$1\"; else echo '{TYPO}' >> \"$1\"; fi"
-    session = at_terminal(place, editor, (AGAIN, b"yes\n"))
+    session = at_terminal(place, MISTAKES.format('sed -i /new/d "$1"'), (AGAIN, b"yes\n"))
     assert (session.returncode, "nothing was changed" in session.stderr, kept(place)) == (0, True, [])
     assert place.get("vars.yml") == block("old")
 
@@ -144,7 +126,7 @@ def test_nothing_to_resume(place: Place) -> None:
     place.put("all.yml", sealed("old"))
     if os.geteuid() == 0:
         place.put(".ansible-vault-saved-all.yml-abcdefgh", sealed("old", b"theirs"))
-        os.chown(place.tree / ".ansible-vault-saved-all.yml-abcdefgh", NOBODY, NOBODY)
+        place.give(".ansible-vault-saved-all.yml-abcdefgh")
     done = edit(place, "touch ../started", *place.by_file("old"), "--resume", "all.yml")
     ended("no copy", done, 1, "all.yml: no earlier edit left a copy")
     words = [*place.by_file("old"), "--resume", "--value", "a", "all.yml"]
@@ -152,28 +134,31 @@ def test_nothing_to_resume(place: Place) -> None:
     assert not (place.path / "started").exists()
 
 
-def test_under_another_password(cases: Companions) -> None:
+# A file at first, and what somebody exchanges it for.
+EXCHANGED = {
+    "a vault": (sealed("prod", label="prod"), sealed("dev", label="prod"), sealed("dev", label="dev")),
+    "values": (block("prod", label="prod"), block("dev", label="prod"), block("dev", label="dev")),
+    "a value of two": (
+        block("prod", label="prod") + block("dev", label="dev", name="b"),
+        block("dev", label="prod") + block("dev", label="dev", name="b"),
+    ),
+}
+
+
+@pytest.mark.parametrize("what", EXCHANGED)
+def test_under_another_password(place: Place, what: str) -> None:
     """If somebody has exchanged the file meanwhile, the resumed text does not get that file's password."""
     needs_pyyaml()
-    files = {
-        "a vault": (sealed("prod", label="prod"), sealed("dev", label="prod"), sealed("dev", label="dev")),
-        "values": (block("prod", label="prod"), block("dev", label="prod"), block("dev", label="dev")),
-        "a value of two": (
-            block("prod", label="prod") + block("dev", label="dev", name="b"),
-            block("dev", label="prod") + block("dev", label="dev", name="b"),
-        ),
-    }
-    for what, (before, *exchanged) in files.items():
-        place = cases.place()
-        both = [*place.by_id("dev", "dev"), *place.by_id("prod", "prod")]
+    before, *exchanged = EXCHANGED[what]
+    both = [*place.by_id("dev", "dev"), *place.by_id("prod", "prod")]
+    place.put("a.yml", before)
+    edit(place, f"{CHANGE}; exit 3", *both, "a.yml")
+    for content in exchanged:
+        place.put("a.yml", content)
+        done = edit(place, "touch ../started", *both, "--resume", "a.yml")
+        ended(what, done, 1, "a.yml: --resume cannot tell which value gets which secret, because ")
+        assert (place.get("a.yml"), (place.path / "started").exists()) == (content, False)
+    if what != "a value of two":
         place.put("a.yml", before)
-        edit(place, f"{CHANGE}; exit 3", *both, "a.yml")
-        for content in exchanged:
-            place.put("a.yml", content)
-            done = edit(place, "touch ../started", *both, "--resume", "a.yml")
-            ended(what, done, 1, "a.yml: --resume cannot tell which value gets which secret, because ")
-            assert (place.get("a.yml"), (place.path / "started").exists()) == (content, False)
-        if what != "a value of two":
-            place.put("a.yml", before)
-            ended(f"{what}, as it was", edit(place, "true", *both, "--resume", "a.yml"), 0)
-            assert place.get("a.yml") != before
+        ended("as it was", edit(place, "true", *both, "--resume", "a.yml"), 0)
+        assert place.get("a.yml") != before

@@ -3,13 +3,12 @@
 The faults come from strace, or from changes to the Python modules of the companion.
 """
 
-import os
-
 import pytest
 
-from companion_cases import EDIT, NOBODY, ROTATE, TEXT, WITH, Done, Place, decrypted, run_changed, sealed, summary
-from companion_cases import to_new
+from companion_cases import CHANGED, EDIT, MERGE, ROTATE, TEXT, WITH, Done, Place, decrypted, run_changed, sealed
+from companion_cases import to_new, versions
 from lib.needs import needs
+from lib.subtests import SubTests
 
 NO_LINKS = ("EPERM", "EOPNOTSUPP", "ENOSYS", "EMLINK")
 MOUNT = "36 35 98:0 / {} rw,noatime master:1 - ext3 /dev/root rw,errors=continue\n"
@@ -18,8 +17,9 @@ MOUNT = "36 35 98:0 / {} rw,noatime master:1 - ext3 /dev/root rw,errors=continue
 def injected(place: Place, fault: str, *words: str, **variables: str) -> Done:
     """Run a companion under strace, which makes system calls fail."""
     needs("strace")
-    tracer = ["strace", "-f", "-qq", "-o", str(place.path / "trace"), "-e", f"inject={fault}"]
-    return place.run(*tracer, str(place.tools / words[0]), *words[1:], **variables)
+    done, lines = place.traced(f"-e inject={fault}", *words, **variables)
+    assert any("(INJECTED)" in line for line in lines)
+    return done
 
 
 @pytest.mark.parametrize("fault, status", {"EIO": 1, "EINVAL": 0}.items())
@@ -30,26 +30,32 @@ def test_folder_that_is_not_synced(place: Place, fault: str, status: int) -> Non
     done = injected(place, f"fsync:error={fault}:when=2+", WITH, "rekey", *to_new(place), "a.yml")
     message = f"{WITH}: a.yml: Input/output error\n" if status else ""
     assert (done.returncode, done.stdout, done.stderr) == (status, "", message)
-    assert "(INJECTED)" in (place.path / "trace").read_text()
     assert (place.names(), decrypted("new", place.get("a.yml"))) == (["a.yml"], TEXT)
 
 
-def test_folder_that_cannot_be_read(place: Place) -> None:
+def test_folder_that_cannot_be_read(place: Place, subtests: SubTests) -> None:
     """A directory that cannot be opened cannot be synced alone, so all file systems are."""
     needs("strace")
     place.put("folder/a.yml", sealed("old"))
-    place.put("../traces/trace", b"")
-    if os.geteuid() == 0:
-        for path in (place.tree / "folder", place.tree / "folder/a.yml", place.path / "traces/trace"):
-            os.chown(path, NOBODY, NOBODY)
+    old = place.by_file("old")
+    base, theirs = versions(place, "b.yml", sealed("old"), b"", sealed("old", CHANGED))[::2]
+    runs = {
+        "rotate": [ROTATE, *to_new(place), "folder/a.yml"],
+        "rekey": [WITH, "rekey", *place.by_file("new"), *place.by_file("old", "new-"), "folder/a.yml"],
+        "merge": [MERGE, *old, base, "folder/a.yml", theirs, "folder/a.yml"],
+    }
+    place.give("folder", "folder/a.yml")
     (place.tree / "folder").chmod(0o300)
-    tracer = ["strace", "-f", "-o", "../traces/trace", "-e", "trace=sync,rename"]
-    done = place.as_nobody(*tracer, str(place.tools / ROTATE), *to_new(place), "folder/a.yml")
+    for name, (companion, *words) in runs.items():
+        with subtests.test(name):
+            tracer = ["strace", "-f", "-o", f"../temporary/{name}", "-e", "trace=sync,rename"]
+            done = place.as_nobody(*tracer, str(place.tools / companion), *words)
+            assert done.returncode == 0, done.stderr
+            lines = (place.temporary / name).read_text().splitlines()
+            calls = [line.split()[1].partition("(")[0] for line in lines if line.endswith("= 0")]
+            assert calls == ["rename", "sync"]
     (place.tree / "folder").chmod(0o755)
-    assert (done.returncode, done.stdout.splitlines()[-1]) == (0, summary(1))
-    lines = (place.path / "traces/trace").read_text().splitlines()
-    calls = [line.split()[1].partition("(")[0] for line in lines if line.endswith("= 0")]
-    assert calls == ["rename", "sync"]
+    assert decrypted("old", place.get("folder/a.yml")) == CHANGED, "they did their work"
 
 
 @pytest.mark.parametrize("fault", NO_LINKS)
@@ -58,7 +64,6 @@ def test_no_hard_links(place: Place, fault: str) -> None:
     editor = place.script('echo a > "$1"', "editor")
     done = injected(place, f"link,linkat:error={fault}", EDIT, *place.by_file("old"), "new.yml", EDITOR=editor)
     assert (done.returncode, done.stdout, done.stderr) == (0, "", "")
-    assert "(INJECTED)" in (place.path / "trace").read_text()
     assert decrypted("old", place.get("new.yml")) == b"a\n"
     assert (place.mode("new.yml"), place.names()) == ("0o600", ["new.yml"])
 

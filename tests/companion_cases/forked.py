@@ -34,14 +34,14 @@ NAMES = {password: name for name, password in PASSWORDS.items()}
 class Forks:
     """The process, which runs during a `with` statement."""
 
-    def __init__(self, place: Place, companions: Path) -> None:
+    def __init__(self, place: Place) -> None:
         for name in ("asked", "answered"):
             os.mkfifo(place.path / name)
-        for each in companions.glob("ansible-vault-*"):
+        for each in place.companions.glob("ansible-vault-*"):
             (place.tools / each.name).unlink()
             place.script(ASKING.format(place.path), f"tools/{each.name}")
-        self.command = [sys.executable, "-B", "-X", "utf8", __file__, str(place.path), str(companions)]
-        self.path = os.pathsep.join([str(ROOT / "tests"), str(companions)])
+        self.command = [sys.executable, "-B", "-X", "utf8", __file__, str(place.path), str(place.companions)]
+        self.path = os.pathsep.join([str(ROOT / "tests"), str(place.companions)])
 
     def __enter__(self) -> None:
         environment, pipe = os.environ | {"PYTHONPATH": self.path}, subprocess.PIPE

@@ -7,8 +7,7 @@ import pytest
 
 from ansible_vault_companions.files.finding import envelopes
 from ansible_vault_companions.git import damage, leaks
-from companion_cases import BODY, CHECK, ROTATE, TEXT, Done, Place, block, decrypted, ended, lines_of, sealed, summary
-from companion_cases import texts, to_new
+from companion_cases import BODY, CHECK, ROTATE, TEXT, Done, Place, block, decrypted, ended, sealed, summary, to_new
 
 LINE = sealed("old").decode().replace("\n", "\\n")
 OF_PROD = sealed("prod", label="prod").decode().replace("\n", "\\n")
@@ -23,9 +22,9 @@ REPORTED = {
     "tabs": (b"a: !vault |\n" + BODY.replace(b"          ", b"\t"), "after tabs; indent with spaces"),
     "a folded scalar": (b"a: !vault >\n" + BODY + b"\n", "in a folded scalar"),
     "a byte order mark": (b"\xef\xbb\xbf" + sealed("old"), "after a byte order mark"),
-    "an empty line": (b"\n" + sealed("old"), "after empty lines or spaces at the start of the file"),
-    "several empty lines": (b" \r\n\t\n" + sealed("old"), "remove them, or it is not a vault"),
-    "spaces": (b"  " + sealed("old").replace(b"\n", b"\n  "), "remove them, or it is not a vault"),
+    "an empty line": (b"\n" + sealed("old"), "the empty lines or spaces before this envelope"),
+    "several empty lines": (b" \r\n\t\n" + sealed("old"), "keep the file from being a vault; remove them"),
+    "spaces": (b"  " + sealed("old").replace(b"\n", b"\n  "), "keep the file from being a vault; remove them"),
     "single quotes": (b"a: !vault '" + sealed("old").replace(b"\n", b"\n\n  ") + b"'\n", "in quotes or within a line"),
     "a damaged block": (b"a: !vault |\n  $ANSIBLE_VAULT;1.1;AES256\n  not digits\n", "vault payload is malformed"),
     "a block that is cut": (b"a: !vault |\n" + BODY[:-100] + b"\n  x\n", "vault body is not hexadecimal"),
@@ -77,14 +76,6 @@ def test_of_another_label(place: Place) -> None:
     assert place.files() == before, "they stay"
     done = place.run(CHECK, *place.by_file("old"), "b.yml", "c.json")
     ended("they are not passed over", done, 1, "b.yml:1: ", "c.json:1: ", "0 decrypted, 2 not")
-
-
-def test_taken_as_blocks(place: Place) -> None:
-    """A block within another text counts as a block."""
-    text = b"script: |\n  x: !vault |\n" + lines_of(sealed("old"), 6) + b"\n  y: 1\n"
-    place.put("vars.yml", text)
-    ended("within a text", place.run(ROTATE, *to_new(place), "."), 0, "1 block rotated", summary(1))
-    assert texts(place.get("vars.yml"), "new") == [TEXT], "it is rotated"
 
 
 def test_line_ends(place: Place) -> None:

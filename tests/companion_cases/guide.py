@@ -10,7 +10,7 @@ import pytest
 
 from companion_cases import PASSWORDS, TEXT, WITH, Companions, Described, Place, described, sealed
 from companion_cases.both import for_ansible, line_for_ansible
-from companion_cases.terminal import Session, at_terminal
+from companion_cases.terminal import Session, ask
 from lib.ansible import ansible_release
 from lib.needs import needs, needs_ansible
 
@@ -61,22 +61,29 @@ class Row(NamedTuple):
         return self._replace(line=line_for_ansible(self.line), typed=typed)
 
 
+def twice(label: str) -> list[tuple[str, str]]:
+    """Return the questions for a new password of this label, and the name of the password."""
+    return [(question.format(label), "new") for question in (NEW_OF, AGAIN_OF)]
+
+
+TWICE = [(NEW, "new"), (AGAIN, "new")]
 ROWS = [
     Row("create --vault-id test@multi_password_file new.yml", "makes a file in an editor"),
     Row(
         "create --vault-id my_new_password@prompt new.yml",
         "asks twice, and makes a file in an editor",
-        typed=[(NEW_OF.format("my_new_password"), "new"), (AGAIN_OF.format("my_new_password"), "new")],
+        typed=twice("my_new_password"),
     ),
-    Row("create --ask-vault-pass new.yml", "asks twice", typed=[(NEW, "new"), (AGAIN, "new")]),
-    Row("create new.yml", "asks twice without an option", typed=[(NEW, "new"), (AGAIN, "new")]),
-    Row("encrypt foo.yml bar.yml baz.yml", "encrypts all in place", typed=[(NEW, "new"), (AGAIN, "new")]),
+    Row("create --ask-vault-pass new.yml", "asks twice", typed=TWICE),
+    Row("create new.yml", "asks twice without an option", typed=TWICE),
+    Row("encrypt foo.yml bar.yml baz.yml", "encrypts all in place", typed=TWICE),
     Row(
         "encrypt --vault-id project@prompt foo.yml bar.yml baz.yml",
         "encrypts all under the label",
-        typed=[(NEW_OF.format("project"), "new"), (AGAIN_OF.format("project"), "new")],
+        typed=twice("project"),
     ),
     Row("encrypt --vault-password-file a_password_file foo.yml", "encrypts in place"),
+    Row("encrypt foo.yml --vault-id dev@~/tree/a_password_file", "takes options behind a file, and a home"),
     Row(
         "encrypt --vault-id dev@dev-password --vault-id prod@multi_password_file --encrypt-vault-id prod foo.yml",
         "encrypts with one of two secrets",
@@ -92,26 +99,27 @@ ROWS = [
     Row("edit foo.yml", "asks, and edits", "old", [(OLD, "old")]),
     Row("edit --vault-id vault2@prompt foo.yml", "asks, and edits", "old", [("Vault password (vault2): ", "old")]),
     Row("edit --vault-password-file ppold foo.yml bar.yml baz.yml", "edits one after the other", "old"),
-    Row(
-        "rekey foo.yml bar.yml baz.yml",
-        "asks for the old password and the new one",
-        "old",
-        [(OLD, "old"), (NEW, "new"), (AGAIN, "new")],
-    ),
+    Row("rekey foo.yml bar.yml baz.yml", "asks for the old password and the new one", "old", [(OLD, "old"), *TWICE]),
     Row(
         "rekey --vault-id preprod1@ppold --new-vault-id preprod2@prompt foo.yml bar.yml baz.yml",
         "asks for the new password",
         "old",
-        [(NEW_OF.format("preprod2"), "new"), (AGAIN_OF.format("preprod2"), "new")],
+        twice("preprod2"),
     ),
     Row("rekey --vault-id ppold --new-vault-id dev@dev-password foo.yml", "gives another label", "old"),
     Row("rekey --vault-password-file ppold --new-vault-password-file new foo.yml", "gives another secret", "old"),
     Row("rekey --encrypt-vault-id prod foo.yml", "takes the new secret of the settings", "dev", before=LIST),
     Row("decrypt foo.yml bar.yml baz.yml", "asks once, and decrypts all in place", "old", [(OLD, "old")]),
     Row("decrypt --vault-id dev@a_password_file --output - foo.yml", "writes to standard output", "dev"),
+    Row("decrypt --vault-pass-file=$HOME/tree/ppold foo.yml", "takes the other name of an option", "old"),
     Row("encrypt_string --vault-password-file a_password_file 'foobar' --name 'the_secret'", "makes a block"),
     Row(f"encrypt_string {DEV} 'foooodev' --name 'the_dev_secret'", "makes a block with a label"),
     Row(f"encrypt_string {DEV} --stdin-name 'db_password' <<< letmein", "reads standard input"),
+    Row(
+        f"encrypt_string {DEV} --stdin-name 'db_password' --output new.yml <<< letmein",
+        "writes the block of standard input to a file",
+        instead=Instead((2, 14), "!vault |"),
+    ),
     Row(f"encrypt_string {DEV} 'first' 'second' --name one --name two", "makes two blocks"),
     Row(f"encrypt_string {DEV} 'first' 'second' 'third' -n one", "names the first of three blocks"),
     Row(f"encrypt_string {DEV} 'first' --name one --stdin-name two <<< second", "takes both"),
@@ -150,7 +158,7 @@ ROWS = [
         instead=Instead((2, 19), "The --prompt option is not supported if also reading input from stdin"),
         typed_there=[(VARIABLE, "one"), (STRING, "first")],
     ),
-    Row("encrypt_string --ask-vault-pass 'a' --name b", "asks twice", typed=[(NEW, "new"), (AGAIN, "new")]),
+    Row("encrypt_string --ask-vault-pass 'a' --name b", "asks twice", typed=TWICE),
     Row("encrypt --vault-passw a_password_file foo.yml", "takes an abbreviated option"),
     Row("encrypt --vault-i dev@a_password_file --encrypt dev --out=new.yml foo.yml", "takes three of them"),
     Row("view --ask-vault-passw foo.yml", "takes an abbreviated option", "old", [(OLD, "old")]),
@@ -174,7 +182,7 @@ def run(place: Place, tool: str, row: Row) -> Session:
     text = f"shopt -s expand_aliases\nalias ansible-vault={tool}\n{row.before} ansible-vault {row.line}\n"
     answers = [(question, PASSWORDS.get(typed, typed.encode()) + b"\n") for question, typed in row.typed]
     editor = place.script('echo more >> "$1"', "editor")
-    return at_terminal(place, ["bash", "-c", text], *answers, EDITOR=editor)
+    return ask(place, "bash", "-c", text, answers=answers, EDITOR=editor)
 
 
 # The first line of a block, or an empty line for other text; and the described content.
@@ -215,6 +223,6 @@ def test_prompt_beside_the_streams(place: Place) -> None:
     """Questions are asked at the terminal, even if no standard stream is one."""
     place.put("a_password_file", PASSWORDS["dev"], 0o600)
     answers = [(VARIABLE, b"one\n"), (STRING, b"first\n")]
-    session = at_terminal(place, [WITH, "encrypt_string", *DEV.split(), "--prompt"], *answers)
+    session = ask(place, WITH, "encrypt_string", *DEV.split(), "--prompt", answers=answers)
     found = blocks(session.stdout.strip().encode())
     assert found == [(b"one: !vault |", (b"$ANSIBLE_VAULT;1.2;AES256;dev", ("dev", b"first")))], session

@@ -3,27 +3,16 @@
 import os
 
 import pytest
-from companion_cases import AWKWARD, CHANGE, HOOK, TEXT, WITH, Place, block, edit, ended, run_changed, sealed, silent
-from companion_cases.repository import add_and_commit, commit, refused, under_git, unmarking
-from lib.subtests import SubTests
+from companion_cases import AWKWARD, CHANGE, HOOK, TEXT, WITH, Place, edit, ended, run_changed, sealed, silent
+from companion_cases.repository import WHOLE, add_and_commit, commit, refused, unmarking, with_hooks
 
 pytestmark = pytest.mark.usefixtures("git")
 
 ATTRIBUTES = "*.vault.yml diff=ansible-vault\nsecrets/** ansible-vault\n"
 
 
-def with_hook(place: Place) -> None:
-    under_git(place, ATTRIBUTES)
-    (place.tree / ".git/hooks").mkdir(exist_ok=True)
-    (place.tree / ".git/hooks/pre-commit").symlink_to(place.tools / HOOK)
-
-
-def test_what_is_refused(place: Place, subtests: SubTests) -> None:
-    damaged = {
-        "plaintext below": sealed("old") + TEXT,
-        "a word alone": b"$ANSIBLE_VAULT\npassword: plain\n",
-    }
-    with_hook(place)
+def test_what_is_refused(place: Place) -> None:
+    with_hooks(place, ATTRIBUTES)
     place.put("db.vault.yml", TEXT)
     place.put("secrets/key", b"key\n")
     place.put("other.yml", TEXT)
@@ -31,17 +20,13 @@ def test_what_is_refused(place: Place, subtests: SubTests) -> None:
     place.put("db.vault.yml", sealed("old"))
     place.put("secrets/key", sealed("old").replace(b"\n", b"\r\n"))
     silent("vaults", add_and_commit(place))
-    for what, content in damaged.items():
-        with subtests.test(what):
-            place.put("db.vault.yml", content)
-            refused("the commit", add_and_commit(place), "db.vault.yml", why="is a damaged vault")
     place.put("db.vault.yml", b"")
     refused("an empty file", add_and_commit(place), "db.vault.yml")
 
 
 def test_what_is_staged(place: Place) -> None:
     """The hook checks the staged content, not the files in the directory."""
-    with_hook(place)
+    with_hooks(place, ATTRIBUTES)
     place.put("a.vault.yml", TEXT)
     place.shell("git add -A")
     place.put("a.vault.yml", sealed("old"))
@@ -62,7 +47,7 @@ def test_what_is_staged(place: Place) -> None:
 
 def test_links(place: Place) -> None:
     """git stores only the name that a link points to, and no content."""
-    with_hook(place)
+    with_hooks(place, ATTRIBUTES)
     place.put("all.vault.yml", sealed("old"))
     (place.tree / "link.vault.yml").symlink_to("all.vault.yml")
     (place.tree / "dangling.vault.yml").symlink_to("nowhere")
@@ -73,18 +58,9 @@ def test_links(place: Place) -> None:
     refused("a file in the place of a link", add_and_commit(place), "link.vault.yml", hint=hint)
 
 
-def test_blocks(place: Place) -> None:
-    """YAML with blocks is refused if the attribute requires a vault."""
-    with_hook(place)
-    place.put("vars.vault.yml", b"plain: 1\n" + block("old"))
-    silent("diff=ansible-vault", add_and_commit(place))
-    place.put("secrets/vars.yml", block("old"))
-    refused("ansible-vault", add_and_commit(place), "secrets/vars.yml")
-
-
 def test_leftovers(place: Place) -> None:
     """Files that a failed companion left behind are refused, even though `git add -A` stages them."""
-    with_hook(place)
+    with_hooks(place, ATTRIBUTES)
     place.put("inner/a.yml", sealed("old"))
     silent("the vault", add_and_commit(place))
     # It is killed when the new file would replace the old one.
@@ -118,31 +94,26 @@ def leftover(name: str) -> list[str]:
 
 
 def test_awkward_names(place: Place) -> None:
-    with_hook(place)
-    for name in AWKWARD:
-        place.put(f"secrets/{name}", TEXT)
-    done = add_and_commit(place)
-    lines = done.stderr.splitlines()
-    assert (done.returncode, len(lines)) == (1, len(AWKWARD)), "each is refused"
-    is_spelled = any("'secrets/a\\nline.yml' is not" in line for line in lines)
-    assert is_spelled, ("a line end is spelled out", done.stderr)
-    for name in AWKWARD:
-        place.put(f"secrets/{name}", sealed("old"))
+    """Marked files, and files that were vaults."""
+    with_hooks(place, ATTRIBUTES)
+    names = [f"{folder}/{name}" for folder in ("secrets", "others") for name in AWKWARD]
+    for name in names:
+        place.put(name, sealed("old"))
     silent("each is let through", add_and_commit(place))
+    for name in names:
+        place.put(name, TEXT)
+    done = add_and_commit(place)
+    counts = [done.stderr.count(f"{HOOK}: "), done.stderr.count(WHOLE)]
+    assert (done.returncode, counts) == (1, [len(names), len(AWKWARD)]), "each is refused"
+    assert "'secrets/a\\nline.yml' is not" in done.stderr, "a line end is spelled out"
 
 
 def test_where_it_runs(place: Place) -> None:
-    with_hook(place)
+    with_hooks(place, ATTRIBUTES)
     place.put("inner/a.vault.yml", TEXT)
     place.shell("git add -A")
     refused("below the top", commit(place, folder="inner"), "inner/a.vault.yml")
     refused("by hand", place.shell(HOOK, folder="inner"), "inner/a.vault.yml")
     place.shell("git config diff.relative true && git config diff.renames copies && git config core.quotePath true")
     refused("with other settings", place.shell(HOOK, folder="inner"), "inner/a.vault.yml")
-    place.put("inner/a.vault.yml", sealed("old"))
-    silent("a vault", add_and_commit(place))
-    place.shell("git mv inner b.vault && git worktree add -q ../second && echo plain > ../second/c.vault.yml")
-    done = place.shell("cd ../second && git add c.vault.yml && git commit -qm second")
-    refused("another worktree", done, "c.vault.yml")
-    ended("no repository", place.shell(f"cd .. && {HOOK}"), 1, "git rev-parse failed")
     ended("a word", place.run(HOOK, "word"), 1, "'word' did not match any file", "git ls-files failed")

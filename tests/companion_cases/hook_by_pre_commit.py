@@ -7,7 +7,7 @@ from typing import Any
 import pytest
 
 from companion_cases import HOOK, TEXT, Done, Place, block, ended, sealed, silent
-from companion_cases.repository import GONE, WHOLE, add_and_commit, meant, refused, under_git, unmarking
+from companion_cases.repository import GONE, WHOLE, add_and_commit, leaked, refused, under_git, unmarking
 from lib.needs import needs_pyyaml
 from lib.paths import ROOT
 
@@ -51,7 +51,7 @@ def test_pre_commit(place: Place) -> None:
     silent("nothing", by_framework(place))
     place.put("a.yml", TEXT)
     place.shell("git add a.yml")
-    refused("plaintext", by_framework(place), "a.yml", why=WHOLE, hint=meant("a.yml"))
+    leaked("plaintext", by_framework(place), {"a.yml": WHOLE})
     place.shell("git reset -q --hard && git rm -q a.yml")
     silent("a removal", by_framework(place))
     os.unlink(place.tree / "b.yml")

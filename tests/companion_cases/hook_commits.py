@@ -1,14 +1,9 @@
 """ansible-vault-hook in a pipeline (--all, --since)."""
 
-import os
-import signal
-import subprocess
-
 import pytest
 
-from companion_cases import HOOK, TEXT, Place, block, ended, sealed, silent, wait_until
-from companion_cases.repository import IN_PART, WHOLE, committed, meant, refused, under_git, unmarking
-from lib.limits import SECONDS
+from companion_cases import HOOK, TEXT, Place, block, ended, sealed, silent
+from companion_cases.repository import IN_PART, WHOLE, committed, leaked, meant, refused, under_git, unmarking
 from lib.subtests import SubTests
 
 pytestmark = pytest.mark.usefixtures("git")
@@ -50,8 +45,7 @@ def test_each_commit(place: Place, subtests: SubTests) -> None:
     silent("nothing since", place.run(HOOK, "--since", "HEAD"))
     leak = committed(place, "vars.yml", TEXT)
     committed(place, "vars.yml", sealed("new"))
-    done = place.run(HOOK, "--since", first)
-    refused("taken back", done, f"{leak[:10]}: vars.yml", why=WHOLE, hint=meant("vars.yml"))
+    leaked("taken back", place.run(HOOK, "--since", first), {f"{leak[:10]}: vars.yml": WHOLE})
     silent("--all sees it no more", place.run(HOOK, "--all"))
     silent("and neither what came before", place.run(HOOK, "--since", leak))
     marked = committed(place, "a.vault.yml", TEXT)
@@ -74,8 +68,7 @@ def test_merge_commits(place: Place) -> None:
     committed(place, "other.yml", b"a: 1\n")
     place.shell("git checkout -q - && git merge -q --no-ff --no-commit branch")
     merged = committed(place, "vars.yml", TEXT)
-    done = place.run(HOOK, "--since", first)
-    refused("the merge", done, f"{merged[:10]}: vars.yml", why=WHOLE, hint=meant("vars.yml"))
+    leaked("the merge", place.run(HOOK, "--since", first), {f"{merged[:10]}: vars.yml": WHOLE})
 
 
 def test_merge_of_several_branches(place: Place) -> None:
@@ -102,8 +95,7 @@ def test_cherry_picks(place: Place) -> None:
     leak = committed(place, "vars.yml", TEXT)
     place.shell(f"git checkout -q - && git cherry-pick {leak}")
     picked = place.shell("git rev-parse HEAD").stdout.strip()
-    done = place.run(HOOK, "--since", base)
-    refused("a cherry-pick", done, f"{picked[:10]}: vars.yml", why=WHOLE, hint=meant("vars.yml"))
+    leaked("a cherry-pick", place.run(HOOK, "--since", base), {f"{picked[:10]}: vars.yml": WHOLE})
     place.shell(f"git reset -q --hard {base} && git commit -q --allow-empty -m x")
     place.shell("git merge -q --no-verify branch")
     done = place.run(HOOK, "--since", base)
@@ -143,26 +135,6 @@ def test_partial_clones(place: Place, subtests: SubTests) -> None:
             done = place.shell(f"cd ../partial && {HOOK} {words}")
             ended("the hook", done, 1, "this is a partial clone", "clone again without --filter")
     place.put("../partial/a.yml", TEXT)
-    done = place.shell(f"cd ../partial && git add -A && {HOOK}")
-    refused("what is staged in it", done, "a.yml", why=WHOLE, hint=meant("a.yml"))
+    leaked("what is staged in it", place.shell(f"cd ../partial && git add -A && {HOOK}"), {"a.yml": WHOLE})
     done = place.shell(f"cd ../partial && git reset -q --soft HEAD~1 && {HOOK}")
     ended("a content that is missing", done, 1, "this is a partial clone", "clone again without --filter")
-
-
-@pytest.mark.parametrize("number", [signal.SIGINT, signal.SIGTERM])
-@pytest.mark.parametrize("command", ["check-attr", "cat-file"])
-def test_ended(place: Place, command: str, number: int) -> None:
-    """A signal ends the hook while git runs, and nothing is left."""
-    under_git(place, ATTRIBUTES)
-    committed(place, "a.vault.yml", sealed("old"))
-    os.mkfifo(place.path / "never")
-    waits = f": > {place.path}/started; : < {place.path}/never"
-    place.wrap_tool(f'case " $* " in *" {command} "*) {waits};; esac', "git")
-    environment = place.environment | {"TMPDIR": str(place.runtime)}
-    with subprocess.Popen([HOOK, "--all"], cwd=place.tree, env=environment) as process:
-        wait_until((place.path / "started").exists, "git")
-        process.send_signal(number)
-        status = process.wait(SECONDS)
-    # Let the waiting git continue.
-    os.close(os.open(place.path / "never", os.O_RDWR))
-    assert (status, place.left()) == (-number, [])

@@ -4,7 +4,7 @@ import os
 from pathlib import Path
 
 import pytest
-from companion_cases import HOOK, MERGE, TEXT, TEXTCONV, Companions, Done, Place, block, ended, sealed, silent
+from companion_cases import HOOK, MERGE, TEXT, TEXTCONV, Done, Place, block, ended, sealed, silent
 from companion_cases.hook_commits import ATTRIBUTES
 from companion_cases.repository import add_and_commit, again, commit, committed, refused, under_git, unmarking
 from lib.subtests import SubTests
@@ -51,9 +51,8 @@ def test_installed(place: Place) -> None:
     assert (done.returncode, done.stdout.splitlines()) == (0, lines), "again"
 
 
-def test_other_hooks(cases: Companions) -> None:
+def test_other_hooks(place: Place) -> None:
     """An existing hook stays. The message contains the line to add to it."""
-    place = cases.place()
     under_git(place, ATTRIBUTES)
     hook = place.tree / ".git/hooks/pre-commit"
     hook.parent.mkdir(exist_ok=True)
@@ -70,19 +69,6 @@ def test_other_hooks(cases: Companions) -> None:
     done = place.run(HOOK, "--uninstall")
     ended("it is undone", done, 0, f"{hook}: left alone, since --install did not make it", "pre-merge-commit: removed")
     assert hook.read_text() == f"#!/bin/sh\n{HOOK} || exit 1\nexit 0\n", "it stays"
-    place = cases.place()
-    under_git(place, ATTRIBUTES)
-    place.shell("git config core.hooksPath ../my-hooks && mkdir inner")
-    which = "git runs these hooks for this repository and its worktrees: core.hooksPath is set by {}"
-    done = place.shell(f"{HOOK} --install", folder="inner")
-    installs("core.hooksPath", done, place.path / "my-hooks", which=which.format(".git/config"))
-    assert sorted(os.listdir(place.path / "my-hooks")) == ["pre-commit", "pre-merge-commit"], "is where they are"
-    place.put("inner/a.vault.yml", TEXT)
-    refused("and they run", add_and_commit(place), "inner/a.vault.yml")
-    place.shell("git rm -qf --cached inner/a.vault.yml")
-    silent("nothing else is refused", commit(place, "--allow-empty"))
-    assert place.run(HOOK, "--uninstall").returncode == 0
-    assert os.listdir(place.path / "my-hooks") == [], "they are removed from there"
 
 
 def test_moved_programs(place: Place) -> None:
@@ -108,16 +94,33 @@ def test_moved_programs(place: Place) -> None:
     assert os.readlink(hooks / "pre-commit") == "/nowhere/else", "it stays"
 
 
-@pytest.mark.parametrize("variable, whose", (("GLOBAL", "of this user"), ("SYSTEM", "on this machine")))
-def test_for_every_repository(place: Place, variable: str, whose: str) -> None:
+# For which repositories a setting of git chooses the directory of the hooks, and the file of the setting.
+PATHS = {
+    "this repository and its worktrees": ".git/config",
+    "every repository of this user": "{settings}/global",
+    "every repository on this machine": "{settings}/system",
+}
+
+
+@pytest.mark.parametrize("whose", PATHS)
+def test_hooks_path(place: Place, whose: str) -> None:
     under_git(place, ATTRIBUTES)
-    hooks = place.path / "hooks"
-    settings = place.path / "settings"
-    settings.write_text(f"[core]\nhooksPath = {hooks}\n")
-    done = place.run(HOOK, "--install", **{f"GIT_CONFIG_{variable}": str(settings)})
-    which = f"git runs these hooks for every repository {whose}: core.hooksPath is set by {settings}"
-    installs(whose, done, hooks, which=which)
-    assert sorted(os.listdir(hooks)) == ["pre-commit", "pre-merge-commit"]
+    settings, hooks = place.path / "settings", place.path / "hooks"
+    settings.mkdir()
+    place.environment |= {"GIT_CONFIG_GLOBAL": f"{settings}/global", "GIT_CONFIG_SYSTEM": f"{settings}/system"}
+    file = PATHS[whose].format(settings=settings)
+    # A relative path starts at the top directory of the repository.
+    given = "../hooks" if file == ".git/config" else hooks
+    place.shell(f"git config --file {file} core.hooksPath {given} && mkdir inner")
+    which = f"git runs these hooks for {whose}: core.hooksPath is set by {file}"
+    installs(whose, place.run(HOOK, "--install", folder="inner"), hooks, which=which)
+    assert sorted(os.listdir(hooks)) == ["pre-commit", "pre-merge-commit"], "is where they are"
+    place.put("inner/a.vault.yml", TEXT)
+    refused("and they run", add_and_commit(place), "inner/a.vault.yml")
+    place.shell("git rm -qf --cached inner/a.vault.yml")
+    silent("nothing else is refused", commit(place, "--allow-empty"))
+    assert place.run(HOOK, "--uninstall").returncode == 0
+    assert os.listdir(hooks) == [], "they are removed from there"
 
 
 def config(place: Place) -> list[str]:

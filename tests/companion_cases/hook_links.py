@@ -1,7 +1,6 @@
 """ansible-vault-hook follows links to the same files as the system."""
 
 import os
-import stat
 from collections import Counter
 from pathlib import Path
 
@@ -11,8 +10,9 @@ from hypothesis import strategies as st
 
 from ansible_vault_companions.git.contents import LINK_MODE
 from ansible_vault_companions.git.links import target
-from companion_cases import TEXT, Place, sealed, silent
-from companion_cases.repository import WHOLE, add_and_commit, meant, refused, with_hooks
+from companion_cases import HOOK, TEXT, Place, sealed, silent
+from companion_cases.repository import WHOLE, again, leaked, with_hooks
+from lib.subtests import SubTests
 
 FILES = ["plain.yml", "..data/plain.yml", ".../..plain", "deep/er/plain.yml", "deep/.x"]
 TO_FOLDERS = {"across": "deep/er", "..data/back": ".."}
@@ -116,19 +116,29 @@ def test_loops(top: Path) -> None:
                 (top / name).unlink()
 
 
+# The targets of a link in place of a vault, and whether they lead to plaintext in the repository.
+LEAKS = ["plain.yml", "../deep/plain.yml", "../link.yml", "../..data", "../folder/plain.yml"]
+LEAKS += ["../folder/../deep/plain.yml", "{tree}/deep/plain.yml"]
+HARMLESS = ["other.yml", "nowhere.yml", "vault.yml", "/etc/hostname", "../..", "../../outside"]
+
+
 @pytest.mark.usefixtures("git")
-@pytest.mark.parametrize("path", ["..data", "folder/plain.yml", "folder/../deep/plain.yml", "{tree}/deep/plain.yml"])
-def test_commits(place: Place, path: str) -> None:
+def test_commits(place: Place, subtests: SubTests) -> None:
     """A link in place of a vault is refused, however it leads to plaintext."""
     with_hooks(place)
-    place.put("deep/plain.yml", TEXT)
-    place.put("..data", TEXT)
+    for name, content in (("deep/plain.yml", TEXT), ("..data", TEXT), ("deep/other.yml", sealed("new"))):
+        place.put(name, content)
     (place.tree / "folder").symlink_to("deep")
-    place.put("vault.yml", sealed("old"))
-    silent("at first", add_and_commit(place))
-    os.unlink(place.tree / "vault.yml")
-    (place.tree / "vault.yml").symlink_to(path.format(tree=place.tree))
-    assert stat.S_ISREG((place.tree / "vault.yml").stat().st_mode)
-    name = "..data" if path == "..data" else "deep/plain.yml"
-    why = f"points to {name}, and {WHOLE}"
-    refused("plaintext", add_and_commit(place), "vault.yml", why=why, hint=meant("vault.yml"))
+    (place.tree / "link.yml").symlink_to("deep/plain.yml")
+    silent("at first", again(place, "deep/vault.yml", sealed("old")))
+    for path in LEAKS + HARMLESS:
+        with subtests.test(path):
+            os.unlink(place.tree / "deep/vault.yml")
+            (place.tree / "deep/vault.yml").symlink_to(path.format(tree=place.tree))
+            place.shell("git add -A")
+            done = place.run(HOOK)
+            if path in LEAKS:
+                why = f"points to {'..data' if '..data' in path else 'deep/plain.yml'}, and {WHOLE}"
+                leaked("plaintext", done, {"deep/vault.yml": why})
+            else:
+                silent("no plaintext", done)

@@ -4,12 +4,11 @@ import os
 
 import pytest
 
-from companion_cases import HOOK, TEXT, Companions, Done, Place, block, sealed, silent
-from companion_cases.repository import GONE, IN_PART, add_and_commit, again, committed, meant, refused, staged
+from companion_cases import HOOK, TEXT, Done, Place, block, sealed, silent
+from companion_cases.repository import GONE, IN_PART, WHOLE, add_and_commit, again, committed, leaked, staged
 from companion_cases.repository import with_hooks
 from companion_cases.without_pyyaml import hide_pyyaml
 from lib.needs import needs_pyyaml
-from lib.subtests import SubTests
 
 pytestmark = pytest.mark.usefixtures("git")
 
@@ -68,10 +67,8 @@ def test_values(place: Place) -> None:
     stage(place, {what: before for what, (before, _, _) in LEAKS.items()})
     silent("encrypted", add_and_commit(place))
     stage(place, {what: after for what, (_, after, _) in LEAKS.items()})
-    done = place.run(HOOK)
     whys = {f"{what}.yml": IN_PART.format(path) for what, (_, _, path) in sorted(LEAKS.items())}
-    lines = [line for name, why in whys.items() for line in (f"{HOOK}: {name} {why}", meant(name))]
-    assert (done.returncode, done.stderr.splitlines()) == (1, lines), "leaks"
+    leaked("leaks", place.run(HOOK), whys)
 
 
 def test_no_leaks(place: Place) -> None:
@@ -83,17 +80,16 @@ def test_no_leaks(place: Place) -> None:
     silent("no leaks", add_and_commit(place))
 
 
-def test_without_pyyaml(cases: Companions, place: Place) -> None:
+def test_without_pyyaml(place: Place) -> None:
     """Without PyYAML, the variables of each name are counted."""
-    hide_pyyaml(place, cases)
+    hide_pyyaml(place)
     with_hooks(place)
     silent("at first", again(place, "vars.yml", A + B))
-    done = again(place, "vars.yml", A_PLAIN + B)
-    refused("one of two", done, "vars.yml", why=IN_PART.format("password"), hint=meant("vars.yml"))
+    leaked("one of two", again(place, "vars.yml", A_PLAIN + B), {"vars.yml": IN_PART.format("password")})
     done = again(place, "vars.yml", b"a: {x: 1, password: plain}\n" + B)
-    refused("within braces", done, "vars.yml", why=IN_PART.format("password"), hint=meant("vars.yml"))
+    leaked("within braces", done, {"vars.yml": IN_PART.format("password")})
     done = again(place, "vars.yml", b"a:\n  password: !vault |\n    plain\n" + B)
-    refused("the tag stays", done, "vars.yml", why=IN_PART.format("password"), hint=meant("vars.yml"))
+    leaked("the tag stays", done, {"vars.yml": IN_PART.format("password")})
     silent("one that goes", again(place, "vars.yml", B))
     place.put("vars.yml", TEXT)
     silent("all", add_and_commit(place))
@@ -105,12 +101,10 @@ def test_from_file_to_file(place: Place) -> None:
     place.put("a.yml", A + b"x: 1\n")
     silent("at first", again(place, "b.yml", b"y: 1\n"))
     place.put("a.yml", b"x: 1\n")
-    done = again(place, "b.yml", b"y: 1\n" + A_PLAIN)
-    refused("a value", done, "b.yml", why=IN_PART.format("a.password of a.yml"), hint=meant("b.yml"))
+    leaked("a value", again(place, "b.yml", b"y: 1\n" + A_PLAIN), {"b.yml": IN_PART.format("a.password of a.yml")})
     silent("one that stays encrypted", again(place, "b.yml", below("a", block("new", name="password"))))
     place.shell("git mv b.yml c.yml")
-    done = again(place, "c.yml", A_PLAIN)
-    refused("a file", done, "c.yml", why=IN_PART.format("a.password of b.yml"), hint=meant("c.yml"))
+    leaked("a file", again(place, "c.yml", A_PLAIN), {"c.yml": IN_PART.format("a.password of b.yml")})
     place.put("c.yml", B_PLAIN)
     silent("another value", add_and_commit(place))
 
@@ -134,7 +128,7 @@ def test_vaults(place: Place, what: str) -> None:
     silent(f"{what}: at first", again(place, before, sealed("old")))
     place.shell(f"git rm -q {before}")
     done = again(place, after, TEXT * 99 if "longer" in what else TEXT)
-    refused(what, done, after, why=GONE.format(before), hint=meant(after))
+    leaked(what, done, {after: GONE.format(before)})
     silent(f"{what}, encrypted", staged(place, after, sealed("new")))
 
 
@@ -147,7 +141,7 @@ def test_renamed_folders(place: Place) -> None:
     place.shell("git mv host_vars/web host_vars/www && git mv host_vars/www/vault.yml host_vars/www/secret.yml")
     silent("encrypted", place.run(HOOK))
     name = "host_vars/www/secret.yml"
-    refused("decrypted", again(place, name, TEXT), name, why=GONE.format("host_vars/web/vault.yml"), hint=meant(name))
+    leaked("decrypted", again(place, name, TEXT), {name: GONE.format("host_vars/web/vault.yml")})
 
 
 def test_no_moves(place: Place) -> None:
@@ -174,27 +168,6 @@ def test_no_moves(place: Place) -> None:
     silent("has another name, a new secret and another plaintext", again(place, "www/vault.yml", sealed("new")))
 
 
-def test_links(place: Place, subtests: SubTests) -> None:
-    """A link in place of a vault is refused if it points to plaintext in the repository."""
-    with_hooks(place)
-    place.put("deep/plain.yml", TEXT)
-    place.put("deep/other.yml", sealed("new"))
-    (place.tree / "link.yml").symlink_to("deep/plain.yml")
-    silent("at first", again(place, "deep/vault.yml", sealed("old")))
-    why = "points to deep/plain.yml, and is not a vault, but was one in the parent commit"
-    leaks = ("plain.yml", "../deep/plain.yml", "../link.yml")
-    for target in (*leaks, "other.yml", "nowhere.yml", "vault.yml", "/etc/hostname", "../..", "../../outside"):
-        with subtests.test(target):
-            os.unlink(place.tree / "deep/vault.yml")
-            (place.tree / "deep/vault.yml").symlink_to(target)
-            place.shell("git add -A")
-            done = place.run(HOOK)
-            if target in leaks:
-                refused("plaintext", done, "deep/vault.yml", why=why, hint=meant("deep/vault.yml"))
-            else:
-                silent("no plaintext", done)
-
-
 def test_in_two_commits(place: Place) -> None:
     """One commit removes a vault, and a later one adds its plaintext."""
     with_hooks(place)
@@ -205,17 +178,13 @@ def test_in_two_commits(place: Place) -> None:
     place.put("vars.yml", A_PLAIN)
     silent("the hook sees one commit", again(place, "all.yml", TEXT))
     head = place.shell("git rev-parse HEAD").stdout[:10]
-    whys = {"all.yml": "is not a vault, but was one", "vars.yml": "has a.password in plaintext, which was encrypted"}
-    lines = [
-        line for name, why in whys.items() for line in (f"{HOOK}: {head}: {name} {why} in {first[:10]}", meant(name))
-    ]
-    done = place.run(HOOK, "--since", first)
-    assert (done.returncode, done.stderr.splitlines()) == (1, lines), "--since"
-    done = place.run(HOOK, "--all")
-    lines = [f"{HOOK}: all.yml is not a vault, but was one in an earlier commit", meant("all.yml")]
-    assert (done.returncode, done.stderr.splitlines()) == (1, lines), "--all"
+    whys = {"all.yml": WHOLE, "vars.yml": IN_PART.format("a.password")}
+    since = {f"{head}: {name}": why.replace("the parent commit", first[:10]) for name, why in whys.items()}
+    leaked("--since", place.run(HOOK, "--since", first), since)
+    in_an_earlier_one = {"all.yml": WHOLE.replace("the parent", "an earlier")}
+    leaked("--all", place.run(HOOK, "--all"), in_an_earlier_one)
     committed(place, "other.yml", b"a: 1\n")
-    assert place.run(HOOK, "--all").stderr.splitlines() == lines, "--all, later"
+    leaked("--all, later", place.run(HOOK, "--all"), in_an_earlier_one)
     committed(place, ".gitattributes", b"/all.yml -ansible-vault\n")
     silent("--all, where plaintext is meant", place.run(HOOK, "--all"))
     committed(place, ".gitattributes", b"")

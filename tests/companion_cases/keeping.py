@@ -1,6 +1,5 @@
 """ansible-vault-edit keeps what was typed if a step after the editor fails."""
 
-import os
 import re
 import shutil
 import subprocess
@@ -11,7 +10,6 @@ import pytest
 from companion_cases import ABOVE_EDITOR, CHANGE, CHANGED, EDIT, ENCRYPTED, TEXT, Companions, Done, Place, decrypted
 from companion_cases import edit, ended, run_changed, sealed, silent
 from lib.needs import needs_mounts
-from lib.subtests import SubTests
 
 PLAIN = re.compile(r"; what you saved is left in plaintext in (.+)\n\Z")
 
@@ -37,7 +35,7 @@ def check_plain(what: str, place: Place, done: Done, why: str, text: bytes) -> N
     assert found is not None, (f"{what}: the message says where", done.stderr)
     assert place.left() == [], f"{what}: nothing is left in memory"
     [path] = Path(found[1]).iterdir()
-    assert path.parent.parent == Path("/tmp"), f"{what}: it is in $TMPDIR"
+    assert path.parent.parent == place.temporary, f"{what}: it is in $TMPDIR"
     assert path.read_bytes() == text, f"{what}: it is the text"
     modes = [oct(each.stat().st_mode & 0o777) for each in (path.parent, path)]
     assert modes == ["0o700", "0o600"], f"{what}: for its owner alone"
@@ -89,38 +87,44 @@ reading.read = late
     assert place.get("new.yml") == b"theirs", "it stays"
 
 
-def test_full_and_read_only_folders(cases: Companions) -> None:
+def test_read_only_folder(place: Place) -> None:
     """If nothing can be written beside the vault, the copy is kept in $TMPDIR."""
-    place = cases.place()
-    temporary = place.path / "temporary"
-    for folder in (place.tree, place.runtime, temporary):
-        folder.mkdir(exist_ok=True)
+    for folder in (place.tree, place.runtime):
         folder.chmod(0o777)
     place.put("all.yml", sealed("old"), 0o644)
-    if os.geteuid() == 0:
-        os.chown(place.tree / "all.yml", 65_534, 65_534)
-        os.chown(place.tree, 65_534, 65_534)
-    place.environment |= {"EDITOR": place.script(f"{CHANGE}; chmod 555 .", "editor"), "TMPDIR": str(temporary)}
+    place.give("all.yml", ".")
+    place.environment["EDITOR"] = place.script(f"{CHANGE}; chmod 555 .", "editor")
     done = place.as_nobody(EDIT, *place.by_file("old"), "all.yml")
-    check_encrypted("a read-only folder", place, done, "Permission denied", temporary)
+    check_encrypted("a read-only folder", place, done, "Permission denied", place.temporary)
     whole = str(place.tree / "all.yml").replace("/", "%")
-    assert f"{temporary}/.ansible-vault-saved-{whole}-" in done.stderr, "its name has the whole path"
+    assert f"{place.temporary}/.ansible-vault-saved-{whole}-" in done.stderr, "its name has the whole path"
     assert place.get("all.yml") == sealed("old"), "the vault stays"
     place.tree.chmod(0o777)
+
+
+def test_full_disks(place: Place) -> None:
+    """What was saved is encrypted in a new file beside the vault. If there is no space for that, it is left as
+    plaintext in $TMPDIR, and without space there, in the directory of the edit.
+    """
     full = """
+import shutil
 def full(*words, **options):
     raise OSError(28, "No space left on device")
 replacing._write_beside, replacing.check_replaceable = full, lambda target: None
 """
-    place = cases.place()
+    why = "No space left on device"
+    words = [*place.by_file("old"), "all.yml"]
+    place.environment["EDITOR"] = place.script(CHANGE, "editor")
     place.put("all.yml", sealed("old"))
-    editor = place.script(CHANGE, "editor")
-    done = run_changed(place, EDIT, full, [*place.by_file("old"), "all.yml"], EDITOR=editor)
-    check_encrypted("no space", place, done, "No space left on device", place.tree)
+    check_encrypted("the old place", place, run_changed(place, EDIT, full, words), why, place.tree)
     full += "replacing._write_new = full\n"
-    done = run_changed(place, EDIT, full, [*place.by_file("old"), "all.yml"], EDITOR=editor)
-    check_plain("no space anywhere", place, done, "No space left on device", CHANGED)
-    assert place.get("all.yml") == sealed("old"), "the vault stays"
+    check_plain("the directory", place, run_changed(place, EDIT, full, words), why, CHANGED)
+    full += "shutil.copytree = full\n"
+    done = run_changed(place, EDIT, full, words)
+    ended("everything", done, 1, f"{why}; what you saved is left in plaintext in ")
+    [folder] = map(Path, PLAIN.findall(done.stderr))
+    assert (folder.parent, (folder / "all.yml").read_bytes()) == (place.runtime, CHANGED), "it is in its folder"
+    assert place.files() == {"all.yml": sealed("old")}, "the vault stays"
 
 
 def test_mounted_vaults(place: Place) -> None:
@@ -139,14 +143,13 @@ def test_mounted_vaults(place: Place) -> None:
     assert place.get("all.yml") == sealed("old"), "the vault stays"
 
 
-def test_sealing_fails(place: Place) -> None:
-    """The plaintext stays, since there is no other copy."""
+@pytest.mark.parametrize("after", (":", "exit 3", 'sleep 3; rm -r "${1%/*}"'))
+def test_sealing_fails(place: Place, after: str) -> None:
+    """The plaintext stays, since there is no other copy; even if the editor fails, too, or its directory goes."""
     place.put("all.yml", sealed("old"))
     place.wrap_tool('[ "$1" != encrypt ] || { echo "ERROR! out of memory" >&2; exit 4; }')
-    done = edit(place, CHANGE, *place.by_file("old"), "all.yml")
-    check_plain("the tool fails", place, done, "out of memory", CHANGED)
-    done = edit(place, f"{CHANGE}; exit 3", *place.by_file("old"), "all.yml")
-    check_plain("the tool and the editor fail", place, done, "out of memory", CHANGED)
+    done = edit(place, f"{CHANGE}; {after}", *place.by_file("old"), "all.yml")
+    check_plain(after, place, done, "out of memory", CHANGED)
     assert place.get("all.yml") == sealed("old"), "the vault stays"
 
 
@@ -168,42 +171,44 @@ def test_saved_vaults(place: Place, saved: bytes) -> None:
     assert (place.get("all.yml"), place.left()) == (sealed("old"), []), "the vault stays"
 
 
-def test_what_the_editor_left(cases: Companions, subtests: SubTests) -> None:
+# An editor that leaves files of its own.
+LEAVES = 'cd "${1%/*}"; printf typed > .all.yml.swp; : > empty; cp all.yml all.yml~; ln -s nowhere ".#all.yml"'
+SIGNALLED = f"kill -TERM {ABOVE_EDITOR}; sleep 9"
+# How the editor ends, what was saved, and the message before and after the name of the copy.
+ENDS = {
+    "exit 3": (TEXT, "status 3)", "; nothing was changed"),
+    f"{CHANGE}; exit 3": (CHANGED, "status 3)", "; what you saved is "),
+    SIGNALLED: (TEXT, "signal 15 ended the edit", "; nothing was changed"),
+    f'rm "$1"; {SIGNALLED}': (TEXT, "signal 15 ended the edit", "; nothing was changed"),
+}
+
+
+@pytest.mark.parametrize("end", ENDS)
+def test_what_the_editor_left(place: Place, end: str) -> None:
     """If the editor is ended or fails, its own files may contain unsaved text. They are encrypted, too."""
-    leave = 'cd "${1%/*}"; printf typed > .all.yml.swp; : > empty; cp all.yml all.yml~; ln -s nowhere ".#all.yml"'
-    signalled = f"kill -TERM {ABOVE_EDITOR}; sleep 9"
-    ends = {
-        "a failure": (f"{leave}; exit 3", TEXT, "status 3)", "; nothing was changed"),
-        "a failure after a change": (f"{leave}; {CHANGE}; exit 3", CHANGED, "status 3)", "; what you saved is "),
-        "a signal": (f"{leave}; {signalled}", TEXT, "signal 15 ended the edit", "; nothing was changed"),
-        "no file": (f'{leave}; rm "$1"; {signalled}', TEXT, "signal 15 ended the edit", "; nothing was changed"),
-    }
-    for what, (editor, text, why, after) in ends.items():
-        with subtests.test(what):
-            place = cases.place()
-            place.put("all.yml", sealed("old"))
-            done = edit(place, editor, *place.by_file("old"), "all.yml")
-            told = f"{re.escape(why)}; what the editor left is encrypted in ([^;]*){re.escape(after)}"
-            found = re.search(told, done.stderr)
-            assert found is not None, ("the message says where", done.stderr)
-            names = [name for name in place.names() if name != "all.yml"]
-            texts = sorted(decrypted("old", place.get(name)) or b"" for name in names)
-            assert texts == ([b"typed"] if text == TEXT else [CHANGED, b"typed"]), "the copies"
-            of_swap = re.compile(r"\.ansible-vault-saved-all\.yml-\w{8}-\.all\.yml\.swp")
-            [swap] = filter(of_swap.fullmatch, names)
-            assert found[1] == str(place.tree / swap), "it is named"
-            assert place.get("all.yml") == sealed("old"), "the vault stays"
-            assert place.left() == [], "no plaintext is left"
-    place = cases.place()
+    text, why, after = ENDS[end]
     place.put("all.yml", sealed("old"))
-    silent("an editor that ends well", edit(place, f"{leave}; {CHANGE}", *place.by_file("old"), "all.yml"))
+    done = edit(place, f"{LEAVES}; {end}", *place.by_file("old"), "all.yml")
+    found = re.search(f"{re.escape(why)}; what the editor left is encrypted in ([^;]*){re.escape(after)}", done.stderr)
+    assert found is not None, ("the message says where", done.stderr)
+    names = [name for name in place.names() if name != "all.yml"]
+    texts = sorted(decrypted("old", place.get(name)) or b"" for name in names)
+    assert texts == ([b"typed"] if text == TEXT else [CHANGED, b"typed"]), "the copies"
+    of_swap = re.compile(r"\.ansible-vault-saved-all\.yml-\w{8}-\.all\.yml\.swp")
+    [swap] = filter(of_swap.fullmatch, names)
+    assert found[1] == str(place.tree / swap), "it is named"
+    assert (place.get("all.yml"), place.left()) == (sealed("old"), []), "the vault stays, and no plaintext is left"
+
+
+def test_what_a_good_editor_left(place: Place) -> None:
+    place.put("all.yml", sealed("old"))
+    silent("an editor that ends well", edit(place, f"{LEAVES}; {CHANGE}", *place.by_file("old"), "all.yml"))
     assert place.names() == ["all.yml"], "no copy is made"
 
 
 @pytest.mark.parametrize("name, editor", {"at once": ":", "after a while": f"{CHANGE}; sleep 3"}.items())
-def test_folders_that_go(cases: Companions, name: str, editor: str) -> None:
+def test_folders_that_go(place: Place, name: str, editor: str) -> None:
     """A saved text is not lost if the directory of the plaintext is removed, as logging out may do."""
-    place = cases.place()
     place.put("all.yml", sealed("old"))
     done = edit(place, f'{editor}; rm -r "${{1%/*}}"', *place.by_file("old"), "all.yml")
     if name == "at once":
@@ -216,27 +221,13 @@ def test_folders_that_go(cases: Companions, name: str, editor: str) -> None:
 
 def test_folder_of_the_vault_that_goes(place: Place) -> None:
     """The encrypted copy is then kept in $TMPDIR."""
-    temporary = place.path / "temporary"
-    temporary.mkdir()
     place.put("folder/all.yml", sealed("old"))
-    words = [*place.by_file("old"), "folder/all.yml"]
-    done = edit(place, f"{CHANGE}; rm -r folder", *words, TMPDIR=str(temporary))
-    check_encrypted("the folder", place, done, "No such file or directory", temporary)
-
-
-def test_folder_and_tool_that_go(place: Place) -> None:
-    """If no encrypted copy can be made either, the saved text is written to $TMPDIR."""
-    place.put("all.yml", sealed("old"))
-    place.wrap_tool('[ "$1" != encrypt ] || { echo "ERROR! out of memory" >&2; exit 4; }')
-    done = edit(place, f'{CHANGE}; sleep 3; rm -r "${{1%/*}}"', *place.by_file("old"), "all.yml")
-    check_plain("the folder and the tool", place, done, "out of memory", CHANGED)
+    done = edit(place, f"{CHANGE}; rm -r folder", *place.by_file("old"), "folder/all.yml")
+    check_encrypted("the folder", place, done, "No such file or directory", place.temporary)
 
 
 def test_earlier_copies(place: Place) -> None:
     """The next edit of a vault names its earlier copies."""
-    temporary = place.path / "temporary"
-    temporary.mkdir()
-    place.environment["TMPDIR"] = str(temporary)
     for name in ("all.yml", "all.yml-more"):
         place.put(name, sealed("old"))
         left = 'printf typed > "$1.save"; exit 3'
@@ -244,7 +235,7 @@ def test_earlier_copies(place: Place) -> None:
     copies = [place.tree / name for name in place.names() if name.startswith(".ansible-vault-saved-all.yml-")]
     copies = sorted(copy for copy in copies if "more" not in copy.name)
     assert len(copies) == 2, "there are two of the first"
-    elsewhere = temporary / f".ansible-vault-saved-{str(place.tree).replace('/', '%')}%all.yml-abcd1234"
+    elsewhere = place.temporary / f".ansible-vault-saved-{str(place.tree).replace('/', '%')}%all.yml-abcd1234"
     elsewhere.write_bytes(sealed("old"))
     done = edit(place, "true", *place.by_file("old"), "all.yml")
     told = "an earlier edit is encrypted in {}; ansible-vault-textconv shows it"
@@ -254,26 +245,6 @@ def test_earlier_copies(place: Place) -> None:
     place.environment["TMPDIR"] = str(place.tree)
     done = edit(place, f"{CHANGE}; exit 3", *place.by_file("old"), "all.yml")
     ended("a vault in $TMPDIR", done, 1, "what you saved is encrypted in ")
-
-
-def test_no_other_place(place: Place) -> None:
-    """If $TMPDIR cannot be written either, the plaintext stays in its directory."""
-    place.put("all.yml", sealed("old"))
-    (place.path / "file").touch()
-    full = """
-def full(*words, **options):
-    raise OSError(28, "No space left on device")
-replacing.replace = replacing._write_new = full
-replacing.check_replaceable = lambda target: None
-import shutil
-shutil.copytree = full
-"""
-    editor = place.script(CHANGE, "editor")
-    done = run_changed(place, EDIT, full, [*place.by_file("old"), "all.yml"], EDITOR=editor)
-    ended("no place", done, 1, "No space left on device; what you saved is left in plaintext in ")
-    [folder] = map(Path, PLAIN.findall(done.stderr))
-    assert (folder.parent, (folder / "all.yml").read_bytes()) == (place.runtime, CHANGED), "it is in its folder"
-    assert place.get("all.yml") == sealed("old"), "the vault stays"
 
 
 def test_faults_of_its_own(place: Place) -> None:
@@ -315,10 +286,9 @@ def test_lost_passwords(place: Place) -> None:
 
 
 @pytest.mark.parametrize("attempt", range(3))
-def test_busy_helpers(cases: Companions, attempt: int) -> None:
+def test_busy_helpers(place: Place, attempt: int) -> None:
     """A program that the editor leaves running may write while the directory is removed."""
     helper = '(while [ "$n" != 100 ] && mkdir "${1%/*}/$((n += 1))"; do :; done) > /dev/null 2>&1 &'
-    place = cases.place()
     place.put("all.yml", sealed("old"))
     silent("a busy helper", edit(place, f"{CHANGE}; {helper}", *place.by_file("old"), "all.yml"))
     assert decrypted("old", place.get("all.yml")) == CHANGED, "the text is changed"

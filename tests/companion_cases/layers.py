@@ -11,7 +11,7 @@ OF_DEV, OF_PROD = b"the word of dev\n", b"the word of prod\n"
 SHOWN = b"a: !vault |\n  the word of dev\nb: !vault |\n  the word of prod\n"
 # A value for which no secret is chosen, and a text that is not YAML.
 UNFINISHED = {"a new value": "new: !vault more", "no YAML": 'c: !vault "more'}
-KEPT = re.compile(r"; what you saved is encrypted in (\S+), under 2 secrets in turn\n")
+KEPT = re.compile(r"; what you saved is encrypted in (\S+), with 2 secrets, one inside the other\n")
 NOTE = b"# The vault below is under another secret; ansible-vault-edit decrypts both.\n"
 
 
@@ -38,8 +38,7 @@ def copy_of(what: str, place: Place, line: str) -> str:
 
 
 @pytest.mark.parametrize("what, line", UNFINISHED.items())
-def test_under_each(cases: Companions, what: str, line: str) -> None:
-    place = cases.place()
+def test_under_each(place: Place, what: str, line: str) -> None:
     copy = place.get(copy_of(what, place, line))
     assert copy.startswith(b"$ANSIBLE_VAULT;1.2;AES256;dev\n"), f"{what}: the outer label"
     outer = decrypted("dev", copy) or b""
@@ -72,17 +71,12 @@ def test_edited_again(place: Place, subtests: SubTests) -> None:
     assert decrypted("prod", outer.removeprefix(NOTE)) == wanted, "a copy of the copy"
 
 
-def test_shown(place: Place) -> None:
+def test_other_companions(place: Place) -> None:
+    """They find both layers."""
     name = copy_of("a copy", place, "new: !vault more")
     both = [*place.by_id("dev", "dev"), *place.by_id("prod", "prod")]
     shown = place.run(TEXTCONV, *both, name)
     assert (shown.stdout, shown.stderr) == (SHOWN.decode() + "new: !vault more\n", ""), "within both is the text"
-
-
-def test_checked_and_rotated(place: Place) -> None:
-    """The other companions find both layers."""
-    name = copy_of("a copy", place, "new: !vault more")
-    both = [*place.by_id("dev", "dev"), *place.by_id("prod", "prod")]
     ended("check", place.run(CHECK, *both, name), 0, "2 decrypted, 0 not")
     ended("check with one", place.run(CHECK, *place.by_id("dev", "dev"), name), 1, "1 decrypted, 1 not")
     new = place.by_id("prod", "prod2", "new-")
@@ -106,14 +100,14 @@ def test_by_password(cases: Companions) -> None:
     place.put("vars.yml", block("dev", TEXT, "dev", "a"))
     both = [*place.by_id("dev", "dev"), *place.by_id("prod", "prod")]
     done = edit(place, typed, *both, "--encrypt-vault-id", "prod", "vars.yml")
-    ended("a new value", done, 1, "under 2 secrets in turn")
+    ended("a new value", done, 1, "with 2 secrets, one inside the other")
     [name] = [name for name in place.names() if name != "vars.yml"]
     assert b"horse" not in (decrypted("dev", place.get(name)) or b"horse"), "dev alone does not read it"
     place = cases.place()
     place.put("vars.yml", b"a: !vault first\n")
     both = [*place.by_id("dev", "dev"), *place.by_id("prod", "prod")]
     done = edit(place, 'echo more >> "$1"', *both, "vars.yml")
-    ended("no secret is chosen", done, 1, "under 2 secrets in turn")
+    ended("no secret is chosen", done, 1, "with 2 secrets, one inside the other")
     place = cases.place()
     place.put("all.yml", sealed("old", NOTE + sealed("new", b"a\n")))
     both = [*place.by_file("old"), *place.by_file("new")]

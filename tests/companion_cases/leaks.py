@@ -4,10 +4,9 @@ import re
 
 import pytest
 
-from companion_cases import AWKWARD, HOOK, TEXT, Companions, Place, block, ended, sealed, silent
-from companion_cases.repository import IN_PART, WHOLE, add_and_commit, again, commit, meant, refused, staged
-from companion_cases.repository import unmarking, with_hooks
-from ansible_vault_companions.git.damage import TORN, merge_again
+from companion_cases import HOOK, TEXT, Place, block, ended, sealed, silent
+from companion_cases.repository import IN_PART, WHOLE, add_and_commit, again, commit, committed, leaked, refused
+from companion_cases.repository import staged, unmarking, with_hooks
 from lib.subtests import SubTests
 
 pytestmark = pytest.mark.usefixtures("git")
@@ -18,16 +17,14 @@ def test_unmarked_vaults(place: Place, subtests: SubTests) -> None:
     with_hooks(place)
     place.put("plain.yml", TEXT)
     silent("a vault", again(place, "group_vars/all.yml", sealed("old")))
-    done = again(place, "group_vars/all.yml", TEXT)
-    refused("plaintext", done, "group_vars/all.yml", why=WHOLE, hint=meant("group_vars/all.yml"))
+    leaked("plaintext", again(place, "group_vars/all.yml", TEXT), {"group_vars/all.yml": WHOLE})
     for what, content in {
         "a part of it": sealed("old")[:-100],
         "plaintext below": sealed("old") + TEXT,
         "plaintext with a block": TEXT + block("old"),
     }.items():
         with subtests.test(what):
-            done = staged(place, "group_vars/all.yml", content)
-            refused("the hook", done, "group_vars/all.yml", why=WHOLE, hint=meant("group_vars/all.yml"))
+            leaked("the hook", staged(place, "group_vars/all.yml", content), {"group_vars/all.yml": WHOLE})
     silent("another vault", again(place, "group_vars/all.yml", sealed("new")))
     silent("plaintext elsewhere", again(place, "plain.yml", TEXT * 2))
     place.shell("git rm -q group_vars/all.yml")
@@ -38,9 +35,7 @@ def test_unmarked_vaults(place: Place, subtests: SubTests) -> None:
     silent("vaults that the tool does not read", add_and_commit(place))
     place.put("old.yml", TEXT)
     place.put("cut.yml", TEXT)
-    done = add_and_commit(place)
-    lines = [line for name in ("cut.yml", "old.yml") for line in (f"{HOOK}: {name} {WHOLE}", meant(name))]
-    assert (done.returncode, done.stderr.splitlines()) == (1, lines), "their plaintext"
+    leaked("their plaintext", add_and_commit(place), {"cut.yml": WHOLE, "old.yml": WHOLE})
 
 
 def test_decrypted_blocks(place: Place, subtests: SubTests) -> None:
@@ -69,45 +64,21 @@ def test_decrypted_blocks(place: Place, subtests: SubTests) -> None:
         with subtests.test(name):
             done = staged(place, "vars.yml", content)
             why = IN_PART.format(name).replace("was", "were" if "," in name else "was")
-            refused("the hook", done, "vars.yml", why=why, hint=meant("vars.yml"))
-    refused("the commit", commit(place), "vars.yml", why=IN_PART.format("f[]"), hint=meant("vars.yml"))
+            leaked("the hook", done, {"vars.yml": why})
+    leaked("the commit", commit(place), {"vars.yml": IN_PART.format("f[]")})
 
 
-def test_merges(cases: Companions) -> None:
-    """The third of the usual leaks: a merge brings plaintext, with or without a conflict, from either side."""
-    place = cases.place()
+def test_merges(place: Place) -> None:
+    """The third of the usual leaks: a merge without a conflict brings plaintext."""
     with_hooks(place)
     again(place, "vars.yml", sealed("old"))
     place.shell("git checkout -qb branch")
-    place.put("vars.yml", TEXT)
-    place.shell("git add -A && git commit -qm plain --no-verify && git checkout -q -")
+    committed(place, "vars.yml", TEXT)
+    place.shell("git checkout -q -")
     again(place, "other.yml", b"a: 1\n")
     done = place.shell("git merge --no-edit -q branch")
     assert done.returncode != 0, ("a clean merge is refused", done.stderr)
     assert f"{HOOK}: vars.yml {WHOLE}\n" in done.stderr, "with the reason"
-    place.shell("git merge --abort || git reset -q --hard")
-    place = cases.place()
-    with_hooks(place)
-    again(place, "a.yml", b"a: 1\n")
-    place.shell("git checkout -qb branch")
-    again(place, "vars.yml", sealed("old"))
-    place.shell("git checkout -q -")
-    again(place, "other.yml", b"a: 1\n")
-    # Only their side has the vault, and plaintext is committed in its place.
-    place.shell("git merge --no-commit branch")
-    done = again(place, "vars.yml", TEXT)
-    refused("theirs in plaintext", done, "vars.yml", why=WHOLE, hint=meant("vars.yml"))
-    place.put("vars.yml", sealed("new"))
-    silent("theirs encrypted", add_and_commit(place))
-    place = cases.place()
-    with_hooks(place)
-    again(place, "vars.yml", sealed("old"))
-    for branch, password in (("ours", "new"), ("theirs", "dev")):
-        place.shell(f"git checkout -qb {branch} master 2>/dev/null || git checkout -qb {branch} main")
-        again(place, "vars.yml", sealed(password))
-    place.shell("git merge -q ours")
-    done = add_and_commit(place)
-    refused("conflict markers in a vault", done, "vars.yml", why=TORN, hint=f"  {merge_again('vars.yml')}")
 
 
 def test_marked_content(place: Place, subtests: SubTests) -> None:
@@ -115,6 +86,8 @@ def test_marked_content(place: Place, subtests: SubTests) -> None:
     digits = sealed("old").partition(b"\n")[2]
     damaged = {
         "a bare header": b"$ANSIBLE_VAULT;1.1;AES256\n",
+        "a word alone": b"$ANSIBLE_VAULT\npassword: plain\n",
+        "plaintext below": sealed("old") + TEXT,
         "a word after the header": b"$ANSIBLE_VAULT;1.1;AES256;pw=plain\n",
         "a word after the label": b"$ANSIBLE_VAULT;1.2;AES256;prod;pw=plain\n" + digits,
         "digits of a text": b"$ANSIBLE_VAULT;1.1;AES256\n" + TEXT.hex().encode() + b"\n",
@@ -128,7 +101,7 @@ def test_marked_content(place: Place, subtests: SubTests) -> None:
         "digits that end early": b"".join(lines[:3]) + b"b: 1\n",
         "a header alone": b"".join(lines[:2]),
     }
-    with_hooks(place, "*.vault.yml diff=ansible-vault\n")
+    with_hooks(place, "*.vault.yml diff=ansible-vault\n*.whole.yml ansible-vault\n")
     for what, content in damaged.items():
         with subtests.test(what):
             refused("the hook", staged(place, "a.vault.yml", content), "a.vault.yml", why="is a damaged vault")
@@ -139,6 +112,7 @@ def test_marked_content(place: Place, subtests: SubTests) -> None:
     marks = block("old") + b"<<<<<<< HEAD\nb: 1\n=======\nb: 2\n>>>>>>> branch\n"
     refused("markers", again(place, "a.vault.yml", marks), "a.vault.yml", why="has git's conflict markers")
     silent("blocks", again(place, "a.vault.yml", block("old") + b"x: 1\n\n" + block("old", name="b") + b"\n"))
+    refused("blocks where a vault has to be", again(place, "a.whole.yml", block("old")), "a.whole.yml")
 
 
 def test_plain_beside_vaults(place: Place) -> None:
@@ -168,17 +142,3 @@ def test_outside_of_git(place: Place, subtests: SubTests) -> None:
     for line in ("--all", "--since HEAD", "--install", ""):
         with subtests.test(f"{HOOK} {line}"):
             ended("no repository", place.run(HOOK, *line.split()), 1, "ansible-vault-hook: git rev-parse failed")
-    for line in ("--all --install", "--since"):
-        with subtests.test(f"{HOOK} {line}"):
-            ended("the words", place.run(HOOK, *line.split()), 2, "usage: ansible-vault-hook")
-
-
-def test_awkward_names(place: Place) -> None:
-    with_hooks(place)
-    for name in AWKWARD:
-        place.put(f"group_vars/{name}", sealed("old"))
-    silent("vaults", add_and_commit(place))
-    for name in AWKWARD:
-        place.put(f"group_vars/{name}", TEXT)
-    done = add_and_commit(place)
-    assert (done.returncode, done.stderr.count(WHOLE)) == (1, len(AWKWARD)), "each is refused"

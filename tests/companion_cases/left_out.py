@@ -4,7 +4,7 @@ import os
 
 import pytest
 
-from companion_cases import CHECK, ROTATE, TEXT, Companions, Place, block, decrypted, ended, sealed, summary, to_new
+from companion_cases import CHECK, ROTATE, TEXT, Place, block, decrypted, ended, sealed, summary, to_new
 from companion_cases.repository import under_git
 from companion_cases.trees import found
 from lib.needs import needs
@@ -35,26 +35,19 @@ def test_excluded(place: Place, patterns: tuple[str, ...]) -> None:
 
 
 def test_named(place: Place) -> None:
-    """A file is left out even if it is given as a PATH."""
+    """A file is left out even if it is given as a PATH. A rotation leaves out the same files."""
     for name in FILES:
         place.put(name, sealed("old"))
-    left = found(place, "--exclude", "tests/*", "--exclude", "b.txt", *FILES)
-    assert left == ["[x]/e.yml", "a.yml", "roles/tests/d.yml"]
+    left_out = ["--exclude", "tests/*", "--exclude", "b.txt"]
+    others = ["[x]/e.yml", "a.yml", "roles/tests/d.yml"]
+    assert found(place, *left_out, *FILES) == others
+    ended("the others", place.run(ROTATE, *to_new(place), *left_out, *FILES), 0, summary(3))
+    assert sorted(name for name in FILES if place.get(name) != sealed("old")) == others
 
 
-def test_rotated(place: Place) -> None:
-    for name in FILES:
-        place.put(name, sealed("old"))
-    done = place.run(ROTATE, *to_new(place), "--exclude", "tests", ".")
-    ended("the others", done, 0, summary(3))
-    kept = [name for name in FILES if place.get(name) == sealed("old")]
-    assert kept == [name for name in FILES if "tests" in name], "what is left out stays"
-
-
-def test_tracked(cases: Companions) -> None:
+def test_tracked(place: Place) -> None:
     """--tracked covers a repository within another one. A link counts as the file that it points to."""
     needs("git")
-    place = cases.place()
     under_git(place, "*.yml diff=ansible-vault\n")
     place.put("it's ä.yml", sealed("old"))
     place.put("deep/a.yml", block("old"))

@@ -1,7 +1,6 @@
 """ansible-vault-check in a repository: marked files, and labels for which the user has no secret."""
 
 import os
-import subprocess
 
 import pytest
 
@@ -72,14 +71,14 @@ def test_some_labels(place: Place) -> None:
     place.put("b.yml", sealed("prod", label="prod"))
     place.put("c.yml", block("dev", label="dev") + block("old") + block("old", label="prod", name="x"))
     dev = place.by_id("dev", "dev")
-    reported = "2 decrypted, 0 not, 3 of other labels (default 1, prod 2)\n"
+    reported = "2 decrypted, 0 not, 3 with other labels (default 1, prod 2)\n"
     ended("one label", place.run(CHECK, *dev, "--label", "dev", "."), 0, reported)
     done = place.run(CHECK, *dev, "--label", "dev", "--label", "prod", ".")
-    counts = "2 decrypted, 2 not, 1 of other labels (default 1)"
+    counts = "2 decrypted, 2 not, 1 with other labels (default 1)"
     ended("two labels", done, 1, "./b.yml: prod: no secret", counts)
     place.put("d.yml", sealed("old", label="dev"))
     done = place.run(CHECK, *dev, "--label", "dev", ".")
-    counts = "2 decrypted, 1 not, 3 of other labels"
+    counts = "2 decrypted, 1 not, 3 with other labels"
     ended("one that cannot be decrypted", done, 1, "./d.yml: dev: no secret", counts)
     done = place.run(CHECK, *dev, "--label", "prdo", "--label", "prod", "--label", "none", "b.yml")
     nothing = [f"{CHECK}: no vault or block has the label {label}" for label in ("none", "prdo")]
@@ -134,21 +133,17 @@ def test_starts_of_the_tool(place: Place, subtests: SubTests) -> None:
         with subtests.test(name):
             place.put(name, content)
             words = [word for each in secrets for word in place.by_id("prod" if each == "prod" else "default", each)]
-            trace = place.path / "trace"
-            companion = str(place.tools / TEXTCONV)
-            tracer = ["strace", "-f", "-o", str(trace), "-e", "trace=execve", companion]
-            assert place.run(*tracer, *words, name).returncode == 0, "status"
-            starts = [line for line in trace.read_text().splitlines() if '/ansible-vault", ' in line]
-            assert len(starts) == count, "starts of the tool"
+            done, lines = place.traced("-e trace=execve", TEXTCONV, *words, name)
+            starts = [line for line in lines if '/ansible-vault", ' in line]
+            assert (done.returncode, len(starts)) == (0, count), "starts of the tool"
 
 
 @pytest.mark.parametrize("name", ("a.yml", "--", "-h.yml", "--version"))
 def test_files_behind_dashes(place: Place, name: str) -> None:
     place.put(name, sealed("old"))
     for words in (["--", name], [name]):
-        command = [TEXTCONV, *place.by_file("old"), *words]
-        done = subprocess.run(command, cwd=place.tree, env=place.environment, capture_output=True)
-        assert (done.returncode, done.stdout, done.stderr) == (0, TEXT, b""), words
+        done = place.run(TEXTCONV, *place.by_file("old"), *words)
+        assert (done.returncode, done.stdout, done.stderr) == (0, TEXT.decode(), ""), words
 
 
 @pytest.mark.usefixtures("git")

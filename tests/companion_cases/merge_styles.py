@@ -3,7 +3,6 @@ with each kind of line end.
 """
 
 import re
-import subprocess
 from typing import Iterator
 
 import pytest
@@ -54,7 +53,7 @@ def by_git(place: Place, contents: list[bytes]) -> tuple[bytes, int]:
         place.put(f"../plain/{name}", content)
     names = ["-L", "ours", "-L", "base", "-L", "theirs"]
     words = ["git", "merge-file", "-p", *names, *(f"../plain/{name}" for name in ("ours", "base", "theirs"))]
-    done = subprocess.run(words, cwd=place.tree, env=place.environment, capture_output=True)
+    done = place.run_on(b"", *words)
     return done.stdout, done.returncode
 
 

@@ -1,11 +1,8 @@
 """ansible-vault-merge as git runs it: two branches change a vault, or values of YAML that are vaults."""
 
-from contextlib import contextmanager
-from typing import Iterator
-
 import pytest
 
-from companion_cases import CHECK, EDIT, HOOK, MERGE, PASSWORDS, TEXT, Companions, Done, Place, block, decrypted, edit
+from companion_cases import CHECK, EDIT, HOOK, MERGE, PASSWORDS, TEXT, Done, Place, block, decrypted, edit
 from companion_cases import ended, lines_of, sealed, silent, texts, versions
 from companion_cases.both import written_by_theirs
 from companion_cases.repository import add_and_commit, commit, under_git
@@ -72,15 +69,6 @@ def test_with_conflict(place: Place) -> None:
     silent("the commit", add_and_commit(place))
 
 
-def test_labels(place: Place) -> None:
-    words = [*place.by_file("old"), *place.by_id("prod", "prod")]
-    ours, other = sealed("old", OURS), sealed("prod", THEIRS, "prod")
-    done = branches(place, {"a.yml": sealed("old", BASE)}, {"a.yml": ours}, {"a.yml": other}, *words)
-    why = "a.yml: not merged, so ours stays as it was: the labels differ: default in ours, prod in theirs"
-    ended("labels", done, 1, why)
-    assert place.get("a.yml") == ours, "ours stays"
-
-
 def test_rotated(place: Place) -> None:
     """What one side encrypted with a new secret stays encrypted with it."""
     words = [*place.by_file("old"), *place.by_file("new")]
@@ -92,115 +80,89 @@ def test_rotated(place: Place) -> None:
     assert texts(place.get("b.yml"), "new") == [b"I", b"2"], "the values"
 
 
-def test_rotated_and_moved(cases: Companions, subtests: SubTests) -> None:
+MOVED = {"a tag": (b"!vault", b"!Vault"), "a key": (b"k:", b"key:"), "a comment": (b"k:", b"# k: x\nt:")}
+
+
+@pytest.mark.parametrize("are_exchanged", (False, True))
+@pytest.mark.parametrize("what", MOVED)
+def test_rotated_and_moved(place: Place, what: str, are_exchanged: bool) -> None:
     """The old envelope does not come back if the other side has moved it, or given it another tag."""
     base = b"a: 1\nb: 1\n" + block("old", name="k") + b"y: 1\nz: 1\n"
-    ours = base.replace(block("old", name="k"), block("new", name="k"))
-    moves = {"a tag": (b"!vault", b"!Vault"), "a key": (b"k:", b"key:"), "a comment": (b"k:", b"# k: x\nt:")}
-    for what, change in moves.items():
-        for sides in ((ours, base.replace(*change)), (base.replace(*change), ours)):
-            with subtests.test(f"{what}: {sides.index(ours)}"):
-                place = cases.place()
-                words = [*place.by_file("old"), *place.by_file("new"), *versions(place, "a.yml", base, *sides)]
-                ended(what, place.run(MERGE, *words), 1, "a.yml: 1 conflict")
-                assert TEXT in texts(place.get("a.yml"), "new"), "the new one is there"
+    sides = [base.replace(block("old", name="k"), block("new", name="k")), base.replace(*MOVED[what])]
+    merge = versions(place, "a.yml", base, *(reversed(sides) if are_exchanged else sides))
+    done = place.run(MERGE, *place.by_file("old"), *place.by_file("new"), *merge)
+    ended(what, done, 1, "a.yml: 1 conflict")
+    assert TEXT in texts(place.get("a.yml"), "new"), "the new one is there"
 
 
-# Versions that are not merged, and why.
-REFUSED = {
-    "theirs: no secret decrypts this vault (no label; ": (sealed("old"), sealed("old", OURS), sealed("dev", THEIRS)),
-    "ours: no secret decrypts this vault (label dev; ": (sealed("old"), sealed("dev", OURS, "dev"), sealed("old")),
-    "base: no secret decrypts this vault (no label; ": (sealed("dev"), sealed("old", OURS), sealed("old", THEIRS)),
-    "one side is a vault and the other is not": (sealed("old"), sealed("old", OURS), THEIRS),
-    "both sides changed its secret, and the new secrets differ": (sealed("old"), sealed("new"), sealed("prod")),
-    "git merge-file cannot merge it; it may be binary": (
-        sealed("old"),
-        sealed("old", b"a\0\n"),
-        sealed("old", b"b\0\n"),
-    ),
-    "theirs: vault header line is malformed": (sealed("old"), sealed("old", OURS), b"$ANSIBLE_VAULT;1.1\n"),
-}
-
-
+OF_PROD, OUR_PROD = (block("prod", text, "prod", "k") + b"z: 1\n" for text in (b"old", b"new"))
 NO_SIDE = "git can merge its lines, but the result has a value"
 # Versions whose lines git would merge: digits of an envelope within a text, and lines that together are not YAML.
 WITHIN = [b"text: |\n  a: %s |\n%s\n" % (tag, lines_of(sealed("old", BASE), 4)) for tag in (b"!vault", b"vault")]
 QUOTED = block("old") + b"a: 1\nb: 1\nc: 1\nd: 1\ne: 1\n"
-REFUSED |= {
-    why: (text, text.replace(b"AES256\n    3", b"AES256\n    4"), text[:-2] + b"0\n")
-    for why, text in zip((f"{NO_SIDE} that", NO_SIDE), WITHIN)
-} | {
+# Versions that are not merged, and why.
+REFUSED = {
+    "theirs: no secret decrypts this vault (no label; ": (sealed("old"), sealed("old", OURS), sealed("dev2", THEIRS)),
+    "ours: no secret decrypts this vault (label dev; ": (sealed("old"), sealed("dev2", OURS, "dev"), sealed("old")),
+    "base: no secret decrypts this vault (no label; ": (sealed("dev2"), sealed("old", OURS), sealed("old", THEIRS)),
+    "one side is a vault and the other is not": (sealed("old"), sealed("old", OURS), THEIRS),
+    "both sides changed its secret, and the new secrets differ": (sealed("old"), sealed("new"), sealed("prod2")),
+    "git merge-file cannot merge it; it may be binary": (sealed("old"), *(sealed("old", b"\0%d" % n) for n in (1, 2))),
+    "theirs: vault header line is malformed": (sealed("old"), sealed("old", OURS), b"$ANSIBLE_VAULT;1.1\n"),
+    "the labels differ: default in ours, prod in theirs": (
+        sealed("prod", BASE),
+        sealed("prod", OURS),
+        sealed("prod", THEIRS, "prod"),
+    ),
+    "secrets with different labels decrypt the two sides: prod ours, dev theirs": (
+        sealed("prod", BASE),
+        sealed("prod", OURS),
+        sealed("dev", b"x"),
+    ),
+    # The secret of another label decrypts a side.
+    "theirs: its label is prod, but dev@": (
+        sealed("prod", BASE, "prod"),
+        sealed("prod", OURS, "prod"),
+        sealed("dev", b"x", "prod"),
+    ),
+    "ours: its label is prod, but dev@": (
+        sealed("prod", BASE, "prod"),
+        sealed("dev", OURS, "prod"),
+        sealed("dev", THEIRS, "prod"),
+    ),
+    "theirs: line 1: k: its label is prod, but dev@": (
+        OF_PROD,
+        OUR_PROD,
+        block("dev", b"old", "prod", "k") + b"z: 1\n",
+    ),
+    "theirs: line 1: guess: its label is prod, but dev@": (
+        OF_PROD,
+        OUR_PROD,
+        block("dev", b"old", "prod", "guess") + OF_PROD,
+    ),
     "git can merge its lines, but the result is not valid YAML (line ": (
         QUOTED,
         QUOTED.replace(b"a: 1", b'a: "1').replace(b"e: 1", b'e: 1"'),
         QUOTED.replace(b"c: 1", b'c: "1"'),
     ),
+} | {
+    why: (text, text.replace(b"AES256\n    3", b"AES256\n    4"), text[:-2] + b"0\n")
+    for why, text in zip((f"{NO_SIDE} that", NO_SIDE), WITHIN)
 }
-
-
 NOT_DONE = f"{MERGE}: a.yml: not merged, so ours stays as it was: "
 NEXT = "  correct that and run `git checkout --merge a.yml`, or take what you need from theirs: `git show :3:a.yml`"
 
 
-def not_merged(what: str, place: Place, secrets: list[str], contents: tuple[bytes, bytes, bytes], why: str) -> None:
-    """Check that ours keeps every byte, no other file is left, and the message says why, and how to continue."""
-    done = place.run(MERGE, *secrets, *versions(place, "a.yml", *contents))
+@pytest.mark.parametrize("why", REFUSED)
+def test_those_that_fail(place: Place, why: str) -> None:
+    """Ours keeps every byte, no other file is left, and the message says why, and how to continue."""
+    secrets = [word for name in ("old", "new", "prod2") for word in place.by_file(name)]
+    secrets += [*place.by_id("dev", "dev"), *place.by_id("prod", "prod")]
+    done = place.run(MERGE, *secrets, *versions(place, "a.yml", *REFUSED[why]))
     lines = done.stderr.splitlines()
-    assert (done.returncode, done.stdout, len(lines), lines[1]) == (1, "", 2, NEXT), (what, lines)
-    assert lines[0].startswith(f"{NOT_DONE}{why}"), (what, lines)
-    assert place.files() == {"a.yml": contents[1]}, f"{what}: ours stays"
-
-
-def test_those_that_fail(cases: Companions, subtests: SubTests) -> None:
-    for why, contents in REFUSED.items():
-        with subtests.test(why):
-            place = cases.place()
-            secrets = [*place.by_file("old"), *place.by_file("new"), *place.by_file("prod")]
-            not_merged(why, place, secrets, contents, why)
-
-
-OF_PROD = block("prod", b"old", "prod", "k") + b"z: 1\n"
-OUR_PROD = block("prod", b"new", "prod", "k") + b"z: 1\n"
-# Versions, one of which the secret of another label decrypts, or which have no labels; and why they are refused.
-FOREIGN = {
-    "a vault of theirs": (
-        (sealed("prod", BASE, "prod"), sealed("prod", OURS, "prod"), sealed("dev", b"x", "prod")),
-        "theirs: its label is prod, but dev@",
-    ),
-    "a vault of ours": (
-        (sealed("prod", BASE, "prod"), sealed("dev", b"x", "prod"), sealed("prod", OURS, "prod")),
-        "ours: its label is prod, but dev@",
-    ),
-    "both sides": (
-        (sealed("prod", BASE, "prod"), sealed("dev", OURS, "prod"), sealed("dev", THEIRS, "prod")),
-        "ours: its label is prod, but dev@",
-    ),
-    "no labels": (
-        (sealed("prod", BASE), sealed("prod", OURS), sealed("dev", b"x")),
-        "secrets with different labels decrypt the two sides: prod ours, dev theirs",
-    ),
-    "a value": (
-        (OF_PROD, OUR_PROD, block("dev", b"x", "prod", "k") + b"z: 1\n"),
-        "theirs: line 1: k: its label is prod, but dev@",
-    ),
-    "a guessed value": (
-        (OF_PROD, OUR_PROD, block("dev", b"old", "prod", "k") + b"z: 1\n"),
-        "theirs: line 1: k: its label is prod, but dev@",
-    ),
-    "a guessed value above": (
-        (OF_PROD, OUR_PROD, block("dev", b"old", "prod", "guess") + OF_PROD),
-        "theirs: line 1: guess: its label is prod, but dev@",
-    ),
-}
-
-
-def test_other_labels(cases: Companions, subtests: SubTests) -> None:
-    """No text of ours is encrypted with the password of dev, whatever the label is."""
-    for what, (contents, why) in FOREIGN.items():
-        with subtests.test(what):
-            place = cases.place()
-            secrets = [*place.by_id("dev", "dev"), *place.by_id("prod", "prod")]
-            not_merged(what, place, secrets, contents, why)
+    assert (done.returncode, done.stdout, len(lines), lines[1]) == (1, "", 2, NEXT), lines
+    assert lines[0].startswith(f"{NOT_DONE}{why}"), lines
+    assert place.files() == {"a.yml": REFUSED[why][1]}, "ours stays"
 
 
 def test_one_secret(place: Place) -> None:
@@ -237,32 +199,15 @@ def test_equal_values(place: Place) -> None:
     assert [*yaml.load(place.get("a.yml"), yaml.BaseLoader)] == [*"abdef"], "it is YAML"
 
 
-def test_what_is_decrypted(place: Place) -> None:
-    """A value that is the same in all versions is not decrypted."""
-    values = [block("old", b"same", name=name) for name in "abcdef"]
-    contents = [values, [block("old", b"I", name="a"), *values[1:]], values]
-    place.wrap_tool('[ "$1" != view ] || echo >> ../runs')
-    done = place.run(MERGE, *place.by_file("old"), *versions(place, "a.yml", *map(b"".join, contents)))
-    silent("the merge", done)
-    assert place.get("a.yml") == b"".join(contents[1])
-    assert (place.path / "runs").read_text() == "\n\n", "the value that was changed, in its two forms"
-
-
 def test_what_fails(place: Place, subtests: SubTests) -> None:
-    """A file is missing, another program changes ours meanwhile, or the tool or git fails."""
+    """A file is missing, or the tool or git fails."""
     changes = [sealed("old", text) for text in (BASE, OURS, THEIRS)]
     words = [*place.by_file("old"), *versions(place, "a.yml", *changes)]
     for number in range(2, 5):
         with subtests.test(f"{words[number]} is missing"):
             names = [*words[:number], "../missing", *words[number + 1 :]]
             ended("the merge", place.run(MERGE, *names), 1, "is missing")
-    done = place.run(MERGE, "--vault-password-file", "../missing", *words[2:])
-    ended("no password file", done, 1, f"{NOT_DONE}../missing: a password file cannot be opened")
-    place.wrap_tool('[ "$1" != encrypt ] || echo other > a.yml')
-    ended("changed meanwhile", place.run(MERGE, *words), 1, f"{NOT_DONE}another program changed it meanwhile")
-    assert place.files() == {"a.yml": b"other\n"}, "what somebody wrote stays"
     place.wrap_tool('[ "$1" != encrypt ] || exit 4')
-    versions(place, "a.yml", *changes)
     ended("the tool fails", place.run(MERGE, *words), 1, "ansible-vault ended with status 4")
     place.wrap_tool("exit 255", "git")
     ended("git fails", place.run(MERGE, *words), 1, "git merge-file cannot merge it")
@@ -277,10 +222,8 @@ AGAIN = "  `git checkout --merge a.yml` merges it, or says why not; to keep ours
 GIVEN_UP = 2
 
 
-@contextmanager
-def failed_merge(cases: Companions, *words: str, tool: str = "") -> Iterator[Place]:
-    """Yield a place where the driver has failed, with the hooks installed."""
-    place = cases.place()
+def fail_to_merge(place: Place, *words: str, tool: str) -> None:
+    """Merge branches with a driver that fails, and install the hooks."""
     if tool:
         place.wrap_tool(tool)
     ours, other = {"a.yml": sealed("old", OURS)}, {"a.yml": sealed("new", THEIRS)}
@@ -295,49 +238,26 @@ def failed_merge(cases: Companions, *words: str, tool: str = "") -> Iterator[Pla
     ended("the driver fails", done, 1, "Merge conflict in a.yml")
     assert place.get("a.yml") == ours["a.yml"], "ours stays"
     place.run(HOOK, "--install")
-    yield place
-
-
-def refused_by_hook(what: str, done: Done) -> None:
-    assert (done.returncode, done.stderr.splitlines()) == (1, [f"{HOOK}: a.yml {NOT_MERGED}", AGAIN]), what
 
 
 @pytest.mark.parametrize(
     "what, name, tool", (("no secret", "old", ""), ("no file", "missing", ""), ("killed", "old", "kill -9 $PPID"))
 )
-def test_not_merged(cases: Companions, what: str, name: str, tool: str) -> None:
+def test_not_merged(place: Place, what: str, name: str, tool: str) -> None:
     """The hook and the check refuse a file that the driver could not merge. git would commit ours without theirs."""
-    secrets = ["--vault-password-file", f"../secrets/{name}"]
-    with failed_merge(cases, *secrets, tool=tool) as place:
-        both = [*place.by_file("old"), *place.by_file("new")]
-        place.wrap_tool("")
-        done = place.run(CHECK, *both, ".")
-        assert (done.returncode, done.stderr) == (1, f"{CHECK}: ./a.yml: {NOT_MERGED}\n"), f"{what}: the check"
-        refused_by_hook(f"{what}: commit -a", commit(place, "-a"))
-        refused_by_hook(f"{what}: add", add_and_commit(place))
-        place.run("git", "config", "merge.ansible-vault.driver", f"{MERGE} {' '.join(both)} %O %A %B %P")
-        place.shell("git checkout --merge -- a.yml")
-        ended(f"{what}: the check again", place.run(CHECK, *both, "."), 0)
-        silent(f"{what}: the commit", add_and_commit(place))
-        found = decrypted("new", place.get("a.yml"))
-        assert found == OURS.replace(b"four: 4", b"four: IV"), f"{what}: both changes are there"
-
-
-def test_left_as_ours(cases: Companions) -> None:
-    """The user may commit ours on purpose, or give up the merge."""
-    secrets = ["--vault-password-file", "../secrets/old"]
-    with failed_merge(cases, *secrets) as place:
-        silent("what is meant", commit(place, "-a", "--no-verify"))
-        ended("the check", place.run(CHECK, *secrets, "."), 0)
-        place.put("b.yml", b"b: 1\n")
-        silent("the next commit", add_and_commit(place))
-    with failed_merge(cases, *secrets) as place:
-        place.shell("git merge --abort && git checkout -qb other HEAD~1")
-        place.put("b.yml", b"b: 1\n")
-        place.shell("git add b.yml && git commit -qm b && git checkout -q - && git merge -q --no-commit other")
-        silent("another merge", commit(place))
-        ended("a cherry-pick", place.shell("git cherry-pick theirs"), 1, "theirs: no secret decrypts this vault")
-        refused_by_hook("and its commit", commit(place, "-a"))
+    fail_to_merge(place, "--vault-password-file", f"../secrets/{name}", tool=tool)
+    both = [*place.by_file("old"), *place.by_file("new")]
+    place.wrap_tool("")
+    done = place.run(CHECK, *both, ".")
+    assert (done.returncode, done.stderr) == (1, f"{CHECK}: ./a.yml: {NOT_MERGED}\n"), f"{what}: the check"
+    for done in (commit(place, "-a"), add_and_commit(place)):
+        assert (done.returncode, done.stderr.splitlines()) == (1, [f"{HOOK}: a.yml {NOT_MERGED}", AGAIN]), what
+    place.run("git", "config", "merge.ansible-vault.driver", f"{MERGE} {' '.join(both)} %O %A %B %P")
+    place.shell("git checkout --merge -- a.yml")
+    ended(f"{what}: the check again", place.run(CHECK, *both, "."), 0)
+    silent(f"{what}: the commit", add_and_commit(place))
+    found = decrypted("new", place.get("a.yml"))
+    assert found == OURS.replace(b"four: 4", b"four: IV"), f"{what}: both changes are there"
 
 
 def test_same_as_ours(place: Place) -> None:

@@ -14,7 +14,7 @@ from hypothesis import strategies as st
 
 from ansible_vault_companions.yaml import inline
 from companion_cases import EDIT, TEXT, Place, block, decrypted, edit, ended, sealed, silent, texts
-from companion_cases.terminal import ask
+from companion_cases.terminal import READING, ask
 from companion_cases.yaml_values import Generator, composed, decrypt, encrypted, envelope
 from lib.needs import needs, needs_pyyaml
 from lib.subtests import SubTests
@@ -154,7 +154,7 @@ def test_asked_at_a_terminal(place: Place) -> None:
     needs("stty")
     needs_pyyaml()
     editor = place.script('printf "new: !Vault word\\n" >> "$1"', "editor")
-    words = ["sh", "-c", 'exec "$@" < /dev/tty', "sh", EDIT, *place.by_file("old"), "vars.yml"]
+    words = [*READING, EDIT, *place.by_file("old"), "vars.yml"]
     question = "Is that intended? (yes, no): "
     place.put("vars.yml", block("old"))
     again = "Open the editor again? (yes, no): "

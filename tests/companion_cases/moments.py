@@ -35,15 +35,7 @@ def signalled(
     place: Place, words: list[str], chance: random.Random, seconds: float, begins: Callable[[], bool] = lambda: True
 ) -> int:
     """Signal a run within this time, which starts when `begins` is true, and return its exit status."""
-    process = subprocess.Popen(
-        words,
-        cwd=place.tree,
-        env=place.environment,
-        stdin=subprocess.DEVNULL,
-        stdout=subprocess.DEVNULL,
-        stderr=subprocess.DEVNULL,
-        start_new_session=True,
-    )
+    process = place.start(*words, start_new_session=True)
     number = chance.choice([signal.SIGTERM, signal.SIGHUP])
     send = chance.choice([os.kill, os.killpg])
     delays = [chance.uniform(0, seconds), *([chance.uniform(0, SECOND)] if chance.random() < 0.5 else [])]
@@ -66,8 +58,7 @@ def time_of(place: Place, words: list[str]) -> float:
 def to_edit(cases: Companions, is_vault: bool) -> tuple[Place, list[str]]:
     """Return a place with a file, and the command line that edits it."""
     place, text = cases.place(), b"saved 0\n"
-    place.environment |= {"EDITOR": place.script(EDITOR, "editor"), "TMPDIR": str(place.path / "temporary")}
-    (place.path / "temporary").mkdir()
+    place.environment["EDITOR"] = place.script(EDITOR, "editor")
     place.put("a.yml", sealed("old", text) if is_vault else b"x: 1\n" + block("old", text) + block("old", name="b"))
     return place, [EDIT, *place.by_file("old"), "a.yml"]
 
@@ -100,7 +91,7 @@ def check_edit(place: Place, status: int) -> str:
     assert max([vault, *copies]) >= wanted, ("the last save is kept", f"{vault} {copies} {wanted}")
     assert not (vault and copies), ("in the vault or in a copy", f"{vault} {copies}")
     plain = [name for name, content in files.items() if b"saved" in content]
-    left = plain + place.left() + os.listdir(place.path / "temporary")
+    left = plain + place.left() + os.listdir(place.temporary)
     assert left == [], "no plaintext is left"
     assert status in (0, -signal.SIGTERM, -signal.SIGHUP), "the status"
     known = re.compile(r"a\.yml|\.ansible-vault-saved-a\.yml-\w{8}(-sed\w+|-before)?")

@@ -63,15 +63,6 @@ def test_faults_within(cases: Companions) -> None:
     assert place.get("twice.yml") == twice, "it stays"
 
 
-def test_dry_run(place: Place) -> None:
-    place.put("all.yml", sealed("new", INNER))
-    before = place.files()
-    done = place.run(ROTATE, "--dry-run", *to_new(place), ".")
-    parts = ["./all.yml: 1 block within a plaintext would be rotated\n", "1 to be rotated, 1 under"]
-    ended("a dry run", done, 1, *parts)
-    assert place.files() == before, "nothing is written"
-
-
 def test_checked(place: Place) -> None:
     place.put("all.yml", sealed("old", INNER))
     old = place.by_file("old")
@@ -86,7 +77,3 @@ def test_checked(place: Place) -> None:
     done = place.run(CHECK, *old, ".")
     why = f"./all.yml: in its plaintext, line {LINE_OF_B}: b: dev: no secret decrypts this vault (label dev; "
     ended("one is not", done, 1, why, "2 decrypted, 1 not")
-    place.put("all.yml", sealed("old", b"<<<<<<< HEAD\na: 1\n=======\na: 2\n>>>>>>> branch\n"))
-    done = place.run(CHECK, *old, ".")
-    why = "./all.yml: default: its plaintext has git's conflict markers"
-    ended("conflict markers", done, 1, why, "1 decrypted, 1 not")

@@ -1,12 +1,14 @@
 """ansible-playbook reads everything that the companions write: files in place, edited values, merges, rekeyed files,
-and values of encrypt_string. Both get the passwords from scripts and client scripts.
+values of encrypt_string, and what Ansible's tool made and ansible-vault-rotate rotated. Both get the passwords from
+scripts and client scripts.
 """
 
 import json
+import re
 from pathlib import Path
 
-from companion_cases import ROTATE, WITH, Place, block, edit, ended, sealed, silent
-from companion_cases.both import theirs
+from companion_cases import CHECK, ROTATE, WITH, Place, block, edit, ended, sealed, silent, summary
+from companion_cases.both import theirs, written_by_theirs
 from companion_cases.merging import TAKE_THEIRS, branches
 from companion_cases.repository import add_and_commit
 from lib.needs import needs, needs_ansible
@@ -92,6 +94,24 @@ def rekeyed(place: Place) -> Variables:
     return {"rekeyed": "in place", "rotated": "a vault", "rotated_value": "a value"}
 
 
+def rotated_of_theirs(place: Place) -> Variables:
+    """Rotate what Ansible's tool made: a file of blocks, and a vault with a block of another label inside."""
+    ansible = needs_ansible()
+    dev, prod = place.by_id("dev", "dev2"), place.by_id("prod", "prod2")
+    texts = {name: f"the text of {name}" for name in ("theirs_first", "theirs_second", "theirs_inner")}
+    names = [word for name in texts for word in ("-n", name)]
+    made = written_by_theirs(place, ansible, "encrypt_string", *prod, *names, *texts.values())
+    first, second, inner = (f"{each.strip()}\n" for each in re.split(r"(?m)^(?=\w+:)", made)[1:])
+    place.put("theirs_blocks.yml", f"# blocks\n{first}{second.strip()}".replace("\n", "\r\n").encode())
+    place.put("theirs.yml", f"theirs_outer: around it\n{inner}".encode())
+    written_by_theirs(place, ansible, "encrypt", *dev, "theirs.yml")
+    new = [word for label in ("dev", "prod") for word in ("--new-vault-id", f"{label}@../keys-client")]
+    files = ["theirs.yml", "theirs_blocks.yml"]
+    ended("rotate", place.run(ROTATE, *dev, *prod, *new, *files), 0, summary(4))
+    ended("check", place.run(CHECK, *DEV, *PROD, *files), 0, "4 decrypted, 0 not")
+    return texts | {"theirs_outer": "around it"}
+
+
 def edited(place: Place) -> Variables:
     """Edit a vault, a new vault, and values: one is changed, one is new, and one stays."""
     place.put("edited.yml", sealed("prod", b"edited: before\n", "prod"))
@@ -130,7 +150,7 @@ def test_every_result(place: Place) -> None:
     place.script(CLIENT, "keys-client")
     place.script(SCRIPT)
     texts: Variables = {}
-    for make in (merged, encrypted, rekeyed, edited, strings):
+    for make in (merged, encrypted, rekeyed, rotated_of_theirs, edited, strings):
         texts |= make(place)
     files = [name for name in place.files() if name.endswith(".yml")]
     place.put("play.yml", PLAYBOOK.format(files=json.dumps(files), names=[*texts]).encode())

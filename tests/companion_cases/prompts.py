@@ -2,10 +2,10 @@
 
 import pytest
 
-from companion_cases import CHECK, EDIT, NOTE, PASSWORDS, ROTATE, TEXT, TEXTCONV, WITH, Place, block, decrypted, ended
+from companion_cases import CHECK, EDIT, PASSWORDS, ROTATE, TEXT, TEXTCONV, WITH, Place, block, decrypted, ended
 from companion_cases import sealed
 from companion_cases.both import ours, theirs_at_terminal
-from companion_cases.terminal import Session, ask
+from companion_cases.terminal import READING, Session, ask
 from lib.needs import needs, needs_ansible
 from lib.subtests import SubTests
 from model.vaults import seal
@@ -24,6 +24,7 @@ FORMS: dict[str, tuple[list[str], list[str]]] = {
     "--vault-id=prompt": (["Vault password (default): "], []),
     "--vault-id=dev@prompt_ask_vault_pass": ([ASKED], []),
 }
+ROWS = [(word, *row) for word, asked in FORMS.items() for row in zip(("decrypt", "encrypt"), asked) if row[1]]
 
 
 def typed(password: str, *questions: str) -> list[tuple[str, bytes]]:
@@ -36,52 +37,28 @@ def check_session(what: str, session: Session, *questions: str) -> None:
     assert session.echoes is True, f"{what}: the terminal echoes again"
 
 
-@pytest.mark.parametrize("word", FORMS)
-def test_forms(place: Place, word: str) -> None:
+@pytest.mark.parametrize("word, command, questions", ROWS)
+def test_forms(place: Place, word: str, command: str, questions: list[str]) -> None:
     """The options of Ansible's tool lead to the same questions here."""
-    to_decrypt, _ = FORMS[word]
-    place.put("a.yml", sealed("dev"))
-    words = ["view", *filter(None, [word]), "a.yml"]
-    answers = typed("dev", *to_decrypt)
-    session = ask(place, WITH, *words, answers=answers)
-    assert (session.returncode, session.stdout, session.stderr) == (0, TEXT.decode(), "")
-    check_session("view", session, *to_decrypt)
-    other = theirs_at_terminal(place, needs_ansible(), known(words), *answers)
-    assert (other.shown, other.stdout.strip()) == (session.shown, TEXT.decode().strip()), "Ansible's tool"
+    words, answers = [command, *filter(None, [word]), "a.yml"], typed("dev", *questions)
+    before = TEXT if command == "encrypt" else sealed("dev")
 
+    def check(session: Session) -> None:
+        check_session(command, session, *questions)
+        after = place.get("a.yml")
+        assert (decrypted("dev", after) if command == "encrypt" else after) == TEXT
+        place.put("a.yml", before)
 
-@pytest.mark.parametrize("word", [word for word, (_, to_encrypt) in FORMS.items() if to_encrypt])
-def test_forms_to_encrypt(place: Place, word: str) -> None:
-    _, questions = FORMS[word]
-    words = ["encrypt", *filter(None, [word]), "plain.yml"]
-    answers = typed("dev", *questions)
-    place.put("plain.yml", TEXT)
+    place.put("a.yml", before)
     session = ask(place, WITH, *words, answers=answers)
     assert (session.returncode, session.stdout, session.stderr) == (0, "", "")
-    check_session("encrypt", session, *questions)
-    assert decrypted("dev", place.get("plain.yml")) == TEXT, "it is encrypted"
-    place.put("plain.yml", TEXT)
-    other = theirs_at_terminal(place, needs_ansible(), known(words), *answers)
-    assert other.shown == session.shown, "Ansible's tool shows"
-    assert decrypted("dev", place.get("plain.yml")) == TEXT, "and encrypts"
+    check(session)
+    check(theirs_at_terminal(place, needs_ansible(), known(words), answers))
 
 
 def known(words: list[str]) -> list[str]:
     """Return the words that every version of Ansible's tool knows. -J came with ansible-core 2.15."""
     return ["--ask-vault-password" if word == "-J" else word for word in words]
-
-
-def test_rekeyed(place: Place) -> None:
-    answers = [*typed("old", ASKED), *typed("new", NEW, AGAIN)]
-    place.put("a.yml", sealed("old"))
-    session = ask(place, WITH, "rekey", "a.yml", answers=answers)
-    assert decrypted("new", place.get("a.yml")) == TEXT, "it is rekeyed"
-    assert (session.returncode, session.stderr) == (0, ""), "in silence"
-    check_session("rekey", session, ASKED, NEW, AGAIN)
-    ansible = needs_ansible()
-    place.put("a.yml", sealed("old"))
-    session = theirs_at_terminal(place, ansible, ["rekey", "a.yml"], *answers)
-    check_session("Ansible's rekey", session, ASKED, NEW, AGAIN)
 
 
 def test_every_companion(place: Place) -> None:
@@ -138,7 +115,7 @@ def test_asked_by_settings(place: Place, subtests: SubTests) -> None:
         with subtests.test(f"the value {value!r}"):
             done = ours(place, "view", "a.yml", ANSIBLE_ASK_VAULT_PASS=value)
             ended("nothing is asked", done, 1, "no secret decrypts this vault")
-    other = theirs_at_terminal(place, needs_ansible(), ["view", "a.yml"], *typed("dev", ASKED))
+    other = theirs_at_terminal(place, needs_ansible(), ["view", "a.yml"], typed("dev", ASKED))
     wanted = session.shown, TEXT.decode().strip()
     assert (other.shown, other.stdout.strip()) == wanted, "Ansible's tool asks, too"
 
@@ -238,7 +215,7 @@ def test_labels(place: Place) -> None:
     editor = place.script('printf "new: !vault word\\n" >> "$1"', "editor")
     secrets = [*place.by_id("dev", "dev"), *place.by_id("prod", "prod")]
     before = block("dev", b"one", "dev", "a")
-    words = ["sh", "-c", 'exec "$@" < /dev/tty', "sh", EDIT, *secrets, "vars.yml"]
+    words = [*READING, EDIT, *secrets, "vars.yml"]
     place.put("vars.yml", before)
     answers = [(question, b"stage\n"), (question, b" prod \n")]
     session = ask(place, *words, answers=answers, EDITOR=editor)
@@ -276,15 +253,3 @@ def test_suspended(place: Place) -> None:
     session = ask(place, WITH, "view", "-J", "a.yml", answers=[(ASKED, b"\x1a" + PASSWORDS["dev"] + b"\n")])
     assert (session.returncode, session.stdout, session.echoes) == (0, TEXT.decode(), True), session
     assert PASSWORDS["dev"].decode() not in session.shown, session.shown
-
-
-def test_secrecy(place: Place) -> None:
-    """A typed password is in no argument and no environment variable of a program."""
-    place.put("a.yml", sealed("dev"))
-    place.wrap_tool(NOTE)
-    runs = ([WITH, "view"], [CHECK])
-    sessions = [ask(place, *words, "-J", "a.yml", answers=typed("dev", ASKED)) for words in runs]
-    assert [session.returncode for session in sessions] == [0, 0], sessions
-    seen = (place.path / "seen").read_bytes()
-    assert seen.count(b"--vault-id=default@/dev/fd/") > 2, "the runs were seen"
-    assert PASSWORDS["dev"] not in seen, "no password is seen"

@@ -22,7 +22,7 @@ from ansible_vault_companions.files.envelopes import label_of
 from ansible_vault_companions.merging import texts
 from ansible_vault_companions.program import Refused
 from ansible_vault_companions.secrets import labels
-from ansible_vault_companions.secrets.sources import Secret, Source
+from ansible_vault_companions.secrets.sources import Secret
 from ansible_vault_companions.tool.tool import Tool
 from companion_cases import PASSWORDS, decrypted
 from lib.needs import needs, needs_pyyaml
@@ -132,7 +132,7 @@ def numbered(merge: Merge) -> Iterator[list[list[int]]]:
 
 @functools.cache
 def secret_of(name: str) -> Secret:
-    found = Secret(Source(LABELS[name], name, f"{LABELS[name]}@{name}"))
+    found = Secret(LABELS[name], name, f"{LABELS[name]}@{name}")
     found.descriptor = os.memfd_create("password")
     os.write(found.descriptor, PASSWORDS[name])
     return found

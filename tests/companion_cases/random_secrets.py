@@ -5,7 +5,6 @@ expected.
 """
 
 import shutil
-import subprocess
 import time
 from pathlib import Path
 from random import Random
@@ -16,7 +15,6 @@ import pytest
 from companion_cases import PASSWORDS, TEXT, WITH, Described, Place, described, sealed
 from lib.ansible import ansible_release
 from lib.ansible_runs import AnsibleRuns
-from lib.limits import SECONDS
 from lib.subtests import SubTests
 
 SEED = 62
@@ -286,16 +284,7 @@ class Both:
             status, output, errors = self.ansible.end()
             theirs = outcome_of(counted, self.other, status, output)
         variables = self.prepare(case, self.place.tree)
-        words = [WITH, *case.line.words(case.abbreviate)]
-        done = subprocess.run(
-            words,
-            cwd=self.place.tree,
-            env=self.place.environment | variables,
-            stdin=subprocess.DEVNULL,
-            capture_output=True,
-            start_new_session=True,
-            timeout=SECONDS,
-        )
+        done = self.place.run_on(b"", "setsid", "--wait", WITH, *case.line.words(case.abbreviate), **variables)
         ours = outcome_of(case, self.place.tree, done.returncode, done.stdout)
         if counted:
             return ours, theirs, f"{done.stderr.decode()}\n{errors}"

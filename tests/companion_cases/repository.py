@@ -39,6 +39,13 @@ def meant(name: str) -> str:
     return f"  if that is intended, commit with --no-verify, or add to .gitattributes: /{name} -ansible-vault"
 
 
+def leaked(what: str, done: Done, whys: dict[str, str]) -> None:
+    """Check that each file is refused for this reason, and that the hint says what to do if it is intended."""
+    hints = {name: meant(name.rpartition(": ")[2]) for name in whys}
+    lines = [line for name, why in whys.items() for line in (f"{HOOK}: {name} {why}", hints[name])]
+    assert (done.returncode, done.stderr.splitlines()) == (1, lines), what
+
+
 def with_hooks(place: Place, attributes: str = "") -> None:
     under_git(place, attributes)
     done = place.shell(f"{HOOK} --install")

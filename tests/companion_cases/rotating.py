@@ -3,23 +3,18 @@
 import os
 
 import pytest
-from companion_cases import NOBODY, ROTATE, TEXT, Companions, Place, block, decrypted, ended, sealed, summary, to_new
+from companion_cases import ROTATE, TEXT, Place, block, decrypted, ended, sealed, summary, to_new
 from lib.subtests import SubTests
 
 
-def labelled_tree(place: Place) -> None:
-    """Write vaults of three labels, and a file with blocks of two."""
+def test_by_label(place: Place) -> None:
+    """Envelopes whose label is not named keep every byte."""
     place.put("all.yml", sealed("old"))
     place.put("dev/vars.yml", sealed("dev", label="dev"))
     place.put("prod/vars.yml", sealed("prod", label="prod"))
     place.put("prod/more.yml", sealed("prod", label="prod"))
     place.put("blocks.yml", block("dev", label="dev", name="a") + block("prod", label="prod", name="b"))
     place.put("plain.yml", TEXT)
-
-
-def test_by_label(place: Place) -> None:
-    """Envelopes whose label is not named keep every byte."""
-    labelled_tree(place)
     before = place.files()
     old = [*place.by_file("old"), *place.by_id("dev", "dev"), *place.by_id("prod", "prod")]
     done = place.run(ROTATE, *old, *place.by_id("prod", "prod2", "new-"), ".")
@@ -37,15 +32,6 @@ def test_by_label(place: Place) -> None:
     ended("two labels at once", done, 0, summary(3, 0, 3, " (prod 3)"))
     assert decrypted("new", place.get("all.yml")) == TEXT, "default has its own"
     assert decrypted("dev2", place.get("dev/vars.yml")) == TEXT, "dev has its own"
-
-
-def test_default_is_a_label(place: Place) -> None:
-    """A new password without a label rotates no vault of another label."""
-    labelled_tree(place)
-    old = [*place.by_file("old"), *place.by_file("dev"), *place.by_file("prod")]
-    done = place.run(ROTATE, *old, *place.by_file("new", "new-"), ".")
-    ended("the label default", done, 0, summary(1, 0, 5, " (dev 2, prod 3)"))
-    assert decrypted("dev", place.get("dev/vars.yml")) == TEXT, "dev stays"
 
 
 def test_again(place: Place, subtests: SubTests) -> None:
@@ -77,7 +63,7 @@ def test_nothing(place: Place) -> None:
     assert decrypted("new", place.get("a.yml")) == TEXT, "the others are rotated"
 
 
-def test_failures(cases: Companions, subtests: SubTests) -> None:
+def test_failures(place: Place) -> None:
     """Each failure is reported, the other files are still rotated, and the status is 1."""
     strays = {
         "stray.yml": (sealed("dev"), "no secret decrypts this vault"),
@@ -86,41 +72,21 @@ def test_failures(cases: Companions, subtests: SubTests) -> None:
         "cut.yml": (sealed("old")[:-5], "vault"),
         "block.yml": (b"a: 1\nb: !vault |\n  $ANSIBLE_VAULT;1.1;AES256\nc: 2\n", "block.yml:3: vault"),
     }
-    for name, (content, part) in strays.items():
-        place = cases.place()
-        for each in ("a.yml", "z.yml"):
-            place.put(each, sealed("old"))
+    for each in ("a.yml", "z.yml"):
+        place.put(each, sealed("old"))
+    for name, (content, _) in strays.items():
         place.put(name, content)
-        with subtests.test(name):
-            done = place.run(ROTATE, *to_new(place), ".")
-            ended("one of three", done, 1, f"./{name}", part, summary(2, failed=1))
-            assert place.get(name) == content, "it stays"
-            others = [decrypted("new", place.get(each)) for each in ("a.yml", "z.yml")]
-            assert others == [TEXT] * 2, "the others are done"
-            assert place.names() == sorted(["a.yml", name, "z.yml"]), "no other file is left"
+    done = place.run(ROTATE, *to_new(place), ".")
+    ended("all but two", done, 1, summary(2, failed=len(strays)))
+    lines = dict(zip(sorted(strays), done.stderr.splitlines(), strict=True))
+    assert [name for name, (_, part) in strays.items() if part not in lines[name]] == [], lines
+    after = place.files()
+    assert [decrypted("new", after.pop(name)) for name in ("a.yml", "z.yml")] == [TEXT] * 2, "the others are done"
+    assert after == {name: content for name, (content, _) in strays.items()}, "these stay, and nothing else is left"
 
 
-def test_wrong_passwords(place: Place, subtests: SubTests) -> None:
-    place.put("a.yml", sealed("old"))
-    place.put("b.yml", block("old"))
-    (place.path / "empty").write_bytes(b" \n")
-    new = place.by_file("new", "new-")
-    refused = [
-        ([*place.by_file("dev"), *new], "b.yml:2: no secret decrypts this vault (no label; tried "),
-        ([*place.by_file("missing"), *new], "missing: a password file cannot be opened"),
-        ([*place.by_file("old"), "--new-vault-password-file", "../empty"], "../empty: a password is empty"),
-        ([*place.by_file("old"), "--new-vault-id", "dev;@../empty"], "a vault id label is not allowed"),
-    ]
-    for words, part in refused:
-        before = place.files()
-        with subtests.test(part):
-            ended("it is refused", place.run(ROTATE, *words, "."), 1, part)
-            assert place.files() == before, "all stays"
-
-
-def test_unreadable(cases: Companions) -> None:
-    """A file that cannot be read may be a vault under an old secret. A file that cannot be written stays."""
-    place = cases.place()
+def test_unreadable(place: Place) -> None:
+    """A file that cannot be read may be a vault under an old secret."""
     place.put("closed.yml", sealed("old"), 0o000)
     place.put("folder/a.yml", sealed("old"))
     (place.tree / "folder").chmod(0o000)
@@ -128,14 +94,7 @@ def test_unreadable(cases: Companions) -> None:
     parts = ["./closed.yml: Permission denied", "./folder: Permission denied"]
     ended("what cannot be read", done, 1, *parts, summary(0, failed=2))
     (place.tree / "folder").chmod(0o755)
-    place = cases.place()
-    place.put("folder/a.yml", sealed("old"))
-    (place.tree / "folder").chmod(0o555)
-    done = place.as_nobody(ROTATE, *to_new(place), ".")
-    ended("what cannot be written", done, 1, "./folder/a.yml: Permission denied", summary(0, failed=1))
-    (place.tree / "folder").chmod(0o755)
-    assert place.files() == {"folder/a.yml": sealed("old")}, "it stays"
-    place = cases.place()
+    assert place.get("folder/a.yml") == sealed("old"), "it stays"
     done = place.run(ROTATE, *to_new(place), "missing")
     ended("what is not there", done, 1, "missing: No such file or directory")
 
@@ -144,9 +103,8 @@ def test_owners_and_modes(place: Place) -> None:
     modes = {"a.yml": 0o600, "b.yml": 0o664, "c.yml": 0o444, "d.yml": 0o2755}
     for name, mode in modes.items():
         place.put(name, sealed("old"), mode)
-        if os.geteuid() == 0:
-            os.chown(place.tree / name, NOBODY, NOBODY)
-            os.chmod(place.tree / name, mode)
+        place.give(name)
+        os.chmod(place.tree / name, mode)
     owners = [(place.tree / name).stat()[4:6] for name in modes]
     try:
         os.setxattr(place.tree / "a.yml", "user.note", b"kept")
@@ -175,8 +133,10 @@ def test_owners_and_modes(place: Place) -> None:
 def test_dry_run(place: Place) -> None:
     place.put("a.yml", sealed("old"))
     place.put("b.yml", block("old") + block("new", name="c"))
+    place.put("within.yml", sealed("new", block("old")))
     before = place.files()
-    parts = ["./a.yml: would be rotated", "./b.yml: 1 block would be rotated", "2 to be rotated, 1 under"]
+    parts = ["./a.yml: would be rotated", "./b.yml: 1 block would be rotated", "3 to be rotated, 2 under"]
+    parts.append("./within.yml: 1 block within a plaintext would be rotated")
     ended("something is left", place.run(ROTATE, "--dry-run", *to_new(place), "."), 1, *parts)
     assert place.files() == before, "nothing is written"
     place.put("c.yml", sealed("dev"))
@@ -187,40 +147,30 @@ def test_dry_run(place: Place) -> None:
     ended("nothing is left", done, 0, "0 to be rotated, 3 under the new secret already")
 
 
-def test_documents(cases: Companions, subtests: SubTests) -> None:
+def test_documents(place: Place) -> None:
     """An envelope in a document is counted, but not rotated, if an old secret decrypts it. An example is ignored."""
-    left = "it is in a document and was not rotated; to ignore documents, add --skip-documents\n"
     line = sealed("old").decode().replace("\n", "\\n")
     prose = {
-        "README.md": (b"An example:\n\n" + block("old"), ":4: "),
-        "a.rst": (block("new") + block("old", name="b"), f":{2 + len(block('new').splitlines())}: "),
-        "deep/b.html": (f'<pre>"{line}"</pre>'.encode(), ":1: "),
-        "bare.adoc": (b"\n" + sealed("old"), ":2: "),
+        "README.md": (b"An example:\n\n" + block("old"), 4),
+        "a.RST": (block("new") + block("old", name="b"), 2 + len(block("new").splitlines())),
+        "bare.adoc": (b"\n" + sealed("old"), 2),
+        "deep/b.html": (f'<pre>"{line}"</pre>'.encode(), 1),
     }
     others = {"c.md": block("dev"), "d.md": block("new"), "e.md": block("prod", label="prod")}
     others |= {"f.md": b"As $ANSIBLE_VAULT;1.1\n", "a.yml": sealed("old"), "vault.md": sealed("old")}
-    counted = ", 1 left in documents\n"
-    for name, (content, place_in_it) in prose.items():
-        place = cases.place()
-        for other, text in {name: content, **others}.items():
-            place.put(other, text)
-        with subtests.test(name):
-            done = place.run(ROTATE, *to_new(place), ".")
-            ended("a run", done, 1, f"./{name}{place_in_it}{left}", f"{summary(2)}{counted}")
-            assert done.stderr.count(left) == 1, "no other is named"
-            assert place.get(name) == content, "it stays"
-            assert decrypted("new", place.get("vault.md")) == TEXT, "a document that is a vault is rotated"
-            ended("a dry run", place.run(ROTATE, "--dry-run", *to_new(place), "."), 1, left, counted)
-            done = place.run(ROTATE, "--skip-documents", *to_new(place), ".")
-            assert (done.returncode, done.stdout, done.stderr) == (0, f"{summary(0, 2)}\n", ""), "it is ignored"
-
-
-def test_changed_meanwhile(place: Place) -> None:
-    place.put("a.yml", block("old"))
-    place.wrap_tool('[ "$1" = encrypt ] && echo "b: theirs" >> a.yml')
-    done = place.run(ROTATE, *to_new(place), ".")
-    ended("changed meanwhile", done, 1, "./a.yml: another program changed it meanwhile", summary(0, failed=1))
-    assert place.files() == {"a.yml": block("old") + b"b: theirs\n"}, "their change stays"
+    contents = {name: content for name, (content, _) in prose.items()}
+    for name, text in (contents | others).items():
+        place.put(name, text)
+    why = "it is in a document and was not rotated; to ignore documents, add --skip-documents"
+    left = [f"{ROTATE}: ./{name}:{number}: {why}" for name, (_, number) in prose.items()]
+    for words, counts in (((), summary(2)), (("--dry-run",), summary(0, 2).replace("rotated", "to be rotated", 1))):
+        done = place.run(ROTATE, *words, *to_new(place), ".")
+        assert (done.returncode, sorted(done.stderr.splitlines())) == (1, sorted(left)), "those that are left"
+        ended("the counts", done, 1, f"{counts}, {len(left)} left in documents\n")
+    assert {name: place.get(name) for name in contents} == contents, "they stay"
+    assert decrypted("new", place.get("vault.md")) == TEXT, "a document that is a vault is rotated"
+    done = place.run(ROTATE, "--skip-documents", *to_new(place), ".")
+    assert (done.returncode, done.stdout, done.stderr) == (0, f"{summary(0, 2)}\n", ""), "they are ignored"
 
 
 def test_closed_output(place: Place) -> None:
@@ -236,22 +186,7 @@ def test_closed_output(place: Place) -> None:
     assert True in is_old, "and those that were not begun are not"
 
 
-def test_command_line(place: Place, subtests: SubTests) -> None:
-    old, new = place.by_file("old"), place.by_file("new", "new-")
-    lines: list[list[str]] = [
-        [],
-        [*old, "."],
-        [*new, "."],
-        [*old, *new],
-        [*old, *new, *place.by_file("dev", "new-"), "."],
-        [*old, *new, "--jobs", "0", "."],
-        [*old, *new, "--jobs", "many", "."],
-        [*old, *new, "--dry", "."],
-    ]
-    for words in lines:
-        with subtests.test(f"{words}"):
-            ended("it is refused", place.run(ROTATE, *words), 2, "usage: ansible-vault-rotate")
-    for jobs in ("1", "7"):
-        with subtests.test(f"{jobs} at once"):
-            place.put("a.yml", sealed("old"))
-            ended("it runs", place.run(ROTATE, *old, *new, "--jobs", jobs, "."), 0, summary(1))
+@pytest.mark.parametrize("jobs", ("1", "7"))
+def test_jobs(place: Place, jobs: str) -> None:
+    place.put("a.yml", sealed("old"))
+    ended("it runs", place.run(ROTATE, *to_new(place), "--jobs", jobs, "."), 0, summary(1))

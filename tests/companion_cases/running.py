@@ -1,16 +1,11 @@
-"""ansible-vault-with: the tool's own answers, files in place, and the habits of Ansible's tool."""
+"""ansible-vault-with: the tool's own answers, and files in place."""
 
 import os
-import subprocess
-from contextlib import nullcontext
 
 import pytest
 
-from companion_cases import AWKWARD, EDIT, NOBODY, TEXT, WITH, Companions, Described, Place, decrypted
-from companion_cases import described, ended, sealed, silent
-from companion_cases.both import for_ansible, line_for_ansible, ours, theirs
-from lib.limits import SECONDS
-from lib.needs import needs, needs_ansible
+from companion_cases import AWKWARD, EDIT, TEXT, WITH, Place, decrypted, described, ended, sealed, silent
+from lib.needs import needs
 from lib.option_sets import OF_ANSIBLE, help_options, page_sets
 from lib.subtests import SubTests
 
@@ -60,8 +55,7 @@ def prepare(place: Place) -> None:
 def run(place: Place, words: list[str], data: bytes) -> tuple[int, bytes, bytes, dict[str, bytes]]:
     """Return the status, the output, the message, and the files that are there afterwards."""
     prepare(place)
-    where = place.environment
-    done = subprocess.run(words, cwd=place.tree, env=where, input=data, capture_output=True, timeout=SECONDS)
+    done = place.run_on(data, *words)
     files = place.files()
     for name in files:
         (place.tree / name).unlink()
@@ -109,16 +103,6 @@ def test_command_lines(place: Place, subtests: SubTests) -> None:
     before = place.files()
     ended("no word", place.run(WITH), 2, f"usage: {WITH}", "no command is given")
     ended("no command", place.run(WITH, *place.by_file("old")), 2, "no command is given")
-    refused = {
-        "--vault-password-file=../missing": (3, "../missing: a password file cannot be opened"),
-        "--vault-password-file=.": (3, ".: a password file cannot be read"),
-        "--vault-id=a;b@../secrets/old": (1, "a;b@../secrets/old: a vault id label is not allowed"),
-        "--vault-id=dev@/dev/null": (1, "dev@/dev/null: a password is empty"),
-    }
-    for option, (status, part) in refused.items():
-        with subtests.test(option):
-            done = place.run(WITH, "decrypt", *place.by_file("old"), option, "a.yml")
-            assert (done.returncode, done.stdout, done.stderr) == (status, "", f"{WITH}: {part}\n")
     unreadable = {
         "missing.yml": "missing.yml: No such file or directory",
         "nowhere/a.yml": "nowhere/a.yml: No such file or directory",
@@ -141,8 +125,7 @@ def test_in_place(place: Place) -> None:
     names = [*AWKWARD, "folder/a.yml"]
     for number, name in enumerate(names):
         place.put(name, TEXT * number, 0o640 if number % 2 else 0o600)
-        if os.geteuid() == 0:
-            os.chown(place.tree / name, NOBODY, NOBODY)
+        place.give(name)
 
     def about() -> list[tuple[str, int]]:
         return [(place.mode(name), (place.tree / name).stat().st_uid) for name in names]
@@ -167,7 +150,7 @@ def test_in_place(place: Place) -> None:
     assert sorted(place.files()) == sorted(names), "no other file is left"
 
 
-def test_links_and_acls(place: Place) -> None:
+def test_links(place: Place) -> None:
     place.put("vaults/a.yml", TEXT, 0o644)
     (place.tree / "link.yml").symlink_to("vaults/a.yml")
     silent("by a link", place.run(WITH, "encrypt", *place.by_file("old"), "link.yml"))
@@ -178,16 +161,6 @@ def test_links_and_acls(place: Place) -> None:
     done = place.run(WITH, "decrypt", *place.by_file("old"), "second.yml")
     ended("two names", done, 1, "second.yml: it has 2 names (hard links); replace the others by symbolic links first")
     assert place.files() == before, "both stay"
-    (place.tree / "second.yml").unlink()
-    needs("setfacl", "getfacl")
-    place.run("setfacl", "-m", f"u:{NOBODY}:r", "vaults/a.yml")
-    words = [*place.by_file("old"), *place.by_file("new", "new-")]
-    silent("with an ACL", place.run(WITH, "rekey", *words, "link.yml"))
-    listed = place.run("getfacl", "-cn", "vaults/a.yml").stdout
-    assert f"user:{NOBODY}:r--" in listed, "an encrypted file keeps it"
-    silent("decrypted", place.run(WITH, "decrypt", *place.by_file("new"), "link.yml"))
-    listed = place.run("getfacl", "-cn", "vaults/a.yml").stdout
-    assert listed.split() == ["user::rw-", "group::---", "other::---"], "plaintext has none"
 
 
 def test_those_that_fail(place: Place) -> None:
@@ -233,17 +206,6 @@ def test_highest_status(place: Place) -> None:
     done = place.run(WITH, "view", *place.by_file("old"), "a.yml", "missing.yml", "a.yml")
     messages = [f"{WITH}: a.yml: out of memory", f"{WITH}: missing.yml: No such file or directory"]
     assert (done.returncode, done.stdout, done.stderr.splitlines()) == (4, TEXT.decode(), messages)
-
-
-def test_changed_meanwhile(place: Place) -> None:
-    """What another program wrote while the tool ran is not overwritten."""
-    prepare(place)
-    # The run with a prompt only checks the command line.
-    place.wrap_tool('case "$*" in *=prompt*) ;; decrypt*) echo other > a.yml ;; esac')
-    done = place.run(WITH, "decrypt", *place.by_file("old"), "a.yml")
-    ended("a change", done, 1, f"{WITH}: a.yml: another program changed it meanwhile")
-    assert place.get("a.yml") == b"other\n", "stays"
-    assert place.names() == ["a.yml", "new.yml", "plain.yml"], "nothing is left"
 
 
 def test_several_views(place: Place) -> None:
@@ -321,15 +283,8 @@ def test_several_strings(place: Place, subtests: SubTests) -> None:
 def test_abbreviations(place: Place, subtests: SubTests) -> None:
     prepare(place)
     wanted = place.run(WITH, "encrypt", *place.by_file("old"), "--salt=salt", "--output", "-", "plain.yml").stdout
-    lines = [
-        ["encrypt", "--vault-pass", place.secret("old"), "--salt=salt", "--ou", "-", "plain.yml"],
-        ["--vault-p", place.secret("old"), "encrypt", "--salt", "salt", "--out=-", "plain.yml"],
-        ["encrypt", f"--vault-i={place.secret('old')}", "--salt=salt", "--encrypt=default", "--o=-", "plain.yml"],
-    ]
-    for words in lines:
-        with subtests.test(f"{words}"):
-            done = place.run(WITH, *words)
-            assert (done.returncode, done.stdout, done.stderr) == (0, wanted, "")
+    done = place.run(WITH, "--vault-p", place.secret("old"), "encrypt", "--salt", "salt", "--o=-", "plain.yml")
+    assert (done.returncode, done.stdout, done.stderr) == (0, wanted, ""), "the shortest"
     done = place.run(WITH, "view", "--req", *place.by_file("old"), "a.yml")
     assert (done.returncode, done.stdout) == (0, TEXT.decode()), "view --req"
     for word, others in {"--vault": "--vault-id, --vault-password-file", "--sa": "--salt, --salt-file"}.items():
@@ -350,15 +305,6 @@ def test_what_messages_advise(place: Place) -> None:
     assert decrypted("old", place.get("plain.yml")) == TEXT
 
 
-def test_without_rights(place: Place) -> None:
-    place.put("a.yml", sealed("old"))
-    before = place.files()
-    place.tree.chmod(0o555)
-    done = place.as_nobody(WITH, "decrypt", *place.by_file("old"), "a.yml")
-    ended("a folder that cannot be written", done, 1, f"{WITH}: a.yml: Permission denied")
-    assert place.files() == before, "it stays"
-
-
 def test_editing(place: Place) -> None:
     editor = place.script('echo more >> "$1"', "editor")
     silent("create", place.run(WITH, "create", *place.by_id("dev", "dev"), "a.yml", EDITOR=editor))
@@ -375,60 +321,8 @@ def test_editing(place: Place) -> None:
     silent("a word of newer releases", place.run(WITH, "create", *newer, EDITOR=editor))
     assert decrypted("dev", place.get("c.yml")) == b"more\n", "is made, too"
     ended("which edit has not", place.run(WITH, "edit", *newer, EDITOR=editor), 2, "arguments: --skip-tty-check")
-    done = place.run("setsid", "--wait", WITH, "edit", "a.yml", EDITOR=editor)
-    ended("without a secret", done, 1, f"{EDIT}: --ask-vault-password: there is no terminal")
     assert place.get("a.yml") == before["a.yml"], "nothing else is changed"
     ended("its help", place.run(WITH, "edit", "--help"), 0, f"usage: {EDIT}")
-
-
-HABITS = [
-    "encrypt --vault-password-file ~/secrets/dev a.yml b.yml",
-    "view --vault-id ~/secrets/dev a.yml",
-    "rekey --vault-password-file ~/secrets/dev --new-vault-id prod@~/secrets/prod a.yml b.yml",
-    "decrypt a.yml --vault-id prod@~/secrets/prod -v",
-    "encrypt a.yml --vault-id dev@~/secrets/dev --vault-id prod@~/secrets/prod --encrypt-vault-id dev",
-    "decrypt --vault-pass-file=$HOME/secrets/dev --output - a.yml",
-    "encrypt_string --vault-id dev@~/secrets/dev 'a word' --name word --output c.yml",
-    "encrypt_string --vault-id=dev@~/secrets/dev --stdin-name word --output d.yml <<< words",
-    "edit --vault-id dev@~/secrets/dev a.yml",
-    "create --vault-password-file ~/secrets/dev e.yml",
-]
-
-
-def test_habits(cases: Companions) -> None:
-    """With an alias, what users of Ansible type does the same as with Ansible's tool."""
-    ansible = needs_ansible()
-    needs("bash")
-    results: dict[str, dict[str, tuple[bool | str, dict[str, Described]]]] = {WITH: {}, ansible: {}}
-    for tool, of_tool in results.items():
-        place = cases.place()
-        place.environment["EDITOR"] = place.script('echo more >> "$1"', "editor")
-        place.put("a.yml", TEXT)
-        place.put("b.yml", TEXT * 2)
-        for line in HABITS:
-            words = line_for_ansible(line) if tool == ansible else line
-            text = f"shopt -s expand_aliases\nalias ansible-vault={tool}\nansible-vault {words}\n"
-            with for_ansible(place) if tool == ansible else nullcontext():
-                done = place.shell(text, "bash")
-            assert done.returncode == 0, f"{tool} {line} ({done.stderr})"
-            # Ansible's tool prints more with -v.
-            of_tool[line] = line.endswith("-v") or done.stdout.strip(), contents(place)
-    assert results[WITH] == results[ansible]
-
-
-def contents(place: Place) -> dict[str, Described]:
-    return {name: described(content) for name, content in place.files().items()}
-
-
-def test_ansible_reads_it(place: Place) -> None:
-    ansible = needs_ansible()
-    place.put("a.yml", TEXT)
-    silent("encrypt", ours(place, "encrypt", *place.by_id("dev", "dev"), "a.yml"))
-    done = theirs(place, ansible, "view", *place.by_id("dev", "dev"), "a.yml")
-    assert (done.returncode, done.stdout.strip()) == (0, TEXT.decode().strip()), "Ansible's tool decrypts it"
-    theirs(place, ansible, "rekey", *place.by_id("dev", "dev"), *place.by_id("prod", "prod", "new-"), "a.yml")
-    silent("decrypt", ours(place, "decrypt", *place.by_id("prod", "prod"), "a.yml"))
-    assert place.get("a.yml") == TEXT, "and it is decrypted here"
 
 
 LINES = [

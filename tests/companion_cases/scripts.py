@@ -5,10 +5,10 @@ from pathlib import Path
 
 import pytest
 
-from companion_cases import CHECK, EDIT, NOTE, PASSWORDS, ROTATE, TEXT, TEXTCONV, WITH, Place, decrypted, ended
-from companion_cases import run_changed, sealed, silent
+from companion_cases import CHECK, EDIT, PASSWORDS, TEXT, TEXTCONV, WITH, Place, decrypted, ended, run_changed
+from companion_cases import sealed, silent, use_everywhere
 from companion_cases.both import ours
-from companion_cases.terminal import at_terminal
+from companion_cases.terminal import READING, ask
 from lib.subtests import SubTests
 
 # Records its arguments, and writes the password.
@@ -63,16 +63,9 @@ def test_every_companion(place: Place) -> None:
     place.put("a.yml", sealed("dev", label="dev"))
     place.script(RECORDING, "keys-client")
     place.script("cat ../secrets/dev2", "new-client.sh")
-    word = ["--vault-id", "dev@../keys-client"]
-    done = place.run(CHECK, *word, ".")
-    ended("check", done, 0, "a.yml: dev: decrypted by dev@../keys-client", "1 decrypted")
-    done = place.run(TEXTCONV, *word, "a.yml")
-    assert (done.returncode, done.stdout, done.stderr) == (0, TEXT.decode(), ""), "textconv"
-    silent("edit", place.run(EDIT, *word, "a.yml", EDITOR=place.script('echo more >> "$1"', "editor")))
-    assert decrypted("dev", place.get("a.yml")) == TEXT + b"more\n", "what was edited"
-    done = place.run(ROTATE, *word, "--new-vault-id", "dev@../new-client.sh", ".")
-    ended("rotate", done, 0, "1 rotated")
-    assert decrypted("dev2", place.get("a.yml")) == TEXT + b"more\n", "what was rotated"
+    words = ["--vault-id", "dev@../keys-client"]
+    use_everywhere(place, words, ["--new-vault-id", "dev@../new-client.sh"], "dev: decrypted by dev@../keys-client")
+    assert decrypted("dev2", place.get("a.yml")) == TEXT + b"more\n"
 
 
 @pytest.mark.parametrize("text, part", FAILING.items())
@@ -130,8 +123,8 @@ def test_standard_input(place: Place, subtests: SubTests) -> None:
     """A script may ask at the terminal through its standard input. Any other input is left to the companion."""
     place.put("a.yml", sealed("dev"))
     place.script("printf 'Which? ' > /dev/tty; read -r word; echo \"$word\"", "asking")
-    words = ["sh", "-c", 'exec "$@" < /dev/tty', "sh", WITH, "view", "--vault-password-file", "../asking", "a.yml"]
-    session = at_terminal(place, words, ("Which? ", PASSWORDS["dev"] + b"\n"))
+    words = [*READING, WITH, "view", "--vault-password-file", "../asking", "a.yml"]
+    session = ask(place, *words, answers=[("Which? ", PASSWORDS["dev"] + b"\n")])
     assert (session.returncode, session.stdout, session.stderr) == (0, TEXT.decode(), ""), "a terminal"
     for name in ("asking", "asking-client"):
         place.script("cat > ../swallowed; cat ../secrets/dev", name)
@@ -142,33 +135,6 @@ def test_standard_input(place: Place, subtests: SubTests) -> None:
             done = place.shell(f"echo data | {{ {CHECK} --vault-id @../{name} a.yml && wc -c; }}")
             ended("check", done, 0, "1 decrypted, 0 not\n5\n")
             assert (place.path / "swallowed").read_bytes() == b"", "it reads nothing"
-
-
-def test_secrecy(place: Place) -> None:
-    """The password that a script writes is in no argument or environment of a program, and in no file."""
-    place.put("a.yml", sealed("dev"))
-    place.wrap_tool(NOTE)
-    place.script("cat ../secrets/dev", "script")
-    place.script("cat ../secrets/new", "new")
-    words = ["--vault-password-file", "../script"]
-    new = ["--new-vault-password-file", "../new"]
-    editor = place.script('echo changed > "$1"', "editor")
-    runs = [
-        [EDIT, *words, "a.yml"],
-        [CHECK, *words, "."],
-        [TEXTCONV, *words, "a.yml"],
-        [WITH, "view", *words, "a.yml"],
-        [WITH, "rekey", *words, *new, "a.yml"],
-        [ROTATE, "--vault-password-file", "../new", "--new-vault-password-file", "../script", "."],
-    ]
-    for run in runs:
-        ended(run[0], place.run(*run, EDITOR=editor), 0)
-    seen = (place.path / "seen").read_bytes()
-    assert seen.count(b"--vault-id=default@/dev/fd/") > 8, ("the runs were seen", str(seen.count(b"@/dev/fd/")))
-    assert [each for each in PASSWORDS.values() if each in seen] == [], "no password is seen"
-    written = [path for path in place.path.rglob("*") if path.is_file() and "secrets" not in path.parts]
-    holding = [str(path) for path in written if PASSWORDS["dev"] in path.read_bytes()]
-    assert holding == [], "and none is written"
 
 
 # Another thread takes the signal, so it does not interrupt what the companion waits for.

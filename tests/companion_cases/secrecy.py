@@ -8,52 +8,45 @@ import sys
 import pytest
 
 from companion_cases import CHECK, EDIT, MERGE, NOTE, PASSWORDS, ROTATE, TEXT, TEXTCONV, WITH, Place, block, decrypted
-from companion_cases import ended, sealed, to_new, versions
+from companion_cases import ended, sealed, versions
+from companion_cases.terminal import ask
 from lib.needs import needs, needs_tool
 from lib.subtests import SubTests
 
 
-def test_words_and_environment(place: Place) -> None:
-    """Each run gets only paths; neither it nor the editor may leave a core dump."""
+@pytest.mark.parametrize("folder", ("secrets", "scripts"))
+def test_words_and_environment(place: Place, folder: str) -> None:
+    """Each run gets only paths, whether its password is in a file, comes from a script or is typed. No run writes a
+    password to a file. Neither a run nor the editor may leave a core dump."""
     place.put("a.yml", sealed("old"))
     place.put("b.yml", block("old"))
     place.environment["EDITOR"] = place.script(f'{NOTE}; echo "db: changed" > "$1"', "editor")
     place.wrap_tool(NOTE)
-    old = place.by_file("old")
+    (place.path / "scripts").mkdir()
+    for name in ("old", "new"):
+        place.script(f"cat ../secrets/{name}", f"scripts/{name}")
     if resource.getrlimit(resource.RLIMIT_CORE)[1] == 0:
         pytest.skip("the hard limit of core dumps is 0 here")
+    old, new = (["--vault-password-file", f"../{folder}/{name}"] for name in ("old", "new"))
+    to_be = ["--new-vault-password-file", new[1]]
     runs = [[EDIT, *old, "a.yml"], [CHECK, *old, "."], [TEXTCONV, *old, "b.yml"], [MERGE, *old, *["a.yml"] * 4]]
-    runs += [[ROTATE, *to_new(place), "."], [WITH, "view", *place.by_file("new"), "a.yml"]]
-    runs += [[WITH, "rekey", *place.by_file("new"), *place.by_file("new", "new-"), "a.yml"]]
+    runs += [[ROTATE, *old, *to_be, "."], [WITH, "view", *new, "a.yml"], [WITH, "rekey", *new, *to_be, "a.yml"]]
     for words in runs:
         done = place.run("sh", "-c", 'ulimit -S -c "$(ulimit -H -c)"; exec "$@"', "sh", *words)
         ended(words[0], done, 0)
-    typed = f"{CHECK} --vault-password-file <(cat {place.secret('new')}) ."
-    ended("a password that is typed", place.shell(typed, "bash"), 0)
+    piped = f"{CHECK} --vault-password-file <(cat ../secrets/new) ."
+    ended("a password of a pipe", place.shell(piped, "bash"), 0)
+    for words in ([WITH, "view"], [CHECK]):
+        session = ask(place, *words, "-J", "a.yml", answers=[("Vault password: ", PASSWORDS["new"] + b"\n")])
+        assert session.returncode == 0, session
     seen = (place.path / "seen").read_bytes()
-    assert seen.count(b"view") > 5 and b"--vault-id=default@" in seen, "the runs were seen"
+    assert seen.count(b"view") > 8 and seen.count(b"--vault-id=default@/dev/fd/") > 8, "the runs were seen"
     secrets = [*PASSWORDS.values(), TEXT.strip(), b"correct horse", b"changed"]
     assert [each for each in secrets if each in seen.replace(b'db: changed"', b"")] == [], "no secret is seen"
     assert set((place.path / "cores").read_text().split()) == {"0"}, "core dumps are disabled"
-
-
-def test_written_files(place: Place, subtests: SubTests) -> None:
-    """Plaintext is written only below the private directory of an edit."""
-    needs("strace")
-    place.environment["EDITOR"] = place.script('echo "db: changed" > "$1"', "editor")
-    old = place.by_file("old")
-    runs = [[EDIT, *old, "a.yml"], [CHECK, *old, "."], [TEXTCONV, *old, "b.yml"], [ROTATE, *to_new(place), "."]]
-    trace = place.path / "trace"
-    tracer = ["strace", "-f", "-s", "4096", "-o", str(trace), "-e", f"trace={CREATING}"]
-    for name, *words in runs:
-        place.put("a.yml", sealed("old"))
-        place.put("b.yml", block("old"))
-        with subtests.test(name):
-            ended("under strace", place.run(*tracer, str(place.tools / name), *words), 0)
-            lines = [line for line in trace.read_text().splitlines() if "O_CREAT" in line or "mkdir" in line]
-            allowed = [str(place.runtime)] if name == EDIT else []
-            allowed += [f"{place.tree}/.ansible-vault-", "./.ansible-vault-", "/dev/null", "/dev/tty"]
-            assert [line for line in lines if not any(f'"{start}' in line for start in allowed)] == []
+    written = [path for path in place.path.rglob("*") if path.is_file() and path.parent != place.secrets]
+    contents = {path: path.read_bytes() for path in written}
+    assert [path for path, data in contents.items() if any(each in data for each in PASSWORDS.values())] == []
 
 
 # The texts of three versions that merge without a conflict, and of three that merge with one.
@@ -70,7 +63,7 @@ IN_MEMORY = {"pipe:[]", "/memfd:version"}
 
 
 def runs_over_plaintext(place: Place) -> dict[str, tuple[list[str], int]]:
-    """Return merges and runs in place, with the exit status of each."""
+    """Return runs that read or write plaintext, with the exit status of each."""
 
     def vaults(name: str, texts: list[bytes]) -> list[str]:
         return versions(place, name, *(sealed("old", text) for text in texts))
@@ -79,10 +72,16 @@ def runs_over_plaintext(place: Place) -> dict[str, tuple[list[str], int]]:
         return versions(place, name, *(block("old", text) + b"z: 1\n" for text in texts))
 
     old, new = place.by_file("old"), place.by_file("new", "new-")
-    for name in ("decrypted", "rekeyed"):
+    for name in ("decrypted", "rekeyed", "rotated", "edited"):
         place.put(f"{name}.yml", sealed("old", MERGED[0]), 0o644)
+    place.put("blocks.yml", block("old", MERGED[0]))
     place.put("encrypted.yml", MERGED[0], 0o644)
+    place.environment["EDITOR"] = place.script('sed -i s/one/three/ "$1"', "editor")
     return {
+        "edit": ([EDIT, *old, "edited.yml"], 0),
+        "check": ([CHECK, *old, "edited.yml"], 0),
+        "textconv": ([TEXTCONV, *old, "blocks.yml"], 0),
+        "rotate": ([ROTATE, *old, *new, "rotated.yml"], 0),
         "a merge": ([MERGE, *old, *vaults("merged.yml", MERGED)], 0),
         "a merge with a conflict": ([MERGE, *old, *vaults("conflict.yml", CONFLICT)], 1),
         "a merge of values": ([MERGE, *old, *values("values.yml", [*CONFLICT[:1] * 2, CONFLICT[2]])], 0),
@@ -93,40 +92,45 @@ def runs_over_plaintext(place: Place) -> dict[str, tuple[list[str], int]]:
     }
 
 
-def writes_of(lines: list[str], hidden: list[str]) -> set[str]:
+# How many files these runs make beside another one. The others make one.
+NUMBERS = {"edit": 2, "check": 0, "textconv": 0}
+
+
+def writes_of(place: Place, lines: list[str], hidden: list[str]) -> set[str]:
     """Return where a hidden text was written, without the random parts of paths."""
     pattern = re.compile(rf"(?:{WRITING.replace(',', '|')})\(\d+<(.*?)>(?:\(deleted\))?, (.*)")
     written = [found.groups() for found in map(pattern.search, lines) if found]
     paths = {path for path, data in written if any(word in data for word in hidden)}
-    return {re.sub(r"(?<=pipe:\[)\d+|(?<=/\.ansible-vault-).*", "", path) for path in paths}
+    random = rf"(?<=pipe:\[)\d+|(?<=/\.ansible-vault-).*|(?<=^{re.escape(str(place.runtime))}/).*"
+    return {re.sub(random, "", path) for path in paths}
 
 
-def test_merges_and_files_in_place(place: Place, subtests: SubTests) -> None:
-    """No process gets plaintext or a password in its arguments or environment. Plaintext is written only to memory, and
-    by `decrypt` to a new file for its owner only."""
+def test_plaintext(place: Place, subtests: SubTests) -> None:
+    """No process gets plaintext or a password in its arguments or environment. Plaintext is written only to memory, by
+    `decrypt` to a new file for its owner only, and by an edit to its private directory."""
     needs("strace", "git")
-    beside, trace = f"{place.tree}/.ansible-vault-", place.path / "trace"
+    beside, private = f"{place.tree}/.ansible-vault-", f"{place.runtime}/"
     passwords, seen = [each.decode() for each in PASSWORDS.values()], set()
-    tracer = ["strace", "-fvy", "-s", "65536", "-o", str(trace), "-e", f"trace={STARTED},{WRITING},{CREATING}"]
     for what, (words, status) in runs_over_plaintext(place).items():
         with subtests.test(what):
-            done = place.run(*tracer, str(place.tools / words[0]), *words[1:])
+            done, lines = place.traced(f"-vy -s 65536 -e trace={STARTED},{WRITING},{CREATING}", *words)
             assert done.returncode == status, done.stderr
-            lines = trace.read_text(errors="replace").splitlines()
             started = [line for line in lines if f" {STARTED}(" in line]
             assert len(started) > 2, "its processes are seen"
             given = [line for line in started if any(word in line for word in [*HIDDEN, *passwords])]
             assert given == [], "no process is given a secret"
-            assert writes_of(lines, passwords) == {"/memfd:password"}, "where passwords are written"
-            found = writes_of(lines, HIDDEN)
+            assert writes_of(place, lines, passwords) == {"/memfd:password"}, "where passwords are written"
+            found = writes_of(place, lines, HIDDEN)
             seen |= found
-            assert found - IN_MEMORY - ({beside} if what == "decrypt" else set()) == set(), "nowhere else is plaintext"
+            allowed = {"decrypt": {beside}, "edit": {private}}.get(what, set())
+            assert found - IN_MEMORY - allowed == set(), "nowhere else is plaintext"
             created = [line for line in lines if re.search("O_CREAT|O_TMPFILE|mkdir", line)]
-            strange = [line for line in created if f'"{beside}' not in line and '"/dev/null"' not in line]
+            starts = [beside, "/dev/null", *([private, "/dev/tty"] if what == "edit" else [])]
+            strange = [line for line in created if not any(f'"{start}' in line for start in starts)]
             assert strange == [], "nothing else is created"
             modes = [line for line in created if f'"{beside}' in line and "O_EXCL" in line and ", 0600)" in line]
-            assert len(modes) == 1, "one file, for its owner alone"
-    assert seen == IN_MEMORY | {beside}, "plaintext was seen in each of these places"
+            assert len(modes) == NUMBERS.get(what, 1), "files for their owner alone"
+    assert seen == IN_MEMORY | {beside, private}, "plaintext was seen in each of these places"
     texts = {name: decrypted("old", place.get(name)) for name in ("merged.yml", "encrypted.yml")}
     wanted = {"merged.yml": b"one: staple\nx: 1\ny: 2\ntwo: battery\n", "encrypted.yml": MERGED[0]}
     assert texts == wanted, "the runs did their work"
@@ -152,10 +156,3 @@ def test_other_tools(place: Place) -> None:
     ended("no tool", done, 1, "there is no ansible-vault")
     (place.path / "interpreter" / "ansible-vault").symlink_to(place.program)
     ended("the one on PATH", place.run(CHECK, *place.by_file("old"), "."), 0, "decrypted by")
-    linked = place.path / "linked"
-    linked.symlink_to(place.tools / CHECK)
-    (place.path / "interpreter" / "ansible-vault").unlink()
-    (place.tools / "ansible-vault").symlink_to(place.program)
-    place.environment["PATH"] = str(place.path / "interpreter")
-    done = place.run(str(linked), *place.by_file("old"), ".")
-    ended("the one beside, through a link", done, 0, "decrypted by")

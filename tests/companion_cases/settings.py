@@ -2,8 +2,8 @@
 
 import pytest
 
-from companion_cases import CHECK, EDIT, MERGE, ROTATE, TEXT, TEXTCONV, WITH, Place, block, decrypted, ended, sealed
-from companion_cases import silent
+from companion_cases import CHECK, EDIT, MERGE, ROTATE, TEXT, TEXTCONV, WITH, Place, decrypted, ended, sealed, silent
+from companion_cases import use_everywhere
 from companion_cases.both import ours, theirs
 from lib.needs import needs_ansible
 from lib.subtests import SubTests
@@ -78,27 +78,10 @@ def by_settings(place: Place) -> None:
 
 def test_every_companion(place: Place) -> None:
     by_settings(place)
-    place.put("b.yml", block("old"))
-    ended("check", place.run(CHECK, "."), 0, "a.yml: default: decrypted by ../secrets/old", "2 decrypted")
-    done = place.run(TEXTCONV, "a.yml")
-    assert (done.returncode, done.stdout, done.stderr) == (0, TEXT.decode(), ""), "textconv"
-    silent("edit", place.run(EDIT, "a.yml", EDITOR=place.script('echo more >> "$1"', "editor")))
-    assert decrypted("old", place.get("a.yml")) == TEXT + b"more\n", "what was edited"
+    use_everywhere(place, [], place.by_file("new", "new-"), "default: decrypted by ../secrets/old")
     silent("a new one", place.run(EDIT, "new.yml", EDITOR=place.script('echo new > "$1"', "editor")))
     assert decrypted("old", place.get("new.yml")) == b"new\n", "it is made"
-    ended("rotate", place.run(ROTATE, *place.by_file("new", "new-"), "."), 0, "3 rotated")
-    assert decrypted("new", place.get("new.yml")) == b"new\n", "what was rotated"
-    done = place.run(WITH, "view", "--vault-password-file", place.secret("new"), "new.yml")
-    assert (done.returncode, done.stdout, done.stderr) == (0, "new\n", ""), "with"
-
-
-def test_options_come_first(place: Place) -> None:
-    """If an option names a secret, settings in the current directory are not read, and their faults do not count."""
-    by_settings(place)
-    done = place.run(CHECK, *place.by_file("dev"), "a.yml")
-    ended("another secret", done, 1, "a.yml: default: no secret decrypts this vault")
-    place.put("ansible.cfg", b"no section\n")
-    ended("settings with a fault", place.run(CHECK, *place.by_file("old"), "a.yml"), 0, "1 decrypted")
+    assert decrypted("new", place.get("a.yml")) == TEXT + b"more\n"
 
 
 # Settings and variables that name a script of an untrusted clone, and whether the script runs beside options.
@@ -172,6 +155,8 @@ def test_beside_options(place: Place, subtests: SubTests) -> None:
     ended("the folder's file", done, 1, "no secret decrypts this vault")
     done = ours(place, "view", *place.by_file("old"), "a.yml", ANSIBLE_CONFIG="ansible.cfg")
     assert (done.returncode, done.stdout) == (0, TEXT.decode()), "the folder's file, if it is named"
+    place.put("ansible.cfg", b"no section\n")
+    ended("a fault in it", place.run(CHECK, *place.by_file("dev"), "a.yml"), 0, "1 decrypted")
 
 
 def test_matching_labels(place: Place, subtests: SubTests) -> None:

@@ -14,9 +14,9 @@ from pathlib import Path
 import pytest
 
 from companion_cases import ABOVE_EDITOR, CHANGE, CHANGED, CHECK, EDIT, MERGE, PASSWORDS, ROTATE, TEXT, TEXTCONV, WITH
-from companion_cases import Companions, Place, block, decrypted, ended, run_changed, sealed, summary, to_new, versions
-from companion_cases import wait_until
-from companion_cases.terminal import at_terminal
+from companion_cases import Companions, Place, block, decrypted, edit, ended, run_changed, sealed, summary, to_new
+from companion_cases import versions, wait_until
+from companion_cases.terminal import ask
 from lib.limits import SECONDS
 from lib.subtests import SubTests
 from model.vaults import seal, yaml_block
@@ -190,22 +190,24 @@ def test_interrupted_then_finished(place: Place) -> None:
     assert {name: decrypted("new", each) for name, each in place.files().items()} == wanted, "all are done"
 
 
-@pytest.mark.parametrize("name, status", (("INT", 0), ("QUIT", 0), ("TERM", None), ("HUP", None), ("USR1", None)))
-def test_while_the_editor_runs(place: Place, name: str, status: int | None) -> None:
+LEFT_TO_EDITORS = ("INT", "QUIT")
+
+
+@pytest.mark.parametrize("name", (*LEFT_TO_EDITORS, "TERM", "HUP", "USR1", "ABRT", "PWR", "RTMIN", "RTMAX"))
+def test_while_the_editor_runs(place: Place, name: str) -> None:
     """The signals of a terminal's keys are left to the editor. Other signals end it, and what it saved is kept."""
     tree(place)
     # An editor that the companion has to end waits for input that never comes.
     os.mkfifo(place.path / "never")
-    waits = ": < ../never; " if status is None else ""
-    text = f"{CHANGE}; touch ../saved; kill -{name} {ABOVE_EDITOR}; {waits}touch ../survived"
-    place.environment["EDITOR"] = place.script(text, "editor")
-    done = place.run(EDIT, *place.by_file("old"), "a.yml")
-    number = signal.Signals[f"SIG{name}"]
-    assert done.returncode == (-number if status is None else status), "the status"
-    assert (place.path / "survived").exists() == (status == 0), "the editor ends"
-    assert decrypted("old", place.get("a.yml")) == (CHANGED if status == 0 else TEXT), "the vault"
+    number, is_left = signal.Signals[f"SIG{name}"], name in LEFT_TO_EDITORS
+    waits = "" if is_left else ": < ../never; "
+    text = f"{CHANGE}; touch ../saved; kill -{int(number)} {ABOVE_EDITOR}; {waits}touch ../survived"
+    done = edit(place, text, *place.by_file("old"), "a.yml")
+    assert done.returncode == (0 if is_left else -number), "the status"
+    assert (place.path / "survived").exists() == is_left, "the editor ends"
+    assert decrypted("old", place.get("a.yml")) == (CHANGED if is_left else TEXT), "the vault"
     told = TOLD.search(done.stderr)
-    assert (told and int(told[1])) == (number if status is None else None), "the message"
+    assert (told and int(told[1])) == (None if is_left else number), "the message"
     check_saved(name, place, done.stderr)
     check_whole(name, place)
 
@@ -226,7 +228,7 @@ def test_stopped_editors(place: Place) -> None:
         ("a.yml\r\n", b"typed\n"),
         ("ready> ", b"exit\n"),
     ]
-    session = at_terminal(place, ["sh", "-c", SHELL], *answers)
+    session = ask(place, "sh", "-c", SHELL, answers=answers)
     assert "Stopped" in session.shown, session.shown
     assert decrypted("old", place.get("a.yml")) == b"typed", session.shown
 
@@ -244,8 +246,7 @@ def test_last_words(place: Place, who: str) -> None:
     os.mkfifo(place.path / "never")
     twice = f"kill -TERM {ABOVE_EDITOR}; sleep 0.1; kill -TERM {ABOVE_EDITOR}"
     text = f'printf first > "$1"; {WRITERS[who]}; {twice}; : < ../never'
-    place.environment["EDITOR"] = place.script(text, "editor")
-    done = place.run(EDIT, *place.by_file("old"), "a.yml")
+    done = edit(place, text, *place.by_file("old"), "a.yml")
     assert done.returncode == -signal.SIGTERM, "the status"
     check_saved(who, place, done.stderr, b"last")
     check_whole(who, place)
@@ -266,8 +267,7 @@ time.sleep(600)
 def test_children_of_threads(place: Place) -> None:
     tree(place)
     (place.path / "thread.py").write_text(OF_THREAD)
-    place.environment["EDITOR"] = place.script(f"exec python3 ../thread.py {ABOVE_EDITOR}", "editor")
-    done = place.run(EDIT, *place.by_file("old"), "a.yml")
+    done = edit(place, f"exec python3 ../thread.py {ABOVE_EDITOR}", *place.by_file("old"), "a.yml")
     assert done.returncode == -signal.SIGTERM, "the status"
     state = Path("/proc", (place.path / "child").read_text().strip(), "stat")
     assert not state.exists() or state.read_text().rpartition(")")[2].split()[0] == "Z", "the child ends, too"
@@ -276,16 +276,7 @@ def test_children_of_threads(place: Place) -> None:
 
 def begun_edit(place: Place) -> subprocess.Popen[str]:
     """Start an edit in a session of its own, with a pipe for its messages."""
-    return subprocess.Popen(
-        [EDIT, *place.by_file("old"), "a.yml"],
-        cwd=place.tree,
-        env=place.environment,
-        stdin=subprocess.DEVNULL,
-        stdout=subprocess.DEVNULL,
-        stderr=subprocess.PIPE,
-        start_new_session=True,
-        text=True,
-    )
+    return place.start(EDIT, *place.by_file("old"), "a.yml", stderr=subprocess.PIPE, start_new_session=True)
 
 
 @pytest.mark.parametrize("send", (os.kill, os.killpg))
@@ -315,8 +306,7 @@ def test_signals_to_all(place: Place, when: str) -> None:
     tree(place)
     place.wrap_tool(f'[ "$1" != encrypt ] || {{ {again}; }}')
     first = f"kill -TERM {ABOVE_EDITOR}; sleep {SECONDS}" if when == "while the editor runs" else ":"
-    place.environment["EDITOR"] = place.script(f"{CHANGE}; touch ../saved; {first}", "editor")
-    done = place.run(EDIT, *place.by_file("old"), "a.yml")
+    done = edit(place, f"{CHANGE}; touch ../saved; {first}", *place.by_file("old"), "a.yml")
     assert done.returncode in (-signal.SIGTERM, -signal.SIGHUP), "the status"
     assert decrypted("old", place.get("a.yml")) == TEXT, "the vault stays"
     check_saved(when, place, done.stderr)
@@ -334,16 +324,9 @@ def test_closed_terminals(place: Place, what: str, leader: tuple[str, ...]) -> N
     editor = f"{CHANGE}; echo {ABOVE_EDITOR} > ../companion; touch ../saved; : < ../never"
     place.environment["EDITOR"] = place.script(editor, "editor")
     controller, terminal = os.openpty()
-    with subprocess.Popen(
-        [*leader, EDIT, *place.by_file("old"), "a.yml"],
-        cwd=place.tree,
-        env=place.environment,
-        stdin=terminal,
-        stdout=terminal,
-        stderr=terminal,
-        start_new_session=True,
-        preexec_fn=lambda: fcntl.ioctl(0, termios.TIOCSCTTY, 0),
-    ) as process:
+    streams = dict.fromkeys(("stdin", "stdout", "stderr"), terminal)
+    takes_terminal = {"start_new_session": True, "preexec_fn": lambda: fcntl.ioctl(0, termios.TIOCSCTTY, 0)}
+    with place.start(*leader, EDIT, *place.by_file("old"), "a.yml", **streams, **takes_terminal) as process:
         os.close(terminal)
         wait_until((place.path / "saved").exists, "the editor")
         companion = (place.path / "companion").read_text().strip()
@@ -387,11 +370,3 @@ def test_signals_at_the_start(place: Place) -> None:
     assert done.returncode == -signal.SIGTERM, "the status"
     assert not (place.path / "survived").exists(), "the editor is ended"
     check_whole("at the start", place)
-
-
-def test_ignored_signals(place: Place) -> None:
-    """A signal that is ignored from the beginning, as with nohup, stays ignored."""
-    tree(place)
-    place.wrap_tool(AT_RUN.format(number=4, trap="", signal="HUP"))
-    done = place.shell(f"trap '' HUP; {ROTATE} {' '.join(to_new(place))} --jobs 1 .")
-    ended("an ignored signal", done, 0, summary(3))

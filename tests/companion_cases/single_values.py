@@ -3,7 +3,6 @@
 from __future__ import annotations
 
 import os
-import subprocess
 from collections import Counter
 from collections.abc import Iterator
 from pathlib import Path
@@ -16,8 +15,8 @@ from ansible_vault_companions.program import Refused
 from ansible_vault_companions.yaml.matching import Choice
 from ansible_vault_companions.yaml.nodes import nodes
 from ansible_vault_companions.yaml.typed_paths import typed
-from companion_cases import EDIT, ENCRYPTED, TEXTCONV, Place, block, ended, sealed, silent, texts
-from companion_cases.terminal import ask
+from companion_cases import EDIT, ENCRYPTED, TEXTCONV, Done, Place, block, ended, sealed, silent, texts
+from companion_cases.terminal import READING, ask
 from companion_cases.yaml_values import SECRET, Generator, Hexadecimal, decrypt
 from lib.needs import needs, needs_pyyaml
 
@@ -58,11 +57,11 @@ def both(place: Place) -> list[str]:
 
 
 def shown(place: Place, *words: str) -> tuple[int, bytes, str]:
-    done = subprocess.run([TEXTCONV, *words], cwd=place.tree, env=place.environment, capture_output=True)
+    done = place.run_on(b"", TEXTCONV, *words)
     return done.returncode, done.stdout, done.stderr.decode()
 
 
-def set_to(place: Place, text: bytes, *words: str) -> subprocess.CompletedProcess[str]:
+def set_to(place: Place, text: bytes, *words: str) -> Done:
     place.put("../given", text)
     return place.run("sh", "-c", '"$@" < ../given', "sh", EDIT, *words)
 
@@ -110,8 +109,11 @@ def test_below_a_commit(place: Place, both: list[str]) -> None:
     assert (done.returncode, done.stdout) == (1, FILE.decode())
 
 
-@pytest.mark.parametrize("text", (b"", b"new", b"new\n", ANY_BYTES, b"!vault |\n", b"$ANSIBLE_"))
-@pytest.mark.parametrize("path", VALUES)
+SET = [(path, b"new") for path in VALUES]
+SET += [("db_password", text) for text in (b"", b"new\n", ANY_BYTES, b"!vault |\n", b"$ANSIBLE_")]
+
+
+@pytest.mark.parametrize("path, text", SET)
 def test_set(place: Place, both: list[str], path: str, text: bytes) -> None:
     """The value keeps its label and secret, and everything else keeps every byte."""
     silent("it is set", set_to(place, text, *both, "--value", path, "vars.yml"))
@@ -213,7 +215,7 @@ def test_given(place: Place, both: list[str]) -> None:
     ended("no file", set_to(place, b"x", *words[:-1], "new.yml"), 1, "new.yml: No such file")
     ended("no standard input", place.run("sh", "-c", '"$@" <&-', "sh", EDIT, *words), 1, "Bad file descriptor")
     needs("stty")
-    session = ask(place, "sh", "-c", 'exec "$@" < /dev/tty', "sh", EDIT, *words, answers=[])
+    session = ask(place, *READING, EDIT, *words, answers=[])
     assert (session.returncode, "use a pipe or a file" in session.stderr) == (1, True), session
     place.put("vars.yml", b"<<<<<<< ours\n" + FILE + b"=======\n>>>>>>> theirs\n")
     ended("a conflict", set_to(place, b"x", *words), 1, "git's conflict markers")

@@ -2,10 +2,11 @@
 
 import os
 import signal
-import subprocess
 
-from companion_cases import CHANGE, CHANGED, CHECK, EDIT, HOOK, MERGE, ROTATE, TEXT, TEXTCONV, WITH, Companions, Done
-from companion_cases import Place, decrypted, ended, sealed, silent, summary, to_new, versions
+import pytest
+
+from companion_cases import ABOVE_EDITOR, CHANGE, CHANGED, CHECK, EDIT, HOOK, MERGE, ROTATE, TEXT, TEXTCONV, WITH
+from companion_cases import Done, Place, decrypted, edit, ended, sealed, silent, summary, to_new, versions
 from companion_cases.repository import under_git
 from lib.needs import needs
 from lib.subtests import SubTests
@@ -63,7 +64,7 @@ def test_closed_inputs(place: Place, subtests: SubTests) -> None:
     needs("bash")
     tree(place)
     typed = f"--vault-password-file <(cat {place.secret('old')})"
-    for streams in ("<&-", "<&- >&- 2>&-", ">&-"):
+    for streams in ("", "<&-", "<&- >&- 2>&-", ">&-"):
         with subtests.test(f"{EDIT} {streams}"):
             place.put("a.yml", sealed("old"))
             silent("an edit", place.shell(f"{EDIT} {typed} a.yml {streams}", "bash"))
@@ -112,44 +113,31 @@ def test_ignored_children(place: Place) -> None:
     ended("the hook", ignoring(HOOK), 1, "a.yml is not encrypted")
 
 
-def test_ignored_interrupts(place: Place) -> None:
-    """If SIGINT is ignored from the beginning, as in the background of a script, it stays ignored."""
+@pytest.mark.parametrize("name", ("INT", "HUP"))
+def test_ignored_signals(place: Place, name: str) -> None:
+    """A signal that is ignored from the beginning, as in the background of a script or with nohup, stays ignored."""
     tree(place)
-    place.wrap_tool("kill -INT $PPID; sleep 0.05")
-    done = place.shell(f"trap '' INT; {ROTATE} {' '.join(to_new(place))} .")
-    ended("SIGINT", done, 0, summary(1))
+    place.wrap_tool(f"kill -{name} $PPID; sleep 0.05")
+    done = place.shell(f"trap '' {name}; {ROTATE} {' '.join(to_new(place))} .")
+    ended("a rotation", done, 0, summary(1))
     new = " ".join(place.by_file("new"))
-    silent("in place", place.shell(f"trap '' INT; {WITH} decrypt {new} a.yml"))
+    silent("in place", place.shell(f"trap '' {name}; {WITH} decrypt {new} a.yml"))
     words = versions(place, "b.yml", sealed("new"), sealed("new"), sealed("new", CHANGED))
-    silent("a merge", place.shell(f"trap '' INT; {MERGE} {new} {' '.join(words)}"))
+    silent("a merge", place.shell(f"trap '' {name}; {MERGE} {new} {' '.join(words)}"))
     assert (place.get("a.yml"), decrypted("new", place.get("b.yml"))) == (TEXT, CHANGED), "both are done"
 
 
-def test_all_ending_signals(cases: Companions, subtests: SubTests) -> None:
-    """Every signal that would end a program is caught, so the plaintext is removed and what was saved is kept."""
+def test_all_ending_signals(place: Place) -> None:
+    """Every signal that would end a program is caught."""
     not_ending = {"KILL", "STOP", "CHLD", "CONT", "URG", "WINCH", "TSTP", "TTIN", "TTOU"}
     # A fault of Python itself would recur at once. Signals that Python ignores stay ignored.
     others = {"SEGV", "BUS", "FPE", "ILL", "PIPE", "XFSZ"}
     wanted = signal.valid_signals() - {getattr(signal, f"SIG{name}") for name in not_ending | others}
-    place = cases.place()
     place.put("a.yml", sealed("old"))
-    companion = "$(cut -d ' ' -f 4 /proc/$PPID/stat)"
-    look = f"grep -h SigCgt /proc/{companion}/status > ../noted"
-    place.run(EDIT, *place.by_file("old"), "a.yml", EDITOR=place.script(look, "editor"))
+    edit(place, f"grep -h SigCgt /proc/{ABOVE_EDITOR}/status > ../noted", *place.by_file("old"), "a.yml")
     mask = int((place.path / "noted").read_text().split()[1], 16)
     noted = {number for number in signal.valid_signals() if mask >> (number - 1) & 1}
     assert sorted(wanted - noted) == [], "all are noted"
-    for number in (signal.SIGABRT, signal.SIGPWR, signal.SIGRTMIN, signal.SIGRTMAX):
-        place = cases.place()
-        place.put("a.yml", sealed("old"))
-        editor = place.script(f"{CHANGE}; kill -{int(number)} {companion}; exec sleep 5", "editor")
-        with subtests.test(f"signal {int(number)}"):
-            done = place.run(EDIT, *place.by_file("old"), "a.yml", EDITOR=editor)
-            assert done.returncode == -number, "the status"
-            copy, *left = place.names()
-            assert copy.startswith(".ansible-vault-saved-a.yml-"), "what was saved is kept"
-            assert decrypted("old", place.get(copy)) == CHANGED, "in a vault"
-            assert (left, place.left()) == (["a.yml"], []), "nothing else is left"
 
 
 def merges_with(path: str) -> list[list[str]]:
@@ -163,8 +151,7 @@ def test_waiting_pipes(place: Place, subtests: SubTests) -> None:
     old = place.by_file("old")
     place.put("a.yml", sealed("old"))
     runs = [[EDIT, *old, "pipe"], [TEXTCONV, *old, "pipe"], [WITH, "decrypt", *old, "pipe"]]
-    where = place.environment
     for words in [*runs, *([MERGE, *old, *merge] for merge in merges_with("pipe"))]:
         with subtests.test(" ".join(words)):
-            done = subprocess.run(words, cwd=place.tree, env=where, capture_output=True, text=True, timeout=20)
+            done = place.run("timeout", "20", *words)
             ended("it does not wait", done, 1, "it is not a regular file")

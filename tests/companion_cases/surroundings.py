@@ -1,7 +1,6 @@
 """The start of each example in attacked.py: secrets, a repository, and a file and a directory of somebody else."""
 
 import shutil
-import subprocess
 
 from companion_cases import MERGE, Place
 from companion_cases.oracle import DEV, LINK, NAMES, Tree, make
@@ -54,5 +53,4 @@ class Surroundings:
             mode = b"120000" if content.startswith(LINK) else b"100644"
             data = content.removeprefix(LINK)
             stream += b"M %s inline %s\ndata %d\n%s\n" % (mode, name.encode(), len(data), data)
-        command = ["git", "fast-import", "--quiet", "--force"]
-        subprocess.run(command, cwd=self.place.tree, env=self.place.environment, input=stream, check=True)
+        assert self.place.run_on(stream, "git", "fast-import", "--quiet", "--force").returncode == 0

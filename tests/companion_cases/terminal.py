@@ -13,6 +13,8 @@ from companion_cases import Place
 from lib.limits import SECONDS
 
 CHUNK_SIZE = 4096
+# Precedes the words of a program that reads the terminal.
+READING = ["sh", "-c", 'exec "$@" < /dev/tty', "sh"]
 # The session leader. When it exits, the terminal is hung up, so it first writes the terminal's modes to $MODES.
 LEADER = 'trap : INT QUIT; "$@"; status=$?; stty -a < /dev/tty > "$MODES"; exit $status'
 
@@ -30,21 +32,16 @@ class Session:
     echoes: bool
 
 
-def at_terminal(place: Place, words: list[str], *answers: tuple[str, bytes], **variables: str) -> Session:
+def ask(place: Place, *words: str, answers: list[tuple[str, bytes]], **variables: str) -> Session:
     """Run a program, wait for each question, and type the answer. The standard streams are not the terminal."""
     controller, terminal = os.openpty()
     modes = place.path / "modes"
-    with subprocess.Popen(
-        ["sh", "-c", LEADER, "sh", *words],
-        cwd=place.tree,
-        env=place.environment | variables | {"MODES": str(modes)},
-        stdin=subprocess.DEVNULL,
-        stdout=subprocess.PIPE,
-        stderr=subprocess.PIPE,
-        pass_fds=[terminal],
-        start_new_session=True,
-        preexec_fn=lambda: fcntl.ioctl(terminal, termios.TIOCSCTTY, 0),
-    ) as program:
+    options = {
+        **{"stdout": subprocess.PIPE, "stderr": subprocess.PIPE, "pass_fds": [terminal], "start_new_session": True},
+        "env": place.environment | variables | {"MODES": str(modes)},
+        "preexec_fn": lambda: fcntl.ioctl(terminal, termios.TIOCSCTTY, 0),
+    }
+    with place.start("sh", "-c", LEADER, "sh", *words, **options) as program:
         os.close(terminal)
         shown = b""
         try:
@@ -59,7 +56,7 @@ def at_terminal(place: Place, words: list[str], *answers: tuple[str, bytes], **v
     shown += _rest(controller)
     os.close(controller)
     echoes = " -echo " not in modes.read_text()
-    return Session(program.returncode, output.decode(), errors.decode(), shown.decode().replace("\r", ""), echoes)
+    return Session(program.returncode, output, errors, shown.decode().replace("\r", ""), echoes)
 
 
 def _shown_until(controller: int, shown: bytes, question: bytes) -> bytes:
@@ -87,7 +84,3 @@ def _rest(controller: int) -> bytes:
     while chunk := _chunk(controller):
         shown += chunk
     return shown
-
-
-def ask(place: Place, *words: str, answers: list[tuple[str, bytes]], **variables: str) -> Session:
-    return at_terminal(place, [*words], *answers, **variables)

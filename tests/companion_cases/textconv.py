@@ -53,9 +53,9 @@ def test_as_it_is(place: Place, subtests: SubTests) -> None:
             done = place.run(TEXTCONV, *place.by_file("old"), name)
             assert (done.returncode, done.stdout.encode()) == (0, content), "as it is"
             assert part in done.stderr and name in done.stderr, "the reason is printed"
-    place.put("mixed.yml", block("dev") + block("old", b"shown"))
+    place.put("mixed.yml", block("dev") + block("old", b" shown\n\n"))
     done = place.run(TEXTCONV, *place.by_file("old"), "mixed.yml")
-    wanted = block("dev").decode() + "secret: !vault |-\n  shown\n"
+    wanted = block("dev").decode() + "secret: !vault |2+\n   shown\n\n"
     assert (done.returncode, done.stdout) == (0, wanted), "the other blocks are shown"
     place.put("a.yml", sealed("old"))
     done = place.run(TEXTCONV, *place.by_file("missing"), *place.by_file("old"), "a.yml")
@@ -67,9 +67,6 @@ def test_as_it_is(place: Place, subtests: SubTests) -> None:
         with subtests.test(name):
             done = place.run(TEXTCONV, *place.by_file("old"), name)
             assert (done.returncode, done.stdout, done.stderr) == (1, "", f"{TEXTCONV}: {name}: {why}\n")
-    for line in ("", "a.yml", "--loud a.yml", "--vault-password-file a.yml"):
-        with subtests.test(f"{TEXTCONV} {line}"):
-            ended("it is refused", place.run(TEXTCONV, *line.split()), 2, "usage: ansible-vault-textconv")
 
 
 def test_differences(place: Place) -> None:
@@ -141,19 +138,6 @@ def test_messages(place: Place, line: str) -> None:
     texts = re.compile(b"password: (first|second)")
     kept = [path for path in place.path.rglob("*") if path.is_file() and texts.search(path.read_bytes())]
     assert kept == [], "no plaintext is left"
-
-
-def test_untouched_differences(place: Place) -> None:
-    """A vault that cannot be decrypted does not stop git, and the reason is reported."""
-    needs("git")
-    with_driver(place, *place.by_file("old"))
-    place.put("a.yml", sealed("dev", b"one\n"))
-    place.put("b.yml", sealed("old", b"password: first\n"))
-    add_and_commit(place)
-    place.put("a.yml", sealed("dev", b"two\n"))
-    place.put("b.yml", sealed("old", b"password: second\n"))
-    done = place.shell("git diff")
-    ended("an unknown vault", done, 0, "+password: second", "shown as it is: no secret decrypts this vault")
 
 
 # How git's settings for all clones name the secret, other settings, and whether a script of the clone runs.

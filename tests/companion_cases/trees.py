@@ -36,6 +36,8 @@ def test_awkward_names(place: Place) -> None:
 
 
 def test_links(place: Place) -> None:
+    """Links to files are followed, but a rotation writes only within the paths. A link to a directory is followed only
+    if it is a path."""
     place.put("tree/all.yml", sealed("old"))
     place.put("shared/vault.yml", sealed("old"), 0o640)
     place.put("elsewhere/deep.yml", sealed("old"))
@@ -50,6 +52,8 @@ def test_links(place: Place) -> None:
     for name, target in targets.items():
         (place.tree / "tree" / name).symlink_to(target)
     shared = str(place.tree / "shared/vault.yml")
+    assert found(place, "tree") == ["tree/all.yml", "tree/chain.yml"], "the check names each file once"
+    assert found(place, "tree/folder") == ["tree/folder/deep.yml"], "a link that is the path"
     for words, part in (((), "1 rotated, 0 under"), (("--dry-run",), "0 to be rotated, 1 under")):
         done = place.run(ROTATE, *words, *to_new(place), "tree")
         why = f"tree/chain.yml: it points to {shared}, outside the paths you named; name that file to rotate it\n"
@@ -74,19 +78,6 @@ def test_link_to_a_sibling(place: Place) -> None:
     (place.tree / "tree/link.yml").symlink_to("../tree-old/vault.yml")
     ended("its file", place.run(ROTATE, *to_new(place), "tree"), 1, "outside the paths you named", "1 failed")
     assert place.get("tree-old/vault.yml") == sealed("old"), "stays"
-
-
-def test_checked_links(place: Place) -> None:
-    """The check follows links to files. It follows a link to a directory only if the link itself is a path."""
-    place.put("tree/all.yml", sealed("old"))
-    place.put("shared/vault.yml", sealed("old"))
-    place.put("elsewhere/deep.yml", sealed("old"))
-    targets = {"outside.yml": "../shared/vault.yml", "folder": "../elsewhere", "dangling.yml": "nowhere"}
-    for name, target in targets.items():
-        (place.tree / "tree" / name).symlink_to(target)
-    below, behind = found(place, "tree"), found(place, "tree/folder")
-    wanted = (["tree/all.yml", "tree/outside.yml"], ["tree/folder/deep.yml"])
-    assert (below, behind) == wanted, "a folder with links, and a link to a folder"
 
 
 def test_hard_links(place: Place) -> None:
@@ -119,17 +110,6 @@ def test_what_is_looked_at(place: Place) -> None:
     wanted = [".github/x.yml:2", ".hidden/vault.yml", "a.json:2", "b.YML:2", "group_vars/all"]
     wanted += ["host_vars/db.example.org:2", "host_vars/www.example.org", "notes.md", "vars.yaml:2", "vault"]
     assert found(place, ".") == sorted(f"./{name}" for name in wanted), "what is looked at"
-
-
-def test_long_files(place: Place) -> None:
-    """A block is found wherever it is, even across the chunks that are read."""
-    filler = b"# " + b"a" * 61 + b"\n"
-    # With 36, the envelope begins at the first byte of a chunk.
-    shifts = (0, 22, 28, 35, 36, 60)
-    for shift in shifts:
-        place.put(f"{shift}.yml", b"#" * shift + b"\n" + filler * 16383 + block("old") + filler)
-    wanted = [f"./{shift}.yml:16386" for shift in shifts]
-    assert found(place, ".") == sorted(wanted), "long files"
 
 
 def test_what_has_no_end(place: Place) -> None:

@@ -2,15 +2,9 @@
 
 import re
 
-import pytest
-
-from companion_cases import EDIT, TEXTCONV, Done, Place, block, decrypted, edit, ended, lines_of, sealed, silent
+from companion_cases import EDIT, Done, Place, block, decrypted, edit, ended, lines_of, sealed, silent
 from companion_cases import texts
-from lib.needs import needs_pyyaml
 
-# Each way in which a text can begin and end.
-SHOWN = ["", "x", "x\n", "x\n\n", "\n", "\n\n", " x", " x\ny", "\n x\n", "\tx", "x\n\ny", "x ", " ", "x\n  "]
-SHOWN += ["# x", "x: 'y", "größe\n", "- a\n- b\n", "<<<<<<< x\n", "---\n", "\n\n x\n\n\n", "!vault |\n  x"]
 CLOSED = {b"\0": "control characters", b"\xff": "not UTF-8", b"a\r\nb": "control", "\u2028".encode(): "control"}
 CLOSED[b"$ANSIBLE_VAULT;1.1;AES256\n"] = "itself a vault"
 # What may be typed after the key, and the text that it means.
@@ -41,36 +35,11 @@ REFUSED = {
 }
 # Plaintext in a place where it would not be encrypted.
 MISPLACED = {
-    "b: !vault |-\n  x\ny\n": "line 3: it cannot be read as YAML: could not find expected ':'",
-    "b: !vault |-\n   x\n  y\n": "line 3: it cannot be read as YAML: did not find expected key",
     "# b: !vault |-\n#   x\n": "line 1: `!vault` within a comment or a string is not a tag",
     "t: |\n  b: !vault |-\n    x\n": "line 2: `!vault` within a comment or a string is not a tag",
     "b: {c: !vault x}\n": "line 1: c is within brackets",
 }
 COPY = 'cp "$1" ../shown'
-
-
-@pytest.mark.parametrize("end", [b"", b"\n", b"\n\n\n", b"\n  # a comment\n", b"\n\nz: 1\n"])
-def test_shown_literals(place: Place, end: bytes) -> None:
-    """PyYAML reads each text as a literal, too, and what is not changed keeps every byte."""
-    needs_pyyaml()
-    import yaml
-
-    vaults = [lines_of(sealed("old", text.encode()), 4) for text in SHOWN]
-    files = {f"{number}.yml": b"a: !vault |\n" + vault + end for number, vault in enumerate(vaults)}
-    for name, content in files.items():
-        place.put(name, content)
-    (place.path / "shown").mkdir()
-    done = edit(place, COPY, *place.by_file("old"), *files)
-    assert (done.returncode, done.stderr.count("nothing was changed")) == (0, len(files)), "they are shown"
-    assert place.files() == files, "they stay"
-    found = [yaml.load((place.path / "shown" / name).read_text(), yaml.BaseLoader)["a"] for name in files]
-    # An empty text stays encrypted above a comment, which would become its text.
-    wanted = ["$ANSIBLE_VAULT" if b"#" in end and not text.strip("\n") else text for text in SHOWN]
-    assert [text[:14] if text.startswith("$ANSIBLE_VAULT") else text for text in found] == wanted, "by PyYAML"
-    done = edit(place, 'sed -i "1i y: 1" "$1"', *place.by_file("old"), *files)
-    after = {name: b"y: 1\n" + content for name, content in files.items()}
-    assert (done.returncode, place.files()) == (0, after), "another change leaves them"
 
 
 def test_what_changes(place: Place) -> None:
@@ -148,14 +117,7 @@ def test_closed(place: Place) -> None:
     place.put("vars.yml", block("dev"))
     done = edit(place, "true", *place.by_file("old"), "vars.yml")
     tried = f"vars.yml: line 1: secret: no secret decrypts this vault (no label; tried {place.secret('old')})"
-    ended("no secret", done, 1, tried, "choose their secret with --encrypt-vault-id")
-
-
-def test_shown_by_git(place: Place) -> None:
-    place.put("vars.yml", block("old", b" a\n\n", name="a") + block("dev", b"b", name="b"))
-    done = place.run(TEXTCONV, *place.by_file("old"), "vars.yml")
-    wanted = "a: !vault |2+\n   a\n\n" + block("dev", b"b", name="b").decode()
-    assert (done.returncode, done.stdout) == (0, wanted), "literals"
+    ended("no secret", done, 1, tried, "choose a secret for the new ones with --encrypt-vault-id")
 
 
 def test_lists(place: Place) -> None:

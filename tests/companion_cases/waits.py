@@ -14,6 +14,7 @@ import pytest
 
 from companion_cases import CHECK, HOOK, MERGE, ROTATE, TEXT, TEXTCONV, WITH, Place, run_changed, sealed, to_new
 from companion_cases import wait_until
+from companion_cases.repository import add_and_commit, under_git
 from companion_cases.signals import merge_of, tree
 from lib.limits import SECONDS
 
@@ -25,8 +26,8 @@ def walk(path, **options):
         yield path, [], []
 os.walk = walk
 """
-# Makes a program wait until it is signalled.
-WAITS = "exec 2> /dev/null; : > ../started; : < ../never"
+# Makes a run of git with this command wait until it is signalled.
+WAITS = 'case " $* " in *" {} "*) exec 2> /dev/null; : > {folder}/started; : < {folder}/never;; esac'
 PIPE_SIZE = 4096
 
 
@@ -34,15 +35,7 @@ PIPE_SIZE = 4096
 def started(
     place: Place, words: list[str], stdin: int = subprocess.DEVNULL, stdout: int = subprocess.PIPE
 ) -> Iterator[subprocess.Popen[str]]:
-    with subprocess.Popen(
-        words,
-        cwd=place.tree,
-        env=place.environment,
-        stdin=stdin,
-        stdout=stdout,
-        stderr=subprocess.PIPE,
-        text=True,
-    ) as process:
+    with place.start(*words, stdin=stdin, stdout=stdout, stderr=subprocess.PIPE) as process:
         try:
             yield process
         finally:
@@ -86,16 +79,21 @@ def test_while_files_are_searched(place: Place, companion: str, number: int) -> 
 
 
 @pytest.mark.parametrize("number", (signal.SIGINT, signal.SIGTERM))
-@pytest.mark.parametrize("companion", (CHECK, MERGE, HOOK))
-def test_while_git_runs(place: Place, git: None, companion: str, number: int) -> None:
+@pytest.mark.parametrize(
+    "companion, command",
+    ((CHECK, "check-attr"), (MERGE, "merge-file"), (HOOK, "rev-parse"), (HOOK, "check-attr"), (HOOK, "cat-file")),
+)
+def test_while_git_runs(place: Place, git: None, companion: str, command: str, number: int) -> None:
     tree(place)
+    under_git(place, "*.yml diff=ansible-vault\n")
+    add_and_commit(place)
     os.mkfifo(place.path / "never")
-    place.shell("git init -q")
-    place.wrap_tool(WAITS, "git")
-    words = {CHECK: [CHECK, *place.by_file("old"), "."], MERGE: merge_of(place, "a.yml"), HOOK: [HOOK]}
+    place.wrap_tool(WAITS.format(command, folder=place.path), "git")
+    words = {CHECK: [CHECK, *place.by_file("old"), "."], MERGE: merge_of(place, "a.yml"), HOOK: [HOOK, "--all"]}
     with started(place, words[companion]) as process:
         wait_until((place.path / "started").exists, "git")
         end(process, number, place.path / "never")
+    assert (os.listdir(place.temporary), place.left()) == ([], [])
 
 
 @pytest.mark.parametrize("number", (signal.SIGINT, signal.SIGTERM))

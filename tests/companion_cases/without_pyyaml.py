@@ -2,25 +2,25 @@
 
 import shutil
 
-from companion_cases import CHECK, EDIT, MERGE, ROTATE, TEXT, TEXTCONV, WITH, Companions, Place, block, decrypted
-from companion_cases import ended, sealed, silent, summary, texts, to_new
+from companion_cases import CHECK, EDIT, MERGE, ROTATE, TEXT, TEXTCONV, WITH, Place, block, decrypted, ended, sealed
+from companion_cases import silent, summary, texts, to_new
 from lib.needs import needs
 
 PACKAGE = "python3-yaml"
 
 
-def hide_pyyaml(place: Place, cases: Companions) -> None:
+def hide_pyyaml(place: Place) -> None:
     """Replace the companions by copies beside a module `yaml` that cannot be imported."""
     folder = place.path / "without"
-    shutil.copytree(cases.companions, folder)
+    shutil.copytree(place.companions, folder)
     (folder / "yaml.py").write_text("raise ModuleNotFoundError\n")
     for companion in folder.glob("ansible-vault-*"):
         (place.tools / companion.name).unlink()
         (place.tools / companion.name).symlink_to(companion)
 
 
-def test_vaults(cases: Companions, place: Place) -> None:
-    hide_pyyaml(place, cases)
+def test_vaults(place: Place) -> None:
+    hide_pyyaml(place)
     old = place.by_file("old")
     place.environment["EDITOR"] = place.script('sed -i s/correct/wrong/ "$1"', "editor")
     place.put("all.yml", sealed("old"))
@@ -36,9 +36,9 @@ def test_vaults(cases: Companions, place: Place) -> None:
     assert decrypted("old", place.get("ours")) == b"a: 2\n\nb: 2\n", "it is merged"
 
 
-def test_blocks(cases: Companions, place: Place) -> None:
+def test_blocks(place: Place) -> None:
     """Finding blocks by their headers needs no PyYAML, but editing them does."""
-    hide_pyyaml(place, cases)
+    hide_pyyaml(place)
     old = place.by_file("old")
     content = block("old", b"one")
     place.put("vars.yml", content)

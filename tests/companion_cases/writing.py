@@ -5,17 +5,16 @@ import re
 
 import pytest
 
-from companion_cases import CHANGE, CHECK, EDIT, MERGE, NOBODY, ROTATE, TEXT, WITH, Companions, Place, block
-from companion_cases import decrypted, edit, ended, run_changed, sealed, silent, summary, to_new, versions
+from companion_cases import CHANGE, CHANGED, CHECK, EDIT, MERGE, NOBODY, ROTATE, TEXT, WITH, Companions, Place, block
+from companion_cases import edit, ended, sealed, silent, summary, to_new, versions
 from lib.needs import needs
 from lib.subtests import SubTests
 
 
-def traced(place: Place, companion: str, *words: str) -> list[str]:
-    """Return what was done to the new file and its directory, in order."""
-    trace = place.path / "trace"
-    tracer = ["strace", "-f", "-y", "-o", str(trace), "-e", "trace=write,fsync,rename,link,linkat"]
-    assert place.run(*tracer, str(place.tools / companion), *words).returncode == 0, "the status"
+def steps_of(place: Place, words: list[str]) -> list[str]:
+    """Return what a run did to the new file and its directory, in order."""
+    done, lines = place.traced("-y -e trace=write,fsync,rename,link,linkat", *words)
+    assert done.returncode == 0, done.stderr
     file = rf"\d+<{re.escape(str(place.tree))}/\.ansible-vault-"
     steps = {
         "written": rf"\d+ +write\({file}",
@@ -23,7 +22,6 @@ def traced(place: Place, companion: str, *words: str) -> list[str]:
         "named": r'\d+ +(?:rename|link|linkat)\([^"]*"[^"]*/\.ansible-vault-',
         "folder synced": rf"\d+ +fsync\(\d+<{re.escape(str(place.tree))}>",
     }
-    lines = trace.read_text(errors="replace").splitlines()
     return [step for line in lines for step, pattern in steps.items() if re.match(pattern, line)]
 
 
@@ -47,29 +45,12 @@ def test_syncs(place: Place, subtests: SubTests) -> None:
         # `check_replaceable` makes the first sync of an edit.
         wanted = [*(["synced"] if words[0] == EDIT else []), "written", "synced", "named", "folder synced"]
         with subtests.test(what):
-            assert traced(place, *words) == wanted
-
-
-def test_unreadable_folders(place: Place) -> None:
-    """Files can be replaced in a directory that may be written but not read."""
-    place.put("folder/a.yml", sealed("old"))
-    for path in (place.tree / "folder", place.tree / "folder/a.yml"):
-        if os.geteuid() == 0:
-            os.chown(path, NOBODY, NOBODY)
-    (place.tree / "folder").chmod(0o300)
-    done = place.as_nobody(ROTATE, *to_new(place), "folder/a.yml")
-    ended("a folder that cannot be read", done, 0, summary(1))
-    words = ["rekey", *place.by_file("new"), *place.by_file("old", "new-")]
-    silent("in place", place.as_nobody(WITH, *words, "folder/a.yml"))
-    place.put("../versions/theirs", sealed("old", TEXT * 2))
-    place.put("../versions/base", sealed("old"))
-    words = [*place.by_file("old"), "../versions/base", "folder/a.yml", "../versions/theirs", "folder/a.yml"]
-    silent("a merge", place.as_nobody(MERGE, *words))
-    (place.tree / "folder").chmod(0o755)
+            assert steps_of(place, words) == wanted
 
 
 def test_access_control_lists(place: Place) -> None:
-    """A file that is replaced keeps its ACL, and inherits no entry of the directory's default ACL."""
+    """A file that is replaced keeps its ACL, and inherits no entry of the directory's default ACL. Plaintext is for its
+    owner only."""
     needs("setfacl")
 
     def acl(name: str) -> list[str]:
@@ -84,7 +65,10 @@ def test_access_control_lists(place: Place) -> None:
     ended("a rotation", place.run(ROTATE, *to_new(place), "."), 0, summary(2))
     assert {name: acl(name) for name in before} == before, "the ACLs stay"
     silent("an edit", edit(place, CHANGE, *place.by_file("new"), "none.yml"))
-    assert acl("none.yml") == before["none.yml"], "the ACL stays"
+    silent("rekeyed", place.run(WITH, "rekey", *place.by_file("new"), *place.by_file("old", "new-"), "own.yml"))
+    assert {name: acl(name) for name in before} == before, "the ACLs stay"
+    silent("decrypted", place.run(WITH, "decrypt", *place.by_file("old"), "own.yml"))
+    assert acl("own.yml") == ["user::rw-", "group::---", "other::---"], "plaintext has none"
 
 
 def test_full_disks(place: Place, subtests: SubTests) -> None:
@@ -101,33 +85,24 @@ def test_full_disks(place: Place, subtests: SubTests) -> None:
             assert (place.files(), place.names()) == before, "all stays"
 
 
-def test_dry_runs(place: Place, subtests: SubTests) -> None:
+def test_what_cannot_be_replaced(place: Place, subtests: SubTests) -> None:
     """A dry run reports what the run would refuse, and leaves no file."""
     place.put("a.yml", sealed("old"))
     os.link(place.tree / "a.yml", place.path / "second name")
     place.put("closed/b.yml", sealed("old"))
     place.put("c.yml", block("old"))
-    if os.geteuid() == 0:
-        os.chown(place.tree / "c.yml", NOBODY, NOBODY)
+    place.give("c.yml")
     (place.tree / "closed").chmod(0o555)
     place.tree.chmod(0o777)
-    parts = ["./a.yml: it has 2 names (hard links)", "./closed/b.yml: Permission denied", "2 failed"]
-    for words in (("--dry-run",), ()):
-        with subtests.test(f"with {words}"):
-            ended("it is refused", place.as_nobody(ROTATE, *words, *to_new(place), "."), 1, *parts)
+    names = ["a.yml", "closed/b.yml"]
+    whys = ["a.yml: it has 2 names (hard links)", "closed/b.yml: Permission denied"]
+    rotate = [ROTATE, *to_new(place), "."]
+    for words in ([*rotate, "--dry-run"], rotate, [WITH, "decrypt", *place.by_file("old"), *names]):
+        with subtests.test(f"{words}"):
+            ended("it is refused", place.as_nobody(*words), 1, *whys)
             assert place.names() == ["a.yml", "c.yml", "closed", "closed/b.yml"], "no other file is there"
+            assert [place.get(name) for name in names] == [sealed("old")] * 2, "they stay"
     (place.tree / "closed").chmod(0o755)
-
-
-def test_no_hard_links(place: Place) -> None:
-    """On a file system without hard links, a new vault is created anyway, and replaces nothing."""
-    none = "def none(*words): raise PermissionError(1, 'no links')\nos.link = none\n"
-    editor = place.script('echo a > "$1"', "editor")
-    done = run_changed(place, EDIT, none, [*place.by_file("old"), "new.yml"], EDITOR=editor)
-    silent("a new vault", done)
-    assert decrypted("old", place.get("new.yml")) == b"a\n", "it is there"
-    found = (place.mode("new.yml"), place.names())
-    assert found == ("0o600", ["new.yml"]), "for its owner alone, and nothing else"
 
 
 def test_named_paths(cases: Companions, subtests: SubTests) -> None:
@@ -147,9 +122,7 @@ def test_named_paths(cases: Companions, subtests: SubTests) -> None:
     place.put("closed/b.yml", sealed("old"))
     (place.tree / "tree/link.yml").symlink_to("../closed/b.yml")
     (place.tree / "tree/file.yml").symlink_to("a.yml/below")
-    if os.geteuid() == 0:
-        for name in ("tree", "tree/a.yml"):
-            os.chown(place.tree / name, NOBODY, NOBODY)
+    place.give("tree", "tree/a.yml")
     (place.tree / "closed").chmod(0o000)
     done = place.as_nobody(ROTATE, *to_new(place), "tree")
     parts = ["tree/link.yml: Permission denied", "tree/file.yml: Not a directory", summary(1, failed=2)]
@@ -157,25 +130,23 @@ def test_named_paths(cases: Companions, subtests: SubTests) -> None:
     (place.tree / "closed").chmod(0o755)
 
 
-@pytest.mark.parametrize("words", (["--vault-password-file", "../long"], ["--vault-id", "dev@../long"]))
-def test_long_passwords(place: Place, words: list[str]) -> None:
-    """A password that is too long is refused. If it were truncated, it would decrypt the vault."""
-    long = b"p" * 4097
-    (place.path / "long").write_bytes(long)
-    (place.secrets / "dev").write_bytes(long[:4096])
-    place.put("a.yml", b"")
-    silent("4096 bytes", edit(place, 'echo a > "$1"', *place.by_file("dev"), "new.yml"))
-    done = place.run(CHECK, *words, "new.yml")
-    ended("4097 bytes", done, 1, "../long: a password file is longer than 4096 bytes")
-    done = place.run(WITH, "decrypt", *words, "new.yml")
-    ended("4097 bytes in place", done, 1, "../long: a password file is longer than 4096 bytes")
-    done = place.run(MERGE, *words, "new.yml", "new.yml", "new.yml", "new.yml")
-    ended("4097 bytes in a merge", done, 1, "../long: a password file is longer than 4096 bytes")
+# What happens to the vault while a run encrypts or decrypts it. The run with a prompt only checks the command line.
+MEANWHILE = 'case "$*" in *=prompt*) ;; encrypt*|decrypt*|rekey*) echo other > a.yml ;; esac'
 
 
-def test_prose(place: Place) -> None:
-    """Blocks in prose are only examples, whatever the suffix of the file is."""
-    for name in ("a.md", "b.rst", "c.adoc", "d.html", "e.ADOC"):
-        place.put(name, block("dev"))
-    place.put("f.yml", block("old"))
-    ended("prose", place.run(ROTATE, *to_new(place), "."), 0, summary(1))
+def test_changed_meanwhile(place: Place, subtests: SubTests) -> None:
+    """What another program writes during a run is not overwritten."""
+    old = place.by_file("old")
+    base, theirs = versions(place, "a.yml", sealed("old"), b"", sealed("old", TEXT * 2))[::2]
+    runs = [
+        [ROTATE, *to_new(place), "a.yml"],
+        [WITH, "decrypt", *old, "a.yml"],
+        [WITH, "rekey", *to_new(place), "a.yml"],
+        [MERGE, *old, base, "a.yml", theirs, "a.yml"],
+    ]
+    place.wrap_tool(MEANWHILE)
+    for words in runs:
+        place.put("a.yml", sealed("old", CHANGED))
+        with subtests.test(" ".join(words[:2])):
+            ended("it is refused", place.run(*words), 1, "a.yml: ", "another program changed it meanwhile")
+            assert place.files() == {"a.yml": b"other\n"}, "their change stays, and nothing is left"

@@ -7,7 +7,7 @@ import pytest
 
 from ansible_vault_companions.yaml import nodes
 from ansible_vault_companions.yaml.nodes import NotYaml
-from companion_cases import Companions, Place, ended
+from companion_cases import Place, ended
 from lib.needs import needs_pyyaml
 
 ENVELOPE = "$ANSIBLE_VAULT;1.1;AES256\n6162\n"
@@ -107,7 +107,7 @@ except nodes.NoPyYaml as fault:
 """
 
 
-def test_where_pyyaml_is(cases: Companions, place: Place) -> None:
+def test_where_pyyaml_is(place: Place) -> None:
     """PyYAML is found even though the companions start without `site`, but never in the current directory. If it is
     missing, a message names its package."""
     needs_pyyaml()
@@ -116,10 +116,11 @@ def test_where_pyyaml_is(cases: Companions, place: Place) -> None:
         place.put(f"{name}/__init__.py", b"open('../imported', 'w')\n")
     place.put("own.pth", b"import yaml\n")
     program = place.path / "show"
-    program.write_text(SHOW.format(companions=str(cases.companions)))
+    show = SHOW.format(companions=str(place.companions))
+    program.write_text(show)
     words = [os.path.realpath(sys.executable), "-ESB", str(program)]
     done = place.run(*words, PYTHONPATH=str(place.tree))
     assert (done.returncode, done.stdout, done.stderr) == (0, "3\n", ""), "it is found"
     assert not (place.path / "imported").exists(), "nothing of the current folder is imported"
-    program.write_text("import sys; sys.modules['yaml'] = None\n" + SHOW.format(companions=str(cases.companions)))
+    program.write_text("import sys; sys.modules['yaml'] = None\n" + show)
     ended("it is missing", place.run(*words), 0, "PyYAML, which reads YAML, is missing", "python3-yaml")

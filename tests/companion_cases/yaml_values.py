@@ -14,7 +14,7 @@ import pytest
 from ansible_vault_companions.files.changes import Change, changed
 from ansible_vault_companions.files.finding import envelopes
 from ansible_vault_companions.program import Refused
-from ansible_vault_companions.secrets.sources import Secret, Source
+from ansible_vault_companions.secrets.sources import Secret
 from ansible_vault_companions.tool.tool import Tool
 from ansible_vault_companions.yaml import inline, nodes
 from ansible_vault_companions.yaml.matching import Choice
@@ -24,12 +24,15 @@ from lib.needs import needs_pyyaml
 SEED = 62
 STRUCTURED, UNSTRUCTURED = 700, 20_000
 HEADER = b"$ANSIBLE_VAULT;1.1;AES256\n"
-SECRET = Secret(Source("default", "", ""))
+SECRET = Secret("default", "", "")
 LINE_ENDS = ["\n"] * 3 + ["\r\n", "\r", "\x85"]
 KEYS = ["a", "b c", "'q: ''x'", '"\\u00e9\\t"', "größe", "&k c", "!!str 1", "? d\n{}", "<<"]
 SCALARS = ["", "word", "'it''s'", '"a\\tb"', "two\n{}  words", "|\n{}  text\n\n{}   more", "{{a: 'x', b: [1, 2]}}"]
 SCALARS += ["word # no !vault", "&x 1", "~", ">-\n{}  folded\n{}  lines", "!other 1", "[]", "'!vault'"]
-PLAINTEXTS = ["word", "größe\n", "two\nlines\n\n", " x", "", "# x", "!vault |\n  x", "a\n# ansible-vault: b\n"]
+# Each way in which a text can begin and end.
+PLAINTEXTS = ["", "x", "x\n", "x\n\n", "\n", "\n\n", " x", " x\ny", "\n x\n", "\tx", "x\n\ny", "x ", " ", "x\n  "]
+PLAINTEXTS += ["# x", "x: 'y", "größe\n", "- a\n- b\n", "<<<<<<< x\n", "---\n", "\n\n x\n\n\n", "!vault |\n  x"]
+PLAINTEXTS.append("a\n# ansible-vault: b\n")
 PIECES = ["a", "b:", "c: ", "- ", "  ", "    ", "\n", "\n", "\n", "\r\n", "\r", "\x85", "\u2028", "\t", "# x\n"]
 PIECES += ["!vault ", "!vault ", "!vault |\n", "|", "|-\n", "|2+\n", ">", "'", '"', "[", "]", "{", "}", ", ", "&x "]
 PIECES += ["? ", ": ", "---\n", "...\n", "x y", "  6162\n", "ü", "<<: ", "!<!vault> ", "!!map ", "$ANSIBLE_VAULT;"]
@@ -179,6 +182,7 @@ def test_shown_and_encrypted() -> None:
     rows = [row for number in range(STRUCTURED) for row in compared(number, counts)]
     assert [row for row in rows if row[2] != row[3]] == []
     assert min(counts["values"], counts["shown"], counts["changed"]) > 300, counts
+    assert min(counts[f"the text {text!r}"] for text in PLAINTEXTS) > 10, counts
 
 
 def compared(number: int, counts: Counter[str]) -> Iterator[Row]:
@@ -191,6 +195,7 @@ def compared(number: int, counts: Counter[str]) -> Iterator[Row]:
     if scanned(data) == wanted:
         showing = inline.showing(data, decrypt, with_notes=True)
         counts.update(values=len(wanted), shown=len(showing.decrypted))
+        counts.update(f"the text {text.decode()!r}" for text in showing.contents())
         plain = [(path, shown.decode()) for (path, _), shown in zip(wanted, showing.contents(), strict=True)]
         yield "shown", text, composed(showing.text().decode()), plain
         yield "kept", text, encrypted(showing, showing.text()), data

@@ -5,13 +5,12 @@ The runs share their inputs. Each run writes in a directory of its own, which mu
 
 import os
 import stat
-import subprocess
 import tempfile
 from enum import Enum
 from pathlib import Path
-from typing import NamedTuple
+from typing import Any, NamedTuple
 
-from lib.limits import SECONDS
+from lib import processes
 
 OUTPUT = "output"
 OLD = b"what stood here before\n" * 1_000
@@ -53,6 +52,9 @@ class Scenario(NamedTuple):
     status: int = 0
     message: bytes = b""
 
+    def is_of(self, command: str, target: Target) -> bool:
+        return (self.words[0], self.target) == (command, target)
+
     def lay_out(self, folder: str) -> None:
         if self.target is Target.OLD:
             path = Path(folder) / OUTPUT
@@ -90,12 +92,9 @@ def files_in(folder: str) -> dict[str, tuple[bytes, int]]:
     return found
 
 
-def run(scenario: Scenario, command: list[str], environment: dict[str, str] | None = None) -> Left:
-    """Run the scenario with this command: the program, and the words before it."""
+def run(scenario: Scenario, command: list[str], **options: Any) -> Left:
+    """Run the scenario with this command, the program and the words before it, and these options of `subprocess`."""
     with tempfile.TemporaryDirectory(dir=SCRATCH) as folder, open(scenario.stdin, "rb") as stdin:
         scenario.lay_out(folder)
-        done = subprocess.run(
-            [*command, *scenario.words], stdin=stdin, capture_output=True, cwd=folder,
-            env=environment, timeout=SECONDS,
-        )
+        done = processes.run([*command, *scenario.words], stdin, cwd=folder, **options)
         return Left(done.returncode, done.stdout, done.stderr, files_in(folder))

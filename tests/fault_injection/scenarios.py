@@ -6,11 +6,15 @@ from lib.cases import TEXT, Cases, by_file, by_id
 from fault_injection import OUTPUT, Scenario, Target
 from lib.paths import version
 from model.faults import Fault
+from model.options import OPTIONS
 from model.vaults import PLAINTEXT_LIMIT, SALT, seal, yaml_block
 
 KIB = 1 << 10
 SIZES = KIB, 200 * KIB
 SALT_TEXT = b"a salt"
+# The commands, each with the targets of its output.
+TO_FILES = [(command, target) for command in OPTIONS for target in (Target.NEW, Target.OLD) if command != "view"]
+TARGETS = [*TO_FILES, *((command, Target.STREAM) for command in OPTIONS)]
 
 
 class Request(NamedTuple):
@@ -80,14 +84,14 @@ def refused_scenarios(cases: Cases) -> list[Scenario]:
     vault, fault = cases.file(seal(b"right", TEXT)), Fault.NO_SECRET_FITS
     decrypt = ["decrypt", *by_file(wrong), "--output", OUTPUT, vault]
     options = Fault.OUTPUT_NEEDED
-    mistake = cases.done(["view", "--loud"]).stderr
+    mistake = ["view", "x", "\n"]
     refused = [
         Scenario(f"a wrong password, to {target.value}", decrypt, other, b"", target, fault.status, fault.line)
         for target in (Target.NEW, Target.OLD)
     ]
     return refused + [
         Scenario("refused options", ["encrypt", vault], other, b"", Target.STREAM, options.status, options.line),
-        Scenario("no command line", ["view", "--loud"], other, b"", Target.STREAM, 2, mistake),
+        Scenario("a word too many", mistake, other, b"", Target.STREAM, 2, cases.done(mistake).stderr),
         Scenario("the version", ["--version"], other, f"ansible-vault {version()}\n".encode(), Target.STREAM),
     ]
 

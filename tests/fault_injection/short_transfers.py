@@ -3,10 +3,10 @@
 import os
 import tempfile
 from collections.abc import Sequence
-from pathlib import Path
+from functools import partial
 
 from fault_injection import Left, Scenario, run
-from lib.preloaded import build_library
+from lib.preloaded import build_library, run_with
 
 LIBRARY = "short_transfers"
 # The most bytes that a call transfers: for small inputs, and for large ones.
@@ -17,10 +17,8 @@ LARGE = 100_000
 
 def run_short(program: str, library: str, scenario: Scenario, most: int) -> tuple[Left, bool]:
     """Return what a run leaves, and whether a call was cut short."""
-    with tempfile.TemporaryDirectory() as folder:
-        marker = Path(folder) / "cut_short"
-        environment = {"LD_PRELOAD": library, "MOST_BYTES": str(most), "CUT_SHORT_MARKER": str(marker)}
-        return run(scenario, [program], environment), marker.exists()
+    left, report = run_with(library, {"MOST_BYTES": str(most)}, partial(run, scenario, [program]))
+    return left, report != b""
 
 
 def most_bytes(scenario: Scenario) -> Sequence[int]:

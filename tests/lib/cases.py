@@ -7,7 +7,7 @@ from collections.abc import Sequence
 from pathlib import Path
 from typing import Any
 
-from lib.limits import SECONDS
+from lib.processes import run
 from model.faults import Fault
 
 TEXT = b"secret: value\n"
@@ -23,10 +23,6 @@ def by_file(path: str) -> list[str]:
 
 def by_id(path: str, label: str = "default") -> list[str]:
     return ["--vault-id", f"{label}@{path}"]
-
-
-def run_captured(words: Sequence[str], stdin: bytes = b"", **options: Any) -> subprocess.CompletedProcess[bytes]:
-    return subprocess.run(words, input=stdin, capture_output=True, timeout=SECONDS, **options)
 
 
 def mode(path: str) -> str:
@@ -78,13 +74,13 @@ class Cases:
         copy = self.file(Path(self.program).read_bytes(), 0o755)
         self.folder.chmod(0o755)
         try:
-            run_captured([copy, "--version"], check=True, user=NOBODY, group=NOBODY)
+            run([copy, "--version"], check=True, user=NOBODY, group=NOBODY)
         except PermissionError:
             return None
         return copy
 
-    def done(self, words: Sequence[str], stdin: bytes = b"", **options: Any) -> subprocess.CompletedProcess[bytes]:
-        return run_captured([self.program, *words], stdin, **options)
+    def done(self, words: Sequence[str], stdin: Any = b"", **options: Any) -> subprocess.CompletedProcess[bytes]:
+        return run([self.program, *words], stdin, **options)
 
     def run(
         self, words: Sequence[str], stdin: bytes = b"", status: int = 0, out: bytes | None = b"", err: bytes = b""
@@ -107,11 +103,3 @@ class Cases:
         """Check that both commands that read give this answer."""
         found = {command: answer_of(self.done([command, *options], stdin)) for command in READING}
         assert found == dict.fromkeys(READING, wanted)
-
-    def run_streams(self, words: Sequence[str], status: int, err: bytes | None = None, **streams: Any) -> None:
-        """Run with these streams. Standard output is discarded by default. Standard error is checked only if `err` is
-        given."""
-        to_err = subprocess.DEVNULL if err is None else subprocess.PIPE
-        given: dict[str, Any] = {"stdout": subprocess.DEVNULL, "stderr": to_err}
-        done = subprocess.run([self.program, *words], timeout=SECONDS, **given | streams)
-        assert (done.returncode, done.stderr if err is not None else None) == (status, err)

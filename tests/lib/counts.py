@@ -5,21 +5,20 @@ Valgrind's callgrind counts the instructions. Standard input and output are file
 varies. The C library picks its copying functions by processor, so the ones for the newest processors are disabled.
 """
 
-import os
 import re
-import subprocess
 import sys
 import tempfile
 from collections import Counter
+from functools import partial
 from pathlib import Path
 from typing import Any, NamedTuple
 
-from lib.limits import SECONDS
+from lib import processes
+from lib.preloaded import run_with
 
 ENVIRONMENT = {"GLIBC_TUNABLES": "glibc.cpu.hwcaps=-AVX512F,-AVX512VL,-AVX2,-AVX_Fast_Unaligned_Load,-ERMS,-FSRM"}
-# The library that counts allocations, and the descriptor on which it reports them.
+# The library that counts allocations.
 LIBRARY = "count_allocations"
-REPORT_DESCRIPTOR = 3
 # The parts of a run, and the prefixes of their functions' names. All other functions are the rest.
 PARTS: dict[str, str | tuple[str, ...]] = {
     "SHA-256": "sha2::block256::compress",
@@ -54,13 +53,11 @@ def built_by(program: str) -> str:
     return ", ".join(sorted(found))
 
 
-def run(command: list[str], stdin: bytes, environment: dict[str, str], **options: Any) -> Done:
+def run(command: list[str], stdin: bytes, **options: Any) -> Done:
     with tempfile.TemporaryFile() as given, tempfile.TemporaryFile() as output:
         given.write(stdin)
         given.seek(0)
-        done = subprocess.run(
-            command, stdin=given, stdout=output, stderr=subprocess.PIPE, env=environment, timeout=SECONDS, **options
-        )
+        done = processes.run(command, given, stdout=output, **options)
         output.seek(0)
         return Done(done.returncode, output.read(), done.stderr)
 
@@ -87,7 +84,7 @@ def count_instructions(command: list[str], stdin: bytes) -> tuple[Done, Counter[
         profile = Path(folder) / "profile"
         options = ["--compress-strings=no", "--compress-pos=no", f"--callgrind-out-file={profile}"]
         log = [f"--log-file={folder}/log"]
-        done = run(["valgrind", "--tool=callgrind", *options, *log, *command], stdin, ENVIRONMENT)
+        done = run(["valgrind", "--tool=callgrind", *options, *log, *command], stdin, env=ENVIRONMENT)
         return done, functions_of(profile)
 
 
@@ -105,20 +102,14 @@ def part_of(function: str) -> str:
 
 def count_allocations(library: str, command: list[str], stdin: bytes) -> tuple[Done, Allocations]:
     """Run the command with `library`, which is built from `count_allocations.c`."""
-    with tempfile.TemporaryFile() as report:
-        done = run(
-            command, stdin, {"LD_PRELOAD": library},
-            pass_fds=[REPORT_DESCRIPTOR], preexec_fn=lambda: os.dup2(report.fileno(), REPORT_DESCRIPTOR),
-        )
-        report.seek(0)
-        number, peak = report.read().split()
+    done, report = run_with(library, {}, partial(run, command, stdin))
+    number, peak = report.split()
     return done, Allocations(int(number), int(peak))
 
 
 def imported_modules(script: Path) -> list[str]:
     """Return the modules that Python imports when a companion prints its help."""
     command = [sys.executable, "-ESB", "-X", "importtime", str(script), "--help"]
-    nothing: dict[str, str] = {}
-    done = subprocess.run(command, capture_output=True, text=True, env=nothing, timeout=SECONDS)
+    done = processes.run_text(command, env={})
     lines = [line for line in done.stderr.splitlines() if line.startswith("import time:")]
     return [line.rpartition("|")[2].strip() for line in lines[1:]]

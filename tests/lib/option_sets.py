@@ -4,10 +4,10 @@ The key None means the program without a command.
 """
 
 import re
-import subprocess
 from functools import lru_cache
 
 from lib.paths import COMPANIONS, PAGE
+from lib.processes import run_text
 
 OPTION = re.compile(r"\bFl (-?[\w-]+)")
 # Options of Ansible's tool that ansible-vault-with accepts in addition to the program's own, by command.
@@ -47,7 +47,7 @@ def described_options() -> set[str]:
 
 def help_text(program: str, command: str | None) -> str:
     words = [program, *([command] if command else []), "--help"]
-    return subprocess.run(words, capture_output=True, text=True, check=True).stdout
+    return run_text(words, check=True).stdout
 
 
 def help_options(text: str) -> set[str]:
@@ -68,7 +68,7 @@ def help_commands(text: str) -> list[str]:
 
 @lru_cache(maxsize=None)
 def companion_help(name: str) -> str:
-    return subprocess.run([COMPANIONS[name], "--help"], capture_output=True, text=True, check=True).stdout
+    return run_text([str(COMPANIONS[name]), "--help"], check=True).stdout
 
 
 def companion_options(name: str) -> list[set[str]]:

@@ -1,17 +1,29 @@
-"""Processes that do not outlive their test, and named pipes that open without waiting."""
+"""Run programs, to their end or beside the test, but no longer than it; and open a named pipe without waiting."""
 
 import contextlib
-import errno
 import os
 import subprocess
-import time
 from collections.abc import Iterator, Sequence
-from typing import Any
+from typing import IO, Any
 
 from lib.limits import SECONDS
 
 # The polling interval in seconds.
 PAUSE = 0.001
+
+
+def run(
+    words: Sequence[str], stdin: bytes | int | IO[bytes] = subprocess.DEVNULL, **options: Any
+) -> subprocess.CompletedProcess[Any]:
+    """Run a program to its end, with a time limit. Its outputs are captured unless `options` send them elsewhere."""
+    given: dict[str, Any] = {"stdout": subprocess.PIPE, "stderr": subprocess.PIPE, "timeout": SECONDS}
+    given["input" if isinstance(stdin, bytes) else "stdin"] = stdin
+    return subprocess.run(words, **given | options)
+
+
+def run_text(words: Sequence[str], **options: Any) -> subprocess.CompletedProcess[str]:
+    """Run a program whose outputs are text."""
+    return run(words, text=True, **options)
 
 
 @contextlib.contextmanager
@@ -37,19 +49,3 @@ def read_to_end(reader: int) -> bytes:
     """Return what is left in a pipe that nobody writes to any more, and close it."""
     with open(reader, "rb") as pipe:
         return pipe.read()
-
-
-def open_to_write(path: str, process: subprocess.Popen[Any]) -> int | None:
-    """Open a named pipe for writing once the process reads from it. Return None if the process ends first."""
-    end = time.monotonic() + SECONDS
-    while time.monotonic() < end:
-        has_ended = process.poll() is not None
-        try:
-            return os.open(path, os.O_WRONLY | os.O_NONBLOCK)
-        except OSError as error:
-            if error.errno != errno.ENXIO:
-                raise
-        if has_ended:
-            return None
-        time.sleep(PAUSE)
-    raise TimeoutError(f"process {process.pid} does not open {path}")

@@ -1,7 +1,6 @@
-/* Limits each read and write to a pseudorandom number of bytes from 1 to MOST_BYTES, the same in every run. The first
-   call that is cut short creates the file that CUT_SHORT_MARKER names. */
+/* Limits each read and write to a pseudorandom number of bytes from 1 to MOST_BYTES, the same in every run. Writes a
+   byte to descriptor 3 when the first call is cut short. */
 #define _GNU_SOURCE
-#include <fcntl.h>
 #include <stdint.h>
 #include <stdlib.h>
 #include <sys/syscall.h>
@@ -17,7 +16,7 @@ static size_t shortened(size_t size)
     if (length >= size)
         return size;
     if (!is_marked)
-        is_marked = close(open(getenv("CUT_SHORT_MARKER"), O_CREAT | O_WRONLY, 0600)) == 0;
+        is_marked = syscall(SYS_write, 3, "", 1) == 1;
     return length;
 }
 

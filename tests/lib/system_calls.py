@@ -1,11 +1,10 @@
 """The system calls of a run, as strace logs them."""
 
 import re
-import subprocess
 from pathlib import Path
-from typing import Any, NamedTuple
+from typing import NamedTuple
 
-from lib.limits import SECONDS
+from lib.processes import run
 
 LINE = re.compile(r"\d+ +\[([0-9a-f]+|\?+)\] (\w+)\((.*)\) += (\?|-?\d+|0x[0-9a-f]+)(?: (E[A-Z0-9]+))?")
 # The last line of a run, which is not a call.
@@ -87,6 +86,6 @@ def tracing(log: Path) -> list[str]:
     return ["strace", "-f", "-i", "-s", "0", "-o", str(log)]
 
 
-def trace(words: list[str], log: Path, programs: int = 1, **streams: Any) -> Traced:
-    done = subprocess.run([*tracing(log), *words], timeout=SECONDS, **streams)
+def trace(words: list[str], log: Path, programs: int = 1, stdin: bytes = b"") -> Traced:
+    done = run([*tracing(log), *words], stdin)
     return Traced(done.returncode, done.stdout, done.stderr, *own_calls(log, programs))

@@ -8,12 +8,11 @@ changes.
 
 import re
 import shlex
-import subprocess
 from pathlib import Path
 from typing import NamedTuple
 
-from lib.limits import SECONDS
 from lib.paths import ROOT
+from lib.processes import run_text
 from model.options import OPTIONS
 
 FOLDER = ROOT / "tests" / "texts"
@@ -88,7 +87,7 @@ def stored_mistakes(name: str) -> dict[str, str]:
 
 
 def printed(program: str, words: list[str]) -> str:
-    done = subprocess.run([program, *words], capture_output=True, text=True, timeout=SECONDS, stdin=subprocess.DEVNULL)
+    done = run_text([program, *words])
     return done.stdout + done.stderr
 
 

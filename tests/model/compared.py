@@ -9,6 +9,7 @@ from pathlib import Path
 from typing import Iterable
 
 from lib.limits import SECONDS
+from lib.processes import run
 from model.answers import SALT_LENGTH, Answer, CannotOpen, HostFiles, Readable, answer, refusal
 from model.faults import Fault
 from model.options import SALT_FILE
@@ -80,12 +81,6 @@ def expected(case: Case, salt: bytes) -> Answer:
     return answered
 
 
-def run(case: Case, program: list[str], folder: Path) -> subprocess.CompletedProcess[bytes]:
-    return subprocess.run(
-        [*program, *case.words], input=case.stdin, capture_output=True, cwd=folder, timeout=SECONDS
-    )
-
-
 def differences(case: Case, program: list[str]) -> list[str]:
     """Run the case in a directory of its own, and list the differences between its result and the model's."""
     with tempfile.TemporaryDirectory() as name:
@@ -94,7 +89,7 @@ def differences(case: Case, program: list[str]) -> list[str]:
         before = contents(folder)
         old_modes = modes(folder, before)
         try:
-            done = run(case, program, folder)
+            done = run([*program, *case.words], case.stdin, cwd=folder)
         except subprocess.TimeoutExpired:
             return [f"no answer in {SECONDS} seconds"]
         after = contents(folder)

@@ -8,15 +8,16 @@ from model import random_envelopes
 from model.options import FLAGS, OPTIONS, SEALING
 from model.vaults import ENVELOPE
 
+# By the names of their files, some of which need care in a shell or on a terminal.
 PASSWORDS = {
     "right": b"right\n",
     "two words": b" two words \r\n",
     "abc": b"abc",
-    "abc and zero": b"abc\x00",
-    "at x@y": b"\xff\xfe\x80",
-    "umlaut": "\npäß\nwort\t".encode(),
+    "line\nend": b"abc\x00",
+    "a;b@c": b"\xff\xfe\x80",
+    "größe": "\npäß\nwort\t".encode(),
     "no white space": b"\x1cpw\x1f\xc2\x85\n",
-    "64": b"k" * 64 + b"\n",
+    "\x1b]0;title\x07": b"k" * 64 + b"\n",
     "65": b"k" * 65,
     "longest": b"k" * 4_096,
 }

@@ -91,4 +91,4 @@ def watch(program: str, run: Run, folder: Path) -> Watched:
         words, programs = ["sh", "-c", f'exec "$0" "$@" {closing}', *words], 2
     with tempfile.NamedTemporaryFile(dir=folder) as log:
         stdin = b"not asked for" if run.stdin is None else run.stdin
-        return Watched(trace(words, Path(log.name), programs, input=stdin, capture_output=True))
+        return Watched(trace(words, Path(log.name), programs, stdin))
