@@ -76,7 +76,9 @@ def test_memory(cases: Cases, subtests: SubTests, size: int, command: str, least
             with subtests.test(f"resident memory, {name}"):
                 done, report = run_with(library, {}, partial(run, [cases.program, *sample.words], stdin))
                 [resident] = map(int, re.findall(rb"^VmHWM:\s+(\d+) kB$", report, re.MULTILINE))
-                assert (answer_of(done), most // 2 < resident <= most) == ((0, sample.output, b""), True), resident
+                # The plaintext is in memory. The kernel's figure may be wrong by some 100 KiB.
+                is_within = size // KIB < resident <= most
+                assert (answer_of(done), is_within) == ((0, sample.output, b""), True), resident
 
 
 @pytest.mark.parametrize("amount, fault", ((16 * MIB, Fault.MEMORY), (ENOUGH, Fault.SECRET_NOT_OPENED)))

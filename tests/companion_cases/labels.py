@@ -67,6 +67,8 @@ class Case(NamedTuple):
         return [*self.by_settings, *self.by_options]
 
     def prepare(self, place: Place) -> None:
+        # Only in [LABEL@]FILE does an @ end a label.
+        place.secrets = place.secrets.rename(place.path / "secrets@home")
         for number, each in enumerate(self.made):
             place.put(f"{number}.yml", each.content(b"text %d\n" % number))
         identities = [f"{each.own_label()}@{place.secret(each.password)}" for each in self.by_settings]
@@ -164,7 +166,9 @@ def test_check(cases: Companions, pytestconfig: pytest.Config) -> None:
             seen[serves] += 1
         assert done.returncode == (0 if all(case.serves(each, False) for each in case.made) else 1), done.stderr
         again = place.run(CHECK, *case.words(place), *steps, ".")
-        assert "decrypts it" not in again.stderr, "as it is told, nothing of this is left"
+        count = len(case.made) + sum(each.form == "within" for each in case.made)
+        unknown = [case.serves(each, rotates=False) for each in case.made].count(None)
+        assert again.stdout.endswith(f"{count - unknown} decrypted, {unknown} not\n"), "as told, it is repaired"
         assert place.files() == before, "all stays"
 
     with_cases(check, pytestconfig.getoption("--seed"))

@@ -4,7 +4,8 @@ from __future__ import annotations
 
 from ansible_vault_companions.files.envelopes import written_label
 from ansible_vault_companions.program import shown
-from ansible_vault_companions.secrets.sources import ASKING, DEFAULT, Secret
+from ansible_vault_companions.secrets.settings import PROMPT
+from ansible_vault_companions.secrets.sources import DEFAULT, Secret
 
 
 def in_order(secrets: list[Secret], label: str | None) -> list[Secret]:
@@ -25,7 +26,7 @@ def fault(secret: Secret, envelope: bytes) -> str:
     if not label or secret.label == label or secret.is_only:
         return ""
     other, meant = shown(secret.label), shown(label)
-    place = "prompt" if secret.given in ASKING else secret.given.partition("@")[2] or secret.given
+    place = PROMPT if secret.is_prompt else secret.place
     return (
         f"its label is {meant}, but {shown(secret.given)}, a secret with the label {other}, decrypts it; find out who "
         f"changed the label or copied the text here; then either write {other} as the label in its first line or, if "

@@ -35,8 +35,6 @@ class Secret:
         # Empty if none is given.
         self.given_label = label
         self.label = label or DEFAULT
-        # A path, or PROMPT or ASK.
-        self.place = place
         # As written on the command line or in a setting.
         self.given = given
         self.is_prompt = is_prompt
@@ -44,7 +42,9 @@ class Secret:
         self.is_path = is_path
         self.is_setting = False
         # For the tool. As the value of --vault-id, a bare `prompt` would ask for a password.
-        self.path = "./prompt" if place == PROMPT else place
+        self.path = f"./{place}" if place in (PROMPT, ASK) else place
+        # A path, or PROMPT or ASK.
+        self.place = place if is_prompt else self.path
         # A file in memory that contains the password; None if it could not be obtained.
         self.descriptor: int | None = None
         # The reason, if it was refused.
@@ -65,7 +65,6 @@ class Secret:
         except OSError:
             return False
         return stat.S_ISREG(mode) and mode & 0o111 != 0
-
 
     def word(self) -> str:
         """The word that names it to the tool, with the kind of option that named it here."""
