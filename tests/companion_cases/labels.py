@@ -183,24 +183,26 @@ REKEYED = {
     "a pipe": f"cat v | {WITH} rekey {{words}} --output out && cat out",
     "a named pipe": f"{WITH} rekey {{words}} --output out <(cat v) && cat out",
 }
-# The label and the password of a vault, whether both secrets are given, and whether it may be rekeyed.
+# The label and the password of a vault, the password file for the label dev, and whether the vault may be rekeyed.
 LABELLED = {
-    "its own label": ("dev", "dev", True, True),
-    "a label that somebody changed": ("dev", "prod", True, False),
-    "a label of no secret": ("other", "prod", True, False),
-    "no label": ("", "prod", True, True),
-    "any label and a single secret": ("dev", "prod", False, True),
+    "its own label": ("dev", "dev", "dev", True),
+    "a label that somebody changed": ("dev", "prod", "dev", False),
+    "a label whose secret is missing": ("dev", "prod", "missing", False),
+    "a label of no secret": ("other", "prod", "dev", False),
+    "no label": ("", "prod", "dev", True),
+    "any label and a single secret": ("dev", "prod", None, True),
 }
 
 
 @pytest.mark.parametrize("command", REKEYED.values(), ids=REKEYED)
 def test_rekey(place: Place, subtests: SubTests, command: str) -> None:
-    for what, (label, password, are_both_given, is_rekeyed) in LABELLED.items():
+    for what, (label, password, other, is_rekeyed) in LABELLED.items():
         before = sealed(password, TEXT, label)
         place.put("v", before)
-        given_secrets = [*place.by_id("prod", "prod"), *(place.by_id("dev", "dev") if are_both_given else [])]
-        words = " ".join([*given_secrets, *place.by_id("dev", "new", "new-")])
-        done = place.shell(f"set -o pipefail; {command.format(words=words)}", "bash")
+        # A missing secret is left out if it is a setting.
+        variables = {"ANSIBLE_VAULT_IDENTITY_LIST": f"dev@{place.secret(other)}"} if other else {}
+        words = " ".join([*place.by_id("prod", "prod"), *place.by_id("dev", "new", "new-")])
+        done = place.shell(f"set -o pipefail; {command.format(words=words)}", "bash", **variables)
         with subtests.test(what):
             if is_rekeyed:
                 assert (done.returncode, decrypted("new", done.stdout.encode())) == (0, TEXT), done

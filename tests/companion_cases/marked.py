@@ -51,6 +51,17 @@ def test_marked_files(place: Place, subtests: SubTests) -> None:
 
 
 @pytest.mark.usefixtures("git")
+def test_marked_links(place: Place) -> None:
+    """A link is marked by its own name, and by that of the file that it points to."""
+    under_git(place, ATTRIBUTES)
+    for name, target in {"a.vault.yml": "plain.yml", "deep/b.yml": "marked.vault.yml"}.items():
+        place.put(f"deep/{target}", TEXT)
+        (place.tree / name).symlink_to(place.tree / "deep" / target)
+        done = place.run(CHECK, *place.by_file("old"), name)
+        ended(name, done, 1, f"{name}: is not encrypted\n")
+
+
+@pytest.mark.usefixtures("git")
 def test_several_repositories(place: Place) -> None:
     """Only a file's own repository marks it. A file outside of any repository is not marked."""
     place.put("outside.vault.yml", TEXT)

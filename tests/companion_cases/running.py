@@ -115,8 +115,9 @@ def test_command_lines(place: Place, subtests: SubTests) -> None:
                 done = place.run(WITH, *words, *place.by_file("old"), name)
                 assert (done.returncode, done.stdout, done.stderr) == (3, "", f"{WITH}: {part}\n")
     salted = [*place.by_file("old"), "--salt", "salt"]
-    done = place.run(WITH, "encrypt", *salted, "plain.yml", "plain.yml")
-    ended("one salt for two", done, 2, "--salt is for a single FILE or STRING")
+    for words in (salted, [*place.by_file("old"), "--salt-file", place.secret("old")]):
+        done = place.run(WITH, "encrypt", *words, "plain.yml", "plain.yml")
+        ended("one salt for two", done, 2, "a fixed salt is for a single FILE or STRING")
     assert place.files() == before, "all files stay"
 
 
@@ -254,7 +255,9 @@ def test_several_strings(place: Place, subtests: SubTests) -> None:
         ("a", ""): (1, "the string to encrypt is empty"),
         ("a", "b", "-n", "x\ny"): (1, "a variable name holds a control byte"),
         ("a", "b", "--loud"): (2, "error: unexpected argument '--loud' found"),
-        ("a", "b", "--salt", "salt"): (2, "--salt is for a single FILE or STRING"),
+        ("a", "b", "--salt", "salt"): (2, "a fixed salt is for a single FILE or STRING"),
+        ("a", "--stdin-name", "x", "--salt", "salt"): (2, "a fixed salt is for a single FILE or STRING"),
+        ("a", "--prompt", "--salt-file", place.secret("old")): (2, "a fixed salt is for a single FILE or STRING"),
         ("a", "b", "--encrypt-vault-id", "prod"): (1, "no secret has the label of --encrypt-vault-id"),
         ("a", "b", "--output", "nowhere/c.yml"): (1, "No such file or directory"),
     }
@@ -264,6 +267,8 @@ def test_several_strings(place: Place, subtests: SubTests) -> None:
             done = place.run(*encrypt, *words)
             ended("it is refused", done, status, part)
             assert (done.stdout, place.names()) == ("", before), "nothing is written"
+    done = place.shell(f"printf a | {' '.join(encrypt)} --salt salt --stdin-name x -")
+    ended("a fixed salt for one", done, 0, "x: !vault |")
     place.wrap_tool('echo "$@" >> ../seen')
     done = place.run(*encrypt, "a word", "another", "--name", "x", "--output", "blocks.yml")
     notes = [

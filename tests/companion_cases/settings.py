@@ -177,6 +177,10 @@ def test_matching_labels(place: Place, subtests: SubTests) -> None:
             assert (done.stdout == TEXT.decode()) == (not refused)
     place.put("ansible.cfg", (LIST.format("dev@../secrets/dev") + "vault_id_match = True\n").encode())
     ended("by the file", ours(place, "view", "a.yml"), 1, "no secret decrypts this vault")
+    ended("beside options", place.run(WITH, "view", *secret, "a.yml"), 1, "no secret decrypts this vault")
+    place.put("../own.cfg", b"[defaults]\n")
+    done = place.run(CHECK, *secret, "a.yml", ANSIBLE_CONFIG=str(place.path / "own.cfg"))
+    ended("with another file", done, 0, "1 decrypted")
 
 
 def test_many_secrets(place: Place) -> None:

@@ -19,6 +19,8 @@ class Run:
         self.found = found
         self.secrets: list[Secret] = []
         self.new: list[Secret] = []
+        # Whether several secrets are named, even if some of them could not be obtained.
+        self.names_several = False
         # Whether to try only secrets with the vault's label, whatever the settings say.
         self.heeds_label = False
         # The label of the secret to encrypt with.

@@ -32,9 +32,9 @@ class Text(NamedTuple):
 
 
 def heed_label(run: Run, envelope: bytes) -> None:
-    """With several secrets, requires that rekey decrypts an envelope by a secret with its label. Anybody can change a
-    label, and text of another label would get the new password that is meant for this one."""
-    run.heeds_label = run.words.command == REKEY and len(run.secrets) > 1 and bool(written_label(envelope))
+    """If several secrets are named, requires that rekey decrypts an envelope by a secret with its label. Anybody can
+    change a label, and text of another label would get the new password that is meant for this one."""
+    run.heeds_label = run.words.command == REKEY and run.names_several and bool(written_label(envelope))
 
 
 def output(tool: Tool, run: Run, options: list[str], data: bytes) -> bytes:

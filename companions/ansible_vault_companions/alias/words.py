@@ -2,8 +2,10 @@
 
 from __future__ import annotations
 
-from ansible_vault_companions.alias.table import ASKS, ENCRYPT_STRING, FLAG, IGNORED, NAMING, OUTPUT, PROMPT
-from ansible_vault_companions.alias.table import STDIN_NAME, VALUE, VARIABLE, VERBOSE, VIEW, kind_of, known_to
+import os
+
+from ansible_vault_companions.alias.table import ASKS, ENCRYPT_STRING, FLAG, IGNORED, NAMING, OUTPUT, PROMPT, SALT
+from ansible_vault_companions.alias.table import SALT_FILE, STDIN_NAME, VALUE, VARIABLE, VERBOSE, VIEW, kind_of, known_to
 from ansible_vault_companions.secrets.sources import ASKED
 
 STANDARD_INPUT = "-"
@@ -55,6 +57,16 @@ class Words:
         if self.command == ENCRYPT_STRING:
             return self.has(PROMPT) or is_more or bool(self.arguments and self.has(STDIN_NAME))
         return self.has_files() and (is_more if self.command == VIEW else not self.has(OUTPUT))
+
+    def repeats_salt(self) -> bool:
+        """Whether several texts would be encrypted with one salt, and so with one key stream."""
+        count = len(self.arguments)
+        if self.command == ENCRYPT_STRING:
+            strings = [each for each in self.arguments if each != STANDARD_INPUT]
+            reads_input = len(strings) < len(self.arguments) or self.has(STDIN_NAME)
+            count = len(strings) + reads_input + self.has(PROMPT)
+        is_fixed = self.has(SALT) or os.path.isfile(self.value(SALT_FILE) or "")
+        return is_fixed and count > 1
 
     def secret_options(self) -> list[str]:
         """The options that name secrets, under the names that the tool has for them."""

@@ -45,11 +45,14 @@ def _with_values(
 
 
 def marks_of(paths: list[str]) -> dict[str, set[str]]:
-    """The attributes that mark each file, according to the repository that it is in, if any."""
+    """The attributes that mark each file, according to the repository that it is in, if any. A link has those of its
+    own name, too."""
     found: dict[str, set[str]] = {path: set() for path in paths}
-    for repository, names in by_repository(paths).items():
-        for name, attributes in marks(list(names), folder=repository).items():
-            found[names[name]] = attributes
+    links = [path for path in paths if os.path.islink(path)]
+    for repositories in (by_repository(paths), by_repository(links, follows=False)):
+        for repository, names in repositories.items():
+            for name, attributes in marks(list(names), folder=repository).items():
+                found[names[name]] |= attributes
     return found
 
 

@@ -16,11 +16,13 @@ def top() -> str:
     return os.fsdecode(git("rev-parse", "--show-toplevel").removesuffix(b"\n"))
 
 
-def by_repository(paths: list[str]) -> dict[str, dict[bytes, str]]:
-    """The paths in each repository, by their names there. Files outside of repositories are left out."""
+def by_repository(paths: list[str], follows: bool = True) -> dict[str, dict[bytes, str]]:
+    """The paths in each repository, by their names there: for a link, the name of the file that it points to, or its
+    own. Files outside of repositories are left out."""
     repositories: dict[str, dict[bytes, str]] = {}
     for path in paths:
-        target = os.path.realpath(path)
+        folder, own = os.path.split(path)
+        target = os.path.realpath(path) if follows else os.path.join(os.path.realpath(folder), own)
         repository = _repository(os.path.dirname(target))
         if repository:
             name = os.fsencode(os.path.relpath(target, repository))

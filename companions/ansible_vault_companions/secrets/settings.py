@@ -6,7 +6,7 @@ import os
 import stat
 from _collections_abc import Callable
 
-from ansible_vault_companions.program import shown
+from ansible_vault_companions.program import Refused, shown
 
 NAME = "ansible.cfg"
 HOME = "~/.ansible.cfg"
@@ -38,13 +38,16 @@ class Settings:
     """The values of the settings. An environment variable overrides the file, even if it is empty.
 
     The current directory may be a stranger's. So if options name secrets, its ansible.cfg is ignored, and so are paths
-    in the settings that lead into it. The exception: ANSIBLE_CONFIG names a file by a relative path."""
+    in the settings that lead into it. The exception: ANSIBLE_CONFIG names a file by a relative path. The key that only
+    restricts, vault_id_match, counts nevertheless."""
 
     def __init__(self, beside_options: bool, section: Section, warn: Callable[[str], None] = lambda _: None) -> None:
         named = _named_configuration()
         self.trusts_folder = not beside_options or (named is not None and not os.path.isabs(named))
         self.path = named or _configuration(self.trusts_folder, warn)
         self.found = section(self.path) if self.path else {}
+        if not (self.trusts_folder or named) and _is_readable(NAME):
+            self.found |= _restriction(section)
 
     def identities(self) -> list[str]:
         """The sources, as [LABEL@]SOURCE. As with Ansible, relative paths start from the current directory."""
@@ -78,6 +81,14 @@ class Settings:
     def _value(self, setting: tuple[str, str]) -> str:
         variable, key = setting
         return os.environ.get(variable, self.found.get(key, ""))
+
+
+def _restriction(section: Section) -> dict[str, str]:
+    """The key of the current directory's ansible.cfg that only restricts, if it is there and can be read."""
+    try:
+        return {key: value for key, value in section(NAME).items() if key == ID_MATCH[1]}
+    except Refused:
+        return {}
 
 
 def _unquoted(text: str) -> str:
