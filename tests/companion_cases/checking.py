@@ -92,14 +92,21 @@ def test_invalid_command_lines(place: Place, name: str, line: str) -> None:
     ended("it is refused", place.run(name, *line.split()), 2, f"usage: {name}")
 
 
+# It would control the terminal, and begin a line that looks like a message.
+HOSTILE = "\x1b]0;owned\a\x9b\nansible-vault:fine"
+
+
+def check_printable(text: str) -> None:
+    lines = text.splitlines()
+    assert lines and all(line.isprintable() for line in lines), "in printable characters"
+    assert "ansible-vault:fine" not in lines, "and no line is forged"
+
+
 @pytest.mark.parametrize("name", [CHECK, EDIT, HOOK, MERGE, ROTATE, TEXTCONV, WITH])
 def test_control_characters_in_options(place: Place, name: str) -> None:
-    """A word cannot begin a line of the message, or control the terminal."""
-    word = "--\x1b]0;owned\a\x9b\nansible-vault:fine"
-    done = place.run(name, *place.by_file("old"), word)
-    assert (done.returncode, word in done.stderr) == (1 if name == TEXTCONV else 2, False), "it is refused"
-    assert all(line.isprintable() for line in done.stderr.splitlines()), "in printable characters"
-    assert "\nansible-vault:fine" not in done.stderr, "and no line is forged"
+    done = place.run(name, *place.by_file("old"), f"--{HOSTILE}")
+    assert done.returncode == (1 if name == TEXTCONV else 2), "it is refused"
+    check_printable(done.stderr)
 
 
 LONG = b"p" * 4097
@@ -115,7 +122,7 @@ REFUSED = {
 RUNS = {
     CHECK: [CHECK, "a.yml"],
     EDIT: [EDIT, "a.yml"],
-    MERGE: [MERGE, *["a.yml"] * 4],
+    MERGE: [MERGE, "../base.yml", "a.yml", "../theirs.yml", "a.yml"],
     ROTATE: [ROTATE, *NEW.split(), "a.yml"],
     f"{ROTATE} to a new one": [ROTATE, *OLD.split(), "a.yml"],
     WITH: [WITH, "decrypt", "a.yml"],
@@ -123,11 +130,25 @@ RUNS = {
 
 
 @pytest.mark.parametrize("name", RUNS)
+def test_control_characters_in_sources(place: Place, name: str) -> None:
+    for file in ("a.yml", "../base.yml", "../theirs.yml"):
+        place.put(file, sealed("old", file.encode()))
+    for content in (None, "", "#!/bin/sh\nexit 1\n", "$ANSIBLE_VAULT"):
+        if content is not None:
+            place.put(f"../{HOSTILE}", content.encode(), 0o755 if content.startswith("#!") else 0o644)
+        companion, *words = RUNS[name]
+        option = "--new-vault-id" if "new one" in name else "--vault-id"
+        done = place.run(companion, f"{option}=dev@../{HOSTILE}", *words)
+        assert done.returncode in (1, 3), "it is refused"
+        check_printable(done.stderr)
+
+
+@pytest.mark.parametrize("name", RUNS)
 def test_refused_secrets(place: Place, subtests: SubTests, name: str) -> None:
     """If a password that is too long were truncated, it would decrypt the vault."""
     place.put("a.yml", vault := seal(LONG[:-1], TEXT))
-    place.put("../long", LONG)
-    place.put("../empty", b" \n")
+    for file, content in {"base.yml": vault, "theirs.yml": sealed("old"), "long": LONG, "empty": b" \n"}.items():
+        place.put(f"../{file}", content)
     for option, why in REFUSED.items():
         with subtests.test(option):
             word = option.replace("--", "--new-") if "new one" in name else option
