@@ -103,7 +103,8 @@ CASES = any_of.builds(
 DEV, PROD = Named("dev", "dev"), Named("prod", "prod")
 CHANGED = [Made("dev", "prod", "file"), Made("dev", "prod", "block"), Made("dev", "dev", "file")]
 EXAMPLES = [Case(CHANGED, [DEV, PROD], []), Case(CHANGED, [DEV], [PROD]), Case(CHANGED[:1], [PROD], [])]
-EXAMPLES += [Case(CHANGED[:1], [Named("", "prod")], []), Case([Made("", "prod", "file")], [DEV, PROD], [])]
+EXAMPLES += [Case(CHANGED[:1], [*others, Named("", "prod")], []) for others in ([], [DEV])]
+EXAMPLES += [Case([Made("", "prod", "file")], [DEV, PROD], [])]
 
 
 def with_cases(test: Callable[[Case], None], number: int) -> None:
