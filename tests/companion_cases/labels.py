@@ -103,7 +103,7 @@ CASES = any_of.builds(
 DEV, PROD = Named("dev", "dev"), Named("prod", "prod")
 CHANGED = [Made("dev", "prod", "file"), Made("dev", "prod", "block"), Made("dev", "dev", "file")]
 EXAMPLES = [Case(CHANGED, [DEV, PROD], []), Case(CHANGED, [DEV], [PROD]), Case(CHANGED[:1], [PROD], [])]
-EXAMPLES += [Case(CHANGED[:1], [*others, Named("", "prod")], []) for others in ([], [DEV])]
+EXAMPLES += [Case(CHANGED[:1], [Named("", "prod")], []), Case(CHANGED[:1], [DEV, Named("", "prod")], [])]
 EXAMPLES += [Case([Made("", "prod", "file")], [DEV, PROD], [])]
 
 

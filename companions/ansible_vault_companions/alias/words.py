@@ -5,7 +5,8 @@ from __future__ import annotations
 import os
 
 from ansible_vault_companions.alias.table import ASKS, ENCRYPT_STRING, FLAG, IGNORED, NAMING, OUTPUT, PROMPT, SALT
-from ansible_vault_companions.alias.table import SALT_FILE, STDIN_NAME, VALUE, VARIABLE, VERBOSE, VIEW, kind_of, known_to
+from ansible_vault_companions.alias.table import SALT_FILE, STDIN_NAME, VALUE, VARIABLE, VERBOSE, VIEW
+from ansible_vault_companions.alias.table import kind_of, known_to
 from ansible_vault_companions.secrets.sources import ASKED
 
 STANDARD_INPUT = "-"
