@@ -72,7 +72,7 @@ def test_made_again(program: str, archives: pathlib.Path, tmp_path: pathlib.Path
     checkout = tmp_path / "unpacked" / SOURCE
     for words in (["init", "--quiet"], ["add", "--all"]):
         subprocess.run(["git", *words], cwd=checkout, check=True)
-    subprocess.run(["chmod", "-R", "go-rwx", str(checkout)], check=True)
+    subprocess.run(["chmod", "-R", "g+w,o-rwx", str(checkout)], check=True)
     own = tmp_path / "program"
     shutil.copy(program, own)
     environment = os.environ | {"TZ": "Asia/Tokyo", "LC_ALL": "C"}

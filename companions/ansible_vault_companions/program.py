@@ -45,9 +45,9 @@ def write_line(text: str) -> None:
 
 
 def write_error(text: str) -> None:
-    """Prints a line on standard error, in one write. Whatever its parts are, it contains no control characters."""
-    line = "".join(each if each.isprintable() else ascii(each)[1:-1] for each in text)
-    print(f"{line}\n", end="", file=sys.stderr, flush=True)
+    """Prints a message on standard error, in one write. Its only control characters are the ends of its lines."""
+    lines = "".join(each if each.isprintable() or each == "\n" else ascii(each)[1:-1] for each in text)
+    print(f"{lines}\n", end="", file=sys.stderr, flush=True)
 
 
 def reason(fault: Exception) -> str:

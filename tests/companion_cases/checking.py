@@ -4,6 +4,7 @@ from itertools import product
 
 import pytest
 
+from ansible_vault_companions import program
 from companion_cases import CHECK, COMPANIONS, EDIT, HOOK, MERGE, ROTATE, TEXT, TEXTCONV, WITH, Place, block, ended
 from companion_cases import sealed
 from lib.paths import version
@@ -100,6 +101,11 @@ def check_printable(text: str) -> None:
     lines = text.splitlines()
     assert lines and all(line.isprintable() for line in lines), "in printable characters"
     assert "ansible-vault:fine" not in lines, "and no line is forged"
+
+
+def test_control_characters_in_messages(capsys: pytest.CaptureFixture[str]) -> None:
+    program.write_error("one\x1b[2J\ntwo\x9b")
+    assert capsys.readouterr().err == "one\\x1b[2J\ntwo\\x9b\n"
 
 
 @pytest.mark.parametrize("name", [CHECK, EDIT, HOOK, MERGE, ROTATE, TEXTCONV, WITH])

@@ -160,6 +160,8 @@ def test_no_moves(place: Place) -> None:
     silent("a vault that has moved, and plaintext", again(place, "two/secrets.yml", TEXT))
     place.shell("git rm -q three/vault.yml")
     silent("an empty file", again(place, "four/vault.yml", b""))
+    again(place, "four/vault.yml", sealed("old"))
+    silent("a vault that is emptied, apart from a newline", again(place, "four/vault.yml", b"\n"))
     place.put("web/vault.yml", sealed("old"))
     place.put("web/vars.yml", b"port: 1\n")
     silent("a folder", again(place, "web/main.yml", b"user: x\n"))

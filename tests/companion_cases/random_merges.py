@@ -199,7 +199,8 @@ def wanted(folder: Path, merge: Merge, numbers: list[list[int]]) -> Wanted:
 @st.composite
 def random_value(draw: st.DrawFn, key: str) -> Value:
     password = draw(st.sampled_from(["dev", "prod", "prod", "prod2", "old", "new", UNNAMED]))
-    label = draw(st.sampled_from([LABELS.get(password, "dev"), LABELS.get(password, "dev"), ""]))
+    own = LABELS.get(password, "dev")
+    label = draw(st.sampled_from([own, own, own, "", "dev"]))
     text, salt = draw(st.sampled_from(TEXTS)), draw(st.sampled_from(range(len(SALTS))))
     return Value(key, text, "" if label == "default" else label, password, salt, draw(st.sampled_from(INDENTATIONS)))
 

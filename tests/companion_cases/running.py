@@ -269,6 +269,8 @@ def test_several_strings(place: Place, subtests: SubTests) -> None:
             assert (done.stdout, place.names()) == ("", before), "nothing is written"
     done = place.shell(f"printf a | {' '.join(encrypt)} --salt salt --stdin-name x -")
     ended("a fixed salt for one", done, 0, "x: !vault |")
+    done = place.run(*encrypt, "a", "b", "--output", "-")
+    assert (done.stdout.count("!vault |"), place.names()) == (2, before), "`-` is standard output"
     place.wrap_tool('echo "$@" >> ../seen')
     done = place.run(*encrypt, "a word", "another", "--name", "x", "--output", "blocks.yml")
     notes = [

@@ -9,7 +9,7 @@ from typing import Callable
 
 from ansible_vault_companions import running
 from ansible_vault_companions.files.envelopes import label_of
-from ansible_vault_companions.program import Refused
+from ansible_vault_companions.program import Refused, shown
 from ansible_vault_companions.secrets import labels
 from ansible_vault_companions.secrets.sources import Secret
 from ansible_vault_companions.tool import faults, finding
@@ -43,11 +43,11 @@ class Tool:
     def view(self, envelope: bytes, secret: Secret) -> bytes:
         """The plaintext, decrypted with this secret."""
         if secret.fault:
-            raise SecretRefused(f"{secret.given}: {secret.fault}")
+            raise SecretRefused(f"{shown(secret.given)}: {secret.fault}")
         try:
             return self.run(["view", secret.option()], envelope, [secret])
         except SecretRefused as fault:
-            raise SecretRefused(f"{secret.given}: {fault}", fault.status) from None
+            raise SecretRefused(f"{shown(secret.given)}: {fault}", fault.status) from None
 
     def accept(self, secrets: list[Secret]) -> None:
         """Refuses a secret that the tool refuses. An empty input makes the tool check the secret alone."""
@@ -58,7 +58,7 @@ class Tool:
             except SecretRefused:
                 raise
             except Refused as fault:
-                raise Refused(f"{secret.given}: {fault}", fault.status) from None
+                raise Refused(f"{shown(secret.given)}: {fault}", fault.status) from None
 
     def decrypt(self, envelope: bytes, secrets: list[Secret]) -> tuple[Secret, bytes]:
         """The secret that decrypts the envelope, and the plaintext. Tries secrets one at a time, those with its label
