@@ -120,7 +120,7 @@ def test_newest(place: Place) -> None:
     place.shell(f"touch -d 'now + 1 hour' {newest}")
     done = edit(place, "touch ../seen", *place.by_file("old"), "--resume", "all.yml")
     assert (done.returncode, decrypted("old", place.get("all.yml"))) == (0, text), done.stderr
-    assert sorted(kept(place)) == sorted({b"0\n", b"1\n", b"2\n"} - {text})
+    assert {*kept(place)} == {b"0\n", b"1\n", b"2\n"} - {text}
 
 
 def test_nothing_to_resume(place: Place) -> None:
