@@ -10,7 +10,7 @@ from fnmatch import fnmatchcase
 from typing import BinaryIO, Callable, Collection, Iterator
 
 from ansible_vault_companions import stopping
-from ansible_vault_companions.files.envelopes import MAGIC, UTF_16, mentions_envelope
+from ansible_vault_companions.files.envelopes import MAGIC, UTF_16, is_escaped, mentions_envelope
 from ansible_vault_companions.files.reading import CHUNK_SIZE, LIMIT, TooLong, opened, parts
 from ansible_vault_companions.program import Refused
 
@@ -112,11 +112,15 @@ def contents(path: str, with_prose: bool = False) -> bytes:
 
 def _mentions_envelope(file: BinaryIO, path: str) -> bool:
     end = b""
+    has_escapes = False
     try:
         for piece in parts(file, path, stopping.check):
             if mentions_envelope(end + piece):
                 return True
+            has_escapes = has_escapes or b"\\" in piece
             end = piece[-OVERLAP:]
     except TooLong:
         raise Unsearched(f"it is longer than any vault, so only its first {LIMIT:,} bytes were searched") from None
-    return False
+    # With escapes, the beginning of an envelope may be longer than the overlap.
+    is_split = has_escapes and file.tell() > CHUNK_SIZE
+    return is_split and is_escaped(b"".join(parts(file, path, stopping.check)))

@@ -28,7 +28,7 @@ from collections import Counter, defaultdict
 from functools import cached_property
 from typing import Callable, Iterable, Iterator
 
-from ansible_vault_companions.files.envelopes import MAGIC, START
+from ansible_vault_companions.files.envelopes import MAGIC, mentions_envelope
 from ansible_vault_companions.git import places
 from ansible_vault_companions.git.commits import Change, File
 from ansible_vault_companions.git.damage import fits, is_whole
@@ -58,7 +58,7 @@ def _in_plaintext(names: list[str]) -> str | None:
 
 def now_plain(before: bytes, after: bytes) -> list[str]:
     """The keys or names of the values of a file that rules 1 and 2 refuse."""
-    if START not in before or not places.differ(before, after):
+    if not (mentions_envelope(before) and places.differ(before, after)):
         return []
     paths = _at_their_keys(before, after)
     known = {path.last for path in paths}
@@ -109,7 +109,7 @@ class Moves:
             self._note_values(file.name, self.read(file.before), self.read(file.blob))
 
     def _note_values(self, name: bytes, before: bytes, after: bytes) -> None:
-        if START in before and not before.startswith(MAGIC) and places.differ(before, after):
+        if mentions_envelope(before) and not before.startswith(MAGIC) and places.differ(before, after):
             old, new = places.by_keys(before), places.by_keys(after)
             if old and new:
                 self.values.update(((name, path), old.encrypted[path]) for path in places.lost(old, new))
