@@ -10,10 +10,10 @@ from typing import Any
 from hypothesis import given, settings
 from hypothesis import strategies as st
 
-from ansible_vault_companions.files.envelopes import mentions_envelope
+from ansible_vault_companions.files.envelopes import has_valid_header, mentions_envelope
 from ansible_vault_companions.git import leaks
 from ansible_vault_companions.yaml.hidden import envelopes
-from companion_cases import CHECK, ROTATE, TEXT, Place, block, ended, sealed, silent, summary
+from companion_cases import CHECK, ROTATE, TEXT, Place, block, ended, sealed, silent, summary, to_new
 from companion_cases.repository import IN_PART, again, leaked, staged, with_hooks
 from lib.needs import needs_pyyaml
 from lib.subtests import SubTests
@@ -146,3 +146,83 @@ def test_spellings(place: Place) -> None:
     done = place.run(CHECK, *place.by_file("new"), ".")
     unreported = [name for name in place.files() if f"./{name}:" not in done.stderr]
     assert (done.returncode, unreported) == (1, []), "none is passed over"
+
+
+HEADERS = ["$ANSIBLE_VAULT ;1.2;AES256;old", "$ANSIBLE_VAULT_x; 1.1 ;AES256", "$ANSIBLE_VAULT;1.2;AES256", "$ANSIBLE_VAULT;1.1;\tAES256;x"]
+
+
+def test_headers(place: Place, subtests: SubTests) -> None:
+    """A block with an unusual header is checked, rotated and watched like any other."""
+    with_hooks(place, "marked.yml diff=ansible-vault\nwhole.yml ansible-vault\n")
+    for header in HEADERS:
+        with subtests.test(header):
+            vault = sealed("old").replace(b"$ANSIBLE_VAULT;1.1;AES256", header.encode())
+            value = block("old").replace(sealed("old").splitlines()[0], header.encode())
+            place.put("whole.yml", vault)
+            place.put("marked.yml", value)
+            silent("the hook", again(place, "vars.yml", value))
+            done = staged(place, "vars.yml", b"secret: plain\n")
+            leaked("plaintext", done, {"vars.yml": IN_PART.format("secret")})
+            place.put("vars.yml", value)
+            ended("a wrong password", place.run(CHECK, *place.by_file("new"), "."), 1, "0 decrypted, 3 not")
+            ended("the right one", place.run(CHECK, *place.by_file("old"), "."), 0, "3 decrypted, 0 not")
+            label = header.split(";")[3:] or ["default"]
+            secrets = [*place.by_id(label[0], "old"), *place.by_id(label[0], "new", "new-")]
+            ended("rotate", place.run(ROTATE, *secrets, "."), 0, summary(3))
+
+
+@st.composite
+def any_headers(draw: st.DrawFn) -> bytes:
+    """Draw the first line of a vault, in which each field may be wrong."""
+    pools = [
+        [*BEGINNINGS, "$ANSIBLE_VAULT" + "x" * 226, "$ANSIBLE_VAULT" + "x" * 225, "$ANSIBLE_VAULT\u00e9"],
+        ["1.1", "1.2", "1.1", "1.2", "1.0", "1.3", ""],
+        ["AES256", "AES256", "AES256", "AES", "aes256"],
+        ["", "prod", "p r", "x" * 128, "x" * 129, "\x7f", "\u00e9", "a\tb"],
+        ["", "more"],
+    ]
+    fields = [draw(st.sampled_from(pool)) for pool in pools[: draw(st.integers(2, 5))]]
+    return ";".join(each + draw(st.sampled_from([*BLANKS, "\x0b"])) for each in fields).encode()
+
+
+def test_valid_headers(place: Place) -> None:
+    """The companions call a header valid if the program does."""
+    counts: Counter[bool] = Counter()
+    digits = sealed("old").partition(b"\n")[2]
+
+    @settings(max_examples=150, deadline=None, database=None)
+    @given(header=any_headers())
+    def read(header: bytes) -> None:
+        done = place.run_on(header + b"\n" + digits, "ansible-vault", "view", *place.by_file("old"))
+        assert has_valid_header(header) == (done.returncode == 0), (header, done.stderr)
+        counts[done.returncode == 0] += 1
+
+    read()
+    assert min(counts[True], counts[False]) > 20, counts
+
+
+PROSE = """\
+#!/bin/sh
+# `ansible-vault encrypt_string` writes `!vault |` and below it $ANSIBLE_VAULT;1.1;AES256, or "$ANSIBLE_VAULT;1.2;AES256;prod".
+[ "$(head -c 14 "$1")" = '$ANSIBLE_VAULT' ] && echo "$ANSIBLE_VAULT_PASSWORD\\n" > "$ANSIBLE_VAULT_FILE"; exit
+grep -q '^ *\\$ANSIBLE_VAULT;' "$1" && echo "\\$ANSIBLE_VAULT;1.1;AES256 begins a vault"
+"""
+JOB = """\
+# A vault begins with $ANSIBLE_VAULT;1.1;AES256.
+script:
+  - echo "$ANSIBLE_VAULT_PASSWORD" > .vault; ls
+  - $ANSIBLE_VAULT view a.yml
+  - {run: "$ANSIBLE_VAULT;1.1;AES256", tag: "!vault"}
+  - |
+    $ANSIBLE_VAULT;1.2;AES256;prod
+    is a header
+"""
+
+
+def test_mentions(place: Place) -> None:
+    """Text that only mentions a header is not reported."""
+    for name, text in {"a.sh": PROSE, "a": PROSE, "job.yml": JOB, "job.json": json.dumps(JOB)}.items():
+        place.put(name, text.encode())
+    place.put("vault.yml", sealed("old"))
+    ended("check", place.run(CHECK, *place.by_file("old"), "."), 0, "1 decrypted, 0 not")
+    ended("rotate", place.run(ROTATE, *to_new(place), "."), 0, summary(1))

@@ -5,6 +5,7 @@ from __future__ import annotations
 import re
 import sys
 from dataclasses import dataclass
+from typing import Iterator
 
 from ansible_vault_companions.files.changes import indented
 from ansible_vault_companions.program import Refused, shown
@@ -15,12 +16,7 @@ TAG_NAME = b"!vault"
 BYTE_ORDER_MARK = b"\xef\xbb\xbf"
 LINE = re.compile(rb"[^\r\n]*")
 # In double quotes, YAML continues a text after a backslash at the end of a line.
-CONTINUED = rb"(?:\\(?:\r\n?|\n|\xc2\x85|\xe2\x80[\xa8\xa9])[ \t]*)*"
-# MAGIC in double quotes, in YAML or JSON, with at least one escape.
-ESCAPED = re.compile(
-    rb"\"%s(?!%s)" % (CONTINUED, re.escape(MAGIC))
-    + CONTINUED.join(rb"(?:\x%02x|\\(?:x|u00|U000000)(?i:%02x))" % (each, each) for each in MAGIC)
-)
+CONTINUED = rb"(?:\\(?:\r\n?|\n|\xc2\x85|\xe2\x80[\xa8\xa9])[ \t]*)"
 # What docs/formats.md says of a header.
 VERSIONS = (b"1.1", b"1.2")
 CIPHER = b"AES256"
@@ -111,10 +107,19 @@ def is_envelope(text: bytes) -> bool:
     return text.lstrip(b"\"' \t\r\n").startswith(MAGIC)
 
 
+def spelled(text: bytes) -> bytes:
+    """A pattern for a text in double quotes, in YAML or JSON, where each character may be an escape."""
+    return (CONTINUED + b"*").join(rb"(?:\x%02x|\\(?:x|u00|U000000)(?i:%02x))" % (each, each) for each in text)
+
+
+# The beginning of an envelope in double quotes, with at least one escape.
+ESCAPED = re.compile(rb"\"(?=[\\$])%s*(?!%s)%s" % (CONTINUED, re.escape(MAGIC), spelled(MAGIC)))
+
+
 def mentions_envelope(data: bytes) -> bool:
-    return MAGIC in data or any(each in data for each in UTF_16) or is_escaped(data)
+    return MAGIC in data or any(each in data for each in UTF_16) or next(escaped(data), None) is not None
 
 
-def is_escaped(data: bytes) -> bool:
-    """Whether an envelope begins with escapes."""
-    return b"\\" in data and ESCAPED.search(data) is not None
+def escaped(data: bytes) -> Iterator[re.Match[bytes]]:
+    """The beginnings of envelopes that have escapes."""
+    return ESCAPED.finditer(data) if b"\\" in data else iter(())

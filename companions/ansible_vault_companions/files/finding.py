@@ -12,10 +12,10 @@ from typing import Iterator
 from ansible_vault_companions import stopping
 from ansible_vault_companions.files.envelopes import (
     BYTE_ORDER_MARK,
-    ESCAPED,
     MAGIC,
     UTF_16,
     Envelope,
+    escaped,
     label_of,
     matched,
 )
@@ -109,7 +109,7 @@ def _within(data: bytes) -> Iterator[Envelope]:
 def _escaped(data: bytes) -> Iterator[Envelope]:
     """The envelopes that begin with escapes. Nothing else does."""
     line = _Line(data)
-    for found in ESCAPED.finditer(data) if b"\\" in data else []:
+    for found in escaped(data):
         stopping.check()
         line.go_to(found.start())
         _, name = _tag_in(line)

@@ -9,7 +9,7 @@ from typing import Iterator
 
 from ansible_vault_companions.files import finding
 from ansible_vault_companions.files.changes import Spans
-from ansible_vault_companions.files.envelopes import MAGIC, Envelope, label_of, matched
+from ansible_vault_companions.files.envelopes import CIPHER, MAGIC, Envelope, label_of, matched, spelled
 from ansible_vault_companions.yaml import nodes
 from ansible_vault_companions.yaml.nodes import Node
 from ansible_vault_companions.yaml.values import PROPERTIES, Offsets
@@ -18,18 +18,19 @@ HIDDEN = f"an envelope in an unusual form; {finding.TO_WRITE}"
 # What precedes the text of a value: tag, anchor and comments, and the header of a block scalar.
 HEAD = re.compile(rb"(?:%s)?(?:[|>][^\r\n]*)?" % PROPERTIES.pattern)
 MENTION = re.compile(re.escape(MAGIC))
+KNOWN_CIPHER = re.compile(spelled(CIPHER))
 DIGITS = re.compile(rb"[0-9a-fA-F]+")
 # The escape for half of a character, as JSON writes characters that YAML writes with a single escape.
 HALF = re.compile(rb"(?<=\\u)[dD][89a-fA-F]")
 
 
 def envelopes(data: bytes) -> list[Envelope]:
-    """All envelopes in a file. It is only parsed if it mentions an envelope that the search in its bytes did not take
-    for one."""
+    """All envelopes in a file. It is only parsed if a mention of an envelope, and of the cipher, was not taken for one
+    by the search in its bytes."""
     found = finding.envelopes(data)
     known = Spans((each.start, each.end) for each in found)
     places = [each.start() for each in MENTION.finditer(data) if each.start() not in known]
-    if places:
+    if places and KNOWN_CIPHER.search(data, places[0]):
         found += _hidden(data, places)
         found.sort(key=lambda each: each.start)
     return found
