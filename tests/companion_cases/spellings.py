@@ -20,7 +20,8 @@ from lib.subtests import SubTests
 
 VAULT = sealed("old", TEXT).decode()
 DIGITS = "".join(VAULT.splitlines()[1:])
-BEGINNINGS = ["$ANSIBLE_VAULT", "$ANSIBLE_VAULT", "$ANSIBLE_VAULT_2", "$ANSIBLE_VAULT $ANSIBLE_VAULT", "$ANSIBLE_VAULT x"]
+MAGIC = "$ANSIBLE_VAULT"
+BEGINNINGS = [MAGIC, MAGIC, f"{MAGIC}_2", f"{MAGIC} {MAGIC}", f"{MAGIC} x"]
 ENDINGS = [[], [""], ["default"], ["prod"], ["prod", "more"]]
 BLANKS = ["", "", " ", "\t", "  "]
 # What precedes the document, and a spelling of the tag.
@@ -33,8 +34,8 @@ GAPS = [" ", " ", "\t", "\n    ", " &a ", " # $ANSIBLE_VAULT\n    ", "\n# commen
 # What is around a tagged value, and around a text in JSON.
 PLACES = ["secret: {}\n", "secret: &b {}\n", "- {}\n", "{{secret: {}}}\n", "[1, {}]\n", "secret:\n  {{a: {}, b: 1}}\n"]
 PLACES += ["? {}\n: 1\n", "secret: &c\n  - {}\n  - 2\n", "x: $ANSIBLE_VAULT\nsecret: {}\ny: $ANSIBLE_VAULT_FILE\n"]
-OBJECTS = ['{{"secret": {{"__ansible_vault": {}}}}}\n', '{{\n\t"secret":\t{{"__ansible_vault":\t{}}}, "x": "\\ud83d\\ude00"}}']
-OBJECTS += ['[{{"__ansible_v\\u0061ult": {}}}]']
+OBJECTS = ['{{"secret": {{"__ansible_vault": {}}}}}\n', '[{{"__ansible_v\\u0061ult": {}}}]']
+OBJECTS += ['{{\n\t"secret":\t{{"__ansible_vault":\t{}}}, "x": "\\ud83d\\ude00"}}']
 LINES = [30, 31, 80, 1000]
 # At least so many texts of each kind must be envelopes.
 LEAST = {"|": 20, ">": 10, "plain": 5, "'": 10, '"': 20, "JSON": 20}
@@ -148,7 +149,7 @@ def test_spellings(place: Place) -> None:
     assert (done.returncode, unreported) == (1, []), "none is passed over"
 
 
-HEADERS = ["$ANSIBLE_VAULT ;1.2;AES256;old", "$ANSIBLE_VAULT_x; 1.1 ;AES256", "$ANSIBLE_VAULT;1.2;AES256", "$ANSIBLE_VAULT;1.1;\tAES256;x"]
+HEADERS = [f"{MAGIC} ;1.2;AES256;old", f"{MAGIC}_x; 1.1 ;AES256", f"{MAGIC};1.2;AES256", f"{MAGIC};1.1;\tAES256;x"]
 
 
 def test_headers(place: Place, subtests: SubTests) -> None:
@@ -175,10 +176,10 @@ def test_headers(place: Place, subtests: SubTests) -> None:
 def any_headers(draw: st.DrawFn) -> bytes:
     """Draw the first line of a vault, in which each field may be wrong."""
     pools = [
-        [*BEGINNINGS, "$ANSIBLE_VAULT" + "x" * 226, "$ANSIBLE_VAULT" + "x" * 225, "$ANSIBLE_VAULT\u00e9"],
+        [*BEGINNINGS, MAGIC + "x" * 226, MAGIC + "x" * 225, f"{MAGIC}é"],
         ["1.1", "1.2", "1.1", "1.2", "1.0", "1.3", ""],
         ["AES256", "AES256", "AES256", "AES", "aes256"],
-        ["", "prod", "p r", "x" * 128, "x" * 129, "\x7f", "\u00e9", "a\tb"],
+        ["", "prod", "p r", "x" * 128, "x" * 129, "\x7f", "é", "a\tb"],
         ["", "more"],
     ]
     fields = [draw(st.sampled_from(pool)) for pool in pools[: draw(st.integers(2, 5))]]
@@ -203,7 +204,7 @@ def test_valid_headers(place: Place) -> None:
 
 PROSE = """\
 #!/bin/sh
-# `ansible-vault encrypt_string` writes `!vault |` and below it $ANSIBLE_VAULT;1.1;AES256, or "$ANSIBLE_VAULT;1.2;AES256;prod".
+# encrypt_string writes `!vault |`, and below it $ANSIBLE_VAULT;1.1;AES256 or "$ANSIBLE_VAULT;1.2;AES256;prod".
 [ "$(head -c 14 "$1")" = '$ANSIBLE_VAULT' ] && echo "$ANSIBLE_VAULT_PASSWORD\\n" > "$ANSIBLE_VAULT_FILE"; exit
 grep -q '^ *\\$ANSIBLE_VAULT;' "$1" && echo "\\$ANSIBLE_VAULT;1.1;AES256 begins a vault"
 """

@@ -2,6 +2,7 @@
 
 from __future__ import annotations
 
+import json
 import re
 from bisect import bisect_left
 from contextlib import suppress
@@ -20,8 +21,8 @@ HEAD = re.compile(rb"(?:%s)?(?:[|>][^\r\n]*)?" % PROPERTIES.pattern)
 MENTION = re.compile(re.escape(MAGIC))
 KNOWN_CIPHER = re.compile(spelled(CIPHER))
 DIGITS = re.compile(rb"[0-9a-fA-F]+")
-# The escape for half of a character, as JSON writes characters that YAML writes with a single escape.
-HALF = re.compile(rb"(?<=\\u)[dD][89a-fA-F]")
+# The key of an encrypted value in JSON.
+KEY = "__ansible_vault"
 
 
 def envelopes(data: bytes) -> list[Envelope]:
@@ -37,32 +38,45 @@ def envelopes(data: bytes) -> list[Envelope]:
 
 
 def _hidden(data: bytes, places: list[int]) -> Iterator[Envelope]:
-    """The values of a YAML file whose text begins at one of these places and is an envelope."""
-    offsets = Offsets(nodes.decoded(data))
+    """The envelopes that begin at these places, for Ansible, which first reads a file as JSON. One is enough there."""
+    text = nodes.decoded(data)
+    if _is_in_json(text):
+        yield _envelope(places[0], data.count(b"\n", 0, places[0]) + 1)
+        return
+    offsets = Offsets(text)
     for node in _nodes(data):
         start, end = offsets.of(node.start), offsets.of(node.end)
         number = bisect_left(places, matched(HEAD, data, start).end())
         if number < len(places) and places[number] < end:
-            place, label = places[number], label_of(node.text.encode(errors="surrogatepass"))
-            yield Envelope(place, place + len(MAGIC), node.line, b"", b"", label, node.path.last or None, HIDDEN)
+            yield _envelope(places[number], node.line, label_of(_encoded(node)), node.path.last or None)
+
+
+def _envelope(place: int, line: int, label: str | None = None, name: str | None = None) -> Envelope:
+    return Envelope(place, place + len(MAGIC), line, b"", b"", label, name, HIDDEN)
+
+
+def _is_in_json(text: str) -> bool:
+    """Whether a text is JSON that has an envelope."""
+    found: list[object] = []
+    with suppress(ValueError, RecursionError):
+        json.loads(text, object_pairs_hook=lambda pairs: found.extend(value for key, value in pairs if key == KEY))
+        return any(str(each).startswith(MAGIC.decode()) for each in found)
+    return False
 
 
 def _nodes(data: bytes) -> list[Node]:
-    """The scalars that are envelopes for Ansible; none if the file is neither YAML nor JSON."""
+    """The scalars that are envelopes; none if the text is not YAML."""
     with suppress(nodes.NoPyYaml, nodes.NotYaml):
-        return _envelopes(data)
-    with suppress(nodes.NoPyYaml, nodes.NotYaml):
-        # Ansible first reads a file as JSON, which allows tabs, and characters in two halves.
-        return _envelopes(HALF.sub(b"00", data.replace(b"\t", b" ")))
+        return [node for node in nodes.nodes(data) if node.style != nodes.ALIAS and _is_envelope(node)]
     return []
 
 
-def _envelopes(data: bytes) -> list[Node]:
-    return [node for node in nodes.nodes(data) if node.style != nodes.ALIAS and _is_envelope(node)]
-
-
 def _is_envelope(node: Node) -> bool:
+    """Whether the text begins like an envelope and has the tag, or digits as an envelope has them."""
     if not node.text.startswith(MAGIC.decode()):
         return False
-    digits = b"".join(node.text.encode(errors="surrogatepass").splitlines()[1:])
-    return node.tag in nodes.TAGS or DIGITS.fullmatch(digits) is not None
+    return node.tag in nodes.TAGS or DIGITS.fullmatch(b"".join(_encoded(node).splitlines()[1:])) is not None
+
+
+def _encoded(node: Node) -> bytes:
+    return node.text.encode(errors="surrogatepass")
