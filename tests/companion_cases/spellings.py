@@ -172,13 +172,33 @@ def test_headers(place: Place, subtests: SubTests) -> None:
             ended("rotate", place.run(ROTATE, *secrets, "."), 0, summary(3))
 
 
+UNUSUAL = {
+    "an escape": b'secret: !vault "\\x24ANSIBLE_VAULT;1.1;AES256\\n%s"\n' % DIGITS.encode(),
+    "another tag": b"secret: !<!vault> # a\n  $ANSIBLE_VAULT;\n  1.1;\n  AES256\n\n  %s\n" % DIGITS.encode(),
+}
+
+
+def test_moves(place: Place, subtests: SubTests) -> None:
+    """The hook refuses plaintext in another file, whatever the form of the value was, but not the value itself."""
+    needs_pyyaml()
+    with_hooks(place)
+    for number, (what, value) in enumerate(UNUSUAL.items()):
+        with subtests.test(what):
+            name, other = f"a{number}.yml", f"b{number}.yml"
+            silent("the hook", again(place, name, b"x: 1\n" + value))
+            place.put(name, b"x: 1\n")
+            done = staged(place, other, b"secret: plain\n")
+            leaked("plaintext", done, {other: IN_PART.format(f"secret of {name}")})
+            silent("the value", again(place, other, value))
+
+
 @st.composite
 def any_headers(draw: st.DrawFn) -> bytes:
     """Draw the first line of a vault, in which each field may be wrong."""
     pools = [
         [*BEGINNINGS, MAGIC + "x" * 226, MAGIC + "x" * 225, f"{MAGIC}é"],
-        ["1.1", "1.2", "1.1", "1.2", "1.0", "1.3", ""],
-        ["AES256", "AES256", "AES256", "AES", "aes256"],
+        [*["1.1", "1.2"] * 3, "1.0", "1.3", ""],
+        [*["AES256"] * 4, "AES", "aes256"],
         ["", "prod", "p r", "x" * 128, "x" * 129, "\x7f", "é", "a\tb"],
         ["", "more"],
     ]
@@ -191,7 +211,7 @@ def test_valid_headers(place: Place) -> None:
     counts: Counter[bool] = Counter()
     digits = sealed("old").partition(b"\n")[2]
 
-    @settings(max_examples=150, deadline=None, database=None)
+    @settings(max_examples=300, deadline=None, database=None)
     @given(header=any_headers())
     def read(header: bytes) -> None:
         done = place.run_on(header + b"\n" + digits, "ansible-vault", "view", *place.by_file("old"))

@@ -125,7 +125,8 @@ class Moves:
                     yield file, why
 
     def _forget_moved_values(self) -> None:
-        """Forgets the values whose envelopes occur in the files as often as before."""
+        """Forgets the values whose envelopes occur in the files as often as before. Those that are not blocks are not
+        counted."""
         if not self.values:
             return
         balance: Counter[str] = Counter()
@@ -133,7 +134,7 @@ class Moves:
             balance.update(places.envelope_texts(self.read(file.blob)))
         for blob in [*self.change.gone.values(), *(file.before for file in self.change.files if file.before)]:
             balance.subtract(places.envelope_texts(self.read(blob)))
-        self.values = {where: found for where, found in self.values.items() if any(balance[each] < 0 for each in found)}
+        self.values = {where: found for where, found in self.values.items() if any(balance.get(each, -1) < 0 for each in found)}
 
     def _fault_of_vault(self, file: File, content: bytes) -> str | None:
         is_new = file.before is None and file.blob not in self.change.gone.values()
