@@ -224,6 +224,7 @@ def test_valid_headers(place: Place) -> None:
 
 PROSE = """\
 #!/bin/sh
+# a: !vault "$ANSIBLE_VAULT..."
 # encrypt_string writes `!vault |`, and below it $ANSIBLE_VAULT;1.1;AES256 or "$ANSIBLE_VAULT;1.2;AES256;prod".
 [ "$(head -c 14 "$1")" = '$ANSIBLE_VAULT' ] && echo "$ANSIBLE_VAULT_PASSWORD\\n" > "$ANSIBLE_VAULT_FILE"; exit
 grep -q '^ *\\$ANSIBLE_VAULT;' "$1" && echo "\\$ANSIBLE_VAULT;1.1;AES256 begins a vault"

@@ -134,7 +134,8 @@ class Moves:
             balance.update(places.envelope_texts(self.read(file.blob)))
         for blob in [*self.change.gone.values(), *(file.before for file in self.change.files if file.before)]:
             balance.subtract(places.envelope_texts(self.read(blob)))
-        self.values = {where: found for where, found in self.values.items() if any(balance.get(each, -1) < 0 for each in found)}
+        gone = {where for where, found in self.values.items() if any(balance.get(each, -1) < 0 for each in found)}
+        self.values = {where: found for where, found in self.values.items() if where in gone}
 
     def _fault_of_vault(self, file: File, content: bytes) -> str | None:
         is_new = file.before is None and file.blob not in self.change.gone.values()
