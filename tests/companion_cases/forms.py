@@ -31,7 +31,7 @@ REPORTED = {
     "a merge": (b"a: !vault |\n" + BODY[:300] + b"\n<<<<<<< ours\n" + BODY[300:] + b"\n", "vault payload is malformed"),
     "a key like a header": (
         "$ANSIBLE_VAULT;1.2;AES256;x: 1\n# größe\n".encode() + block("old"),
-        "so Ansible reads it as YAML",
+        "or YAML with an unusual first line",
     ),
     "UTF-16": ("\ufeff".encode("utf-16-le") + block("old").decode().encode("utf-16-le"), "save the file as UTF-8"),
     "UTF-16, big-endian": (block("old").decode().encode("utf-16-be"), "save the file as UTF-8"),

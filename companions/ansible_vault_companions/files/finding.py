@@ -23,14 +23,14 @@ from ansible_vault_companions.files.envelopes import (
 # Forms of an envelope that cannot be replaced, and what to do about each.
 TO_WRITE = "write it as a block (`NAME: !vault |` and its lines below, indented with spaces), or encrypt the whole file"
 IN_A_LINE = f"an envelope in quotes or within a line; {TO_WRITE}"
-IN_ESCAPES = f"an envelope in escapes; {TO_WRITE}"
+IN_ESCAPES = f"an envelope that begins with escapes; {TO_WRITE}"
 COMMENTED = "an envelope in a comment; remove the envelope, or uncomment it"
 BEHIND_TABS = "an envelope after tabs; indent with spaces"
 FOLDED = "an envelope in a folded scalar (`>`); write `!vault |` instead"
 BEHIND_MARK = "an envelope after a byte order mark; remove the mark"
 BEHIND_SPACE = "the empty lines or spaces before this envelope keep the file from being a vault; remove them"
 IN_UTF_16 = "envelopes in UTF-16; save the file as UTF-8"
-NOT_ASCII = "it begins like a vault, but has other characters than ASCII, so Ansible reads it as YAML"
+NOT_ASCII = "it begins like a vault but is not all ASCII, so it is a damaged vault, or YAML with an unusual first line"
 
 # The first field of a header. It only begins with MAGIC.
 START = re.compile(rb"\$ANSIBLE_VAULT[^;\r\n]{0,256};")
@@ -107,7 +107,7 @@ def _within(data: bytes) -> Iterator[Envelope]:
 
 
 def _escaped(data: bytes) -> Iterator[Envelope]:
-    """The envelopes that begin with escapes. Nothing else does."""
+    """The envelopes that begin with escapes. Nothing but an envelope begins like that."""
     line = _Line(data)
     for found in escaped(data):
         stopping.check()

@@ -125,8 +125,7 @@ class Moves:
                     yield file, why
 
     def _forget_moved_values(self) -> None:
-        """Forgets the values whose envelopes occur in the files as often as before. Those that are not blocks are not
-        counted."""
+        """Forgets the values whose envelopes occur in the files as often as before. Only blocks are counted."""
         if not self.values:
             return
         balance: Counter[str] = Counter()
@@ -134,8 +133,8 @@ class Moves:
             balance.update(places.envelope_texts(self.read(file.blob)))
         for blob in [*self.change.gone.values(), *(file.before for file in self.change.files if file.before)]:
             balance.subtract(places.envelope_texts(self.read(blob)))
-        gone = {where for where, found in self.values.items() if any(balance.get(each, -1) < 0 for each in found)}
-        self.values = {where: found for where, found in self.values.items() if where in gone}
+        gone = {each for found in self.values.values() for each in found if balance.get(each, -1) < 0}
+        self.values = {where: found for where, found in self.values.items() if not gone.isdisjoint(found)}
 
     def _fault_of_vault(self, file: File, content: bytes) -> str | None:
         is_new = file.before is None and file.blob not in self.change.gone.values()
