@@ -5,8 +5,8 @@ from collections.abc import Callable
 
 import pytest
 
-from ansible_vault_companions.files.finding import envelopes
 from ansible_vault_companions.git import damage, leaks
+from ansible_vault_companions.yaml.hidden import envelopes
 from companion_cases import BODY, CHECK, ROTATE, TEXT, Done, Place, block, decrypted, ended, sealed, summary, to_new
 
 LINE = sealed("old").decode().replace("\n", "\\n")
@@ -29,6 +29,10 @@ REPORTED = {
     "a damaged block": (b"a: !vault |\n  $ANSIBLE_VAULT;1.1;AES256\n  not digits\n", "vault payload is malformed"),
     "a block that is cut": (b"a: !vault |\n" + BODY[:-100] + b"\n  x\n", "vault body is not hexadecimal"),
     "a merge": (b"a: !vault |\n" + BODY[:300] + b"\n<<<<<<< ours\n" + BODY[300:] + b"\n", "vault payload is malformed"),
+    "a key like a header": (
+        "$ANSIBLE_VAULT;1.2;AES256;x: 1\n# größe\n".encode() + block("old"),
+        "or YAML with an unusual first line",
+    ),
     "UTF-16": ("\ufeff".encode("utf-16-le") + block("old").decode().encode("utf-16-le"), "save the file as UTF-8"),
     "UTF-16, big-endian": (block("old").decode().encode("utf-16-be"), "save the file as UTF-8"),
 }
@@ -89,8 +93,13 @@ def test_line_ends(place: Place) -> None:
 
 # Each piece is repeated to make a hostile file.
 PIECES = [
+    b"$ANSIBLE_VAULT",
     b"$ANSIBLE_VAULT;",
     b"$ANSIBLE_VAULT;1.1;AES256",
+    b"\"\\x24ANSIBLE_VAULT",
+    b"\"\\\n $\\\n ",
+    b"A\\\n ",
+    b"\\\n",
     b"$ANSIBLE_VAULT;1.1;AES256\n",
     b"  $ANSIBLE_VAULT;1.1;AES256\n  6162\n",
     b'"$ANSIBLE_VAULT;1.1;AES256\\n' + b"61" * 40 + b'", ',

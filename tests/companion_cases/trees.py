@@ -134,20 +134,21 @@ def test_what_has_no_end(place: Place) -> None:
 def test_pieces(tmp_path: Path, monkeypatch: pytest.MonkeyPatch) -> None:
     """A file is read in chunks, and the start of an envelope may be split between two of them."""
     path = tmp_path / "a.yml"
+    starts = [MAGIC.decode().encode(encoding) for encoding in ("ascii", "utf-16-le", "utf-16-be")]
+    starts.append(b'"\\x24ANSIBLE\\\r\n' + b" " * 300 + b"\\\n \\x5FVAULT")
     in_two = set()
 
     @settings(max_examples=400, deadline=None, database=None)
-    @given(st.integers(32, 40), st.integers(1, 90), st.sampled_from(("ascii", "utf-16-le", "utf-16-be")))
-    def check(size: int, before: int, encoding: str) -> None:
+    @given(st.integers(32, 40), st.integers(1, 90), st.sampled_from(starts))
+    def check(size: int, before: int, start: bytes) -> None:
         monkeypatch.setattr(reading, "CHUNK_SIZE", size)
         monkeypatch.setattr(searching, "CHUNK_SIZE", size)
-        start = MAGIC.decode().encode(encoding)
         path.write_bytes(b"x" * before + start + b";1.1")
         assert searching.contents(str(path)) == path.read_bytes()
         path.write_bytes(b"x" * before + start[:-1])
         assert searching.contents(str(path)) == b"", "a part of it is none"
         if before % size + len(start) > size:
-            in_two.add((encoding, size - before % size))
+            in_two.add((start[:2], size - before % size))
 
     check()
-    assert len(in_two) > 30, "in many places, for each encoding"
+    assert len(in_two) > 30, "in many places, for each spelling"

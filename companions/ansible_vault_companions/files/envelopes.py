@@ -5,17 +5,23 @@ from __future__ import annotations
 import re
 import sys
 from dataclasses import dataclass
+from typing import Iterator
 
 from ansible_vault_companions.files.changes import indented
 from ansible_vault_companions.program import Refused, shown
 
 MAGIC = b"$ANSIBLE_VAULT"
-# The beginning of every envelope within a file.
-START = MAGIC + b";"
 UTF_16 = tuple(MAGIC.decode().encode(codec) for codec in ("utf-16-le", "utf-16-be"))
 TAG_NAME = b"!vault"
 BYTE_ORDER_MARK = b"\xef\xbb\xbf"
 LINE = re.compile(rb"[^\r\n]*")
+# In double quotes, YAML continues a text after a backslash at the end of a line.
+CONTINUED = rb"(?:\\(?:\r\n?|\n|\xc2\x85|\xe2\x80[\xa8\xa9])[ \t]*)"
+# What docs/formats.md says of a header.
+VERSIONS = (b"1.1", b"1.2")
+CIPHER = b"AES256"
+LABEL = re.compile(rb"[\x20-\x7e]{0,128}")
+LONGEST_HEADER = 256
 
 
 @dataclass(frozen=True)
@@ -77,10 +83,23 @@ def label_of(text: bytes) -> str | None:
 def written_label(text: bytes) -> str | None:
     """The label in the first line of an envelope. Empty if there is none, as in format 1.1; None if that line is not a
     header."""
+    fields = _fields(text)
+    return fields[3].decode() if fields else None
+
+
+def has_valid_header(text: bytes) -> bool:
+    """Whether the first line is a header that the tool reads."""
+    fields = _fields(text)
+    if not (fields and text.startswith(MAGIC) and len(matched(LINE, text)[0]) <= LONGEST_HEADER):
+        return False
+    return fields[1] in VERSIONS and fields[2] == CIPHER and LABEL.fullmatch(fields[3]) is not None
+
+
+def _fields(text: bytes) -> list[bytes]:
+    """The fields of the first line of an envelope, of which the fourth may be empty; none if that line is not a
+    header."""
     fields = [field.strip() for field in matched(LINE, text)[0].split(b";")]
-    if len(fields) < 3 or not b"".join(fields).isascii():
-        return None
-    return (fields[3] if len(fields) > 3 else b"").decode()
+    return [*fields, b""] if len(fields) > 2 and b"".join(fields).isascii() else []
 
 
 def is_envelope(text: bytes) -> bool:
@@ -88,5 +107,19 @@ def is_envelope(text: bytes) -> bool:
     return text.lstrip(b"\"' \t\r\n").startswith(MAGIC)
 
 
+def spelled(text: bytes) -> bytes:
+    """A pattern for a text in double quotes, in YAML or JSON, where each character may be an escape."""
+    return (CONTINUED + b"*").join(rb"(?:\x%02x|\\(?:x|u00|U000000)(?i:%02x))" % (each, each) for each in text)
+
+
+# The beginning of an envelope in double quotes, with at least one escape.
+ESCAPED = re.compile(rb"\"(?=[\\$])%s*(?!%s)%s" % (CONTINUED, re.escape(MAGIC), spelled(MAGIC)))
+
+
 def mentions_envelope(data: bytes) -> bool:
-    return MAGIC in data or any(each in data for each in UTF_16)
+    return MAGIC in data or any(each in data for each in UTF_16) or next(escaped(data), None) is not None
+
+
+def escaped(data: bytes) -> Iterator[re.Match[bytes]]:
+    """The beginnings of envelopes that have escapes."""
+    return ESCAPED.finditer(data) if b"\\" in data else iter(())

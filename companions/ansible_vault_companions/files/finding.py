@@ -10,23 +10,33 @@ import re
 from typing import Iterator
 
 from ansible_vault_companions import stopping
-from ansible_vault_companions.files.envelopes import BYTE_ORDER_MARK, MAGIC, START, UTF_16, Envelope, label_of, matched
+from ansible_vault_companions.files.envelopes import (
+    BYTE_ORDER_MARK,
+    MAGIC,
+    UTF_16,
+    Envelope,
+    escaped,
+    label_of,
+    matched,
+)
 
 # Forms of an envelope that cannot be replaced, and what to do about each.
-IN_A_LINE = (
-    "an envelope in quotes or within a line; write it as a block (`NAME: !vault |` and its lines below, "
-    "indented with spaces), or encrypt the whole file"
-)
+TO_WRITE = "write it as a block (`NAME: !vault |` and its lines below, indented with spaces), or encrypt the whole file"
+IN_A_LINE = f"an envelope in quotes or within a line; {TO_WRITE}"
+IN_ESCAPES = f"an envelope that begins with escapes; {TO_WRITE}"
 COMMENTED = "an envelope in a comment; remove the envelope, or uncomment it"
 BEHIND_TABS = "an envelope after tabs; indent with spaces"
 FOLDED = "an envelope in a folded scalar (`>`); write `!vault |` instead"
 BEHIND_MARK = "an envelope after a byte order mark; remove the mark"
 BEHIND_SPACE = "the empty lines or spaces before this envelope keep the file from being a vault; remove them"
 IN_UTF_16 = "envelopes in UTF-16; save the file as UTF-8"
+NOT_ASCII = "it begins like a vault but is not all ASCII, so it is a damaged vault, or YAML with an unusual first line"
 
+# The first field of a header. It only begins with MAGIC.
+START = re.compile(rb"\$ANSIBLE_VAULT[^;\r\n]{0,256};")
 # The lines of a block, without the newline of the last one.
 BLOCK = re.compile(
-    rb"(?P<spaces> *)\$ANSIBLE_VAULT;[^\r\n]*(?P<digits>(?:\r?\n(?P=spaces)[0-9a-fA-F]+(?=\r?\n|\Z))*)"
+    rb"(?P<spaces> *)\$ANSIBLE_VAULT[^;\r\n]*;[^\r\n]*(?P<digits>(?:\r?\n(?P=spaces)[0-9a-fA-F]+(?=\r?\n|\Z))*)"
 )
 # The end of the line before a block: `!vault |`, perhaps with an anchor, an indicator or a comment.
 TAG = re.compile(
@@ -41,17 +51,19 @@ LONGEST_TAG_IN_LINE = 128
 LINE_HEAD = re.compile(rb"(?P<spaces> *)(?P<blanks>[ \t]*)(?P<comment>#?)")
 # The header of an envelope within a line. It ends at a quote or an escape.
 HEADER = re.compile(rb"[^\r\n\"'\\]{0,256}")
-KNOWN_HEADER = re.compile(rb"\$ANSIBLE_VAULT;1\.\d;AES")
+KNOWN_HEADER = re.compile(START.pattern + rb"[ \t]*1\.\d[ \t]*;[ \t]*AES")
 DIGITS = re.compile(rb"[0-9a-fA-F]{32}")
 # How far after the start of such an envelope to look for digits.
 WINDOW = 512
 
 
 def envelopes(data: bytes) -> list[Envelope]:
-    """All envelopes in a file: the whole file if it is a vault, otherwise those within it."""
+    """The envelopes in a file: the whole file if it is a vault, otherwise those within it."""
     if data.startswith(MAGIC):
-        return [Envelope(0, len(data), 0, b"", data, label_of(data))]
-    found = list(_within(data))
+        obstacle = "" if data.isascii() else NOT_ASCII
+        return [Envelope(0, len(data), 0, b"", data, None if obstacle else label_of(data), obstacle=obstacle)]
+    found = [*_within(data), *_escaped(data)]
+    found.sort(key=lambda each: each.start)
     if any(each in data for each in UTF_16):
         found.append(Envelope(len(data), len(data), 1, b"", b"", None, obstacle=IN_UTF_16))
     return found
@@ -84,14 +96,24 @@ class _Line:
 
 def _within(data: bytes) -> Iterator[Envelope]:
     line = _Line(data)
-    place = data.find(START)
+    place = data.find(MAGIC)
     while place >= 0:
         stopping.check()
         line.go_to(place)
-        envelope = _block(line) or _elsewhere(line)
+        envelope = (_block(line) or _elsewhere(line)) if START.match(data, place) else None
         if envelope:
             yield envelope
-        place = data.find(START, max(place + len(START), envelope.end if envelope else 0))
+        place = data.find(MAGIC, max(place + len(MAGIC), envelope.end if envelope else 0))
+
+
+def _escaped(data: bytes) -> Iterator[Envelope]:
+    """The envelopes that begin with escapes. Nothing but an envelope begins like that."""
+    line = _Line(data)
+    for found in escaped(data):
+        stopping.check()
+        line.go_to(found.start())
+        _, name = _tag_in(line)
+        yield Envelope(found.start(), found.end(), line.number, b"", b"", None, name, IN_ESCAPES)
 
 
 def _block(line: _Line) -> Envelope | None:
@@ -126,18 +148,23 @@ def _obstacle_of_block(line: _Line, tag: re.Match[bytes] | None) -> str:
 def _elsewhere(line: _Line) -> Envelope | None:
     """The envelope at this position that is not a block, if digits follow nearby or a tag precedes it."""
     data, place = line.data, line.place
-    after = place + len(START)
-    following = data.find(START, after, after + WINDOW)
+    after = place + len(MAGIC)
+    following = data.find(MAGIC, after, after + WINDOW)
     end = following if following >= 0 else after + WINDOW
     digits = DIGITS.search(data, after, end) if KNOWN_HEADER.match(data, place) else None
-    first = max(line.start, place - LONGEST_TAG)
-    tag = TAG_IN_LINE.search(data, max(first, place - LONGEST_TAG_IN_LINE), place)
+    tag, name = _tag_in(line)
     if not (digits or tag):
         return None
     header = matched(HEADER, data, place, digits.start() if digits else len(data))[0]
-    # The name is after the last brace or comma.
-    name = _name(re.split(rb"[{,]", data[first : tag.start()])[-1]) if tag else None
     return Envelope(place, after, line.number, b"", b"", label_of(header), name, _obstacle(line))
+
+
+def _tag_in(line: _Line) -> tuple[re.Match[bytes] | None, str | None]:
+    """The tag before this position in its line, and the name of its variable."""
+    first = max(line.start, line.place - LONGEST_TAG)
+    tag = TAG_IN_LINE.search(line.data, max(first, line.place - LONGEST_TAG_IN_LINE), line.place)
+    # The name is after the last brace or comma.
+    return tag, _name(re.split(rb"[{,]", line.data[first : tag.start()])[-1]) if tag else None
 
 
 def _obstacle(line: _Line) -> str:

@@ -5,17 +5,20 @@ from __future__ import annotations
 import argparse
 import errno
 import os
+import re
 import stat
 from fnmatch import fnmatchcase
 from typing import BinaryIO, Callable, Collection, Iterator
 
 from ansible_vault_companions import stopping
-from ansible_vault_companions.files.envelopes import MAGIC, UTF_16, mentions_envelope
+from ansible_vault_companions.files.envelopes import CONTINUED, MAGIC, mentions_envelope
 from ansible_vault_companions.files.reading import CHUNK_SIZE, LIMIT, TooLong, opened, parts
 from ansible_vault_companions.program import Refused
 
-# If two pieces split the beginning of an envelope, the first one has at most this many bytes of it.
-OVERLAP = max(map(len, UTF_16)) - 1
+# If two pieces split the beginning of an envelope, the first one has at most this many bytes of it, without the blanks
+# where a text continues on another line.
+OVERLAP = 256
+CONTINUATIONS = re.compile(CONTINUED + rb"%s*" % CONTINUED)
 # Documents, in which blocks may be examples.
 PROSE = (".md", ".rst", ".adoc", ".html")
 PLACES = """\
@@ -111,12 +114,12 @@ def contents(path: str, with_prose: bool = False) -> bytes:
 
 
 def _mentions_envelope(file: BinaryIO, path: str) -> bool:
-    end = b""
+    before = b""
     try:
         for piece in parts(file, path, stopping.check):
-            if mentions_envelope(end + piece):
+            before = CONTINUATIONS.sub(rb"\\\r", before)[-OVERLAP:] + piece
+            if mentions_envelope(before):
                 return True
-            end = piece[-OVERLAP:]
     except TooLong:
         raise Unsearched(f"it is longer than any vault, so only its first {LIMIT:,} bytes were searched") from None
     return False

@@ -6,10 +6,10 @@ import binascii
 import re
 import shlex
 
-from ansible_vault_companions.files.envelopes import MAGIC, START, Envelope
-from ansible_vault_companions.files.finding import envelopes
+from ansible_vault_companions.files.envelopes import LINE, MAGIC, Envelope, has_valid_header, matched
 from ansible_vault_companions.git.attributes import VAULT_ALONE
 from ansible_vault_companions.program import shown
+from ansible_vault_companions.yaml.hidden import envelopes
 
 NOT_ENCRYPTED = "is not encrypted"
 DAMAGED = "is a damaged vault"
@@ -21,14 +21,16 @@ MERGE_AGAIN = (
 )
 WITHOUT_THEIRS = "is not merged: the merge driver failed, so the file has only your side's version"
 
-HEADER = re.compile(rb"\$ANSIBLE_VAULT;1\.(?:1;AES256|2;AES256;[^;\r\n]{1,128})[ \t]*(?=[\r\n]|\Z)")
+# The tool ignores further fields of a header, so they may be plaintext.
+MOST_FIELDS = 4
 # Lengths in bytes.
 TAG_LENGTH = 32
 CIPHER_BLOCK = 16
 CONFLICT_MARKER = re.compile(rb"^(?:<<<<<<<|>>>>>>>|\|\|\|\|\|\|\|)(?:[ \t][^\r\n]*)?\r?$", re.MULTILINE)
 # The merge driver never leaves a line of an envelope directly below a marker.
 MARKER_IN_ENVELOPE = re.compile(
-    rb"^(?:<{7}|\|{7}|={7}|>{7})(?:[ \t][^\r\n]*)?\r?\n[ \t]*(?:[0-9a-fA-F]{32}|\$ANSIBLE_VAULT;)", re.MULTILINE
+    rb"^(?:<{7}|\|{7}|={7}|>{7})(?:[ \t][^\r\n]*)?\r?\n[ \t]*(?:[0-9a-fA-F]{32}|\$ANSIBLE_VAULT[^;\r\n]*;)",
+    re.MULTILINE,
 )
 # The text after a block, up to the first character that is not white space.
 NEXT_LINE = re.compile(rb"(?:\r?\n[ \t]*(?=[\r\n]))*\r?\n(?P<spaces> *)\S")
@@ -36,11 +38,11 @@ NEXT_LINE = re.compile(rb"(?:\r?\n[ \t]*(?=[\r\n]))*\r?\n(?P<spaces> *)\S")
 
 def ciphertext(envelope: bytes) -> bytes:
     """The ciphertext of an envelope; empty if the header or the digits of salt, tag and ciphertext are malformed."""
-    header = HEADER.match(envelope)
-    if not header:
+    header = matched(LINE, envelope)[0]
+    if not has_valid_header(envelope) or header.count(b";") >= MOST_FIELDS:
         return b""
     try:
-        inner = binascii.unhexlify(envelope[header.end() :].translate(None, b"\r\n"))
+        inner = binascii.unhexlify(envelope[len(header) :].translate(None, b"\r\n"))
         salt, tag, found = map(binascii.unhexlify, inner.split(b"\n", 2))
     except ValueError:
         return b""
@@ -69,7 +71,7 @@ def has_unmerged_envelopes(text: bytes) -> bool:
 
 def is_torn(text: bytes) -> bool:
     """Whether conflict markers are inside an envelope, as git leaves them without the merge driver."""
-    return START in text and is_unmerged(text) and bool(text.startswith(MAGIC) or MARKER_IN_ENVELOPE.search(text))
+    return MAGIC in text and is_unmerged(text) and bool(text.startswith(MAGIC) or MARKER_IN_ENVELOPE.search(text))
 
 
 def merge_again(name: str) -> str:

@@ -28,7 +28,7 @@ from collections import Counter, defaultdict
 from functools import cached_property
 from typing import Callable, Iterable, Iterator
 
-from ansible_vault_companions.files.envelopes import MAGIC, START
+from ansible_vault_companions.files.envelopes import MAGIC, mentions_envelope
 from ansible_vault_companions.git import places
 from ansible_vault_companions.git.commits import Change, File
 from ansible_vault_companions.git.damage import fits, is_whole
@@ -58,7 +58,7 @@ def _in_plaintext(names: list[str]) -> str | None:
 
 def now_plain(before: bytes, after: bytes) -> list[str]:
     """The keys or names of the values of a file that rules 1 and 2 refuse."""
-    if START not in before or not places.differ(before, after):
+    if not (mentions_envelope(before) and places.differ(before, after)):
         return []
     paths = _at_their_keys(before, after)
     known = {path.last for path in paths}
@@ -109,7 +109,7 @@ class Moves:
             self._note_values(file.name, self.read(file.before), self.read(file.blob))
 
     def _note_values(self, name: bytes, before: bytes, after: bytes) -> None:
-        if START in before and not before.startswith(MAGIC) and places.differ(before, after):
+        if mentions_envelope(before) and not before.startswith(MAGIC) and places.differ(before, after):
             old, new = places.by_keys(before), places.by_keys(after)
             if old and new:
                 self.values.update(((name, path), old.encrypted[path]) for path in places.lost(old, new))
@@ -125,7 +125,7 @@ class Moves:
                     yield file, why
 
     def _forget_moved_values(self) -> None:
-        """Forgets the values whose envelopes occur in the files as often as before."""
+        """Forgets the values whose envelopes occur in the files as often as before. Only blocks are counted."""
         if not self.values:
             return
         balance: Counter[str] = Counter()
@@ -133,7 +133,8 @@ class Moves:
             balance.update(places.envelope_texts(self.read(file.blob)))
         for blob in [*self.change.gone.values(), *(file.before for file in self.change.files if file.before)]:
             balance.subtract(places.envelope_texts(self.read(blob)))
-        self.values = {where: found for where, found in self.values.items() if any(balance[each] < 0 for each in found)}
+        gone = {each for found in self.values.values() for each in found if balance.get(each, -1) < 0}
+        self.values = {where: found for where, found in self.values.items() if not gone.isdisjoint(found)}
 
     def _fault_of_vault(self, file: File, content: bytes) -> str | None:
         is_new = file.before is None and file.blob not in self.change.gone.values()

@@ -7,9 +7,9 @@ from collections import Counter, defaultdict
 from functools import lru_cache
 from typing import Iterable, NamedTuple
 
-from ansible_vault_companions.files.envelopes import MAGIC, START, TAG_NAME
-from ansible_vault_companions.files.finding import envelopes
+from ansible_vault_companions.files.envelopes import MAGIC, TAG_NAME, mentions_envelope
 from ansible_vault_companions.program import Refused, shown
+from ansible_vault_companions.yaml.hidden import envelopes
 from ansible_vault_companions.yaml.nodes import ALIAS, PLAIN, nodes
 from ansible_vault_companions.yaml.paths import Path, Step
 
@@ -111,7 +111,7 @@ def _around_envelopes(content: bytes) -> list[bytes]:
 
 def envelope_texts(content: bytes) -> list[str]:
     """The texts of the envelopes within a file."""
-    found = envelopes(content) if START in content and not content.startswith(MAGIC) else []
+    found = envelopes(content) if mentions_envelope(content) and not content.startswith(MAGIC) else []
     return [each.text.decode(errors="replace").strip() for each in found if each.text]
 
 

@@ -3,12 +3,12 @@
 from __future__ import annotations
 
 from ansible_vault_companions.files.envelopes import label_of
-from ansible_vault_companions.files.finding import envelopes
 from ansible_vault_companions.merging.versions import Opened, Version
 from ansible_vault_companions.program import Refused
 from ansible_vault_companions.secrets import labels
 from ansible_vault_companions.secrets.sources import Secret
 from ansible_vault_companions.tool.tool import Tool
+from ansible_vault_companions.yaml.hidden import envelopes
 from ansible_vault_companions.yaml.nodes import LITERAL, NotYaml
 from ansible_vault_companions.yaml.values import Scan, Value
 

@@ -9,7 +9,6 @@ from typing import ClassVar
 from ansible_vault_companions import stopping
 from ansible_vault_companions.files import reading
 from ansible_vault_companions.files.envelopes import MAGIC, TAG_NAME, Envelope
-from ansible_vault_companions.files.finding import envelopes
 from ansible_vault_companions.git import damage
 from ansible_vault_companions.program import Refused
 from ansible_vault_companions.secrets import labels
@@ -18,6 +17,7 @@ from ansible_vault_companions.tool import layers
 from ansible_vault_companions.tool.faults import NotDecrypted
 from ansible_vault_companions.tool.tool import Key, Tool
 from ansible_vault_companions.yaml import inline
+from ansible_vault_companions.yaml.hidden import envelopes
 from ansible_vault_companions.yaml.inline import Showing
 from ansible_vault_companions.yaml.matching import Choice
 

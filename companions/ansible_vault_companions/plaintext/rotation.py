@@ -11,12 +11,12 @@ from ansible_vault_companions import program
 from ansible_vault_companions.files import replacing, searching
 from ansible_vault_companions.files.changes import Change, changed
 from ansible_vault_companions.files.envelopes import MAGIC, Envelope
-from ansible_vault_companions.files.finding import envelopes
 from ansible_vault_companions.files.reports import Report
 from ansible_vault_companions.program import Refused
 from ansible_vault_companions.secrets import labels
 from ansible_vault_companions.secrets.sources import Secret
 from ansible_vault_companions.tool.remembering import RememberingTool
+from ansible_vault_companions.yaml.hidden import envelopes
 
 IN_DOCUMENT = "it is in a document and was not rotated; to ignore documents, add --skip-documents"
 # What is counted: envelopes that get a new secret, and those of them that are within a plaintext; those that have it

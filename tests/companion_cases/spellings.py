@@ -1,0 +1,250 @@
+"""An envelope is found, or reported as one that cannot be replaced, however YAML or JSON spells it."""
+
+from __future__ import annotations
+
+import json
+from collections import Counter
+from random import Random
+from typing import Any
+
+from hypothesis import given, settings
+from hypothesis import strategies as st
+
+from ansible_vault_companions.files.envelopes import has_valid_header, mentions_envelope
+from ansible_vault_companions.git import leaks
+from ansible_vault_companions.yaml.hidden import envelopes
+from companion_cases import CHECK, ROTATE, TEXT, Place, block, ended, sealed, silent, summary, to_new
+from companion_cases.repository import IN_PART, again, leaked, staged, with_hooks
+from lib.needs import needs_pyyaml
+from lib.subtests import SubTests
+
+VAULT = sealed("old", TEXT).decode()
+DIGITS = "".join(VAULT.splitlines()[1:])
+MAGIC = "$ANSIBLE_VAULT"
+BEGINNINGS = [MAGIC, MAGIC, f"{MAGIC}_2", f"{MAGIC} {MAGIC}", f"{MAGIC} x"]
+ENDINGS = [[], [""], ["default"], ["prod"], ["prod", "more"]]
+BLANKS = ["", "", " ", "\t", "  "]
+# What precedes the document, and a spelling of the tag.
+TAGS = [
+    *(("", each) for each in ("!vault", "!vault-encrypted", "!<!vault>", "!v%61ult", "!<%21vault>")),
+    ("%TAG ! !va\n---\n", "!ult"),
+    ("%TAG !e! !vault-\n---\n", "!e!encrypted"),
+]
+GAPS = [" ", " ", "\t", "\n    ", " &a ", " # $ANSIBLE_VAULT\n    ", "\n# comment\n    "]
+# What is around a tagged value, and around a text in JSON.
+PLACES = ["secret: {}\n", "secret: &b {}\n", "- {}\n", "{{secret: {}}}\n", "[1, {}]\n", "secret:\n  {{a: {}, b: 1}}\n"]
+PLACES += ["? {}\n: 1\n", "secret: &c\n  - {}\n  - 2\n", "x: $ANSIBLE_VAULT\nsecret: {}\ny: $ANSIBLE_VAULT_FILE\n"]
+OBJECTS = ['{{"secret": {{"__ansible_vault": {}}}}}\n', '[{{"__ansible_v\\u0061ult": {}}}]']
+OBJECTS += ['{{\n\t"secret":\t{{"__ansible_vault":\t{}}}, "x": "\\ud83d\\ude00"}}']
+LINES = [30, 31, 80, 1000]
+# At least so many texts of each kind must be envelopes.
+LEAST = {"|": 20, ">": 10, "plain": 5, "'": 10, '"': 20, "JSON": 20}
+
+
+@st.composite
+def envelope_lines(draw: st.DrawFn) -> list[str]:
+    """Draw the lines of the same envelope, with a header that Ansible's tool reads."""
+    fields = [draw(st.sampled_from(BEGINNINGS)), draw(st.sampled_from(["1.1", "1.2"])), "AES256"]
+    fields += draw(st.sampled_from(ENDINGS))
+    header = ";".join(each + draw(st.sampled_from(BLANKS)) for each in fields)
+    width = draw(st.sampled_from(LINES))
+    return [header, *(DIGITS[start : start + width] for start in range(0, len(DIGITS), width))]
+
+
+def escaped(random: Random, text: str, rate: int, is_json: bool = False) -> str:
+    """Write a text in double quotes, with one of `rate` characters as an escape or beside the end of a line."""
+    written = ""
+    for each in text:
+        ways = [f"\\u{ord(each):04X}"]
+        if not is_json:
+            ways += [f"\\x{ord(each):02x}", f"\\U{ord(each):08x}", f"{each}\\\n    ", f"\\\r\n  \t {each}"]
+        plain = {"\n": "\\n", "\t": "\\t"}.get(each, each)
+        written += random.choice(ways) if random.randrange(rate) == 0 else plain
+    return f'"{written}"'
+
+
+@st.composite
+def documents(draw: st.DrawFn) -> tuple[str, str]:
+    """Draw the kind of a spelling, and a file with it."""
+    lines = draw(envelope_lines())
+    kind = draw(st.sampled_from([*LEAST]))
+    rate = draw(st.sampled_from([1, 4, 40, 1000]))
+    random = draw(st.randoms(use_true_random=True))
+    if kind == "JSON":
+        text = escaped(random, "\n".join(lines), rate, is_json=True)
+        return kind, draw(st.sampled_from(OBJECTS)).format(text)
+    # In all but literals, a line end counts if an empty line is below, and otherwise as a space.
+    if kind != "|" and draw(st.booleans()):
+        lines[0] = lines[0].replace(";", ";\n    ")
+    folded = "\n\n    ".join(lines)
+    if kind == "|":
+        comment = draw(st.sampled_from(["", "-", "+", " # x", "  "]))
+        written = f"|{comment}\n    " + draw(st.sampled_from(["\n    ", "\n\n    ", "\r\n    "])).join(lines)
+    elif kind == '"':
+        written = escaped(random, "\n".join(lines), rate).replace(";\\n    ", ";\n    ")
+    else:
+        written = {">": f">-\n    {folded}", "plain": folded, "'": f"'{folded}'"}[kind]
+    directive, tag = draw(st.sampled_from(TAGS))
+    value = tag + draw(st.sampled_from(GAPS)) + written
+    if draw(st.integers(1, 8)) == 1:
+        value = f"{tag} {{=: {written}}}"
+    return kind, directive + draw(st.sampled_from(PLACES)).format(value)
+
+
+def loaded(text: str) -> list[str]:
+    """Return the texts that Ansible's loader takes for envelopes: it first reads a file as JSON, then as YAML."""
+    import yaml
+
+    found: list[str] = []
+
+    class Loader(getattr(yaml, "CSafeLoader", yaml.SafeLoader)):  # type: ignore[misc]
+        def note(self, node: Any) -> str:
+            found.append(str(self.construct_scalar(node)))
+            return ""
+
+    def note(pairs: list[tuple[str, Any]]) -> None:
+        found.extend(value for key, value in pairs if key == "__ansible_vault")
+
+    try:
+        json.loads(text, object_pairs_hook=note)
+    except ValueError:
+        for tag in ("!vault", "!vault-encrypted"):
+            Loader.add_constructor(tag, Loader.note)
+        try:
+            yaml.load(text, Loader)
+        except yaml.YAMLError:
+            return []
+    return found
+
+
+def is_decrypted(text: str) -> bool:
+    """Return whether Ansible decrypts a text, as its `parse_vaulttext_envelope` reads it."""
+    header, *lines = text.encode().splitlines() or [b""]
+    fields = [each.strip() for each in header.strip().split(b";")]
+    is_header = text.startswith("$ANSIBLE_VAULT") and len(fields) > 2 and fields[2] == b"AES256"
+    return is_header and b"".join(lines).decode() == DIGITS
+
+
+def test_spellings(place: Place) -> None:
+    """Whatever the spelling, the check with a wrong password fails, and the hook notices that it is plaintext now."""
+    needs_pyyaml()
+    counts: Counter[str] = Counter()
+
+    @settings(max_examples=600, deadline=None, database=None)
+    @given(drawn=documents())
+    def spell(drawn: tuple[str, str]) -> None:
+        kind, text = drawn
+        if any(map(is_decrypted, loaded(text))):
+            data = text.encode()
+            assert mentions_envelope(data) and envelopes(data), text
+            if kind != "JSON" and "secret" in text and "=:" not in text:
+                assert leaks.decrypted(data, b"secret: plain\n"), text
+            counts[kind] += 1
+            place.put(f"{sum(counts.values())}.yml", data)
+
+    spell()
+    assert [(kind, counts[kind]) for kind, least in LEAST.items() if counts[kind] < least] == [], counts
+    done = place.run(CHECK, *place.by_file("new"), ".")
+    unreported = [name for name in place.files() if f"./{name}:" not in done.stderr]
+    assert (done.returncode, unreported) == (1, []), "none is passed over"
+
+
+HEADERS = [f"{MAGIC} ;1.2;AES256;old", f"{MAGIC}_x; 1.1 ;AES256", f"{MAGIC};1.2;AES256", f"{MAGIC};1.1;\tAES256;x"]
+
+
+def test_headers(place: Place, subtests: SubTests) -> None:
+    """A block with an unusual header is checked, rotated and watched like any other."""
+    with_hooks(place, "marked.yml diff=ansible-vault\nwhole.yml ansible-vault\n")
+    for header in HEADERS:
+        with subtests.test(header):
+            vault = sealed("old").replace(b"$ANSIBLE_VAULT;1.1;AES256", header.encode())
+            value = block("old").replace(sealed("old").splitlines()[0], header.encode())
+            place.put("whole.yml", vault)
+            place.put("marked.yml", value)
+            silent("the hook", again(place, "vars.yml", value))
+            done = staged(place, "vars.yml", b"secret: plain\n")
+            leaked("plaintext", done, {"vars.yml": IN_PART.format("secret")})
+            place.put("vars.yml", value)
+            ended("a wrong password", place.run(CHECK, *place.by_file("new"), "."), 1, "0 decrypted, 3 not")
+            ended("the right one", place.run(CHECK, *place.by_file("old"), "."), 0, "3 decrypted, 0 not")
+            label = header.split(";")[3:] or ["default"]
+            secrets = [*place.by_id(label[0], "old"), *place.by_id(label[0], "new", "new-")]
+            ended("rotate", place.run(ROTATE, *secrets, "."), 0, summary(3))
+
+
+UNUSUAL = {
+    "an escape": b'secret: !vault "\\x24ANSIBLE_VAULT;1.1;AES256\\n%s"\n' % DIGITS.encode(),
+    "another tag": b"secret: !<!vault> # a\n  $ANSIBLE_VAULT;\n  1.1;\n  AES256\n\n  %s\n" % DIGITS.encode(),
+}
+
+
+def test_moves(place: Place, subtests: SubTests) -> None:
+    """The hook refuses plaintext in another file, whatever the form of the value was, but not the value itself."""
+    needs_pyyaml()
+    with_hooks(place)
+    for number, (what, value) in enumerate(UNUSUAL.items()):
+        with subtests.test(what):
+            name, other = f"a{number}.yml", f"b{number}.yml"
+            silent("the hook", again(place, name, b"x: 1\n" + value))
+            place.put(name, b"x: 1\n")
+            done = staged(place, other, b"secret: plain\n")
+            leaked("plaintext", done, {other: IN_PART.format(f"secret of {name}")})
+            silent("the value", again(place, other, value))
+
+
+@st.composite
+def any_headers(draw: st.DrawFn) -> bytes:
+    """Draw the first line of a vault, in which each field may be wrong."""
+    pools = [
+        [*BEGINNINGS, MAGIC + "x" * 226, MAGIC + "x" * 225, f"{MAGIC}é"],
+        [*["1.1", "1.2"] * 3, "1.0", "1.3", ""],
+        [*["AES256"] * 4, "AES", "aes256"],
+        ["", "prod", "p r", "x" * 128, "x" * 129, "\x7f", "é", "a\tb"],
+        ["", "more"],
+    ]
+    fields = [draw(st.sampled_from(pool)) for pool in pools[: draw(st.integers(2, 5))]]
+    return ";".join(each + draw(st.sampled_from([*BLANKS, "\x0b"])) for each in fields).encode()
+
+
+def test_valid_headers(place: Place) -> None:
+    """The companions call a header valid if the program does."""
+    counts: Counter[bool] = Counter()
+    digits = sealed("old").partition(b"\n")[2]
+
+    @settings(max_examples=300, deadline=None, database=None)
+    @given(header=any_headers())
+    def read(header: bytes) -> None:
+        done = place.run_on(header + b"\n" + digits, "ansible-vault", "view", *place.by_file("old"))
+        assert has_valid_header(header) == (done.returncode == 0), (header, done.stderr)
+        counts[done.returncode == 0] += 1
+
+    read()
+    assert min(counts[True], counts[False]) > 20, counts
+
+
+PROSE = """\
+#!/bin/sh
+# a: !vault "$ANSIBLE_VAULT..."
+# encrypt_string writes `!vault |`, and below it $ANSIBLE_VAULT;1.1;AES256 or "$ANSIBLE_VAULT;1.2;AES256;prod".
+[ "$(head -c 14 "$1")" = '$ANSIBLE_VAULT' ] && echo "$ANSIBLE_VAULT_PASSWORD\\n" > "$ANSIBLE_VAULT_FILE"; exit
+grep -q '^ *\\$ANSIBLE_VAULT;' "$1" && echo "\\$ANSIBLE_VAULT;1.1;AES256 begins a vault"
+"""
+JOB = """\
+# A vault begins with $ANSIBLE_VAULT;1.1;AES256.
+script:
+  - echo "$ANSIBLE_VAULT_PASSWORD" > .vault; ls
+  - $ANSIBLE_VAULT view a.yml
+  - {run: "$ANSIBLE_VAULT;1.1;AES256", tag: "!vault"}
+  - |
+    $ANSIBLE_VAULT;1.2;AES256;prod
+    is a header
+"""
+
+
+def test_mentions(place: Place) -> None:
+    """Text that only mentions a header is not reported."""
+    for name, text in {"a.sh": PROSE, "a": PROSE, "job.yml": JOB, "job.json": json.dumps(JOB)}.items():
+        place.put(name, text.encode())
+    place.put("vault.yml", sealed("old"))
+    ended("check", place.run(CHECK, *place.by_file("old"), "."), 0, "1 decrypted, 0 not")
+    ended("rotate", place.run(ROTATE, *to_new(place), "."), 0, summary(1))
