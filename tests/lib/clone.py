@@ -23,6 +23,8 @@ def cloned(tmp_path_factory: pytest.TempPathFactory) -> Path:
     needs("git", "rt")
     needs_checkout()
     folder = tmp_path_factory.mktemp("newcomer") / "ansible-vault"
+    # This refreshes the index. If only the time of a file has changed, `git stash create` fails otherwise.
+    git("status", "--short")
     state = git("stash", "create") or git("rev-parse", "HEAD")
     git("clone", "--quiet", "--no-checkout", str(ROOT), str(folder))
     git("checkout", "--quiet", "--detach", state, at=folder)
