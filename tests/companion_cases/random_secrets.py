@@ -241,19 +241,19 @@ def what_counts(case: Case) -> Case | None:
 
 
 def heeding_label(case: Case) -> Case:
-    """If there are several secrets, only those of its label are tried here. Ansible's tool does so by a setting."""
+    """If several secrets are named, only those of its label are tried here. Ansible's tool does so by a setting."""
     identities = case.variables.identities or case.file.identities
     password_files = [each for each in (case.variables.password_file or case.file.password_file,) if each]
     named = [*case.line.ids, *case.line.paths, *identities, *password_files]
-    is_heeded = sum(each.is_usable() for each in named) > 1 and case.vault.startswith(b"$ANSIBLE_VAULT;1.2;")
+    is_heeded = len(named) > 1 and case.vault.startswith(b"$ANSIBLE_VAULT;1.2;")
     return case._replace(variables=case.variables._replace(match="True")) if is_heeded else case
 
 
 def without_folder(case: Case) -> Settings:
-    """Return the settings of the file, unless it is in the current directory. Relative paths are left out, except the
-    password file's, which begins in the directory of the settings."""
+    """Return the settings of the file. If it is in the current directory, only `match` counts. Otherwise, relative
+    paths are left out, except the password file's, which begins in the directory of the settings."""
     if "folder" in case.place:
-        return NOTHING
+        return NOTHING._replace(match=case.file.match)
     return case.file.without_relative_paths()._replace(password_file=case.file.password_file)
 
 
