@@ -1,5 +1,5 @@
-"""Run the commands of the README's section "Five minutes" in order, with a program as `ansible-vault` and the
-companions beside it, and compare their output. `newcomer` types the other commands.
+"""Run the README's commands with a prompt in order, with a program as `ansible-vault` and the companions beside it, and
+compare their output. `newcomer` types the other commands.
 
 `first_page.py PROGRAM` prints them, and fails if one prints anything other than what the README says.
 """
@@ -30,8 +30,8 @@ def session(program: str, top: pathlib.Path) -> Iterator[tuple[Step, str]]:
         yield step, run_text(command, cwd=folder, env=searched_first(tools), stderr=subprocess.STDOUT).stdout
 
 
-def test_five_minutes(program: str, tmp_path: pathlib.Path) -> None:
-    assert len(steps(README.read_text())) > 0, "the README has a first session"
+def test_examples(program: str, tmp_path: pathlib.Path) -> None:
+    assert len(steps(README.read_text())) > 0, "the README has examples"
     others = [(step, printed) for step, printed in session(program, tmp_path) if not step.is_met_by(printed)]
     assert others == [], others
 

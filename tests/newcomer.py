@@ -29,7 +29,7 @@ def prefix(clone: Path) -> Path:
 
 
 def test_readme(clone: Path, prefix: Path) -> None:
-    """Run everything outside the session. A variable alone makes `make install` use another prefix."""
+    """Run the commands without a prompt. A variable alone makes `make install` use another prefix."""
     words = [command for command in commands(README.read_text()) if command != GATE]
     printed = {command: typed(command, clone, PREFIX=str(prefix)) for command in words}
     assert [each for each in words if each.startswith("make")][:1] == words[:1], "the first builds the program"
@@ -39,7 +39,7 @@ def test_readme(clone: Path, prefix: Path) -> None:
 
 
 def test_session(clone: Path, prefix: Path, tmp_path: Path) -> None:
-    """The session works with the installed program."""
+    """The commands with a prompt work with the installed program."""
     path = searched_first(prefix / "bin")["PATH"]
     session = steps(README.read_text())
     found = [(step, typed(step.command, tmp_path, PATH=path)) for step in session]

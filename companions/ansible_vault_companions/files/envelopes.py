@@ -81,8 +81,7 @@ def label_of(text: bytes) -> str | None:
 
 
 def written_label(text: bytes) -> str | None:
-    """The label in the first line of an envelope. Empty if there is none, as in format 1.1; None if that line is not a
-    header."""
+    """The label in the first line of an envelope. Empty if there is none; None if that line is not a header."""
     fields = _fields(text)
     return fields[3].decode() if fields else None
 
