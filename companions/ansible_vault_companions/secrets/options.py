@@ -17,8 +17,8 @@ BY_SETTINGS = """
 Ansible's settings (environment variables or ansible.cfg) add secrets. Once
 you name a secret with one of these options, secrets named in the current
 directory are ignored: of ./ansible.cfg, only vault_id_match counts, and
-relative paths in other settings are skipped, unless ANSIBLE_CONFIG is a
-relative path."""
+relative paths in other settings are skipped. If ANSIBLE_CONFIG is a
+relative path, nothing is ignored."""
 NONE = (
     "no secret is given: name one with --vault-id or --vault-password-file, in ANSIBLE_VAULT_PASSWORD_FILE or "
     "in ansible.cfg, or type one with --ask-vault-password"
