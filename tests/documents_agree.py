@@ -211,7 +211,7 @@ def test_figures(program: str) -> None:
     """Each figure is in a document, and agrees with the code everywhere."""
     longest = code_limits()["PLAINTEXT_LIMIT"] >> 20
     figures = {
-        r"\*\*Status:\*\* ([\d.]+)\. ": version(),
+        r"\*\*Status:\*\* ([\d.]+\d)": version(),
         r"glibc (\d+\.\d+)": least_glibc(program),
         r"([\d,]+) rounds of PBKDF2": f"{constant('vault_kdf/src/keys.rt', 'ROUNDS'):,}",
         r"(\d+) MiB(?! of address space)": str(longest),
