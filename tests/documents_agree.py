@@ -9,9 +9,12 @@ from pathlib import Path
 
 import pytest
 
+from ansible_vault_companions.stopping import GRACE_PERIOD, SAME_SIGNAL
 from lib.needs import needs
 from lib.option_sets import OF_ANSIBLE, companion_help, companion_options, companion_page, described_options, sections
 from lib.paths import COMPANIONS, PAGE, README, ROOT, version
+from model.answers import WHITESPACE
+from model.options import is_label
 
 FORMATS = (ROOT / "docs" / "formats.md").read_text()
 CRATES = ROOT / "crates"
@@ -91,6 +94,15 @@ def test_formats() -> None:
     rows, limits = document_limits(), code_limits()
     wanted = {what: {limits[constant] for constant in constants} for what, constants in LIMITS.items()}
     assert {what: numbers(rows.get(what, "")) for what in LIMITS} == wanted, "and the code's limits"
+
+
+def test_bytes() -> None:
+    """docs/formats.md lists the bytes that are whitespace, and those that a label may contain."""
+    [(first, last, other)] = re.findall(r"Whitespace is the bytes (\w\w) to (\w\w) and (\w\w)\.", FORMATS)
+    assert {*range(int(first, 16), int(last, 16) + 1), int(other, 16)} == {*WHITESPACE}
+    [(first, last)] = re.findall(r"Its bytes are (\w\w) to (\w\w) except `;`", FORMATS)
+    listed = {*range(int(first, 16), int(last, 16) + 1)} - {ord(";")}
+    assert listed == {code for code in range(256) if is_label(f"a{chr(code)}b")}
 
 
 def test_page() -> None:
@@ -218,6 +230,13 @@ def test_figures(program: str) -> None:
     }
     text = "\n".join(document.read_text() for document in DOCUMENTS if document.name != "speed.md")
     assert {pattern: {*re.findall(pattern, text)} for pattern in figures} == {each: {figures[each]} for each in figures}
+
+
+def test_seconds() -> None:
+    """The page of ansible-vault-edit says how long the editor has to end, and when a signal counts as the first one."""
+    text = " ".join(PAGE.with_name("ansible-vault-edit.1").read_text().split())
+    numbers = {"one": 1, "five": 5, "ten": 10}
+    assert [numbers[word] for word in re.findall(r"(\w+) seconds? after", text)] == [GRACE_PERIOD, SAME_SIGNAL]
 
 
 def test_speed() -> None:

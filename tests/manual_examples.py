@@ -108,6 +108,8 @@ CODE = """\
 shift
 exec "$EDITOR_OF_TEST" "$@"
 """
+# The vault that two branches change.
+MERGED = "group_vars/all/vault.yml"
 EXAMPLES = [(name, title) for name in COMPANIONS for title in examples(PAGE.with_name(f"{name}.1"))]
 
 
@@ -119,18 +121,18 @@ def example_repository(repository: Repository, password: str) -> str:
 
     repository.put("ansible.cfg", SETTINGS.encode())
     repository.put(".gitattributes", MARKS.encode())
-    for name in ("group_vars/all/vault.yml", "one.vault.yml", "a.yml", "b.yml"):
+    for name in (MERGED, "a.yml", "b.yml"):
         repository.put(name, vault(b"a: 1\nb: 2\nc: 3\nd: 4\n"))
     repository.put("host_vars/web1.yml", block("db_password", "correct horse", password, "prod").encode())
     repository.put("get-pass", b"#!/bin/sh\ncat prod.pass\n", 0o755)
     repository.shell("git add -A && git commit -qm one && git update-ref refs/remotes/origin/main HEAD")
     repository.shell("git checkout -qb branch")
-    repository.put("one.vault.yml", vault(b"a: 1\nb: 2\nc: 3\nd: 5\n"))
+    repository.put(MERGED, vault(b"a: 1\nb: 2\nc: 3\nd: 5\n"))
     repository.shell("git commit -qam two && git checkout -q -")
-    repository.put("one.vault.yml", vault(b"a: 0\nb: 2\nc: 3\nd: 4\n"))
+    repository.put(MERGED, vault(b"a: 0\nb: 2\nc: 3\nd: 4\n"))
     repository.shell("git commit -qam three")
     repository.command(CODE, "code")
-    return repository.script("sed -i -e 's/horse/staple/' -e 's/a: 1/a: 2/' \"$1\"")
+    return repository.script("sed -i -e 's/horse/staple/' -e 's/a: ./a: 2/' \"$1\"")
 
 
 @pytest.mark.parametrize("name, title", EXAMPLES)
@@ -142,8 +144,13 @@ def test_companion_example(repository: Repository, name: str, title: str) -> Non
         typed = repository.pasted(shell.rstrip() + " && echo d''one; exit\n", PASSWORDS["prod.pass"].decode())
         assert "done\r\n" in typed
         return
+    if "HEAD^2" in shell:
+        repository.shell("git merge -q --no-edit --strategy ours branch")
     ran = repository.shell(shell, EDITOR=editor, EDITOR_OF_TEST=editor, secret="correct horse", GIT_EDITOR="true")
     assert (ran.returncode, ran.stderr) == (1 if "--dry-run" in shell else 0, "")
+    if name == "ansible-vault-merge":
+        merged = repository.shown(f"ansible-vault view --vault-password-file prod.pass {MERGED}")
+        assert merged == "a: 0\nb: 2\nc: 3\nd: 5\n", "it has the changes of both sides"
 
 
 def test_companions_have_examples() -> None:

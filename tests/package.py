@@ -5,6 +5,7 @@ a stand-in for Ansible's package.
 import fcntl
 import os
 import pathlib
+import re
 import shutil
 import subprocess
 
@@ -71,6 +72,17 @@ def test_lint(package: pathlib.Path) -> None:
     needs("lintian")
     found = subprocess.run(["lintian", "--pedantic", str(package)], capture_output=True, text=True)
     assert (found.returncode, found.stdout) == (0, "")
+
+
+def test_copyright(program: str) -> None:
+    """debian/copyright lists each crate of the kit whose symbols are in the program, except its standard library."""
+    needs("nm")
+    symbols = printed("nm", "--demangle", program)
+    crates = set(re.findall(r" [a-zA-Z] <?(\w+)::", symbols))
+    ours = {"ansible_vault", *(each.name for each in (ROOT / "crates").glob("vault_*"))}
+    named = set(re.findall(r"^Files: (\w+)/\*$", (ROOT / "debian/copyright").read_text(), re.MULTILINE))
+    others = {each for each in crates - ours - named if not re.match("std|core", each)}
+    assert (others, len(crates & named) > 2) == (set(), True)
 
 
 def test_changelog() -> None:

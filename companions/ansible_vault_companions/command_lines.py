@@ -19,15 +19,12 @@ class Parser(argparse.ArgumentParser):
         self.exit(2, f"{self.format_usage()}{self.prog}: error: {shown(message)}\n")
 
 
-def parser(
-    name: str, summary: str, statuses: str, example: str = "", ciphers: str = BY_TOOL, **options: Any
-) -> argparse.ArgumentParser:
+def parser(name: str, summary: str, example: str, ciphers: str = BY_TOOL, **options: Any) -> argparse.ArgumentParser:
     """A parser that exits with status 2 if the command line is invalid. `ciphers` says what does the encryption."""
-    shown_example = f"Example:\n  {example}\n\n" if example else ""
     made = Parser(
         prog=name,
         description=summary,
-        epilog=f"{shown_example}Exit status: {statuses}\n\nFor more, see `man {name}`.\n{NOT_PROVED}; {ciphers}.",
+        epilog=f"Example:\n  {example}\n\nFor more, see `man {name}`.\n{NOT_PROVED}; {ciphers}.",
         formatter_class=argparse.RawDescriptionHelpFormatter,
         allow_abbrev=False,
         **options,

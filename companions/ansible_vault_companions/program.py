@@ -60,6 +60,11 @@ def refusal(path: str, fault: Exception) -> str:
     return f"{shown(path)}: {reason(fault)}"
 
 
+def temporary_folder() -> str:
+    """The directory for temporary files. `tempfile` might choose another one, even the current directory."""
+    return os.path.abspath(os.environ.get("TMPDIR") or "/tmp")
+
+
 def run(name: str, main: Callable[[list[str]], int]) -> None:
     """Runs a companion with the command line's words. Exits with its status, or by the signal that stopped it."""
     _prepare_streams()

@@ -87,12 +87,6 @@ def option_lines(name: str) -> list[str]:
     return re.findall(r"^  --?[A-Za-z].*", companion_help(name), re.MULTILINE)
 
 
-def companion_statuses(name: str) -> set[int]:
-    """Return the exit statuses that a companion's help names."""
-    _, _, text = companion_help(name).partition("Exit status: ")
-    return {int(status) for status in re.findall(r"(?:^|; )(\d)\b", " ".join(text.partition("\n\n")[0].split()))}
-
-
 def companion_page(name: str) -> dict[str, str]:
     """Return the sections of a companion's manual page."""
     return sections(PAGE.with_name(f"{name}.1").read_text())

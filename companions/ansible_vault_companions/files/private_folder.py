@@ -32,7 +32,7 @@ class PrivateFolder:
             except OSError:
                 continue
         self.is_in_memory = False
-        self.path = tempfile.mkdtemp(prefix=PREFIX)
+        self.path = tempfile.mkdtemp(prefix=PREFIX, dir=program.temporary_folder())
 
     def __enter__(self) -> PrivateFolder:
         return self
@@ -79,18 +79,26 @@ class PrivateFolder:
 
     def keep(self, why: Exception, name: str, text: bytes | None) -> Refused:
         """Keeps the plaintext, since there is no other copy of the user's work. Copies it from memory to $TMPDIR if
-        possible, since memory may be cleared when the user logs out. Returns the exception to raise."""
-        is_there = os.path.lexists(self.path)
-        copy = self._copied(name, text) if self.is_in_memory or not is_there else None
-        self.is_kept = copy is None
-        return Refused(f"{program.reason(why)}; what you saved is left in plaintext in {copy or self.path}")
+        possible, since memory may be cleared when the user logs out. Creates the file of that name if the directory
+        has none. Returns the exception to raise."""
+        place = self._copied(name, text) if self.is_in_memory or not os.path.lexists(self.path) else None
+        if place is None:
+            self.is_kept, place = True, self.path
+            try:
+                if text is not None:
+                    self.create(name, text)
+            except FileExistsError:
+                pass
+            except OSError as lost:
+                return Refused(f"{program.reason(why)}; what you saved is lost: {program.reason(lost)}")
+        return Refused(f"{program.reason(why)}; what you saved is left in plaintext in {place}")
 
     def _copied(self, name: str, text: bytes | None) -> str | None:
         """Copies the directory to $TMPDIR, and puts this text there even if the directory is gone. Returns the path of
         the copy, or None if that fails."""
         copy = None
         try:
-            copy = tempfile.mkdtemp(prefix=PREFIX)
+            copy = tempfile.mkdtemp(prefix=PREFIX, dir=program.temporary_folder())
             if os.path.lexists(self.path):
                 shutil.copytree(self.path, copy, symlinks=True, dirs_exist_ok=True)
             if text is not None:

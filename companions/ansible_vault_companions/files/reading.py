@@ -12,9 +12,10 @@ from ansible_vault_companions.program import Refused
 
 # Bytes to read at once, since a file may be huge. Some files in /proc refuse reads of an odd size.
 CHUNK_SIZE = 1 << 20
-# The length of the longest vault, in bytes. Longer texts are not read either, and of an endless file, as in /proc, no
-# more than this is read.
-LIMIT = 6 * 16_777_216 + 8_192
+# The lengths of the longest plaintext and of the longest vault, in bytes. Of longer files, even endless ones as in
+# /proc, no more than LIMIT is read.
+LONGEST_PLAINTEXT = 16_777_216
+LIMIT = 6 * LONGEST_PLAINTEXT + 8_192
 
 
 class TooLong(OSError):

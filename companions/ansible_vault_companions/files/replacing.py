@@ -10,7 +10,7 @@ import tempfile
 from contextlib import suppress
 
 from ansible_vault_companions.files import reading
-from ansible_vault_companions.program import Refused
+from ansible_vault_companions.program import Refused, temporary_folder
 
 PREFIX = ".ansible-vault-"
 # The name of a copy of an edit begins with this, and contains at most this many bytes of other names.
@@ -55,11 +55,11 @@ def save_copy(target: str, content: bytes, name: str = "") -> str:
     """Writes a private copy beside the target, or else in $TMPDIR, and returns its path. For another file that an
     editor left, `name` becomes the end of the copy's name."""
     suffix = f"-{_end_of(name, LONGEST_END)}" if name else ""
-    (folder, prefix), (_, other_prefix) = _places_of_copies(target)
+    (folder, prefix), (other_folder, other_prefix) = _places_of_copies(target)
     try:
         return _write_new(folder, content, prefix=prefix, suffix=suffix)
     except OSError:
-        return _write_new(tempfile.gettempdir(), content, prefix=other_prefix, suffix=suffix)
+        return _write_new(other_folder, content, prefix=other_prefix, suffix=suffix)
 
 
 def copies(target: str, is_last_save: bool = False) -> list[str]:
@@ -80,9 +80,7 @@ def is_leftover(name: str) -> bool:
 
 def _places_of_copies(target: str) -> list[tuple[str, str]]:
     """The directories for copies, with the beginning of the names there. In $TMPDIR it has the target's whole path."""
-    # `tempfile` would test the directory by writing a file there.
-    temporary = os.environ.get("TMPDIR") or "/tmp"
-    names = [(os.path.dirname(target), os.path.basename(target)), (temporary, target.replace("/", "%"))]
+    names = [(os.path.dirname(target), os.path.basename(target)), (temporary_folder(), target.replace("/", "%"))]
     return [(folder, f"{SAVED}{_end_of(name, LONGEST_NAME)}-") for folder, name in names]
 
 

@@ -9,7 +9,7 @@ from typing import Iterable, Iterator, NamedTuple
 
 from ansible_vault_companions.git.commands import answer, git
 from ansible_vault_companions.git.contents import FILE_MODES, LINK_MODE, PARTIAL, entries, listed
-from ansible_vault_companions.program import Refused, shown
+from ansible_vault_companions.program import Refused, shown, temporary_folder
 
 # How messages refer to other commits.
 PARENT = "the parent commit"
@@ -163,7 +163,7 @@ def refuse_incomplete() -> None:
 @contextmanager
 def index_of(name: str) -> Iterator[str]:
     """A context with a temporary index that contains the files of a commit."""
-    with tempfile.TemporaryDirectory(prefix="ansible-vault-") as folder:
+    with tempfile.TemporaryDirectory(prefix="ansible-vault-", dir=temporary_folder()) as folder:
         path = os.path.join(folder, "index")
         git("read-tree", name, index=path)
         yield path

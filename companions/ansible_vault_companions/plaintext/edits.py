@@ -139,6 +139,6 @@ def _standard_input() -> bytes:
     if os.isatty(0):
         raise Refused(AT_TERMINAL)
     text = reading.input_of(0)
-    if len(text) > reading.LIMIT:
+    if len(text) > reading.LONGEST_PLAINTEXT:
         raise Refused("standard input has more bytes than a vault can hold; split it")
     return text
