@@ -3,12 +3,13 @@ page and of the companions' help. None offers a `~` that nobody would expand.
 """
 
 import pathlib
+import re
 import shutil
 
 import pytest
 
 import shells
-from lib.option_sets import OF_ANSIBLE, companion_options, companion_values, page_sets
+from lib.option_sets import OF_ANSIBLE, companion_help, companion_options, companion_values, page_sets
 from lib.option_table import table_options
 from lib.paths import COMPANIONS
 from model.options import COMMON, OPTIONS
@@ -110,6 +111,20 @@ def test_options(shell: str, folder: pathlib.Path, command: str | None) -> None:
 @pytest.mark.parametrize("name", COMPANIONS)
 def test_options_of_companions(shell: str, folder: pathlib.Path, name: str) -> None:
     assert offered_options(shell, name, folder) == sorted(options_of(name))
+
+
+def repeatable(name: str) -> list[str]:
+    """Return the options that may be repeated, according to a companion's help."""
+    entries = [" ".join(each.split()) for each in re.split(r"^ +(?=-)", companion_help(name), flags=re.MULTILINE)]
+    return [option for each in entries if "may be repeated" in each for option in re.findall(r"(?:^|, )(--\S+)", each)]
+
+
+@pytest.mark.parametrize("name", COMPANIONS)
+def test_repeatable_options(shell: str, folder: pathlib.Path, name: str) -> None:
+    """They are offered again."""
+    options = repeatable(name)
+    assert len(options) > 1
+    assert [each for each in options if each not in offered_options(shell, f"{name} {each} one.pass", folder)] == []
 
 
 # The names of values that are files, in the table of the program and in a companion's help.
