@@ -168,10 +168,11 @@ bench: all bin/vault_bench
 	bench/key_derivation.py $(QUICKLY)
 
 # Refuse to overwrite another program's file.
+# Everybody may use what is installed, whatever the caller's umask.
 install: all
-	@tools/installed install "$(TOP)" $(SUMS) $(REPLACE) $(INSTALLED) -- $(LINKS)
+	@umask 022; tools/installed install "$(TOP)" $(SUMS) $(REPLACE) $(INSTALLED) -- $(LINKS)
 # Compiled companions start faster. A package compiles them where it is installed.
-	@$(if $(DESTDIR),,python3 -m compileall -q "$(TOP)/$(LIBRARY)" || true)
+	@$(if $(DESTDIR),,umask 022; python3 -m compileall -q "$(TOP)/$(LIBRARY)" || true)
 	@$(if $(DESTDIR),,echo "Type next: hash -r; ansible-vault --version")
 
 # Remove the installed files that are unchanged, and list the others.

@@ -2,6 +2,7 @@
 
 import os
 import pathlib
+import re
 import shutil
 import subprocess
 import tarfile
@@ -78,3 +79,8 @@ def test_made_again(program: str, archives: pathlib.Path, tmp_path: pathlib.Path
     environment = os.environ | {"TZ": "Asia/Tokyo", "LC_ALL": "C"}
     again = made(str(own), tmp_path / "again", checkout, umask=0o077, env=environment)
     assert again == [(archives / name).read_bytes() for name in [*ARCHIVES, "SHA256SUMS"]]
+
+
+def test_time_from_the_environment(program: str) -> None:
+    done = run_make(program, "-n", "dist", "CPU=", env=os.environ | {"SOURCE_DATE_EPOCH": "1000"})
+    assert {*re.findall(r"--mtime=(\S+)", done.stdout)} == {"@1000"}

@@ -12,6 +12,7 @@ from companion_cases import ended
 from lib.ansible import ansible_vault
 from lib.cases import Cases, refusal
 from lib.installed import VERSION
+from lib.links import dead_links
 from lib.paths import ROOT
 from lib.scripts import write_script
 from lib.system_calls import calls_in
@@ -39,11 +40,12 @@ def test_differences(program: str, tmp_path: Path, monkeypatch: pytest.MonkeyPat
     assert differences(CASE, [write_script(tmp_path / "differing", text)]) != []
 
 
-def test_mode_of_an_output(program: str, tmp_path: Path, monkeypatch: pytest.MonkeyPatch) -> None:
+def test_what_is_beside_an_output(program: str, tmp_path: Path, monkeypatch: pytest.MonkeyPatch) -> None:
     monkeypatch.setenv("PROGRAM", program)
     case = replace(CASE, stdin=seal(b"right", b"text"))
     assert differences(case, [write_script(tmp_path / "same", 'exec "$PROGRAM" "$@"')]) == []
-    assert differences(case, [write_script(tmp_path / "differing", '"$PROGRAM" "$@" && chmod 644 new')]) != []
+    for text in ('"$PROGRAM" "$@" && chmod 644 new', '"$PROGRAM" "$@" && cat new'):
+        assert differences(case, [write_script(tmp_path / "differing", text)]) != []
 
 
 # A fault, and answers that differ from it in one part.
@@ -81,9 +83,15 @@ def test_each_line_of_strace_is_a_call() -> None:
 def test_each_part_is_looked_for() -> None:
     done = subprocess.CompletedProcess(["x"], 0, "one", "two")
     ended("both", done, 0, "one", "two")
-    for parts in (["one", "three"], ["three", "two"]):
+    for parts in (["one", "three"], ["three", "two"], ["one\n"], [" two"]):
         with pytest.raises(AssertionError):
             ended("one of two", done, 0, *parts)
+
+
+def test_dead_links(tmp_path: Path) -> None:
+    page = tmp_path / "page.md"
+    page.write_text("# A title\n[1](#a-title) [2](page.md#a-title) [3](https://x) [4](#gone) [5](page.md#gone) [6](gone.md)")
+    assert [*dead_links(page)] == ["#gone", "page.md#gone", "gone.md#"]
 
 
 # How pytest ends with a planted fault, and whether the fault is caught.

@@ -3,6 +3,7 @@
 import pathlib
 import re
 import shutil
+import stat
 import subprocess
 from collections.abc import Callable
 from functools import partial
@@ -107,6 +108,15 @@ def test_install(tmp_path: pathlib.Path, make: Make, destination: str, path: str
     assert files_below(tmp_path) == set(), "make uninstall leaves no file"
     assert [*tmp_path.rglob("ansible*")] == [], "nor a folder of its own"
     assert make("uninstall", *words).returncode != 0, "make uninstall fails if nothing is installed"
+
+
+def test_modes(make: Make, place: pathlib.Path) -> None:
+    """Everybody can use what somebody with another umask installs."""
+    assert make("install", umask=0o077).returncode == 0
+    modes = {path.relative_to(place): path.stat().st_mode for path in place.rglob("*")}
+    needed = {path: 0o055 if stat.S_ISDIR(mode) else 0o044 for path, mode in modes.items()}
+    assert [path for path, mode in modes.items() if mode & needed[path] != needed[path]] == []
+    assert len(modes) > len(LOCAL_FILES)
 
 
 def test_next_step(tmp_path: pathlib.Path, make: Make) -> None:

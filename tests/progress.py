@@ -112,6 +112,7 @@ RUNS = {
     "all pass": (CHECK.format(failed=0), 0, True, (0, "20 passed, 0 failed, 1 skipped")),
     "a test fails": (CHECK.format(failed=2), 2, True, (2, "20 passed, 2 failed, 1 skipped")),
     "the gate fails": (GATE_FAILS, 2, True, (2, "11 passed, 1 failed, 0 skipped")),
+    "nothing is tested": ("0 passed, 0 failed, 0 skipped\n", 0, True, (1, "0 passed, 1 failed, 0 skipped")),
     "nothing is installed": (CHECK.format(failed=0), 0, False, (1, "20 passed, 1 failed, 1 skipped")),
     "nothing is installed and a test fails": (CHECK.format(failed=2), 2, False, (2, "20 passed, 3 failed, 1 skipped")),
 }
