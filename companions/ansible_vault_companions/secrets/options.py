@@ -33,7 +33,7 @@ def add_options(parser: argparse.ArgumentParser, prefix: str = "", which: str = 
         action="append",
         default=[],
         metavar="[LABEL@]FILE",
-        help="a password file, with the label of its secret; may be repeated" + (" with other labels" if prefix else ""),
+        help=f"a password file, with the label of its secret; may be repeated{' with other labels' * bool(prefix)}",
     )
     group.add_argument(
         f"--{prefix}vault-password-file",
@@ -41,7 +41,7 @@ def add_options(parser: argparse.ArgumentParser, prefix: str = "", which: str = 
         action="append",
         default=[],
         metavar="FILE",
-        help="a password file for the label default" + ("" if prefix else "; may be repeated"),
+        help=f"a password file for the label default{'' if prefix else '; may be repeated'}",
     )
     if not prefix:
         group.add_argument(
