@@ -15,14 +15,14 @@ LONGEST = 1 << 20
 
 def section(path: str) -> dict[str, str]:
     """The keys and values of the section, empty if there is none. Raises Refused if the file cannot be read."""
-    parser = configparser.ConfigParser(inline_comment_prefixes=(";",))
+    parser = configparser.RawConfigParser(inline_comment_prefixes=(";",))
     try:
         parser.read_string(_text(path))
     except UnicodeDecodeError:
         raise Refused(f"{shown(path)}: it is not UTF-8") from None
     except (Refused, OSError, configparser.Error) as fault:
         raise Refused(f"{shown(path)}: {' '.join(reason(fault).split())}") from None
-    return dict(parser.items(SECTION, raw=True)) if SECTION in parser else {}
+    return dict(parser[SECTION]) if SECTION in parser else {}
 
 
 def _text(path: str) -> str:
