@@ -145,7 +145,8 @@ def test_companion_example(repository: Repository, name: str, title: str) -> Non
         assert "done\r\n" in typed
         return
     if "HEAD^2" in shell:
-        repository.shell("git merge -q --no-edit --strategy ours branch")
+        repository.shell("git merge branch; git commit -qam merged")
+        assert b"<<<<<<<" in repository.get(MERGED), "git alone tears the vault"
     ran = repository.shell(shell, EDITOR=editor, EDITOR_OF_TEST=editor, secret="correct horse", GIT_EDITOR="true")
     assert (ran.returncode, ran.stderr) == (1 if "--dry-run" in shell else 0, "")
     if name == "ansible-vault-merge":

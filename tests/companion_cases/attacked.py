@@ -1,6 +1,6 @@
 """A repository of an owner, who knows the passwords dev and prod, and merges the commits of a stranger, who knows only
-dev. Whatever the two do, dev's passwords decrypt no text of prod's, unchanged values stay as they were, each merge
-results in valid YAML, and no program of the repository is run.
+dev. Whatever the two do, dev's passwords decrypt no text of prod's, unchanged values stay as they were, and each merge
+results in valid YAML.
 
 `--seed` chooses what they do.
 """
@@ -8,6 +8,7 @@ results in valid YAML, and no program of the repository is run.
 from __future__ import annotations
 
 import itertools
+import shutil
 from collections import Counter
 
 import hypothesis
@@ -15,12 +16,12 @@ import pytest
 from hypothesis import strategies as st
 from hypothesis.stateful import RuleBasedStateMachine, initialize, rule, run_state_machine_as_test
 
-from companion_cases import CHECK, EDIT, ROTATE, WITH, Done, Place
+from companion_cases import CHECK, EDIT, MERGE, ROTATE, WITH, Done, Place
 from companion_cases.forked import STEP, Forks
-from companion_cases.oracle import DEV, ENVELOPE, NAMES, PROD, Tree, block, envelopes, is_false, is_merged, label_of
-from companion_cases.oracle import make, opened, read_tree, spots, spots_of, values, visible
+from companion_cases.oracle import DEV, ENVELOPE, LINK, NAMES, PROD, Tree, block, envelopes, is_false, is_merged
+from companion_cases.oracle import label_of, make, opened, read_tree, spots, spots_of, values, visible
+from companion_cases.repository import AUTHOR
 from companion_cases.stranger import MOVES, Stranger
-from companion_cases.surroundings import ATTRIBUTES, Surroundings
 from lib.needs import needs, needs_pyyaml
 from model.vaults import MAGIC
 
@@ -33,6 +34,7 @@ LEAST = {
     **dict.fromkeys(MOVES, 2),
     **{"replace": 15, "relabel": 8, "copy": 8, "guess": 8},
 }
+ATTRIBUTES = b"*.yml merge=ansible-vault\n"
 # Values at several depths, two of them with the same key, and the indentation of each.
 LAYOUT = b"a: 1\n%sb: 1\ndb:\n%s  port: 1\nweb:\n    users:\n      -\n%s        c: 1\n      -\n%sd: 1\n"
 VALUES = [(b"first", 0), (b"second", 2), (b"password", 8), (b"password", 8)]
@@ -48,6 +50,36 @@ TAKING = {
 # What the owner does. Before a merge, it is mostly an edit, often of a place that the stranger has changed.
 WORK = [*["edit"] * 4, *["rotate dev"] * 3, "rotate prod", "rekey", "revert", "check"]
 MEANWHILE = [*["edit"] * 12, *WORK]
+
+
+class Surroundings:
+    """The start of each example: secrets, a repository, and a file of somebody else."""
+
+    def __init__(self, place: Place) -> None:
+        self.place = place
+        place.environment |= AUTHOR | {"GIT_EDITOR": "true", "STEP": "0"}
+        self.outside, self.template = place.path / "outside.yml", place.path / "template"
+        self.secrets = [word for label, names in NAMES.items() for name in names for word in place.by_id(label, name)]
+        place.run("git", "init", "--quiet", "--template=", "--initial-branch=main", str(self.template))
+        driver = f"[merge \"ansible-vault\"]\n\tdriver = {MERGE} {' '.join(self.secrets)} %O %A %B %P\n"
+        with (self.template / ".git" / "config").open("a") as file:
+            file.write(f"{driver}[gc]\n\tauto = 0\n")
+
+    def begin(self) -> None:
+        shutil.rmtree(self.place.tree)
+        shutil.copytree(self.template, self.place.tree)
+        self.outside.write_bytes(make("dev", b"text-0000", DEV, 0))
+
+    def commit(self, branch: str, tree: Tree, *parents: str) -> None:
+        """Commit a tree without using a working tree of git."""
+        lines = [f"commit refs/heads/{branch}", "committer a <a@b> 1 +0000", "data 1", "x"]
+        lines += [f"from refs/heads/{parent}^0" for parent in parents]
+        stream = "\n".join([*lines, "deleteall", ""]).encode()
+        for name, content in tree.items():
+            mode = b"120000" if content.startswith(LINK) else b"100644"
+            data = content.removeprefix(LINK)
+            stream += b"M %s inline %s\ndata %d\n%s\n" % (mode, name.encode(), len(data), data)
+        assert self.place.run_on(stream, "git", "fast-import", "--quiet", "--force").returncode == 0
 
 
 class Attack(RuleBasedStateMachine):
@@ -84,7 +116,6 @@ class Attack(RuleBasedStateMachine):
                 out = visible(content) & self.secret
                 assert not out, ("a secret comes out", name, out, content)
                 assert not is_by_driver or values(content) is not None, ("broken YAML", name, content)
-        assert not self.around.ran.exists(), "a program of the repository is run"
         self.seen = after
         return after
 
@@ -207,7 +238,7 @@ class Attack(RuleBasedStateMachine):
         before, outside = self.seen, self.around.outside.read_bytes()
         self.current[label] = 1 - self.current[label]
         new = NAMES[label][self.current[label]]
-        words = [*self.around.secrets, *self.place.by_id(label, new, "new-"), *self.places(data)]
+        words = [*self.around.secrets, *self.place.by_id(label, new, "new-"), "."]
         done = self.run(ROTATE, "--jobs=1", *words)
         assert outside == self.around.outside.read_bytes(), ("a rotation writes outside", done)
         for old, now in self.changed(before, done, [*before]):
@@ -220,9 +251,6 @@ class Attack(RuleBasedStateMachine):
         there = [old for each in found for old in each if label_of(old) == label]
         assert done.returncode or not any(map(is_false, there)), ("a rotation passes over a false label", done)
         self.commit("rotate")
-
-    def places(self, data: st.DataObject) -> list[str]:
-        return [".", *["../unpacked"] * data.draw(st.booleans(), "around")]
 
     def rekey(self, data: st.DataObject) -> None:
         """Rekey a vault, for the label in its first line."""
@@ -251,7 +279,7 @@ class Attack(RuleBasedStateMachine):
         self.counts.update(["revert", "steps"] * (not done.returncode))
 
     def check(self, data: st.DataObject) -> None:
-        done = self.run(CHECK, *self.around.secrets, *self.places(data))
+        done = self.run(CHECK, *self.around.secrets, ".")
         false = [name for name, content in self.look().items() if any(map(is_false, envelopes(content)))]
         assert done.returncode or not false, ("a check passes over a false label", false, done)
         self.counts.update(["check", "steps"])

@@ -65,14 +65,6 @@ def test_nothing(place: Place) -> None:
     assert (done.returncode, done.stdout, done.stderr) == (0, "0 decrypted, 0 not\n", ""), "nothing"
 
 
-def test_no_plaintext(place: Place) -> None:
-    place.put("a.yml", sealed("old"))
-    place.put("b.yml", sealed("old", label="\x1b[2J"))
-    done = place.run(CHECK, *place.by_file("old"), ".")
-    assert "horse" not in done.stdout + done.stderr, "no plaintext is printed"
-    assert "\x1b" not in done.stdout + done.stderr, "and nothing that a terminal would obey"
-
-
 OLD, NEW = "--vault-password-file ../secrets/old", "--new-vault-password-file ../secrets/new"
 # Invalid command lines.
 INVALID = {
@@ -167,6 +159,11 @@ def test_refused_secrets(place: Place, subtests: SubTests, name: str) -> None:
     ended("4096 bytes", place.run(CHECK, "--vault-password-file=../long", "a.yml"), 0)
 
 
+# What a companion's help says of encryption and, for the hook, of commits that it does not see.
+BY_TOOL = ("it leaves encryption to ansible-vault.",)
+SAYS = {HOOK: ("it encrypts and decrypts nothing.", "--no-verify, for cherry-pick, revert, rebase and am")}
+
+
 def test_help_of_each(place: Place, subtests: SubTests) -> None:
     names = sorted(each.name for each in COMPANIONS.glob("ansible-vault-*"))
     assert len(names) == 7, "there are seven"
@@ -178,5 +175,5 @@ def test_help_of_each(place: Place, subtests: SubTests) -> None:
             if word in ("--version", "-V"):
                 assert (done.returncode, done.stdout) == (0, f"{name} {version()}\n")
             else:
-                parts = [f"usage: {name}", f"Example:\n  {name} "]
-                ended("help", done, 0, *parts, "This program is tested, not proved")
+                parts = [f"usage: {name}", f"Example:\n  {name} ", *SAYS.get(name, BY_TOOL)]
+                ended("help", done, 0, *parts, "This program is tested, not proved; ")

@@ -5,8 +5,8 @@ from pathlib import Path
 
 import pytest
 
-from companion_cases import CHECK, HOOK, MERGE, TEXT, Place, ended, sealed
-from companion_cases.repository import WHOLE, committed, refused, under_git, unmarking
+from companion_cases import CHECK, HOOK, TEXT, Place, ended, sealed
+from companion_cases.repository import NOT_MERGED, WHOLE, committed, refused, set_driver, under_git, unmarking
 from ansible_vault_companions.git import repositories
 
 pytestmark = pytest.mark.usefixtures("git")
@@ -47,7 +47,6 @@ def test_kinds(place: Place, clone: Path) -> None:
     done = place.shell(f"git add -A && {HOOK}", folder=str(clone))
     refused("and the hook", done, "deep/c.vault.yml", hint=unmarking("deep/c.vault.yml"))
     (clone / "deep/a.vault.yml").write_bytes(TEXT)
-    ended("in place of a vault", place.shell(f"git add -A && {HOOK}", folder=str(clone)), 1, "a.vault.yml is not encr")
     (clone / ".gitattributes").write_bytes(b"")
     ended("unmarked", place.shell(f"git add -A && {HOOK}", folder=str(clone)), 1, f"deep/a.vault.yml {WHOLE}")
 
@@ -58,35 +57,26 @@ seal() { cp ../$1.yml a.yml && git add -A && git commit -qm change; }
 seal base && git branch base && git checkout -qb ours
 seal unknown1 && git checkout -qb side && seal undone && git checkout -q ours && git merge -q --no-ff --no-edit side
 git tag undone && seal ours && git checkout -qb theirs base && echo b: 1 > b.yml && git add -A && git commit -qm b
-seal unknown2 && git checkout -qb merged base && git merge -q --no-ff --no-edit theirs && git checkout -q ours
+seal unknown2 && git checkout -q ours
 """
 OPERATIONS = {
     "merge": "git merge theirs",
-    "merge --no-commit": "git merge --no-ff --no-commit theirs",
     "merge --squash": "git merge --squash theirs",
-    "pull": "git pull -q --no-rebase . theirs",
     "cherry-pick": "git cherry-pick theirs",
-    "cherry-pick -n": "git cherry-pick --no-commit theirs",
     "cherry-pick of two": "git cherry-pick theirs~1 theirs",
-    "cherry-pick of a merge": "git cherry-pick -m 1 merged",
     "revert": "git revert --no-edit undone^2",
-    "revert -n": "git revert --no-commit undone^2",
-    "revert of a merge": "git revert --no-edit -m 1 undone",
     "rebase": "git checkout -q theirs && git rebase -q ours",
-    "rebase -i": "git checkout -q theirs && git -c sequence.editor=true rebase -q -i ours",
     "rebase --apply": "git checkout -q theirs && git rebase -q --apply ours",
-    "pull --rebase": "git checkout -q theirs && git pull -q --rebase . ours",
     "am": "git format-patch -q -1 --output-directory .. theirs && git am -q -3 ../0001*",
     "stash": "git checkout -q base && cp ../unknown2.yml a.yml && git stash -q && git checkout -q ours; git stash pop",
 }
-NOT_MERGED = "is not merged: the merge driver failed, so the file has only your side's version"
 
 
 @pytest.mark.parametrize("what", OPERATIONS)
 def test_failed_drivers(place: Place, what: str) -> None:
     """A file with only our side is refused after each operation, until the user resets it or commits on purpose."""
     under_git(place, MARKS)
-    place.run("git", "config", "merge.ansible-vault.driver", f"{MERGE} {' '.join(place.by_file('old'))} %O %A %B %P")
+    set_driver(place, *place.by_file("old"))
     for name in ("base", "undone", "ours", "unknown1", "unknown2"):
         secret = "new" if name.startswith("unknown") else "old"
         (place.path / f"{name}.yml").write_bytes(sealed(secret, name.encode()))

@@ -1,18 +1,12 @@
 """Conflicts that git leaves without the merge driver, and conflicts in files with CR LF, however git stores them."""
 
-import re
-
 import pytest
 
-from companion_cases import CHECK, EDIT, HOOK, MERGE, PASSWORDS, Place, decrypted, edit, ended, sealed, silent, texts
-from companion_cases.repository import add_and_commit, under_git
-from lib.paths import PAGE
-from model.vaults import SALT, seal, yaml_block
+from companion_cases import CHECK, EDIT, HOOK, PASSWORDS, Place, decrypted, edit, ended, sealed, silent, texts
+from companion_cases.repository import BASE, BOTH, OURS, SALTS, THEIRS, add_and_commit, fork, set_driver, under_git
+from model.vaults import seal, yaml_block
 
-BASE = b"one: 1\n2: 2\n3: 3\nfour: 4\n"
-OURS, THEIRS = BASE.replace(b"one: 1", b"one: I"), BASE.replace(b"four: 4", b"four: IV")
 pytestmark = pytest.mark.usefixtures("git")
-SALTS = [SALT, SALT[::-1], SALT[1:] + b"s"]
 TORN = "has git's conflict markers within an envelope, since it was merged without ansible-vault-merge"
 COMMAND = "git checkout --merge a.yml"
 SET_UP = (
@@ -47,11 +41,7 @@ def test_without_driver(place: Place, style: str, what: str, versions: list[byte
     secrets = [*place.by_file("old"), *place.by_id("dev", "old"), *place.by_id("prod", "old")]
     under_git(place, "*.yml merge=ansible-vault\n")
     place.run("git", "config", "merge.conflictStyle", style)
-    for content, command in zip(versions, ("true", "git branch theirs", "git checkout -q theirs")):
-        place.shell(command)
-        place.put("a.yml", content)
-        add_and_commit(place)
-    place.shell("git checkout -q -")
+    fork(place, *({"a.yml": content} for content in versions))
     ended(f"{what}: git alone", place.shell("git merge --no-edit theirs"), 1, "Merge conflict in a.yml")
     for name in (EDIT, CHECK):
         done = place.run(name, *secrets, "a.yml", EDITOR="touch ../s")
@@ -59,33 +49,23 @@ def test_without_driver(place: Place, style: str, what: str, versions: list[byte
     assert not (place.path / "s").exists(), f"{what}: no editor is started"
     done = place.shell(f"git add -A; {HOOK}")
     assert (done.returncode, done.stderr) == (1, f"{HOOK}: a.yml {TORN}\n  {SET_UP}\n"), f"{what}: the hook"
-    place.run("git", "config", "merge.ansible-vault.driver", f"{MERGE} {' '.join(secrets)} %O %A %B %P")
+    set_driver(place, *secrets)
     done = place.shell(COMMAND)
     assert done.stderr.count(": 1 conflict; resolve with") == conflicts, f"{what}: the driver merges it"
     found = [decrypted("old", place.get("a.yml"))] if what == "a vault" else texts(place.get("a.yml"), "old")
-    wanted = [OURS, THEIRS] if conflicts else [OURS.replace(b"four: 4", b"four: IV")]
+    wanted = [OURS, THEIRS] if conflicts else [BOTH]
     assert [text for text in found if text != BASE] == wanted, f"{what}: all that it is made of is whole"
 
 
 def test_markers_in_a_commit(place: Place) -> None:
-    """In a clone of a repository with committed markers, the commands of the manual page merge the file again."""
+    """The check finds markers that somebody has committed, in a clone, too."""
     under_git(place, "")
-    versions = envelopes("", "", "")
-    for content, command in zip(versions, ("true", "git branch theirs", "git checkout -q theirs")):
-        place.shell(command)
-        place.put("a.yml", content)
-        add_and_commit(place)
-    place.shell("git checkout -q -; git merge theirs; git commit -qam merged")
+    fork(place, *({"a.yml": content} for content in envelopes("", "", "")))
+    place.shell("git merge theirs; git commit -qam merged")
     place.shell("git clone -q . ../clone; rm -r .git; mv ../clone/.git .")
     assert b"<<<<<<<" in place.get("a.yml")
     done = place.run(CHECK, *place.by_file("old"), "a.yml")
     ended("the check", done, 1, f"a.yml: {TORN}; {SET_UP}\n")
-    page = PAGE.with_name(f"{MERGE}.1").read_text()
-    [commands] = re.findall(r"markers in a merge commit(?:.*\n)+?\.Bd .*\n((?:.*\n)+?)\.Ed$", page, re.MULTILINE)
-    shell = re.sub(r"(?m)^\$ ", "", commands).replace(r"\(ha", "^").replace(r"\e", "\\")
-    shell = shell.replace("~/.vault/prod.pass", place.secret("old")).replace("FILE", "a.yml").replace("M^", "HEAD^")
-    silent("the commands", place.shell(f"set -e\n{shell}"))
-    assert decrypted("old", place.get("a.yml")) == OURS.replace(b"four: 4", b"four: IV")
 
 
 # The attributes of a repository, the line end of a vault in it, and the name of the vault.

@@ -3,31 +3,20 @@
 import os
 
 import pytest
-from companion_cases import AWKWARD, CHANGE, HOOK, TEXT, WITH, Place, edit, ended, run_changed, sealed, silent
-from companion_cases.repository import WHOLE, add_and_commit, commit, refused, unmarking, with_hooks
+from companion_cases import AWKWARD, CHANGE, HOOK, TEXT, WITH, Place, block, edit, ended, run_changed, sealed, silent
+from companion_cases.repository import WHOLE, add_and_commit, again, commit, fork, refused, staged, under_git, unmarking
+from companion_cases.repository import with_hooks
+from lib.subtests import SubTests
 
 pytestmark = pytest.mark.usefixtures("git")
 
 ATTRIBUTES = "*.vault.yml diff=ansible-vault\nsecrets/** ansible-vault\n"
 
 
-def test_what_is_refused(place: Place) -> None:
-    with_hooks(place, ATTRIBUTES)
-    place.put("db.vault.yml", TEXT)
-    place.put("secrets/key", b"key\n")
-    place.put("other.yml", TEXT)
-    refused("plaintext at first", add_and_commit(place), "db.vault.yml", "secrets/key")
-    place.put("db.vault.yml", sealed("old"))
-    place.put("secrets/key", sealed("old").replace(b"\n", b"\r\n"))
-    silent("vaults", add_and_commit(place))
-    place.put("db.vault.yml", b"")
-    refused("an empty file", add_and_commit(place), "db.vault.yml")
-
-
 def test_what_is_staged(place: Place) -> None:
     """The hook checks the staged content, not the files in the directory."""
     with_hooks(place, ATTRIBUTES)
-    place.put("a.vault.yml", TEXT)
+    place.put("a.vault.yml", TEXT, 0o755)
     place.shell("git add -A")
     place.put("a.vault.yml", sealed("old"))
     refused("plaintext is staged", commit(place), "a.vault.yml")
@@ -116,4 +105,70 @@ def test_where_it_runs(place: Place) -> None:
     refused("by hand", place.shell(HOOK, folder="inner"), "inner/a.vault.yml")
     place.shell("git config diff.relative true && git config diff.renames copies && git config core.quotePath true")
     refused("with other settings", place.shell(HOOK, folder="inner"), "inner/a.vault.yml")
-    ended("a word", place.run(HOOK, "word"), 1, "'word' did not match any file", "git ls-files failed")
+
+
+DIGITS = sealed("old").partition(b"\n")[2]
+LINES = block("old").splitlines(keepends=True)
+# What a marked file may not contain, by the reasons.
+CONTENTS = {
+    "is not encrypted": {"plaintext": TEXT, "an empty file": b""},
+    "is a damaged vault": {
+        "a bare header": b"$ANSIBLE_VAULT;1.1;AES256\n",
+        "a word alone": b"$ANSIBLE_VAULT\npassword: plain\n",
+        "plaintext below": sealed("old") + TEXT,
+        "a word after the header": b"$ANSIBLE_VAULT;1.1;AES256;pw=plain\n",
+        "a word after the label": b"$ANSIBLE_VAULT;1.2;AES256;prod;pw=plain\n" + DIGITS,
+        "digits of a text": b"$ANSIBLE_VAULT;1.1;AES256\n" + TEXT.hex().encode() + b"\n",
+        "another version": b"$ANSIBLE_VAULT;2.0;AES256\n" + DIGITS,
+        "a part of the digits": sealed("old")[:200],
+    },
+    "has a damaged block in line 3": {
+        "plaintext between": b"x: 1\n" + b"".join([*LINES[:3], b"          password: plain\n", *LINES[3:]]),
+        "plaintext after": b"x: 1\n" + block("old") + b"          password: plain\n",
+        "digits that end early": b"x: 1\n" + b"".join(LINES[:3]) + b"b: 1\n",
+        "a header alone": b"x: 1\n" + b"".join(LINES[:2]),
+    },
+    "has git's conflict markers": {
+        "markers": block("old") + b"<<<<<<< HEAD\nb: 1\n=======\nb: 2\n>>>>>>> branch\n",
+    },
+}
+
+
+def test_marked_content(place: Place, subtests: SubTests) -> None:
+    """A marked file needs the digits of an envelope, without conflict markers or plaintext between them."""
+    with_hooks(place, "*.vault.yml diff=ansible-vault\n*.whole.yml ansible-vault\n")
+    for why, contents in CONTENTS.items():
+        for what, content in contents.items():
+            with subtests.test(what):
+                refused("the hook", staged(place, "a.vault.yml", content), "a.vault.yml", why=why)
+    silent("blocks", again(place, "a.vault.yml", block("old") + b"x: 1\n\n" + block("old", name="b") + b"\n"))
+    silent("a vault", again(place, "a.vault.yml", sealed("old").replace(b"\n", b"\r\n")))
+    done = again(place, "a.whole.yml", block("old"))
+    refused("blocks where a vault has to be", done, "a.whole.yml", hint=unmarking("a.whole.yml"))
+
+
+def test_plain_beside_vaults(place: Place) -> None:
+    """The usual layout has plaintext beside vaults in one directory. The message says what to do."""
+    with_hooks(place, "group_vars/** diff=ansible-vault\n")
+    place.put("group_vars/all/vault.yml", sealed("old"))
+    place.put("group_vars/web/vars.yml", TEXT)
+    done = again(place, "group_vars/all/vars.yml", TEXT)
+    lines = [f"{HOOK}: group_vars/{name}/vars.yml is not encrypted" for name in ("all", "web")]
+    wanted = [lines[0], unmarking("group_vars/all/vars.yml"), lines[1]]
+    assert (done.returncode, done.stderr.splitlines()) == (1, wanted), "beside a vault"
+    place.put(".gitattributes", b"group_vars/** diff=ansible-vault\n/group_vars/*/vars.yml !diff !ansible-vault\n")
+    silent("what it says helps", add_and_commit(place))
+
+
+def test_merges(place: Place) -> None:
+    """A merge without a conflict brings plaintext."""
+    under_git(place, "")
+    fork(place, {"vars.yml": sealed("old")}, {"other.yml": b"a: 1\n"}, {"vars.yml": TEXT})
+    place.run(HOOK, "--install")
+    ended("a clean merge", place.shell("git merge --no-edit -q theirs"), 1, f"{HOOK}: vars.yml {WHOLE}\n")
+
+
+def test_outside_of_git(place: Place, subtests: SubTests) -> None:
+    for line in ("--all", "--since HEAD", "--install", ""):
+        with subtests.test(f"{HOOK} {line}"):
+            ended("no repository", place.run(HOOK, *line.split()), 1, "ansible-vault-hook: git rev-parse failed")

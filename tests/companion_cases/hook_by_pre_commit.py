@@ -7,13 +7,13 @@ from typing import Any
 import pytest
 
 from companion_cases import HOOK, TEXT, Done, Place, block, ended, sealed, silent
-from companion_cases.repository import GONE, WHOLE, add_and_commit, leaked, refused, under_git, unmarking
+from companion_cases.hook_commits import ATTRIBUTES
+from companion_cases.repository import GONE, WHOLE, add_and_commit, leaked, refused, under_git
 from lib.needs import needs_pyyaml
 from lib.paths import ROOT
 
 pytestmark = pytest.mark.usefixtures("git")
 
-ATTRIBUTES = "*.vault.yml diff=ansible-vault\n"
 # The keys of a hook that this test takes into account.
 KNOWN = {"id", "name", "description", "entry", "language", "always_run", "pass_filenames", "require_serial", "stages"}
 KNOWN.add("minimum_pre_commit_version")
@@ -82,14 +82,3 @@ def test_all_files(place: Place) -> None:
         ended("no file of the index", place.run(HOOK, *words), 1, "git ls-files failed", words[-1])
     for option in (["--all"], ["--since", "HEAD"], ["--install"], ["--uninstall"]):
         ended("an option", place.run(HOOK, *option, "plain.yml"), 2, "FILE cannot be used with an option")
-
-
-def test_many_files(place: Place) -> None:
-    under_git(place, ATTRIBUTES)
-    names = [f"folder/{number}.vault.yml" for number in range(1000)]
-    for name in names:
-        place.put(name, sealed("old"))
-    place.put(names[-1], TEXT)
-    place.shell("git add -A && git commit -qm one")
-    hint = unmarking(names[-1])
-    refused("the last one", by_framework(place, *names), names[-1], hint=hint)

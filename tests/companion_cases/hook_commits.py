@@ -12,7 +12,7 @@ ATTRIBUTES = "*.vault.yml diff=ansible-vault\n"
 
 
 def test_every_file(place: Place) -> None:
-    """The second of the usual leaks: a pipeline checks commits that no hook saw."""
+    """A pipeline checks commits that no hook saw."""
     under_git(place, ATTRIBUTES)
     committed(place, "a.vault.yml", sealed("old"))
     committed(place, "vars.yml", block("old"))
@@ -60,49 +60,22 @@ def test_each_commit(place: Place, subtests: SubTests) -> None:
     ended("a first commit", done, 1, "a.vault.yml is not encrypted")
 
 
-def test_merge_commits(place: Place) -> None:
-    """A merge is refused if it puts a vault in plaintext that is encrypted in its parents."""
-    under_git(place, "")
-    first = committed(place, "vars.yml", sealed("old"))
-    place.shell("git checkout -qb branch")
-    committed(place, "other.yml", b"a: 1\n")
-    place.shell("git checkout -q - && git merge -q --no-ff --no-commit branch")
-    merged = committed(place, "vars.yml", TEXT)
-    leaked("the merge", place.run(HOOK, "--since", first), {f"{merged[:10]}: vars.yml": WHOLE})
-
-
 def test_merge_of_several_branches(place: Place) -> None:
-    """The staged content is compared with every branch that is being merged."""
+    """What a merge puts in plaintext is compared with every branch, before the commit and after it."""
     under_git(place, "")
-    committed(place, "vars.yml", b"a: 1\n")
+    first = committed(place, "vars.yml", b"a: 1\n")
     for name in ("one", "two"):
         place.shell(f"git checkout -qb {name}")
         committed(place, f"{name}.yml", sealed("old"))
         place.shell("git checkout -q -")
     place.shell("git merge -q --no-commit one two")
-    for name in ("one", "two"):
-        place.put(f"{name}.yml", TEXT)
+    place.put("one.yml", TEXT)
+    place.put("two.yml", TEXT)
     place.shell("git add -A")
-    ended("the merge", place.run(HOOK), 1, "one.yml is not a vault, but was", "two.yml is not a vault, but was")
-
-
-def test_cherry_picks(place: Place) -> None:
-    """git runs no hook for a cherry-pick, nor with --no-verify, but --since checks these commits."""
-    under_git(place, "")
-    place.shell(f"{HOOK} --install")
-    base = committed(place, "vars.yml", sealed("old"))
-    place.shell("git checkout -qb branch")
-    leak = committed(place, "vars.yml", TEXT)
-    place.shell(f"git checkout -q - && git cherry-pick {leak}")
-    picked = place.shell("git rev-parse HEAD").stdout.strip()
-    leaked("a cherry-pick", place.run(HOOK, "--since", base), {f"{picked[:10]}: vars.yml": WHOLE})
-    place.shell(f"git reset -q --hard {base} && git commit -q --allow-empty -m x")
-    place.shell("git merge -q --no-verify branch")
-    done = place.run(HOOK, "--since", base)
-    ended("a merge", done, 1, f"{leak[:10]}: vars.yml {WHOLE}")
-    done = place.run(HOOK, "--help")
-    ended("help", done, 0, "--no-verify", "cherry-pick", "rebase", "fast-forward", "it encrypts and decrypts nothing.")
-    assert "leaves encryption" not in done.stdout
+    ended("what is staged", place.run(HOOK), 1, f"{HOOK}: one.yml {WHOLE}\n", f"{HOOK}: two.yml {WHOLE}\n")
+    merged = committed(place, "vars.yml", b"a: 1\n")[:10]
+    done = place.run(HOOK, "--since", first)
+    leaked("the commit", done, {f"{merged}: one.yml": WHOLE, f"{merged}: two.yml": WHOLE})
 
 
 def test_shallow_clones(place: Place, subtests: SubTests) -> None:

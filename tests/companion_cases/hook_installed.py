@@ -1,12 +1,14 @@
 """ansible-vault-hook --install and --uninstall: the hooks, and the settings for git diff and git merge."""
 
 import os
+import shlex
 from pathlib import Path
 
 import pytest
 from companion_cases import HOOK, MERGE, TEXT, TEXTCONV, Done, Place, block, ended, sealed, silent
 from companion_cases.hook_commits import ATTRIBUTES
-from companion_cases.repository import add_and_commit, again, commit, committed, refused, under_git, unmarking
+from companion_cases.repository import BASE, OURS, THEIRS, add_and_commit, again, commit, committed, fork, refused
+from companion_cases.repository import under_git, unmarking
 from lib.subtests import SubTests
 
 pytestmark = pytest.mark.usefixtures("git")
@@ -130,26 +132,23 @@ def config(place: Place) -> list[str]:
 
 
 def test_drivers(place: Place) -> None:
-    """With secrets, git diff and git merge work. After --uninstall, everything is as before."""
+    """With secrets, git diff and git merge work, and the companions expand `~`, whichever shell git runs. After
+    --uninstall, everything is as before."""
     under_git(place, f"*.vault.yml {MARKS}\n")
-    place.put("a.vault.yml", sealed("old", b"one: 1\n2: 2\n3: 3\nfour: 4\n"))
-    add_and_commit(place)
+    (place.secrets / "d@ev").symlink_to(place.secret("dev"))
+    secrets = ["--vault-id", "dev@~/secrets/d@ev", "--vault-password-file", "~/secrets/old"]
+    place.put("b.vault.yml", sealed("dev", label="dev"))
+    fork(place, *({"a.vault.yml": sealed("old", text)} for text in (BASE, OURS, THEIRS)))
     before = (place.tree / ".git/config").read_bytes()
     for status in ("set to", "is already"):
-        done = place.run(HOOK, "--install", *place.by_file("old"), *place.by_id("dev", "dev"))
+        done = place.run(HOOK, "--install", *secrets)
         assert (done.returncode, done.stderr, len(done.stdout.splitlines())) == (0, "", 5), "it says each in a line"
-        words = " ".join([*place.by_id("dev", "dev"), *place.by_file("old")])
+        words = shlex.join(secrets)
         values = [f"{TEXTCONV} {words}", f"{MERGE} {words} %O %A %B %P"]
         lines = [f"{setting}: {status} {value}" for setting, value in zip(SETTINGS, values)]
         assert done.stdout.splitlines()[3:] == lines, status
-    place.shell("git checkout -qb branch")
-    place.put("a.vault.yml", sealed("old", b"one: 1\n2: 2\n3: 3\nfour: IV\n"))
-    add_and_commit(place)
-    ended("git diff", place.shell("git show"), 0, "-four: 4\n+four: IV")
-    place.shell("git checkout -q -")
-    place.put("a.vault.yml", sealed("old", b"one: I\n2: 2\n3: 3\nfour: 4\n"))
-    add_and_commit(place)
-    ended("git merge", place.shell("git merge --no-edit branch && git show -m"), 0, "+one: I", "+four: IV")
+    ended("git diff", place.shell("git show; git show HEAD^"), 0, "-one: 1\n+one: I", f"+{TEXT.decode()}")
+    ended("git merge", place.shell("git merge --no-edit theirs && git show -m"), 0, "+one: I", "+four: IV")
     done = place.run(HOOK, "--install", *place.by_file("new"))
     ended("other secrets", done, 0, f"{DIFF}: set to {TEXTCONV} {' '.join(place.by_file('new'))}\n")
     done = place.run(HOOK, "--uninstall")
@@ -190,18 +189,6 @@ def test_secrets_of_a_clone(place: Place, subtests: SubTests) -> None:
     assert config(place) == [] and not (place.tree / ".git/hooks/pre-commit").exists(), "nothing is done"
 
 
-def test_home(place: Place) -> None:
-    """The companions expand `~`, whichever shell git runs."""
-    under_git(place, f"*.vault.yml {MARKS}\n")
-    (place.secrets / "o@ld").symlink_to(place.secret("old"))
-    done = place.run(HOOK, "--install", "--vault-id", "prod@~/secrets/o@ld", "--vault-password-file", "~/secrets/new")
-    assert done.returncode == 0, done.stderr
-    place.put("a.vault.yml", sealed("old", label="prod"))
-    place.put("b.vault.yml", sealed("new"))
-    add_and_commit(place)
-    assert place.shell("git show").stdout.count(f"+{TEXT.decode()}") == 2
-
-
 def test_marks(place: Place) -> None:
     """The lines that .gitattributes lacks are printed. The file stays as it is."""
     under_git(place, "*.vault.yml diff=ansible-vault\n")
@@ -221,14 +208,3 @@ def test_marks(place: Place) -> None:
     assert place.get(".gitattributes") == b"*.vault.yml diff=ansible-vault\n"
     place.put(".gitattributes", "".join([*(f"{line.strip()}\n" for line in lines), f"/inner/c*.yml {MARKS}"]).encode())
     assert UNMARKED not in place.run(HOOK, "--install").stdout, "what it says helps"
-
-
-def test_submodules(place: Place) -> None:
-    """A submodule has settings and hooks of its own."""
-    under_git(place, ATTRIBUTES)
-    place.shell("git init -q ../other && cd ../other && git commit -q --allow-empty -m x")
-    place.shell("git -c protocol.file.allow=always submodule --quiet add ../other below")
-    done = place.shell(f"{HOOK} --install {' '.join(place.by_file('old'))}", folder="below")
-    ended("there", done, 0, f"{place.tree}/.git/modules/below/hooks/pre-commit: installed", f"{DIFF}: set to")
-    assert config(place) == [], "and not in the other"
-    assert place.shell(f"git config {DIFF}", folder="below").stdout.startswith(TEXTCONV)

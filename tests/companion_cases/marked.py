@@ -4,9 +4,8 @@ import os
 
 import pytest
 
-from companion_cases import CHECK, TEXT, TEXTCONV, Place, block, ended, sealed
+from companion_cases import CHECK, TEXT, Place, block, ended, sealed
 from companion_cases.repository import under_git
-from lib.needs import needs
 from lib.subtests import SubTests
 
 ATTRIBUTES = """\
@@ -45,9 +44,6 @@ def test_marked_files(place: Place, subtests: SubTests) -> None:
             lines = sorted(f"{CHECK}: {folder}/{name}: {why}" for name, (_, why) in plain.items())
             assert (done.returncode, sorted(done.stderr.splitlines())) == (1, lines)
             assert done.stdout.endswith(f" decrypted, {len(plain)} not\n")
-    for name, (_, why) in plain.items():
-        with subtests.test(name):
-            ended("by its name", place.run(*check, name), 1, f"{name}: {why}\n", "1 not\n")
 
 
 @pytest.mark.usefixtures("git")
@@ -125,36 +121,6 @@ def test_names_of_variables(place: Place) -> None:
     done = place.run(CHECK, *place.by_file("old"), "vars.yml")
     ended("an item of a list", done, 0, f"vars.yml:2: {by}\n")
     assert "\x1b" not in done.stdout, "nothing that a terminal would obey"
-
-
-def test_starts_of_the_tool(place: Place, subtests: SubTests) -> None:
-    """ansible-vault-textconv starts the tool once for each envelope and each secret that it tries."""
-    needs("strace")
-    files = {
-        "one.yml": (sealed("old"), ["old"], 1),
-        "second.yml": (sealed("old"), ["dev", "old"], 2),
-        "label first.yml": (sealed("prod", label="prod"), ["dev", "old", "prod"], 1),
-        "none.yml": (sealed("new"), ["dev", "old"], 2),
-        "blocks.yml": (block("old") + block("old", b"b", name="b"), ["old"], 2),
-        "copies.yml": (block("old") + block("old", name="b"), ["old"], 1),
-        "missing.yml": (block("old") + block("old", b"b", name="b"), ["missing", "old"], 3),
-        "plain.yml": (TEXT, ["old"], 0),
-    }
-    for name, (content, secrets, count) in files.items():
-        with subtests.test(name):
-            place.put(name, content)
-            words = [word for each in secrets for word in place.by_id("prod" if each == "prod" else "default", each)]
-            done, lines = place.traced("-e trace=execve", TEXTCONV, *words, name)
-            starts = [line for line in lines if '/ansible-vault", ' in line]
-            assert (done.returncode, len(starts)) == (0, count), "starts of the tool"
-
-
-@pytest.mark.parametrize("name", ("a.yml", "--", "-h.yml", "--version"))
-def test_files_behind_dashes(place: Place, name: str) -> None:
-    place.put(name, sealed("old"))
-    for words in (["--", name], [name]):
-        done = place.run(TEXTCONV, *place.by_file("old"), *words)
-        assert (done.returncode, done.stdout, done.stderr) == (0, TEXT.decode(), ""), words
 
 
 @pytest.mark.usefixtures("git")

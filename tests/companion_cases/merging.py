@@ -1,18 +1,23 @@
-"""ansible-vault-merge as git runs it: two branches change a vault, or values of YAML that are vaults."""
+"""ansible-vault-merge as git runs it: two branches change a vault, or values of YAML that are vaults. And all merges
+under a few secrets, without a process for each envelope.
+"""
+
+import itertools
+from pathlib import Path
 
 import pytest
 
+from ansible_vault_companions.merging.texts import merged
+from ansible_vault_companions.program import Refused
 from companion_cases import CHECK, EDIT, HOOK, MERGE, PASSWORDS, TEXT, Done, Place, block, decrypted, edit
 from companion_cases import ended, lines_of, sealed, silent, texts, versions
-from companion_cases.both import written_by_theirs
-from companion_cases.repository import add_and_commit, commit, under_git
-from lib.ansible import ansible_vault
-from lib.needs import needs_pyyaml
+from companion_cases.random_merges import LABELS, SIMPLE, Merge, Model, Value, blocks_of, check_new
+from companion_cases.repository import BASE, BOTH, NOT_MERGED, OURS, SALTS, THEIRS, add_and_commit, commit, fork
+from companion_cases.repository import repository, set_driver, under_git
+from lib.needs import needs, needs_pyyaml
 from lib.subtests import SubTests
-from model.vaults import SALT, seal
+from model.vaults import seal
 
-BASE = b"one: 1\n2: 2\n3: 3\nfour: 4\n"
-OURS, THEIRS = BASE.replace(b"one: 1", b"one: I"), BASE.replace(b"four: 4", b"four: IV")
 TAKE_THEIRS = "sed -i '/^<<<</,/^====/d; /^>>>>/d' \"$1\""
 
 
@@ -21,37 +26,33 @@ def branches(
 ) -> Done:
     """Merge two branches, with the driver configured."""
     under_git(place, "*.yml merge=ansible-vault\n")
-    secrets = " ".join(words or place.by_file("old"))
-    place.run("git", "config", "merge.ansible-vault.driver", f"{MERGE} {secrets} %O %A %B %P")
-    for files, command in ((base, "true"), (other, "git checkout -qb theirs"), (ours, "git checkout -q -")):
-        place.shell(command)
-        for name, content in files.items():
-            place.put(name, content)
-        add_and_commit(place)
+    set_driver(place, *(words or place.by_file("old")))
+    fork(place, base, ours, other)
     return place.shell("git merge --no-edit theirs")
 
 
 def test_without_conflict(place: Place) -> None:
+    """A single secret decrypts every label."""
     a, b = block("old", b"a", name="a"), block("old", b"b", name="b")
-    ours = {"whole.yml": sealed("old", OURS), "vars.yml": block("old", b"A", name="a") + b + b"z: 1\n"}
-    other = {"whole.yml": sealed("old", THEIRS), "vars.yml": a + block("old", b"B", name="b") + b"z: 1\n"}
-    done = branches(place, {"whole.yml": sealed("old", BASE), "vars.yml": a + b + b"z: 1\n"}, ours, other)
-    ended("no conflict", done, 0)
-    both = b"one: I\n2: 2\n3: 3\nfour: IV\n"
-    assert decrypted("old", place.get("whole.yml")) == both, "both changes are in the vault"
+    base = {"whole.yml": sealed("old", BASE, "prod"), "vars.yml": a + b + b"z: 1\n"}
+    ours = {"whole.yml": sealed("old", OURS, "prod"), "vars.yml": block("old", b"A", name="a") + b + b"z: 1\n"}
+    other = {"whole.yml": sealed("old", THEIRS, "prod"), "vars.yml": a + block("old", b"B", name="b") + b"z: 1\n"}
+    ended("no conflict", branches(place, base, ours, other), 0)
+    assert decrypted("old", place.get("whole.yml")) == BOTH, "both changes are in the vault"
     wanted = block("old", b"A", name="a") + block("old", b"B", name="b") + b"z: 1\n"
     assert place.get("vars.yml") == wanted, "values keep the envelopes of their sides"
-    if ansible := ansible_vault():
-        shown = written_by_theirs(place, ansible, "view", *place.by_file("old"), "whole.yml")
-        assert shown.strip() == both.decode().strip(), "Ansible's tool reads it"
 
 
 def test_with_conflict(place: Place) -> None:
+    """A result that equals ours, byte for byte, counts as merged."""
+    base = {"whole.yml": sealed("old", b"x: 1\n"), "vars.yml": block("old", b"base", name="a") + b"z: 1\n"}
     ours = {"whole.yml": sealed("old", b"x: ours\n"), "vars.yml": block("old", b"ours", name="a") + b"z: 1\n"}
     other = {"whole.yml": sealed("old", b"x: theirs\n"), "vars.yml": block("old", b"theirs", name="a") + b"z: 1\n"}
-    base = {"whole.yml": sealed("old", b"x: 1\n"), "vars.yml": block("old", b"base", name="a") + b"z: 1\n"}
+    base["same.yml"], ours["same.yml"] = sealed("old", BASE), sealed("old", OURS)
+    other["same.yml"] = seal(PASSWORDS["old"], BASE, b"", SALTS[1])
     done = branches(place, base, ours, other)
     ended("a conflict", done, 1, "whole.yml: 1 conflict", "vars.yml: 1 conflict")
+    assert place.get("same.yml") == ours["same.yml"], "it is merged"
     marked = decrypted("old", place.get("whole.yml"))
     assert marked == b"<<<<<<< ours\nx: ours\n=======\nx: theirs\n>>>>>>> theirs\n", "the markers are within"
     assert texts(place.get("vars.yml"), "old") == [b"ours", b"theirs"], "both values stay encrypted"
@@ -69,17 +70,6 @@ def test_with_conflict(place: Place) -> None:
     silent("the commit", add_and_commit(place))
 
 
-def test_rotated(place: Place) -> None:
-    """What one side encrypted with a new secret stays encrypted with it."""
-    words = [*place.by_file("old"), *place.by_file("new")]
-    base = {"a.yml": sealed("old", BASE), "b.yml": block("old", b"1", name="b") + block("old", b"2", name="c")}
-    other = {"a.yml": sealed("new", BASE), "b.yml": block("new", b"1", name="b") + block("new", b"2", name="c")}
-    ours = {"a.yml": sealed("old", OURS), "b.yml": block("old", b"I", name="b") + block("old", b"2", name="c")}
-    ended("a rotation", branches(place, base, ours, other, *words), 0)
-    assert decrypted("new", place.get("a.yml")) == OURS, "the vault"
-    assert texts(place.get("b.yml"), "new") == [b"I", b"2"], "the values"
-
-
 MOVED = {"a tag": (b"!vault", b"!Vault"), "a key": (b"k:", b"key:"), "a comment": (b"k:", b"# k: x\nt:")}
 
 
@@ -95,7 +85,6 @@ def test_rotated_and_moved(place: Place, what: str, are_exchanged: bool) -> None
     assert TEXT in texts(place.get("a.yml"), "new"), "the new one is there"
 
 
-OF_PROD, OUR_PROD = (block("prod", text, "prod", "k") + b"z: 1\n" for text in (b"old", b"new"))
 NO_SIDE = "git can merge its lines, but the result has a value"
 # Versions whose lines git would merge: digits of an envelope within a text, and lines that together are not YAML.
 WITHIN = [b"text: |\n  a: %s |\n%s\n" % (tag, lines_of(sealed("old", BASE), 4)) for tag in (b"!vault", b"vault")]
@@ -131,14 +120,9 @@ REFUSED = {
         sealed("dev", THEIRS, "prod"),
     ),
     "theirs: line 1: k: its label is prod, but dev@": (
-        OF_PROD,
-        OUR_PROD,
+        block("prod", b"old", "prod", "k") + b"z: 1\n",
+        block("prod", b"new", "prod", "k") + b"z: 1\n",
         block("dev", b"old", "prod", "k") + b"z: 1\n",
-    ),
-    "theirs: line 1: guess: its label is prod, but dev@": (
-        OF_PROD,
-        OUR_PROD,
-        block("dev", b"old", "prod", "guess") + OF_PROD,
     ),
     "git can merge its lines, but the result is not valid YAML (line ": (
         QUOTED,
@@ -165,40 +149,6 @@ def test_those_that_fail(place: Place, why: str) -> None:
     assert place.files() == {"a.yml": REFUSED[why][1]}, "ours stays"
 
 
-def test_one_secret(place: Place) -> None:
-    """If only one secret is named, it decrypts every label."""
-    contents = [sealed("prod", text, "prod") for text in (BASE, OURS, THEIRS)]
-    silent("the merge", place.run(MERGE, *place.by_file("prod"), *versions(place, "a.yml", *contents)))
-    assert decrypted("prod", place.get("a.yml")) == OURS.replace(b"four: 4", b"four: IV")
-
-
-def test_values_without_labels(place: Place) -> None:
-    """An envelope under another label's secret does not give a value that secret, even if the text is the same."""
-    base, ours = (block("prod", text, name="k") + b"z: 1\n" for text in (b"old", b"new"))
-    theirs = block("dev", b"old", name="k") + b"z: 1\n"
-    secrets = [*place.by_id("dev", "dev"), *place.by_id("prod", "prod")]
-    done = place.run(MERGE, *secrets, *versions(place, "a.yml", base, ours, theirs))
-    ended("a conflict", done, 1, "a.yml: 1 conflict")
-    assert texts(place.get("a.yml"), "dev") == [None, b"old"], "dev opens what it did"
-    assert texts(place.get("a.yml"), "prod") == [b"new", None], "ours is under its secret"
-
-
-def test_equal_values(place: Place) -> None:
-    """Values with the same text keep their own envelopes and columns."""
-    needs_pyyaml()
-    import yaml
-
-    envelopes = [seal(PASSWORDS["old"], b"same", b"", salt) for salt in (SALT, SALT[::-1])]
-    first = b"a: !vault |\n" + lines_of(envelopes[0], 10) + b"\n"
-    second = b"b:\n          c: !vault |\n" + lines_of(envelopes[1], 12) + b"\n"
-    contents = [first + second + b"d: 1\ne: 1\nf: 1\n" for _ in range(3)]
-    ours, theirs = contents[1].replace(b"d: 1", b"d: 2"), contents[2].replace(b"f: 1", b"f: 2")
-    done = branches(place, {"a.yml": contents[0]}, {"a.yml": ours}, {"a.yml": theirs})
-    ended("the merge", done, 0)
-    assert place.get("a.yml") == first + second + b"d: 2\ne: 1\nf: 2\n", "each is as it was"
-    assert [*yaml.load(place.get("a.yml"), yaml.BaseLoader)] == [*"abdef"], "it is YAML"
-
-
 def test_what_fails(place: Place, subtests: SubTests) -> None:
     """A file is missing, or the tool or git fails."""
     changes = [sealed("old", text) for text in (BASE, OURS, THEIRS)]
@@ -214,10 +164,7 @@ def test_what_fails(place: Place, subtests: SubTests) -> None:
     assert place.files() == {"a.yml": changes[1]}, "ours stays"
 
 
-NOT_MERGED = "is not merged: the merge driver failed, so the file has only your side's version"
 AGAIN = "  `git checkout --merge a.yml` merges it, or says why not; to keep ours, commit with --no-verify"
-
-
 # The status of `git merge` when it gives up.
 GIVEN_UP = 2
 
@@ -240,11 +187,10 @@ def fail_to_merge(place: Place, *words: str, tool: str) -> None:
     place.run(HOOK, "--install")
 
 
-@pytest.mark.parametrize(
-    "what, name, tool", (("no secret", "old", ""), ("no file", "missing", ""), ("killed", "old", "kill -9 $PPID"))
-)
+@pytest.mark.parametrize("what, name, tool", (("no file", "missing", ""), ("killed", "old", "kill -9 $PPID")))
 def test_not_merged(place: Place, what: str, name: str, tool: str) -> None:
-    """The hook and the check refuse a file that the driver could not merge. git would commit ours without theirs."""
+    """The hook and the check refuse a file that the driver could not merge. git would commit ours without theirs.
+    Then the text is under the secret that the other side has changed to."""
     fail_to_merge(place, "--vault-password-file", f"../secrets/{name}", tool=tool)
     both = [*place.by_file("old"), *place.by_file("new")]
     place.wrap_tool("")
@@ -252,22 +198,68 @@ def test_not_merged(place: Place, what: str, name: str, tool: str) -> None:
     assert (done.returncode, done.stderr) == (1, f"{CHECK}: ./a.yml: {NOT_MERGED}\n"), f"{what}: the check"
     for done in (commit(place, "-a"), add_and_commit(place)):
         assert (done.returncode, done.stderr.splitlines()) == (1, [f"{HOOK}: a.yml {NOT_MERGED}", AGAIN]), what
-    place.run("git", "config", "merge.ansible-vault.driver", f"{MERGE} {' '.join(both)} %O %A %B %P")
+    set_driver(place, *both)
     place.shell("git checkout --merge -- a.yml")
     ended(f"{what}: the check again", place.run(CHECK, *both, "."), 0)
     silent(f"{what}: the commit", add_and_commit(place))
-    found = decrypted("new", place.get("a.yml"))
-    assert found == OURS.replace(b"four: 4", b"four: IV"), f"{what}: both changes are there"
+    assert decrypted("new", place.get("a.yml")) == BOTH, f"{what}: both changes are there"
 
 
-def test_same_as_ours(place: Place) -> None:
-    """A result that equals ours, byte for byte, counts as merged."""
-    base, other = sealed("old", BASE), seal(PASSWORDS["old"], BASE, b"", SALT[::-1])
-    ours = {"a.yml": sealed("old", OURS), "b.yml": block("old", b"1", name="b")}
-    theirs = {"a.yml": other, "b.yml": block("old", b"2", name="b")}
-    done = branches(place, {"a.yml": base, "b.yml": block("old", b"0", name="b")}, ours, theirs)
-    ended("b.yml has a conflict", done, 1, "b.yml: 1 conflict")
-    assert place.get("a.yml") == ours["a.yml"], "a.yml is merged"
-    place.run(HOOK, "--install")
-    place.put("b.yml", block("old", b"3", name="b"))
-    silent("the commit", add_and_commit(place))
+# Vaults by their labels and passwords.
+VAULTS = [
+    *itertools.product(["prod"], ["prod", "prod2", "dev"]),
+    *itertools.product([""], ["prod", "prod2", "dev", "old", "new"]),
+    ("dev", "dev"),
+]
+
+
+def test_secrets_of_vaults(tmp_path: Path, monkeypatch: pytest.MonkeyPatch) -> None:
+    """Each text of the result was under this password on its side, or all versions are under secrets of one label."""
+    needs("git")
+    monkeypatch.chdir(repository(tmp_path / "diff3", "diff3"))
+    plaintexts = [b"the base\n", b"our text\n", b"their text\n"]
+    moved = 0
+    for vaults in itertools.product(VAULTS, repeat=3):
+        values = [Value("", text, *vault, 0, 0) for text, vault in zip(plaintexts, vaults)]
+        before, ours, theirs = values
+        tool = Model()
+        is_kept = ours.password == theirs.password and ours.label == theirs.label
+        is_rekeyed = before.password in (ours.password, theirs.password)
+        is_one_label = len({(each.label, LABELS[each.password]) for each in values}) == 1
+        try:
+            result = merged(tool, tool.opened, *(each.envelope() for each in values)).content
+        except Refused:
+            is_foreign = ours.is_mislabelled() or theirs.is_mislabelled()
+            assert is_foreign or not (is_kept or is_rekeyed and is_one_label), vaults
+            continue
+        assert not ours.is_mislabelled() and not theirs.is_mislabelled(), vaults
+        secret, text = tool.opened(result)
+        for each in (each for each in values if each.text in text):
+            is_same_label = (each.label, LABELS[each.password]) == (ours.label, LABELS[secret.path])
+            assert each.password == secret.path or is_same_label and not each.is_mislabelled(), (vaults, each)
+        assert ours.text in text and theirs.text in text, vaults
+        if ours.password != theirs.password:
+            assert secret.path == (ours if before.password == theirs.password else theirs).password, vaults
+            moved += 1
+    assert moved == 12, "those that are rekeyed"
+
+
+def test_secrets_of_values() -> None:
+    """We change the text, and they encrypt it again. It gets the new secret if all three versions have one label."""
+    needs("git")
+    needs_pyyaml()
+    moved = 0
+    for vaults in itertools.product(VAULTS, repeat=3):
+        rows = zip((b"text", b"our text", b"text"), vaults, range(3))
+        before, ours, theirs = ([Value("a", text, *vault, salt, 10)] for text, vault, salt in rows)
+        merge, tool = Merge(before, ours, theirs), Model()
+        try:
+            content = merged(tool, tool.opened, *merge.documents(SIMPLE)).content
+        except Refused:
+            assert ours[0].is_mislabelled() or theirs[0].is_mislabelled(), vaults
+            continue
+        new = [each for each in blocks_of(content) if each.envelope in tool.made]
+        for each in new:
+            check_new(merge, tool, each)
+        moved += len(new)
+    assert moved == 6, "those that are rekeyed"

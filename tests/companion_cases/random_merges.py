@@ -1,14 +1,14 @@
-"""Random merges of YAML, and all merges of vaults under a few secrets, without a process for each envelope.
+"""Random merges of YAML, without a process for each envelope.
 
 There are only a few texts, so many values are equal. A side may contain whatever somebody who knows one password can
-commit: other labels, copied envelopes, guessed texts. The result must be git's merge of the plaintexts.
+commit: other labels, copied envelopes, guessed texts. The result must be git's merge of the plaintexts, in each style
+of conflicts and with each kind of line end.
 """
 
 import functools
 import itertools
 import os
 import re
-import subprocess
 from collections import Counter, defaultdict
 from collections.abc import Iterator
 from pathlib import Path
@@ -25,25 +25,28 @@ from ansible_vault_companions.secrets import labels
 from ansible_vault_companions.secrets.sources import Secret
 from ansible_vault_companions.tool.tool import Tool
 from companion_cases import PASSWORDS, decrypted
+from companion_cases.repository import SALTS, by_git, repository
 from lib.needs import needs, needs_pyyaml
-from model.vaults import SALT, seal
+from model.vaults import seal
 
 # The label of each named secret. Two labels have an old secret and a new one. One secret is not named.
 LABELS = {"dev": "dev", "prod": "prod", "prod2": "prod", "old": "default", "new": "default"}
 UNNAMED = "dev2"
-SALTS = [SALT, SALT[::-1], SALT[1:] + b"s"]
 TEXTS = [b"x", b"y\n", b"two\nlines\n"]
 INDENTATIONS = [4, 10, 10]
 ITEM = ""
 HONEST = ["text", "encrypted anew", "rekeyed", "removed", "indented", "added"]
 HOSTILE = ["mislabelled", "relabelled", "copied", "guessed"]
-BLOCK = re.compile(rb"(?m)^((?:\w+:|  -) )!vault \|\n((?: +\S+\n)+)")
+BLOCK = re.compile(rb"(?m)^((?:\w+:|  -) )!vault \|\r?\n((?: +\S+(?:\r?\n|\Z))+)")
 # A value in a plaintext, with its number among equal ones.
-NUMBERED = re.compile(rb"(?m)^(?P<head>(?:\w+:|  -) )(?P<known>.*') (?P<number>\d+)$")
+NUMBERED = re.compile(rb"(?m)^(?P<head>(?:\w+:|  -) )(?P<known>.*') (?P<number>\d+)(?=\r?$)")
+# The line below a value in a plaintext, and the end of the value's line before it.
+BELOW = re.compile(rb"(?m)(?<=\d)\r?\n# \w*(\r?\n|\Z)|^# \w*(?:\r?\n|\Z)")
+STYLES, ENDS = ["merge", "diff3", "zdiff3"], [b"\n", b"\r\n"]
 EXAMPLES = 900
-# The least number of merges of each kind, and of changes of each kind.
-LEAST = {"merged": 100, "conflicts": 15, "refused": 8, "under a new secret": 4, "equal items": 60}
-LEAST |= dict.fromkeys(HONEST + HOSTILE, 8)
+# The least number of merges of each kind, of changes of each kind, and of conflicts in each layout.
+LEAST: dict[object, int] = {"merged": 100, "conflicts": 15, "refused": 8, "under a new secret": 4, "equal items": 60}
+LEAST |= dict.fromkeys(HONEST + HOSTILE, 8) | dict.fromkeys(itertools.product(STYLES, ENDS), 3)
 
 
 class Value(NamedTuple):
@@ -76,26 +79,53 @@ class Value(NamedTuple):
         return f"{label} {owner} {closed} {self.indentation} {self.text!r}".encode()
 
 
+class Layout(NamedTuple):
+    """The style of conflicts, the ends of lines, what is below the list, and which versions end their last lines."""
+
+    style: str
+    end: bytes
+    tail: bytes
+    are_ended: tuple[bool, bool, bool]
+
+    def document(self, values: list[Value], shown: list[bytes]) -> bytes:
+        """Return YAML with these lines in place of the values. Without any, the file is empty."""
+        keyed = [text for value, text in zip(values, shown) if value.key]
+        items = [text for value, text in zip(values, shown) if not value.key]
+        return b"".join([b"start: 1\n", *keyed, b"list:\n", *items, self.tail] if values else [])
+
+    def written(self, contents: list[bytes]) -> list[bytes]:
+        """Return the versions with these ends of lines."""
+        pairs = zip(contents, self.are_ended)
+        ended = [content if is_ended else content.removesuffix(b"\n") for content, is_ended in pairs]
+        return [each.replace(b"\n", self.end) for each in ended]
+
+
+SIMPLE = Layout("merge", b"\n", b"end: 1\n", (True, True, True))
+LAYOUTS = st.builds(
+    Layout,
+    st.sampled_from(STYLES),
+    st.sampled_from(ENDS),
+    st.sampled_from([b"end: 1\n", b""]),
+    st.tuples(*[st.sampled_from([True, True, False])] * 3),
+)
+
+
 class Merge(NamedTuple):
     base: list[Value]
     ours: list[Value]
     theirs: list[Value]
 
-    def documents(self) -> list[bytes]:
-        return [document(values, [value.block() for value in values]) for values in self]
+    def documents(self, layout: Layout) -> list[bytes]:
+        return layout.written([layout.document(values, [value.block() for value in values]) for values in self])
 
-
-def document(values: list[Value], shown: list[bytes]) -> bytes:
-    keyed = [text for value, text in zip(values, shown) if value.key]
-    items = [text for value, text in zip(values, shown) if not value.key]
-    return b"".join([b"start: 1\n", *keyed, b"list:\n", *items, b"end: 1\n"])
-
-
-def plain(values: list[Value], numbers: list[int]) -> bytes:
-    """Return the plaintexts, each with its number among equal ones, and with a line that separates it from the next."""
-    pairs = zip(values, numbers)
-    parts = [(value.head(), value.known_by(), number, value.key.encode()) for value, number in pairs]
-    return document(values, [b"%s%s %d\n# %s\n" % each for each in parts])
+    def plain(self, layout: Layout, numbers: list[list[int]]) -> list[bytes]:
+        """Return the versions with plaintexts, each with its number among equal ones, and with a line that separates it
+        from the next."""
+        contents = []
+        for values, own in zip(self, numbers):
+            rows = [(value.head(), value.known_by(), each, value.key.encode()) for value, each in zip(values, own)]
+            contents.append(layout.document(values, [b"%s%s %d\n# %s\n" % row for row in rows]))
+        return layout.written(contents)
 
 
 def numberings(known: list[bytes], envelopes: list[bytes]) -> list[list[int]]:
@@ -165,16 +195,6 @@ class Model(Tool):
         return envelope
 
 
-def by_git(folder: Path, contents: list[bytes]) -> tuple[bytes, int]:
-    """Merge base, ours and theirs with git. Return the result and the number of conflicts."""
-    names = ["base", "ours", "theirs"]
-    for name, content in zip(names, contents):
-        (folder / name).write_bytes(content)
-    words = ["-L", "ours", "-L", "base", "-L", "theirs", "ours", "base", "theirs"]
-    done = subprocess.run(["git", "merge-file", "-p", *words], cwd=folder, capture_output=True)
-    return re.sub(rb"(?m)^# .*\n", b"", done.stdout), done.returncode
-
-
 class Wanted(NamedTuple):
     """A possible merge: a plaintext, the number of conflicts, and the possible blocks for each value."""
 
@@ -183,9 +203,10 @@ class Wanted(NamedTuple):
     blocks: list[set[bytes]]
 
 
-def wanted(folder: Path, merge: Merge, numbers: list[list[int]]) -> Wanted:
+def wanted(folder: Path, merge: Merge, layout: Layout, numbers: list[list[int]]) -> Wanted:
     """Return the wanted merge. A value that at most one side has touched must keep every byte."""
-    text, conflicts = by_git(folder, [plain(*each) for each in zip(merge, numbers)])
+    text, conflicts = by_git(folder, merge.plain(layout, numbers))
+    text = BELOW.sub(rb"\1", text)
     pairs = [zip(values, each) for values, each in zip(merge, numbers)]
     at = [{(value.head(), value.known_by(), number): value.block() for value, number in each} for each in pairs]
     blocks = []
@@ -232,7 +253,7 @@ def changed(kind: str, value: Value, other: Value, new: Value) -> list[Value]:
 
 
 @st.composite
-def random_merge(draw: st.DrawFn, counts: Counter[str]) -> Merge:
+def random_merge(draw: st.DrawFn, counts: Counter[object]) -> Merge:
     keys = ["a", "b", "c", ITEM, ITEM, ITEM][draw(st.integers(0, 3)) :][: draw(st.integers(1, 6))]
     base = [draw(random_value(key)) for key in keys]
     if draw(st.booleans()):
@@ -244,7 +265,7 @@ def random_merge(draw: st.DrawFn, counts: Counter[str]) -> Merge:
         counts.update(chosen)
         others = [(draw(st.sampled_from(base)), draw(random_value(ITEM))) for _ in base]
         sides.append([each for row in zip(chosen, base, others) for each in changed(row[0], row[1], *row[2])])
-    return Merge(base, *(sides if draw(st.booleans()) else reversed(sides)))
+    return Merge(base if draw(st.integers(0, 9)) else [], *(sides if draw(st.booleans()) else reversed(sides)))
 
 
 class Found(NamedTuple):
@@ -258,8 +279,9 @@ class Found(NamedTuple):
 def blocks_of(content: bytes) -> list[Found]:
     found = []
     for each in BLOCK.finditer(content):
-        envelope = b"".join(line.lstrip(b" ") for line in each[2].splitlines(keepends=True))
-        found.append(Found(each[1].decode().strip(" -:"), each[0], envelope))
+        envelope = b"".join(line.strip() + b"\n" for line in each[2].splitlines())
+        block = b"".join(line + b"\n" for line in each[0].splitlines())
+        found.append(Found(each[1].decode().strip(" -:"), block, envelope))
     return found
 
 
@@ -274,7 +296,8 @@ def in_plaintext(content: bytes, tool: Model, known: dict[bytes, Value]) -> byte
             label = label_of(each.envelope) or ""
             value = Value("", text, "" if label == "default" else label, secret.path, 0, 0)
         indentation = len(found[2]) - len(found[2].lstrip(b" "))
-        return found[1] + value._replace(indentation=indentation).known_by() + b"\n"
+        end = found[0][len(found[0].rstrip(b"\r\n")) :]
+        return found[1] + value._replace(indentation=indentation).known_by() + end
 
     return BLOCK.sub(shown, content)
 
@@ -312,7 +335,7 @@ def could_take_back(merge: Merge) -> bool:
     return False
 
 
-def check_merge(folder: Path, merge: Merge) -> list[str]:
+def check_merge(folder: Path, merge: Merge, layout: Layout) -> list[str]:
     """Check a merge, and return of which kinds it was."""
     import yaml
 
@@ -321,7 +344,7 @@ def check_merge(folder: Path, merge: Merge) -> list[str]:
     before = [value.envelope() for value in merge.base]
     foreign = [each for each in merge.ours + merge.theirs if each.is_mislabelled() and each.envelope() not in before]
     try:
-        result = texts.merged(tool, tool.opened, *merge.documents())
+        result = texts.merged(tool, tool.opened, *merge.documents(layout))
     except Refused as fault:
         assert foreign and "its label is" in str(fault), fault
         return ["refused"]
@@ -335,7 +358,7 @@ def check_merge(folder: Path, merge: Merge) -> list[str]:
     if result.conflicts and could_take_back(merge):
         return kinds
     ways = [*numbered(merge)]
-    possible = [wanted(folder, merge, numbers) for numbers in ways]
+    possible = [wanted(folder, merge, layout, numbers) for numbers in ways]
     made = (in_plaintext(result.content, tool, known), result.conflicts)
     fitting = [each.blocks for each in possible if made == (each.text, each.conflicts)]
     assert fitting, "the merge by git"
@@ -347,80 +370,23 @@ def check_merge(folder: Path, merge: Merge) -> list[str]:
     return [*kinds, *(["equal items"] if any(map(any, ways[0])) else [])]
 
 
-def test_of_values(request: pytest.FixtureRequest, tmp_path: Path) -> None:
+def test_of_values(request: pytest.FixtureRequest, tmp_path: Path, monkeypatch: pytest.MonkeyPatch) -> None:
     needs("git")
     needs_pyyaml()
-    counts: Counter[str] = Counter()
+    counts: Counter[object] = Counter()
+    repositories = {style: repository(tmp_path / style, style) for style in STYLES}
 
     @hypothesis.seed(request.config.getoption("--seed"))
     @hypothesis.settings(
         max_examples=EXAMPLES, deadline=None, database=None, suppress_health_check=list(hypothesis.HealthCheck)
     )
-    @hypothesis.given(random_merge(counts))
-    def check(merge: Merge) -> None:
-        counts.update(check_merge(tmp_path, merge))
+    @hypothesis.given(random_merge(counts), LAYOUTS)
+    def check(merge: Merge, layout: Layout) -> None:
+        folder = repositories[layout.style]
+        monkeypatch.chdir(folder)
+        kinds = check_merge(folder, merge, layout)
+        counts.update(kinds)
+        counts[layout.style, layout.end] += "conflicts" in kinds
 
     check()
     assert [(kind, counts[kind], least) for kind, least in LEAST.items() if counts[kind] < least] == []
-
-
-# Vaults by their labels and passwords.
-VAULTS = [
-    *itertools.product(["prod"], ["prod", "prod2", "dev"]),
-    *itertools.product([""], ["prod", "prod2", "dev", "old", "new"]),
-    ("dev", "dev"),
-]
-
-
-def test_of_vaults(tmp_path: Path, monkeypatch: pytest.MonkeyPatch) -> None:
-    """Each text of the result was under this password on its side, or all versions are under secrets of one label."""
-    needs("git")
-    monkeypatch.chdir(tmp_path)
-    for words in (["init", "-q"], ["config", "merge.conflictStyle", "diff3"]):
-        subprocess.run(["git", *words], check=True)
-    plaintexts = [b"the base\n", b"our text\n", b"their text\n"]
-    moved = 0
-    for vaults in itertools.product(VAULTS, repeat=3):
-        values = [Value("", text, *vault, 0, 0) for text, vault in zip(plaintexts, vaults)]
-        before, ours, theirs = values
-        tool = Model()
-        is_kept = ours.password == theirs.password and ours.label == theirs.label
-        is_rekeyed = before.password in (ours.password, theirs.password)
-        is_one_label = len({(each.label, LABELS[each.password]) for each in values}) == 1
-        try:
-            result = texts.merged(tool, tool.opened, *(each.envelope() for each in values)).content
-        except Refused:
-            is_foreign = ours.is_mislabelled() or theirs.is_mislabelled()
-            assert is_foreign or not (is_kept or is_rekeyed and is_one_label), vaults
-            continue
-        assert not ours.is_mislabelled() and not theirs.is_mislabelled(), vaults
-        secret, text = tool.opened(result)
-        for each in (each for each in values if each.text in text):
-            is_same_label = (each.label, LABELS[each.password]) == (ours.label, LABELS[secret.path])
-            assert each.password == secret.path or is_same_label and not each.is_mislabelled(), (vaults, each)
-        assert ours.text in text and theirs.text in text, vaults
-        if ours.password != theirs.password:
-            assert secret.path == (ours if before.password == theirs.password else theirs).password, vaults
-            moved += 1
-    assert moved == 12, "those that are rekeyed"
-
-
-def test_of_one_value() -> None:
-    """We change the text, and they encrypt it again. It gets the new secret if all three versions have one label."""
-    needs("git")
-    needs_pyyaml()
-    moved = 0
-    for vaults in itertools.product(VAULTS, repeat=3):
-        rows = zip((b"text", b"our text", b"text"), vaults, range(3))
-        before, ours, theirs = ([Value("a", text, *vault, salt, 10)] for text, vault, salt in rows)
-        merge, tool = Merge(before, ours, theirs), Model()
-        try:
-            content = texts.merged(tool, tool.opened, *merge.documents()).content
-        except Refused:
-            assert ours[0].is_mislabelled() or theirs[0].is_mislabelled(), vaults
-            continue
-        new = [each for each in blocks_of(content) if each.envelope in tool.made]
-        for each in new:
-            check_new(merge, tool, each)
-        moved += len(new)
-    assert moved == 6, "those that are rekeyed"

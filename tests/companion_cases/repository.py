@@ -1,11 +1,24 @@
 """Helpers for a tree under git."""
 
-from companion_cases import HOOK, Done, Place
+import os
+import subprocess
+from collections.abc import Mapping
+from pathlib import Path
 
+from companion_cases import HOOK, MERGE, Done, Place
+from model.vaults import SALT
+
+# Three versions of a text, and their merge.
+BASE = b"one: 1\n2: 2\n3: 3\nfour: 4\n"
+OURS, THEIRS = BASE.replace(b"one: 1", b"one: I"), BASE.replace(b"four: 4", b"four: IV")
+BOTH = OURS.replace(b"four: 4", b"four: IV")
+# With each, a text has another envelope.
+SALTS = [SALT, SALT[::-1], SALT[1:] + b"s"]
 AUTHOR = {f"GIT_{who}_{what}": "a@b" for who in ("AUTHOR", "COMMITTER") for what in ("NAME", "EMAIL")}
 WHOLE = "is not a vault, but was one in the parent commit"
 IN_PART = "has {} in plaintext, which was encrypted in the parent commit"
 GONE = "is not encrypted, and {}, which is gone, was a vault in the parent commit"
+NOT_MERGED = "is not merged: the merge driver failed, so the file has only your side's version"
 
 
 def under_git(place: Place, attributes: str) -> None:
@@ -21,6 +34,19 @@ def commit(place: Place, *words: str, folder: str = ".") -> Done:
 def add_and_commit(place: Place) -> Done:
     place.shell("git add -A")
     return commit(place)
+
+
+def fork(place: Place, base: dict[str, bytes], ours: dict[str, bytes], theirs: dict[str, bytes]) -> None:
+    """Commit the base, then theirs on a branch of this name, and ours on the first branch."""
+    for files, command in ((base, "true"), (theirs, "git checkout -qb theirs"), (ours, "git checkout -q -")):
+        place.shell(command)
+        for name, content in files.items():
+            place.put(name, content)
+        add_and_commit(place)
+
+
+def set_driver(place: Place, *secrets: str) -> None:
+    place.run("git", "config", "merge.ansible-vault.driver", f"{MERGE} {' '.join(secrets)} %O %A %B %P")
 
 
 def refused(what: str, done: Done, *names: str, why: str = "is not encrypted", hint: str = "") -> None:
@@ -40,10 +66,11 @@ def meant(name: str) -> str:
 
 
 def leaked(what: str, done: Done, whys: dict[str, str]) -> None:
-    """Check that each file is refused for this reason, and that the hint says what to do if it is intended."""
+    """Check that each file is refused for this reason, and that the hint says what to do if it is intended; without
+    any, that nothing is refused."""
     hints = {name: meant(name.rpartition(": ")[2]) for name in whys}
     lines = [line for name, why in whys.items() for line in (f"{HOOK}: {name} {why}", hints[name])]
-    assert (done.returncode, done.stderr.splitlines()) == (1, lines), what
+    assert (done.returncode, done.stderr.splitlines()) == (1 if whys else 0, lines), what
 
 
 def with_hooks(place: Place, attributes: str = "") -> None:
@@ -69,3 +96,19 @@ def committed(place: Place, name: str, content: bytes) -> str:
     place.put(name, content)
     place.shell("git add -A && git commit -qm change --no-verify")
     return place.shell("git rev-parse HEAD").stdout.strip()
+
+
+def repository(folder: Path, style: str) -> Path:
+    """Make a repository with this style of conflicts, and return its directory."""
+    for words in (["init", "-q", str(folder)], ["-C", str(folder), "config", "merge.conflictStyle", style]):
+        subprocess.run(["git", *words], check=True)
+    return folder
+
+
+def by_git(folder: Path, contents: list[bytes], environment: Mapping[str, str] = os.environ) -> tuple[bytes, int]:
+    """Merge base, ours and theirs with git. Return the result and the number of conflicts."""
+    for name, content in zip(("base", "ours", "theirs"), contents):
+        (folder / name).write_bytes(content)
+    words = ["-L", "ours", "-L", "base", "-L", "theirs", "ours", "base", "theirs"]
+    done = subprocess.run(["git", "merge-file", "-p", *words], cwd=folder, env=environment, capture_output=True)
+    return done.stdout, done.returncode

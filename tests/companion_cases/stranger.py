@@ -11,7 +11,7 @@ from companion_cases.oracle import DEV, LINK, NAMES, PROD, TOKEN, Spot, Tree, bl
 from companion_cases.oracle import spots_of, with_label
 
 T = TypeVar("T")
-ATTRIBUTES = [b"*.yml -merge", b"*.yml merge=union", b"*.yml !merge !diff", b"*.yml filter=canary diff=canary"]
+ATTRIBUTES = [b"*.yml -merge", b"*.yml merge=union", b"*.yml !merge !diff"]
 LABELS = [DEV, PROD, ""]
 
 
@@ -106,14 +106,10 @@ class Stranger:
         vault = make(DEV, inner, DEV, next(self.numbers))
         self.tree[self.new_name("nested")] = self.choose("within", [b"x: |\n" + inner, vault])
 
-    def settings(self) -> None:
-        """Add settings that name a script. A companion that trusted them would run it."""
-        self.tree["ansible.cfg"] = b"[defaults]\nvault_identity_list = dev@../canary, prod@../canary\n"
-
 
 # The more important moves are listed more often.
 MOVES = [
     *["relabel", "copy", "guess", "link"] * 3,
     *["replace"] * 5,
-    *["duplicate", "nest", "retag", "rename", "attributes", "settings"],
+    *["duplicate", "nest", "retag", "rename", "attributes"],
 ]

@@ -12,47 +12,15 @@ pytestmark = pytest.mark.usefixtures("git")
 
 # Settings of git whose values are programs, from git-config(1) and the pages that it refers to. The stranger chooses
 # the subsections of filters and drivers, since the attributes name them.
-PROGRAMS = [
-    "browser.x.cmd",
-    "commit.template",
-    "core.alternateRefsCommand",
-    "core.askPass",
-    "core.editor",
-    "core.fsmonitor",
-    "core.gitProxy",
-    "core.pager",
-    "core.sshCommand",
-    "credential.helper",
-    "diff.ansible-vault.command",
-    "diff.ansible-vault.textconv",
-    "diff.external",
-    "diff.tool",
-    "difftool.x.cmd",
-    "filter.x.clean",
-    "filter.x.smudge",
-    "filter.y.process",
-    "gpg.program",
-    "gpg.ssh.program",
-    "gpg.ssh.defaultKeyCommand",
-    "gpg.x509.program",
-    "guitool.x.cmd",
-    "imap.tunnel",
-    "interactive.diffFilter",
-    "man.x.cmd",
-    "merge.ansible-vault.driver",
-    "mergetool.x.cmd",
-    "remote.origin.receivepack",
-    "remote.origin.uploadpack",
-    "sendemail.ccCmd",
-    "sendemail.smtpServer",
-    "sendemail.toCmd",
-    "sequence.editor",
-    "tar.x.command",
-    "trailer.x.command",
-    "trailer.x.cmd",
-    "uploadpack.packObjectsHook",
-    "web.browser",
-]
+PROGRAMS = """
+    browser.x.cmd commit.template core.alternateRefsCommand core.askPass core.editor core.fsmonitor core.gitProxy
+    core.pager core.sshCommand credential.helper diff.ansible-vault.command diff.ansible-vault.textconv
+    diff.external diff.tool difftool.x.cmd filter.x.clean filter.x.smudge filter.y.process gpg.program
+    gpg.ssh.program gpg.ssh.defaultKeyCommand gpg.x509.program guitool.x.cmd imap.tunnel interactive.diffFilter
+    man.x.cmd merge.ansible-vault.driver mergetool.x.cmd remote.origin.receivepack remote.origin.uploadpack
+    sendemail.ccCmd sendemail.smtpServer sendemail.toCmd sequence.editor tar.x.command trailer.x.command
+    trailer.x.cmd uploadpack.packObjectsHook web.browser
+""".split()
 # Settings that make git start more of these programs.
 OTHERS = {
     "core.repositoryFormatVersion": "1",
@@ -62,23 +30,16 @@ OTHERS = {
     "protocol.ext.allow": "always",
     "commit.gpgSign": "true",
     "commit.verbose": "true",
-    "core.untrackedCache": "true",
-    "diff.ignoreSubmodules": "none",
-    "diff.submodule": "diff",
-    "log.showSignature": "true",
-    "submodule.recurse": "true",
-    "status.submoduleSummary": "true",
 }
-COMMANDS = [
-    "cat-file", "check-attr", "config", "diff", "diff-index", "diff-tree", "fetch", "grep", "hash-object",
-    "ls-files", "ls-tree", "merge-base", "read-tree", "rev-list", "rev-parse", "upload-pack",
-]  # fmt: skip
-HOOKS = [
-    "applypatch-msg", "commit-msg", "fsmonitor-watchman", "p4-pre-submit", "post-applypatch", "post-checkout",
-    "post-commit", "post-index-change", "post-merge", "post-rewrite", "pre-applypatch", "pre-auto-gc", "pre-commit",
-    "pre-merge-commit", "pre-push", "pre-rebase", "prepare-commit-msg", "push-to-checkout", "reference-transaction",
-    "sendemail-validate",
-]  # fmt: skip
+COMMANDS = """
+    cat-file check-attr config diff diff-index diff-tree fetch grep hash-object ls-files ls-tree merge-base
+    read-tree rev-list rev-parse upload-pack
+""".split()
+HOOKS = """
+    applypatch-msg commit-msg fsmonitor-watchman p4-pre-submit post-applypatch post-checkout post-commit
+    post-index-change post-merge post-rewrite pre-applypatch pre-auto-gc pre-commit pre-merge-commit pre-push
+    pre-rebase prepare-commit-msg push-to-checkout reference-transaction sendemail-validate
+""".split()
 ATTRIBUTES = "* filter=x merge=ansible-vault ident\n*.yml diff=ansible-vault\n*.dat filter=y\n"
 # Commands of git in the same directory, without a companion, and the programs that they start.
 PLAIN = [
@@ -92,12 +53,15 @@ PLAIN = [
     "git commit -a",
     "git commit -a -m x",
 ]
-STARTED = {"core.fsmonitor", "filter.x.clean", "filter.y.process", "post-index-change", "diff.external"}
-STARTED |= {"diff.ansible-vault.command", "diff.ansible-vault.textconv", "core.editor", "gpg.program"}
-STARTED |= {"remote.origin.url"}
+STARTED = """
+    core.fsmonitor filter.x.clean filter.y.process post-index-change diff.external diff.ansible-vault.command
+    diff.ansible-vault.textconv core.editor gpg.program remote.origin.url
+""".split()
 # The commands of git that the companions use.
-USED = {"cat-file", "check-attr", "config", "diff-index", "diff-tree", "grep", "hash-object", "ls-files"}
-USED |= {"ls-tree", "merge-base", "read-tree", "rev-list", "rev-parse"}
+USED = """
+    cat-file check-attr config diff-index diff-tree grep hash-object ls-files ls-tree merge-base read-tree rev-list
+    rev-parse
+""".split()
 
 
 class Stranger:
@@ -192,7 +156,7 @@ def test_git_alone(stranger: Stranger) -> None:
     """Without a companion, git starts these programs; otherwise, the next test could not fail."""
     for line in PLAIN:
         stranger.place.shell(line.format(missing=stranger.missing))
-    assert STARTED - stranger.started() == set()
+    assert set(STARTED) - stranger.started() == set()
 
 
 def test_companions(stranger: Stranger) -> None:
@@ -221,4 +185,4 @@ def test_companions(stranger: Stranger) -> None:
         done = place.run(*words, EDITOR=marks)
         assert stranger.started() == set(), (words, done)
     asked = (place.path / "words").read_text().split("\n")
-    assert USED.difference(asked) == set(), "git was asked"
+    assert set(USED).difference(asked) == set(), "git was asked"

@@ -6,7 +6,7 @@ import re
 import pytest
 
 from companion_cases import AWKWARD, MERGE, TEXT, TEXTCONV, Place, block, ended, sealed, silent
-from companion_cases.repository import add_and_commit, under_git
+from companion_cases.repository import add_and_commit, fork, under_git
 from lib.needs import needs
 from lib.subtests import SubTests
 
@@ -30,7 +30,7 @@ def test_alone(place: Place, subtests: SubTests) -> None:
         "a vault of another label": (sealed("old", b"\x00\xff", "prod"), b"\x00\xff"),
         "blocks": (blocks, around + b"secret: !vault |-\n  one\nx: !vault |-\n  two\n  three\n# end"),
     }
-    command = [TEXTCONV, *place.by_file("old"), *place.by_file("new"), "file"]
+    command = [TEXTCONV, *place.by_file("old"), *place.by_file("new"), "--", "file"]
     for name, (content, wanted) in shown.items():
         place.put("file", content)
         with subtests.test(name):
@@ -103,10 +103,6 @@ MESSAGE = "shown as it is: its plaintext would stay in git's file COMMIT_EDITMSG
 # Ways to make git put the differences below the message of a commit.
 VERBOSE = {
     "commit -v": "git commit -v",
-    "an amendment": "git commit -qm one && git commit --amend -v",
-    "a setting": "git -c commit.verbose=true commit",
-    "an alias": "git -c alias.ci='commit -v' ci",
-    "no hook": "git commit -v --no-verify",
     "a shell between": 'git config diff.ansible-vault.textconv "exec $(git config diff.ansible-vault.textconv)" && '
     "git commit -v",
     "a rebase": "git commit -qm one && git -c commit.verbose=true -c sequence.editor='sed -i s/^pick/reword/' "
@@ -170,11 +166,7 @@ def test_clones_of_others(
     place.put("ansible.cfg", b"[defaults]\nvault_identity_list = x@old\n")
     place.put("old", script, 0o755)
     place.put("../own.cfg", b"[defaults]\nvault_identity_list = x@~/secrets/old\n")
-    changes = {b"first\n": "true", b"second\n": "git checkout -qb theirs", b"third\n": "git checkout -q -"}
-    for text, command in changes.items():
-        place.shell(command)
-        place.put("a.yml", sealed("old", text))
-        add_and_commit(place)
+    fork(place, *({"a.yml": sealed("old", text)} for text in (b"first\n", b"third\n", b"second\n")))
     variables = {name: value.format(home=place.path) for name, value in variables.items()}
     run = place.path / "run"
     for command, status in (("git show --format=", 0), ("git merge --no-edit theirs", 1)):

@@ -1,4 +1,5 @@
-"""The files that both ansible-vault-rotate and ansible-vault-check find below a path."""
+"""The files that both ansible-vault-rotate and ansible-vault-check find below a path, and those that they leave out: by
+patterns, or if git does not track them."""
 
 import os
 from pathlib import Path
@@ -10,6 +11,8 @@ from hypothesis import strategies as st
 from ansible_vault_companions.files import reading, searching
 from ansible_vault_companions.files.envelopes import MAGIC
 from companion_cases import AWKWARD, CHECK, ROTATE, TEXT, Place, block, decrypted, ended, sealed, summary, to_new
+from companion_cases.repository import under_git
+from lib.needs import needs
 
 
 def found(place: Place, *paths: str) -> list[str]:
@@ -36,15 +39,17 @@ def test_awkward_names(place: Place) -> None:
 
 
 def test_links(place: Place) -> None:
-    """Links to files are followed, but a rotation writes only within the paths. A link to a directory is followed only
-    if it is a path."""
+    """Links to files are followed, but a rotation writes only within the paths, so not in a directory whose name begins
+    with the one that was named. A link to a directory is followed only if it is a path."""
     place.put("tree/all.yml", sealed("old"))
     place.put("shared/vault.yml", sealed("old"), 0o640)
     place.put("elsewhere/deep.yml", sealed("old"))
+    place.put("tree-old/vault.yml", sealed("old"))
     targets = {
         "inside.yml": "all.yml",
         "outside.yml": "../shared/vault.yml",
         "chain.yml": "outside.yml",
+        "sibling.yml": "../tree-old/vault.yml",
         "folder": "../elsewhere",
         "dangling.yml": "nowhere",
         "loop.yml": "loop.yml",
@@ -52,15 +57,16 @@ def test_links(place: Place) -> None:
     for name, target in targets.items():
         (place.tree / "tree" / name).symlink_to(target)
     shared = str(place.tree / "shared/vault.yml")
-    assert found(place, "tree") == ["tree/all.yml", "tree/chain.yml"], "the check names each file once"
+    names = ["tree/all.yml", "tree/chain.yml", "tree/sibling.yml"]
+    assert found(place, "tree") == names, "the check names each file once"
     assert found(place, "tree/folder") == ["tree/folder/deep.yml"], "a link that is the path"
     for words, part in (((), "1 rotated, 0 under"), (("--dry-run",), "0 to be rotated, 1 under")):
         done = place.run(ROTATE, *words, *to_new(place), "tree")
         why = f"tree/chain.yml: it points to {shared}, outside the paths you named; name that file to rotate it\n"
-        ended("a link out of the folder", done, 1, why, part, "1 failed")
-        assert place.get("shared/vault.yml") == sealed("old"), "its file stays"
-    done = place.run(ROTATE, *to_new(place), "tree", shared)
-    ended("its file is named", done, 0, f"tree/chain.yml ({shared}): rotated\n", summary(1, 1))
+        ended("a link out of the folder", done, 1, why, part, "2 failed")
+        assert [place.get(f"{each}/vault.yml") for each in ("shared", "tree-old")] == [sealed("old")] * 2, "files stay"
+    done = place.run(ROTATE, *to_new(place), "tree", shared, "tree-old")
+    ended("its file is named", done, 0, f"tree/chain.yml ({shared}): rotated\n", summary(2, 1))
     kept = {name: os.readlink(place.tree / "tree" / name) for name in targets}
     assert kept == targets, "links stay links"
     assert decrypted("new", place.get("shared/vault.yml")) == TEXT, "it is rotated"
@@ -69,15 +75,6 @@ def test_links(place: Place) -> None:
     ended("but where they are the path", place.run(ROTATE, *to_new(place), "tree/folder"), 0, summary(1))
     done = place.run(ROTATE, *to_new(place), "tree/dangling.yml")
     ended("a path that leads nowhere", done, 1, "tree/dangling.yml: No such file")
-
-
-def test_link_to_a_sibling(place: Place) -> None:
-    """A directory whose name begins with the one that was named is outside it."""
-    place.put("tree-old/vault.yml", sealed("old"))
-    (place.tree / "tree").mkdir()
-    (place.tree / "tree/link.yml").symlink_to("../tree-old/vault.yml")
-    ended("its file", place.run(ROTATE, *to_new(place), "tree"), 1, "outside the paths you named", "1 failed")
-    assert place.get("tree-old/vault.yml") == sealed("old"), "stays"
 
 
 def test_hard_links(place: Place) -> None:
@@ -152,3 +149,67 @@ def test_pieces(tmp_path: Path, monkeypatch: pytest.MonkeyPatch) -> None:
 
     check()
     assert len(in_two) > 30, "in many places, for each spelling"
+
+
+FILES = ["a.yml", "b.txt", "tests/a.yml", "tests/fixtures/c.yml", "roles/tests/d.yml", "[x]/e.yml"]
+# The patterns of files to leave out, and the files that are still found.
+PATTERNS: dict[tuple[str, ...], list[str]] = {
+    ("a.yml",): ["b.txt", "tests/fixtures/c.yml", "roles/tests/d.yml", "[x]/e.yml"],
+    ("tests",): ["a.yml", "b.txt", "[x]/e.yml"],
+    ("tests/",): ["a.yml", "b.txt", "[x]/e.yml"],
+    ("*.yml",): ["b.txt"],
+    ("tests/a.yml",): ["a.yml", "b.txt", "tests/fixtures/c.yml", "roles/tests/d.yml", "[x]/e.yml"],
+    ("./tests/fixtures",): ["a.yml", "b.txt", "tests/a.yml", "roles/tests/d.yml", "[x]/e.yml"],
+    ("roles/*",): ["a.yml", "b.txt", "tests/a.yml", "tests/fixtures/c.yml", "[x]/e.yml"],
+    ("?.yml", "b.*"): [],
+    ("A.yml", "fixture", "est", ".", ""): FILES,
+}
+
+
+@pytest.mark.parametrize("patterns", PATTERNS)
+def test_excluded(place: Place, patterns: tuple[str, ...]) -> None:
+    for name in FILES:
+        place.put(name, sealed("old"))
+    words = [word for pattern in patterns for word in ("--exclude", pattern)]
+    assert found(place, *words, ".") == sorted(f"./{name}" for name in PATTERNS[patterns])
+    paths = [str(place.tree), os.path.join("..", place.tree.name)]
+    assert {len(found(place, *words, path)) for path in paths} == {len(PATTERNS[patterns])}, "by any path"
+
+
+def test_named(place: Place) -> None:
+    """A file is left out even if it is given as a PATH."""
+    for name in FILES:
+        place.put(name, sealed("old"))
+    names = found(place, "--exclude", "tests/*", "--exclude", "b.txt", *FILES)
+    assert names == ["[x]/e.yml", "a.yml", "roles/tests/d.yml"]
+
+
+def test_tracked(place: Place) -> None:
+    """--tracked covers a repository within another one. A link counts as the file that it points to."""
+    needs("git")
+    under_git(place, "*.yml diff=ansible-vault\n")
+    place.put("it's ä.yml", sealed("old"))
+    place.put("deep/a.yml", block("old"))
+    place.put("inner/b.yml", sealed("old"))
+    place.shell("git -C inner init -q && git -C inner add -A && git add 'it'*.yml deep")
+    place.put("deep/untracked.yml", TEXT)
+    place.put("untracked.yml", sealed("dev"))
+    place.put("inner/untracked.yml", sealed("dev"))
+    (place.tree / "link.yml").symlink_to("untracked.yml")
+    place.shell("git add link.yml")
+    done = place.run(CHECK, *place.by_file("old"), "--tracked", ".")
+    ended("check", done, 0, "3 decrypted, 0 not")
+    ended("everything", place.run(CHECK, *place.by_file("old"), "."), 1, "3 decrypted, 3 not")
+    done = place.run(CHECK, *place.by_file("old"), "--tracked", "--exclude", "inner", "deep", ".")
+    ended("both options", done, 0, "2 decrypted, 0 not")
+    ended("rotate", place.run(ROTATE, *to_new(place), "--tracked", "--exclude", "deep", "."), 0, summary(2))
+    assert decrypted("new", place.get("inner/b.yml")) == TEXT
+    assert (place.get("deep/a.yml"), place.get("untracked.yml")) == (block("old"), sealed("dev")), "they stay"
+
+
+def test_in_no_repository(place: Place) -> None:
+    """Outside of a repository, --tracked is refused, since it would find nothing."""
+    needs("git")
+    place.put("a.yml", sealed("old"))
+    for words in ([CHECK, *place.by_file("old")], [ROTATE, *to_new(place)]):
+        ended(words[0], place.run(*words, "--tracked", "."), 1, f"{words[0]}: --tracked needs a git repository")
