@@ -14,13 +14,9 @@ ASKED = "Vault password: "
 NEW, AGAIN = "New Vault password: ", "Confirm New Vault password: "
 OF_DEV = "Vault password (dev): "
 NEW_OF_DEV, AGAIN_OF_DEV = "New vault password (dev): ", "Confirm new vault password (dev): "
-# Options after a command, and the prompts for decrypting and for encrypting.
+# Options after a command, and the prompts for decrypting and for encrypting. `guide` has more.
 FORMS: dict[str, tuple[list[str], list[str]]] = {
-    "--ask-vault-password": ([ASKED], [NEW, AGAIN]),
-    "--ask-vault-pass": ([ASKED], [NEW, AGAIN]),
     "-J": ([ASKED], [NEW, AGAIN]),
-    "": ([ASKED], [NEW, AGAIN]),
-    "--vault-id=dev@prompt": ([OF_DEV], [NEW_OF_DEV, AGAIN_OF_DEV]),
     "--vault-id=prompt": (["Vault password (default): "], []),
     "--vault-id=dev@prompt_ask_vault_pass": ([ASKED], []),
 }
@@ -40,7 +36,7 @@ def check_session(what: str, session: Session, *questions: str) -> None:
 @pytest.mark.parametrize("word, command, questions", ROWS)
 def test_forms(place: Place, word: str, command: str, questions: list[str]) -> None:
     """The options of Ansible's tool lead to the same questions here."""
-    words, answers = [command, *filter(None, [word]), "a.yml"], typed("dev", *questions)
+    words, answers = [command, word, "a.yml"], typed("dev", *questions)
     before = TEXT if command == "encrypt" else sealed("dev")
 
     def check(session: Session) -> None:
@@ -63,29 +59,19 @@ def known(words: list[str]) -> list[str]:
 
 def test_every_companion(place: Place) -> None:
     """A companion asks once to decrypt, and twice to encrypt."""
-    place.put("a.yml", sealed("dev", label="dev"))
     word = ["--vault-id", "dev@prompt"]
-    session = ask(place, CHECK, *word, ".", answers=typed("dev", OF_DEV))
-    output = "./a.yml: dev: decrypted by dev@prompt\n1 decrypted, 0 not\n"
-    assert (session.returncode, session.stdout) == (0, output), "check"
-    check_session("check", session, OF_DEV)
-    session = ask(place, CHECK, "-J", ".", answers=typed("dev", ASKED))
-    output = "./a.yml: dev: decrypted by --ask-vault-password\n1 decrypted, 0 not\n"
-    assert (session.returncode, session.stdout) == (0, output), "check -J"
-    session = ask(place, TEXTCONV, *word, "a.yml", answers=typed("dev", OF_DEV))
-    assert (session.returncode, session.stdout) == (0, TEXT.decode()), "textconv"
-    check_session("textconv", session, OF_DEV)
     editor = place.script('echo more >> "$1"', "editor")
+    session = ask(place, EDIT, *word, "a.yml", answers=typed("dev", NEW_OF_DEV, AGAIN_OF_DEV), EDITOR=editor)
+    check_session("edit of a new one", session, NEW_OF_DEV, AGAIN_OF_DEV)
     session = ask(place, EDIT, *word, "a.yml", answers=typed("dev", OF_DEV), EDITOR=editor)
     check_session("edit", session, OF_DEV)
-    assert decrypted("dev", place.get("a.yml")) == TEXT + b"more\n", "what was edited"
-    session = ask(place, EDIT, *word, "b.yml", answers=typed("dev", NEW_OF_DEV, AGAIN_OF_DEV), EDITOR=editor)
-    check_session("edit of a new one", session, NEW_OF_DEV, AGAIN_OF_DEV)
-    assert decrypted("dev", place.get("b.yml")) == b"more\n", "what was made"
+    assert decrypted("dev", place.get("a.yml")) == b"more\nmore\n", "what was edited"
+    session = ask(place, TEXTCONV, *word, "a.yml", answers=typed("dev", OF_DEV))
+    assert (session.returncode, session.stdout) == (0, "more\nmore\n"), "textconv"
     answers = [*typed("dev", OF_DEV), *typed("dev2", NEW_OF_DEV, AGAIN_OF_DEV)]
     session = ask(place, ROTATE, *word, "--new-vault-id", "dev@prompt", ".", answers=answers)
     check_session("rotate", session, OF_DEV, NEW_OF_DEV, AGAIN_OF_DEV)
-    assert decrypted("dev2", place.get("b.yml")) == b"more\n", "what was rotated"
+    assert decrypted("dev2", place.get("a.yml")) == b"more\nmore\n", "what was rotated"
 
 
 def test_by_settings(place: Place) -> None:
@@ -127,7 +113,6 @@ def test_what_is_typed(place: Place, subtests: SubTests) -> None:
         "nothing": ([(NEW_OF_DEV, b"\n")], "you typed an empty password; try again"),
         "white space": ([(NEW_OF_DEV, b" \t\n")], "you typed an empty password; try again"),
         "an end": ([(NEW_OF_DEV, b"\x04")], "you typed nothing; try again"),
-        "no text": ([(NEW_OF_DEV, b"\xff\n")], "what you typed is not valid UTF-8; set the terminal to UTF-8"),
     }
     words = [WITH, "encrypt", "--vault-id", "dev@prompt", "a.yml"]
     for what, (answers, part) in refused.items():
