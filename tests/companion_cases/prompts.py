@@ -68,6 +68,9 @@ def test_every_companion(place: Place) -> None:
     assert decrypted("dev", place.get("a.yml")) == b"more\nmore\n", "what was edited"
     session = ask(place, TEXTCONV, *word, "a.yml", answers=typed("dev", OF_DEV))
     assert (session.returncode, session.stdout) == (0, "more\nmore\n"), "textconv"
+    session = ask(place, CHECK, *word, ".", answers=typed("dev", OF_DEV))
+    output = "./a.yml: dev: decrypted by dev@prompt\n1 decrypted, 0 not\n"
+    assert (session.returncode, session.stdout) == (0, output), "check"
     answers = [*typed("dev", OF_DEV), *typed("dev2", NEW_OF_DEV, AGAIN_OF_DEV)]
     session = ask(place, ROTATE, *word, "--new-vault-id", "dev@prompt", ".", answers=answers)
     check_session("rotate", session, OF_DEV, NEW_OF_DEV, AGAIN_OF_DEV)
