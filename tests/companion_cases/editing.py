@@ -5,7 +5,7 @@ from pathlib import Path
 
 import pytest
 
-from companion_cases import CHANGE, CHANGED, EDIT, TEXT, Place, block, decrypted, edit, ended, sealed, silent
+from companion_cases import AWKWARD, CHANGE, CHANGED, EDIT, TEXT, Place, block, decrypted, edit, ended, sealed, silent
 from lib.subtests import SubTests
 
 
@@ -149,6 +149,16 @@ def test_links(place: Place) -> None:
     (place.tree / "dangling.yml").symlink_to("shared/new.yml")
     silent("a link to nothing", edit(place, 'echo a > "$1"', *place.by_file("old"), "dangling.yml"))
     assert decrypted("old", place.get("shared/new.yml")) == b"a\n", "makes its file"
+
+
+def test_names(place: Place, subtests: SubTests) -> None:
+    vault = sealed("old")
+    for name in AWKWARD:
+        with subtests.test(repr(name)):
+            place.put(name, vault)
+            silent("the edit", edit(place, CHANGE, *place.by_file("old"), "--", name))
+            assert decrypted("old", place.get(name)) == CHANGED, "the text"
+    assert place.names() == sorted(AWKWARD), "no other file is made"
 
 
 def test_new_vaults(place: Place) -> None:

@@ -1,6 +1,4 @@
-"""Signals at random moments of an edit, to the companion or to its process group, once or twice: nothing that was saved
-is lost.
-"""
+"""Signals at random moments, to a companion or to its process group, once or twice: nothing that was saved is lost."""
 
 import os
 import random
@@ -11,13 +9,14 @@ import time
 from collections import Counter
 from collections.abc import Callable
 
-from companion_cases import EDIT, Companions, Place, block, decrypted, sealed, texts, wait_until
+from companion_cases import EDIT, ROTATE, Companions, Place, block, decrypted, sealed, texts, wait_until
+from companion_cases.signals import check_whole, runs_of, tree
 from lib.limits import SECONDS
 from lib.subtests import SubTests
 
 SEED = 1
-# The number of moments for each edit.
-MOMENTS = 15
+# The number of moments for each run.
+OF_EDITS, OF_OTHERS = 15, 8
 SAVES = 6
 # Saves several times, and notes each save after it.
 EDITOR = f"""
@@ -64,6 +63,13 @@ def to_edit(cases: Companions, is_vault: bool) -> tuple[Place, list[str]]:
     return place, [EDIT, *place.by_file("old"), "a.yml"]
 
 
+def to_run(cases: Companions, name: str) -> tuple[Place, list[str]]:
+    """Return a place with files, and the command line of this run."""
+    place = cases.place()
+    tree(place)
+    return place, runs_of(place)[name]
+
+
 def read(content: bytes) -> bytes:
     """Return the plaintext of a vault, or of the values in a file."""
     if content.startswith(b"$ANSIBLE_VAULT"):
@@ -98,7 +104,7 @@ def test_edits(cases: Companions, subtests: SubTests) -> None:
     ends: Counter[str] = Counter()
     for is_vault in (True, False):
         seconds = time_of(*to_edit(cases, is_vault))
-        for number in range(MOMENTS):
+        for number in range(OF_EDITS):
             with subtests.test(f"{'a vault' if is_vault else 'values'}, moment {number}"):
                 place, words = to_edit(cases, is_vault)
                 if number % 2 == 1:
@@ -109,3 +115,16 @@ def test_edits(cases: Companions, subtests: SubTests) -> None:
     assert ends["a copy"] > 0, "some were ended after a save"
 
 
+def test_others(cases: Companions, subtests: SubTests) -> None:
+    chance = random.Random(SEED)
+    ends: Counter[int] = Counter()
+    for name in (ROTATE, "merge", "rekey", "decrypt"):
+        seconds = time_of(*to_run(cases, name))
+        for number in range(OF_OTHERS):
+            with subtests.test(f"{name}, moment {number}"):
+                place, words = to_run(cases, name)
+                status = signalled(place, words, chance, seconds)
+                ends[status] += 1
+                assert status in (0, -signal.SIGTERM, -signal.SIGHUP), "the status"
+                check_whole("the end", place)
+    assert sum(ends.values()) - ends[0] > OF_OTHERS, "some were ended"

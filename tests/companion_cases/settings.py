@@ -2,7 +2,7 @@
 
 import pytest
 
-from companion_cases import CHECK, EDIT, ROTATE, TEXT, WITH, Place, decrypted, ended, sealed, silent
+from companion_cases import CHECK, EDIT, MERGE, ROTATE, TEXT, TEXTCONV, WITH, Place, decrypted, ended, sealed, silent
 from companion_cases import use_everywhere
 from companion_cases.both import ours, theirs
 from lib.needs import needs_ansible
@@ -87,9 +87,13 @@ def test_what_is_not_trusted(place: Place, subtests: SubTests, what: str) -> Non
     place.environment["PWD"] = str(place.tree)
     secret = place.by_file("old")
     lines = [
+        [WITH, "view", *secret, "a.yml"],
         [WITH, "encrypt", *secret, "--encrypt-vault-id", "default", "plain.yml"],
+        [WITH, "edit", *secret, "--encrypt-vault-id", "default", "a.yml"],
         [EDIT, *secret, "--encrypt-vault-id", "default", "new.yml"],
         [CHECK, *secret, "a.yml"],
+        [TEXTCONV, *secret, "a.yml"],
+        [MERGE, *secret, "a.yml", "a.yml", "a.yml", "a.yml"],
         [ROTATE, *secret, *place.by_file("new", "new-"), "a.yml"],
     ]
     for line in lines:
@@ -98,7 +102,7 @@ def test_what_is_not_trusted(place: Place, subtests: SubTests, what: str) -> Non
         (place.path / "ran").unlink(missing_ok=True)
         place.put("ansible.cfg", file.encode())
         place.script("touch ../ran; cat ../secrets/prod", "tree/script")
-        with subtests.test(line[0]):
+        with subtests.test(" ".join(line[:2])):
             done = place.run(*line, EDITOR=place.script('echo more >> "$1"', "editor"), **variables)
             assert (done.returncode, (place.path / "ran").exists()) == (0, runs), done.stderr
     if not runs:
