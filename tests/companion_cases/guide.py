@@ -1,7 +1,6 @@
 """The command lines of the Ansible Vault guide, run by Ansible's tool and by the alias for ansible-vault-with.
 
-Each row of a table says what both do, or what Ansible's tool does instead, and before which release. `random_secrets`
-compares lines with secrets in files and settings.
+Each row of a table says what both do, or what Ansible's tool does instead, and before which release.
 """
 
 import re
@@ -16,11 +15,11 @@ from lib.ansible import ansible_release
 from lib.needs import needs, needs_ansible
 
 # Password files of the guide.
-FILES = {"a_password_file": "dev", "multi_password_file": "prod", "ppold": "old", "new": "new"}
+FILES = {"a_password_file": "dev", "multi_password_file": "prod", "ppold": "old", "dev-password": "dev", "new": "new"}
 NAMES = ["foo.yml", "bar.yml", "baz.yml"]
 OLD, NEW, AGAIN = "Vault password: ", "New Vault password: ", "Confirm New Vault password: "
 NEW_OF, AGAIN_OF = "New vault password ({}): ", "Confirm new vault password ({}): "
-LIST = "ANSIBLE_VAULT_IDENTITY_LIST='dev@a_password_file, prod@multi_password_file'"
+LIST = "ANSIBLE_VAULT_IDENTITY_LIST='dev@dev-password, prod@multi_password_file'"
 DEV = "--vault-id dev@a_password_file"
 # Ansible's tool asks for strings through its standard streams.
 AT_TERMINAL = "--output new.yml < /dev/tty > /dev/tty 2>&1"
@@ -70,6 +69,12 @@ def twice(label: str) -> list[tuple[str, str]]:
 TWICE = [(NEW, "new"), (AGAIN, "new")]
 ROWS = [
     Row("create --vault-id test@multi_password_file new.yml", "makes a file in an editor"),
+    Row(
+        "create --vault-id my_new_password@prompt new.yml",
+        "asks twice, and makes a file in an editor",
+        typed=twice("my_new_password"),
+    ),
+    Row("create --ask-vault-pass new.yml", "asks twice", typed=TWICE),
     Row("create new.yml", "asks twice without an option", typed=TWICE),
     Row("encrypt foo.yml bar.yml baz.yml", "encrypts all in place", typed=TWICE),
     Row(
@@ -77,10 +82,20 @@ ROWS = [
         "encrypts all under the label",
         typed=twice("project"),
     ),
+    Row("encrypt --vault-password-file a_password_file foo.yml", "encrypts in place"),
     Row("encrypt foo.yml --vault-id dev@~/tree/a_password_file", "takes options behind a file, and a home"),
+    Row(
+        "encrypt --vault-id dev@dev-password --vault-id prod@multi_password_file --encrypt-vault-id prod foo.yml",
+        "encrypts with one of two secrets",
+    ),
+    Row("encrypt --encrypt-vault-id prod foo.yml", "encrypts with one of the settings", before=LIST),
+    Row("encrypt --vault-id dev@dev-password --output new.yml foo.yml", "writes a new file"),
     Row("view foo.yml bar.yml baz.yml", "asks once, and shows all", "old", [(OLD, "old")]),
     Row("view --ask-vault-pass foo.yml", "asks", "old", [(OLD, "old")]),
     Row("view --vault-password-file ppold foo.yml bar.yml", "shows both", "old"),
+    Row("view foo.yml", "takes the password file of a variable", "old", before="ANSIBLE_VAULT_PASSWORD_FILE=./ppold"),
+    Row("view foo.yml", "takes the secrets of a variable", "prod", before=LIST),
+    Row("view --vault-id dev@vault-keyring-client.py foo.yml", "asks a client script", "dev"),
     Row("edit foo.yml", "asks, and edits", "old", [(OLD, "old")]),
     Row("edit --vault-id vault2@prompt foo.yml", "asks, and edits", "old", [("Vault password (vault2): ", "old")]),
     Row("edit --vault-password-file ppold foo.yml bar.yml baz.yml", "edits one after the other", "old"),
@@ -91,13 +106,28 @@ ROWS = [
         "old",
         twice("preprod2"),
     ),
+    Row("rekey --vault-id ppold --new-vault-id dev@dev-password foo.yml", "gives another label", "old"),
+    Row("rekey --vault-password-file ppold --new-vault-password-file new foo.yml", "gives another secret", "old"),
     Row("rekey --encrypt-vault-id prod foo.yml", "takes the new secret of the settings", "dev", before=LIST),
     Row("decrypt foo.yml bar.yml baz.yml", "asks once, and decrypts all in place", "old", [(OLD, "old")]),
+    Row("decrypt --vault-id dev@a_password_file --output - foo.yml", "writes to standard output", "dev"),
     Row("decrypt --vault-pass-file=$HOME/tree/ppold foo.yml", "takes the other name of an option", "old"),
+    Row("encrypt_string --vault-password-file a_password_file 'foobar' --name 'the_secret'", "makes a block"),
+    Row(f"encrypt_string {DEV} 'foooodev' --name 'the_dev_secret'", "makes a block with a label"),
     Row(f"encrypt_string {DEV} --stdin-name 'db_password' <<< letmein", "reads standard input"),
+    Row(
+        f"encrypt_string {DEV} --stdin-name 'db_password' --output new.yml <<< letmein",
+        "writes the block of standard input to a file",
+        instead=Instead((2, 14), "!vault |"),
+    ),
     Row(f"encrypt_string {DEV} 'first' 'second' --name one --name two", "makes two blocks"),
     Row(f"encrypt_string {DEV} 'first' 'second' 'third' -n one", "names the first of three blocks"),
     Row(f"encrypt_string {DEV} 'first' --name one --stdin-name two <<< second", "takes both"),
+    Row(
+        f"encrypt_string {DEV} 'first' 'second' --output new.yml",
+        "writes the blocks to a file",
+        instead=Instead(NONE, "At most one input file may be used with the --output option"),
+    ),
     Row(
         f"encrypt_string {DEV} 'first' --output new.yml",
         "writes the block to a file",
@@ -129,6 +159,7 @@ ROWS = [
         typed_there=[(VARIABLE, "one"), (STRING, "first")],
     ),
     Row("encrypt_string --ask-vault-pass 'a' --name b", "asks twice", typed=TWICE),
+    Row("encrypt --vault-passw a_password_file foo.yml", "takes an abbreviated option"),
     Row("encrypt --vault-i dev@a_password_file --encrypt dev --out=new.yml foo.yml", "takes three of them"),
     Row("view --ask-vault-passw foo.yml", "takes an abbreviated option", "old", [(OLD, "old")]),
     Row("rekey --vault-i ppold --new-vault-p new foo.yml", "takes two of them", "old"),
@@ -145,6 +176,7 @@ ROWS = [
 def run(place: Place, tool: str, row: Row) -> Session:
     for name, password in FILES.items():
         place.put(name, PASSWORDS[password] + b"\n", 0o600)
+    place.put("vault-keyring-client.py", b'#!/bin/sh\necho "the password $2"\n', 0o755)
     for number, name in enumerate(NAMES):
         place.put(name, sealed(row.password, TEXT * number) if row.password else TEXT * number)
     text = f"shopt -s expand_aliases\nalias ansible-vault={tool}\n{row.before} ansible-vault {row.line}\n"
@@ -159,7 +191,7 @@ Block = tuple[bytes, Described]
 
 def outcome(place: Place, session: Session) -> tuple[bool, list[Block], dict[str, list[Block]]]:
     """Return whether the run succeeded, the blocks of its output, and those of each file except password files."""
-    files = {name: blocks(data) for name, data in place.files().items() if name not in FILES}
+    files = {name: blocks(data) for name, data in place.files().items() if not (name in FILES or "client" in name)}
     return session.returncode == 0, blocks(session.stdout.strip().encode()), files
 
 

@@ -14,9 +14,13 @@ ASKED = "Vault password: "
 NEW, AGAIN = "New Vault password: ", "Confirm New Vault password: "
 OF_DEV = "Vault password (dev): "
 NEW_OF_DEV, AGAIN_OF_DEV = "New vault password (dev): ", "Confirm new vault password (dev): "
-# Options after a command, and the prompts for decrypting and for encrypting. `guide` has more.
+# Options after a command, and the prompts for decrypting and for encrypting.
 FORMS: dict[str, tuple[list[str], list[str]]] = {
+    "--ask-vault-password": ([ASKED], [NEW, AGAIN]),
+    "--ask-vault-pass": ([ASKED], [NEW, AGAIN]),
     "-J": ([ASKED], [NEW, AGAIN]),
+    "": ([ASKED], [NEW, AGAIN]),
+    "--vault-id=dev@prompt": ([OF_DEV], [NEW_OF_DEV, AGAIN_OF_DEV]),
     "--vault-id=prompt": (["Vault password (default): "], []),
     "--vault-id=dev@prompt_ask_vault_pass": ([ASKED], []),
 }
@@ -36,7 +40,7 @@ def check_session(what: str, session: Session, *questions: str) -> None:
 @pytest.mark.parametrize("word, command, questions", ROWS)
 def test_forms(place: Place, word: str, command: str, questions: list[str]) -> None:
     """The options of Ansible's tool lead to the same questions here."""
-    words, answers = [command, word, "a.yml"], typed("dev", *questions)
+    words, answers = [command, *filter(None, [word]), "a.yml"], typed("dev", *questions)
     before = TEXT if command == "encrypt" else sealed("dev")
 
     def check(session: Session) -> None:
