@@ -1,4 +1,4 @@
-"""Blocks in YAML: every byte around them stays."""
+"""Blocks in YAML: every byte around them stays, and so do the line ends of vaults."""
 
 import os
 import re
@@ -18,6 +18,7 @@ FILES = {
     "CR LF and no last line end": (b"a: !vault |\r\n" + lines_of(sealed("old"), 2, b"\r\n"), 1),
     "lists": (b"a:\n  - !vault |\n" + lines_of(sealed("old"), 4) + b"\n  - b\n  - - !vault |\n" + BODY + b"\n", 2),
     "quoted keys": (b'"a: b": !vault |\n' + BODY + b"\n'it''s': !vault |\n" + BODY + b"\n", 2),
+    "a vault with CR LF": (sealed("old").replace(b"\n", b"\r\n"), 1),
     "any depth": (DEEP + b" " * 30 + b"b: !vault |\n" + lines_of(sealed("old"), 31) + b"\n", 1),
     "marks": (
         b"a: !vault |-\n" + BODY + b"\nb: !vault |+\n" + BODY + b"\nc: !vault |2-   # why\n" + LABELLED + b"\n",
@@ -53,21 +54,6 @@ def test_around(place: Place) -> None:
     }
     assert {name: (without_digits(after), texts(after, "new")) for name, after in place.files().items()} == wanted
     ended("blocks", done, 0, summary(sum(count for _, count in FILES.values())))
-
-
-def test_mixed(place: Place) -> None:
-    """A block that cannot be decrypted stays, and the others are still rotated."""
-    stray = block("dev", name="stray")
-    content = block("old", name="a") + stray + block("prod", label="prod", name="b") + block("old", name="c") + b"d: 1"
-    place.put("vars.yml", content)
-    done = place.run(ROTATE, *to_new(place), "vars.yml")
-    line = 1 + block("old").count(b"\n") + 1
-    parts = [f"vars.yml:{line}: no secret decrypts this vault", "vars.yml: 2 blocks rotated"]
-    ended("a stray block", done, 1, *parts, summary(2, 0, 1, " (prod 1)", 1))
-    after = place.get("vars.yml")
-    assert without_digits(after) == without_digits(content), "all around stays"
-    assert stray in after and block("prod", label="prod", name="b") in after, "the strays stay"
-    assert [texts(after, "new")[index] for index in (0, 3)] == [TEXT, TEXT], "the others are rotated"
 
 
 # Makes a run of this command wait until another one has started, and fail if none does.

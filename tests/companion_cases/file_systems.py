@@ -5,10 +5,8 @@ The faults come from strace, or from changes to the Python modules of the compan
 
 import pytest
 
-from companion_cases import CHANGED, EDIT, MERGE, ROTATE, TEXT, WITH, Done, Place, decrypted, run_changed, sealed
-from companion_cases import to_new, versions
+from companion_cases import EDIT, ROTATE, TEXT, WITH, Done, Place, decrypted, run_changed, sealed, to_new
 from lib.needs import needs
-from lib.subtests import SubTests
 
 NO_LINKS = ("EPERM", "EOPNOTSUPP", "ENOSYS", "EMLINK")
 MOUNT = "36 35 98:0 / {} rw,noatime master:1 - ext3 /dev/root rw,errors=continue\n"
@@ -33,29 +31,19 @@ def test_folder_that_is_not_synced(place: Place, fault: str, status: int) -> Non
     assert (place.names(), decrypted("new", place.get("a.yml"))) == (["a.yml"], TEXT)
 
 
-def test_folder_that_cannot_be_read(place: Place, subtests: SubTests) -> None:
+def test_folder_that_cannot_be_read(place: Place) -> None:
     """A directory that cannot be opened cannot be synced alone, so all file systems are."""
     needs("strace")
     place.put("folder/a.yml", sealed("old"))
-    old = place.by_file("old")
-    base, theirs = versions(place, "b.yml", sealed("old"), b"", sealed("old", CHANGED))[::2]
-    runs = {
-        "rotate": [ROTATE, *to_new(place), "folder/a.yml"],
-        "rekey": [WITH, "rekey", *place.by_file("new"), *place.by_file("old", "new-"), "folder/a.yml"],
-        "merge": [MERGE, *old, base, "folder/a.yml", theirs, "folder/a.yml"],
-    }
     place.give("folder", "folder/a.yml")
     (place.tree / "folder").chmod(0o300)
-    for name, (companion, *words) in runs.items():
-        with subtests.test(name):
-            tracer = ["strace", "-f", "-o", f"../temporary/{name}", "-e", "trace=sync,rename"]
-            done = place.as_nobody(*tracer, str(place.tools / companion), *words)
-            assert done.returncode == 0, done.stderr
-            lines = (place.temporary / name).read_text().splitlines()
-            calls = [line.split()[1].partition("(")[0] for line in lines if line.endswith("= 0")]
-            assert calls == ["rename", "sync"]
+    tracer = ["strace", "-f", "-o", "../temporary/trace", "-e", "trace=sync,rename"]
+    done = place.as_nobody(*tracer, str(place.tools / ROTATE), *to_new(place), "folder/a.yml")
+    assert done.returncode == 0, done.stderr
+    lines = (place.temporary / "trace").read_text().splitlines()
+    assert [line.split()[1].partition("(")[0] for line in lines if line.endswith("= 0")] == ["rename", "sync"]
     (place.tree / "folder").chmod(0o755)
-    assert decrypted("old", place.get("folder/a.yml")) == CHANGED, "they did their work"
+    assert decrypted("new", place.get("folder/a.yml")) == TEXT, "it did its work"
 
 
 @pytest.mark.parametrize("fault", NO_LINKS)
@@ -68,14 +56,14 @@ def test_no_hard_links(place: Place, fault: str) -> None:
     assert (place.mode("new.yml"), place.names()) == ("0o600", ["new.yml"])
 
 
-@pytest.mark.parametrize("fault", NO_LINKS)
-def test_name_that_is_taken_where_there_are_no_hard_links(place: Place, fault: str) -> None:
-    """Even without hard links, a new vault does not replace a file."""
+@pytest.mark.parametrize("fault", [*NO_LINKS, "EEXIST"])
+def test_name_that_is_taken(place: Place, fault: str) -> None:
+    """Another program may take the name at the last moment. With and without hard links, its file stays."""
     none = f"""
 import errno
 def none(_, target):
     open(target, "x").write("theirs")
-    raise OSError(errno.{fault}, "no links")
+    raise OSError(errno.{fault}, "no link")
 os.link = none
 """
     editor = place.script('echo a > "$1"', "editor")

@@ -7,7 +7,7 @@ import pytest
 
 from ansible_vault_companions.git import damage, leaks
 from ansible_vault_companions.yaml.hidden import envelopes
-from companion_cases import BODY, CHECK, ROTATE, TEXT, Done, Place, block, decrypted, ended, sealed, summary, to_new
+from companion_cases import BODY, CHECK, ROTATE, Done, Place, block, ended, sealed, summary, to_new
 
 LINE = sealed("old").decode().replace("\n", "\\n")
 OF_PROD = sealed("prod", label="prod").decode().replace("\n", "\\n")
@@ -64,31 +64,6 @@ def test_several_in_a_line(place: Place) -> None:
     done = place.run(ROTATE, *to_new(place), ".")
     counts = summary(0, 0, 2, " (prod 2)", 4)
     ended("minified JSON", done, 1, "./a.json:1: ", "./b.json:1: ", "./c.json:1: ", counts)
-
-
-def test_of_another_label(place: Place) -> None:
-    """An envelope in such a form is not an error if its label is not rotated."""
-    place.put("a.yml", sealed("old"))
-    place.put("b.yml", f'a: !vault "{OF_PROD}"\n'.encode())
-    place.put("c.json", f'{{"a": {{"__ansible_vault": "{OF_PROD}"}}}}\n'.encode())
-    before = place.files()
-    ended("another label", place.run(ROTATE, *to_new(place), "."), 0, summary(1, 0, 2, " (prod 2)"))
-    place.put("a.yml", before["a.yml"])
-    both = [*to_new(place), *place.by_id("prod", "new", "new-")]
-    done = place.run(ROTATE, *both, "b.yml", "c.json")
-    ended("its label", done, 1, "b.yml:1: ", "c.json:1: ", summary(0, failed=2))
-    assert place.files() == before, "they stay"
-    done = place.run(CHECK, *place.by_file("old"), "b.yml", "c.json")
-    ended("they are not passed over", done, 1, "b.yml:1: ", "c.json:1: ", "0 decrypted, 2 not")
-
-
-def test_line_ends(place: Place) -> None:
-    """A vault keeps its line ends."""
-    place.put("a.yml", sealed("old").replace(b"\n", b"\r\n"))
-    ended("CR LF", place.run(ROTATE, *to_new(place), "."), 0, summary(1))
-    after = place.get("a.yml")
-    assert after.count(b"\r\n") == after.count(b"\n"), "each line ends so"
-    assert decrypted("new", after.replace(b"\r\n", b"\n")) == TEXT, "it is rotated"
 
 
 # Each piece is repeated to make a hostile file.

@@ -7,7 +7,7 @@ from pathlib import Path
 
 import pytest
 
-from companion_cases import ABOVE_EDITOR, CHANGE, CHANGED, EDIT, ENCRYPTED, TEXT, Companions, Done, Place, decrypted
+from companion_cases import ABOVE_EDITOR, CHANGE, CHANGED, EDIT, ENCRYPTED, TEXT, Done, Place, decrypted
 from companion_cases import edit, ended, run_changed, sealed, silent
 from lib.needs import needs_mounts
 
@@ -24,7 +24,7 @@ def check_encrypted(what: str, place: Place, done: Done, why: str, folder: Path)
     assert "all.yml-" in path.name, f"{what}: its name tells whose it is"
     assert decrypted("old", path.read_bytes()) == CHANGED, f"{what}: it is the text, encrypted"
     assert oct(path.stat().st_mode & 0o777) == "0o600", f"{what}: for its owner alone"
-    assert place.left() == [], f"{what}: no plaintext is left"
+    assert (place.left(), "plaintext" in done.stderr) == ([], False), f"{what}: no plaintext is left"
     path.unlink()
 
 
@@ -51,6 +51,7 @@ STOPS = {
     "another vault": (f"{CHANGE}; echo >> all.yml", CHANGED_MEANWHILE, sealed("old") + b"\n"),
     "a folder in its place": (f"{CHANGE}; rm all.yml; mkdir all.yml", "Is a directory", None),
     "it is gone": (f"{CHANGE}; rm all.yml", CHANGED_MEANWHILE, None),
+    "the plaintext goes": (f'{CHANGE}; sleep 3; rm -r "${{1%/*}}"', "the editor left no file", sealed("old")),
 }
 
 
@@ -64,42 +65,11 @@ def test_replacing_fails(place: Place, what: str) -> None:
     assert place.files() == ({} if stays is None else {"all.yml": stays})
 
 
-def test_made_meanwhile(cases: Companions) -> None:
+def test_made_meanwhile(place: Place) -> None:
     """A new vault never replaces a file that another program has created meanwhile."""
-    place = cases.place()
     done = edit(place, 'echo a > "$1"; echo theirs > new.yml', *place.by_file("old"), "new.yml")
-    ended("made while the editor runs", done, 1, "new.yml: another program changed it meanwhile", "is encrypted in")
+    ended("it is made", done, 1, "new.yml: another program changed it meanwhile", "is encrypted in")
     assert place.get("new.yml") == b"theirs\n", "it stays"
-    place = cases.place()
-    # The file appears after the last check that there is none.
-    editor = place.script('echo a > "$1"; touch ../started', "editor")
-    late = f"""
-read = reading.read
-def late(path):
-    found = read(path)
-    if os.path.exists("../started") and path == {str(place.tree / "new.yml")!r}:
-        open(path, "x").write("theirs")
-    return found
-reading.read = late
-"""
-    done = run_changed(place, EDIT, late, [*place.by_file("old"), "new.yml"], EDITOR=editor)
-    ended("made at the last moment", done, 1, "new.yml: another program created it meanwhile", "is encrypted in")
-    assert place.get("new.yml") == b"theirs", "it stays"
-
-
-def test_read_only_folder(place: Place) -> None:
-    """If nothing can be written beside the vault, the copy is kept in $TMPDIR."""
-    for folder in (place.tree, place.runtime):
-        folder.chmod(0o777)
-    place.put("all.yml", sealed("old"), 0o644)
-    place.give("all.yml", ".")
-    place.environment["EDITOR"] = place.script(f"{CHANGE}; chmod 555 .", "editor")
-    done = place.as_nobody(EDIT, *place.by_file("old"), "all.yml")
-    check_encrypted("a read-only folder", place, done, "Permission denied", place.temporary)
-    whole = str(place.tree / "all.yml").replace("/", "%")
-    assert f"{place.temporary}/.ansible-vault-saved-{whole}-" in done.stderr, "its name has the whole path"
-    assert place.get("all.yml") == sealed("old"), "the vault stays"
-    place.tree.chmod(0o777)
 
 
 def test_full_disks(place: Place) -> None:
@@ -132,14 +102,11 @@ def test_mounted_vaults(place: Place) -> None:
     unshared = ["unshare", "-m", "mount", "--make-rprivate", "/"]
     needs_mounts(subprocess.run(unshared, capture_output=True).returncode == 0)
     place.put("all.yml", sealed("old"))
-    words = f"{EDIT} {' '.join(place.by_file('old'))} all.yml"
     place.environment["EDITOR"] = place.script(f"touch ../started; {CHANGE}", "editor")
+    words = f"{EDIT} {' '.join(place.by_file('old'))} all.yml"
     done = place.run("unshare", "-m", "sh", "-c", f"mount --bind all.yml all.yml && {words}")
     ended("a mounted vault", done, 1, "all.yml: it is a mount point")
     assert not (place.path / "started").exists(), "it is seen before the editor starts"
-    place.environment["EDITOR"] = place.script(f"{CHANGE}; mount --bind all.yml all.yml", "editor")
-    done = place.run("unshare", "-m", "sh", "-c", words)
-    check_encrypted("mounted meanwhile", place, done, "Device or resource busy", place.tree)
     assert place.get("all.yml") == sealed("old"), "the vault stays"
 
 
@@ -200,30 +167,27 @@ def test_what_the_editor_left(place: Place, end: str) -> None:
     assert (place.get("all.yml"), place.left()) == (sealed("old"), []), "the vault stays, and no plaintext is left"
 
 
-def test_what_a_good_editor_left(place: Place) -> None:
-    place.put("all.yml", sealed("old"))
-    silent("an editor that ends well", edit(place, f"{LEAVES}; {CHANGE}", *place.by_file("old"), "all.yml"))
-    assert place.names() == ["all.yml"], "no copy is made"
+# What an editor does to the directory of the vault, why the vault cannot be replaced, and the files that stay.
+FOLDERS = {
+    "chmod 555 folder": ("Permission denied", {"folder/all.yml": sealed("old")}),
+    "rm -r folder": ("No such file or directory", {}),
+}
 
 
-@pytest.mark.parametrize("name, editor", {"at once": ":", "after a while": f"{CHANGE}; sleep 3"}.items())
-def test_folders_that_go(place: Place, name: str, editor: str) -> None:
-    """A saved text is not lost if the directory of the plaintext is removed, as logging out may do."""
-    place.put("all.yml", sealed("old"))
-    done = edit(place, f'{editor}; rm -r "${{1%/*}}"', *place.by_file("old"), "all.yml")
-    if name == "at once":
-        ended(name, done, 1, "all.yml: the editor left no file; nothing was changed\n")
-    else:
-        check_encrypted(name, place, done, "the editor left no file", place.tree)
-    assert "plaintext" not in done.stderr, f"{name}: nothing is said of plaintext"
-    assert place.files() == {"all.yml": sealed("old")}, f"{name}: the vault stays, and nothing is left"
-
-
-def test_folder_of_the_vault_that_goes(place: Place) -> None:
-    """The encrypted copy is then kept in $TMPDIR."""
+@pytest.mark.parametrize("change", FOLDERS)
+def test_folder_of_the_vault_that_goes(place: Place, change: str) -> None:
+    """If nothing can be written beside the vault, the copy is kept in $TMPDIR, and its name has the whole path."""
+    why, stays = FOLDERS[change]
+    for folder in (place.tree, place.runtime):
+        folder.chmod(0o777)
     place.put("folder/all.yml", sealed("old"))
-    done = edit(place, f"{CHANGE}; rm -r folder", *place.by_file("old"), "folder/all.yml")
-    check_encrypted("the folder", place, done, "No such file or directory", place.temporary)
+    place.give("folder", "folder/all.yml")
+    place.environment["EDITOR"] = place.script(f"{CHANGE}; {change}", "editor")
+    done = place.as_nobody(EDIT, *place.by_file("old"), "folder/all.yml")
+    check_encrypted(change, place, done, why, place.temporary)
+    whole = str(place.tree / "folder/all.yml").replace("/", "%")
+    assert f"{place.temporary}/.ansible-vault-saved-{whole}-" in done.stderr, "its name"
+    assert place.files() == stays
 
 
 def test_earlier_copies(place: Place) -> None:
@@ -277,30 +241,23 @@ def test_long_names(place: Place) -> None:
     check_encrypted("a long name", place, done, "the editor failed", place.tree)
 
 
-def test_lost_passwords(place: Place) -> None:
-    """A password file may be removed while the editor runs."""
+# A program that the editor leaves running may write while the directory is removed.
+HELPER = '(while [ "$n" != 100 ] && mkdir "${1%/*}/$((n += 1))"; do :; done) > /dev/null 2>&1 &'
+# What an editor may do after it has saved.
+HARMLESS = {"it leaves files": LEAVES, "it removes the password": "rm ../secrets/old"}
+HARMLESS |= {f"a busy helper, attempt {number}": HELPER for number in (1, 2, 3)}
+
+
+@pytest.mark.parametrize("what", HARMLESS)
+def test_harmless_editors(place: Place, what: str) -> None:
     place.put("all.yml", sealed("old"))
-    editor = f"{CHANGE}; rm {place.secret('old')}"
-    silent("a password file that goes", edit(place, editor, *place.by_file("old"), "all.yml"))
+    silent(what, edit(place, f"{CHANGE}; {HARMLESS[what]}", *place.by_file("old"), "all.yml"))
     assert decrypted("old", place.get("all.yml")) == CHANGED, "the text is changed"
+    assert (place.names(), place.left()) == (["all.yml"], []), "nothing is left"
 
 
-@pytest.mark.parametrize("attempt", range(3))
-def test_busy_helpers(place: Place, attempt: int) -> None:
-    """A program that the editor leaves running may write while the directory is removed."""
-    helper = '(while [ "$n" != 100 ] && mkdir "${1%/*}/$((n += 1))"; do :; done) > /dev/null 2>&1 &'
-    place.put("all.yml", sealed("old"))
-    silent("a busy helper", edit(place, f"{CHANGE}; {helper}", *place.by_file("old"), "all.yml"))
-    assert decrypted("old", place.get("all.yml")) == CHANGED, "the text is changed"
-    assert place.left() == [], "the folder is gone"
-
-
-def test_warnings(place: Place) -> None:
-    """The companion warns of an editor that returns at once, and the help of copies that editors and memory keep."""
-    place.put("all.yml", sealed("old"))
-    late = '(sleep 0.1; echo late > "$1") 2> /dev/null > /dev/null &'
-    done = edit(place, late, *place.by_file("old"), "all.yml")
-    ended("the editor returned at once", done, 0, "nothing was changed", "an option to wait")
+def test_help(place: Place) -> None:
+    """It warns of copies that editors and memory keep."""
     text = " ".join(place.run(EDIT, "--help").stdout.split())
     parts = ("an option to wait, such as `code --wait`", "undo and backup files", "memory may be swapped")
-    assert [part for part in parts if part not in text] == [], "the help says so"
+    assert [part for part in parts if part not in text] == []

@@ -3,14 +3,13 @@
 import re
 
 import pytest
-from companion_cases import CHECK, ROTATE, TEXT, TEXTCONV, Companions, Place, block, decrypted, edit, ended, sealed
-from companion_cases import silent
+from companion_cases import CHECK, ROTATE, TEXT, TEXTCONV, Place, block, decrypted, edit, ended, silent
 from lib.subtests import SubTests
 
 OF_DEV, OF_PROD = b"the word of dev\n", b"the word of prod\n"
 SHOWN = b"a: !vault |\n  the word of dev\nb: !vault |\n  the word of prod\n"
 # A value for which no secret is chosen, and a text that is not YAML.
-UNFINISHED = {"a new value": "new: !vault more", "no YAML": 'c: !vault "more'}
+UNFINISHED = ("new: !vault more", 'c: !vault "more')
 KEPT = re.compile(r"; what you saved is encrypted in (\S+), with 2 secrets, one inside the other\n")
 NOTE = b"# The vault below is under another secret; ansible-vault-edit decrypts both.\n"
 
@@ -22,35 +21,43 @@ def of_two(place: Place) -> list[str]:
     return [*place.by_id("dev", "dev"), *place.by_id("prod", "prod")]
 
 
-def copy_of(what: str, place: Place, line: str) -> str:
+def copy_of(place: Place, line: str) -> str:
     """Add this line in an edit, and return the name of the copy that is kept."""
     secrets = of_two(place)
     before = place.get("vars.yml")
     done = edit(place, f"printf '%s\\n' '{line}' >> \"$1\"", *secrets, "vars.yml")
-    assert done.returncode == 1, f"{what}: the status"
     told = KEPT.search(done.stderr)
-    assert told is not None, (f"{what}: the message says where it is, and how to read it", done.stderr)
-    assert place.get("vars.yml") == before, f"{what}: the file stays"
-    assert place.left() == [], f"{what}: no plaintext is left"
+    assert done.returncode == 1 and told, done
     [name] = [name for name in place.names() if name != "vars.yml"]
-    assert told[1] == str(place.tree / name), f"{what}: it is the one that is named"
+    assert told[1] == str(place.tree / name), "the message says where it is"
+    assert (place.get("vars.yml"), place.left()) == (before, []), "the file stays, and no plaintext is left"
     return name
 
 
-@pytest.mark.parametrize("what, line", UNFINISHED.items())
-def test_under_each(place: Place, what: str, line: str) -> None:
-    copy = place.get(copy_of(what, place, line))
-    assert copy.startswith(b"$ANSIBLE_VAULT;1.2;AES256;dev\n"), f"{what}: the outer label"
+@pytest.mark.parametrize("line", UNFINISHED)
+def test_under_each(place: Place, line: str) -> None:
+    """The other companions find both layers."""
+    name = copy_of(place, line)
+    copy, wanted = place.get(name), SHOWN + f"{line}\n".encode()
+    assert copy.startswith(b"$ANSIBLE_VAULT;1.2;AES256;dev\n"), "the outer label"
     outer = decrypted("dev", copy) or b""
-    assert outer.partition(b"$")[0] == NOTE, f"{what}: within is a line, and a vault"
-    text = decrypted("prod", outer.removeprefix(NOTE))
-    assert text == SHOWN + f"{line}\n".encode(), f"{what}: within both is the text"
+    assert outer.partition(b"$")[0] == NOTE, "within is a line, and a vault"
+    assert decrypted("prod", outer.removeprefix(NOTE)) == wanted, "within both is the text"
+    dev, prod = place.by_id("dev", "dev"), place.by_id("prod", "prod")
+    shown = place.run(TEXTCONV, *dev, *prod, name)
+    assert (shown.stdout, shown.stderr) == (wanted.decode(), ""), "it is shown"
+    ended("check", place.run(CHECK, *dev, *prod, name), 0, "2 decrypted, 0 not")
+    ended("check with one", place.run(CHECK, *dev, name), 1, "1 decrypted, 1 not")
+    new = place.by_id("prod", "prod2", "new-")
+    ended("rotate", place.run(ROTATE, *dev, *prod, *new, name), 0, "1 block within a plaintext rotated")
+    outer = decrypted("dev", place.get(name)) or b""
+    assert decrypted("prod2", outer.removeprefix(NOTE)) == wanted, "the inner one"
 
 
 def test_edited_again(place: Place, subtests: SubTests) -> None:
     """Opening the copy takes both secrets, and an edit encrypts it with both again."""
     text = SHOWN + b"new: !vault more\n"
-    name = copy_of("a copy", place, "new: !vault more")
+    name = copy_of(place, UNFINISHED[0])
     before = place.get(name)
     for label in ("dev", "prod"):
         with subtests.test(f"{label} alone"):
@@ -71,46 +78,23 @@ def test_edited_again(place: Place, subtests: SubTests) -> None:
     assert decrypted("prod", outer.removeprefix(NOTE)) == wanted, "a copy of the copy"
 
 
-def test_other_companions(place: Place) -> None:
-    """They find both layers."""
-    name = copy_of("a copy", place, "new: !vault more")
-    both = [*place.by_id("dev", "dev"), *place.by_id("prod", "prod")]
-    shown = place.run(TEXTCONV, *both, name)
-    assert (shown.stdout, shown.stderr) == (SHOWN.decode() + "new: !vault more\n", ""), "within both is the text"
-    ended("check", place.run(CHECK, *both, name), 0, "2 decrypted, 0 not")
-    ended("check with one", place.run(CHECK, *place.by_id("dev", "dev"), name), 1, "1 decrypted, 1 not")
-    new = place.by_id("prod", "prod2", "new-")
-    ended("rotate", place.run(ROTATE, *both, *new, name), 0, "1 block within a plaintext rotated")
-    outer = decrypted("dev", place.get(name)) or b""
-    wanted = SHOWN + b"new: !vault more\n"
-    assert decrypted("prod2", outer.removeprefix(NOTE)) == wanted, "the inner one"
+OF_LABEL = block("dev", TEXT, "dev", "a")
+# A file, the label and the password of a second secret, more options, and whether the copy takes both secrets.
+SECRETS: dict[str, tuple[bytes, tuple[str, str], list[str], bool]] = {
+    "one password": (OF_LABEL + block("dev", TEXT, "other", "b"), ("other", "dev"), [], False),
+    "the secret of a new value": (OF_LABEL, ("prod", "prod"), ["--encrypt-vault-id", "prod"], True),
+    "no secret is chosen": (b"a: !vault correct horse\n", ("prod", "prod"), [], True),
+}
 
 
-def test_by_password(cases: Companions) -> None:
+@pytest.mark.parametrize("what", SECRETS)
+def test_by_password(place: Place, what: str) -> None:
     """One password under two labels is one secret. A new value adds the secret that is chosen for it."""
-    typed = "printf '%s\\n' 'c: !vault \"more' >> \"$1\""
-    place = cases.place()
-    place.put("vars.yml", block("dev", TEXT, "dev", "a") + block("dev", TEXT, "other", "b"))
-    both = [*place.by_id("dev", "dev"), *place.by_id("other", "dev")]
-    done = edit(place, typed, *both, "vars.yml")
-    ended("one password", done, 1, "what you saved is encrypted in ")
+    content, second, words, takes_both = SECRETS[what]
+    place.put("vars.yml", content)
+    both = [*place.by_id("dev", "dev"), *place.by_id(*second)]
+    done = edit(place, "printf '%s\\n' 'c: !vault \"more' >> \"$1\"", *both, *words, "vars.yml")
+    ended(what, done, 1, "what you saved is encrypted in ")
+    assert (KEPT.search(done.stderr) is not None) == takes_both
     [name] = [name for name in place.names() if name != "vars.yml"]
-    assert b"db_password: correct horse" in (decrypted("dev", place.get(name)) or b""), "one layer"
-    place = cases.place()
-    place.put("vars.yml", block("dev", TEXT, "dev", "a"))
-    both = [*place.by_id("dev", "dev"), *place.by_id("prod", "prod")]
-    done = edit(place, typed, *both, "--encrypt-vault-id", "prod", "vars.yml")
-    ended("a new value", done, 1, "with 2 secrets, one inside the other")
-    [name] = [name for name in place.names() if name != "vars.yml"]
-    assert b"horse" not in (decrypted("dev", place.get(name)) or b"horse"), "dev alone does not read it"
-    place = cases.place()
-    place.put("vars.yml", b"a: !vault first\n")
-    both = [*place.by_id("dev", "dev"), *place.by_id("prod", "prod")]
-    done = edit(place, 'echo more >> "$1"', *both, "vars.yml")
-    ended("no secret is chosen", done, 1, "with 2 secrets, one inside the other")
-    place = cases.place()
-    place.put("all.yml", sealed("old", NOTE + sealed("new", b"a\n")))
-    both = [*place.by_file("old"), *place.by_file("new")]
-    silent("a vault in a vault", edit(place, 'echo b >> "$1"', *both, "all.yml"))
-    outer = decrypted("old", place.get("all.yml")) or b""
-    assert decrypted("new", outer.removeprefix(NOTE)) == b"a\nb\n", "each keeps its secret"
+    assert (b"correct horse" in (decrypted("dev", place.get(name)) or b"")) != takes_both, "what dev alone reads"

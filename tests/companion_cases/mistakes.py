@@ -110,12 +110,6 @@ def test_misspelt() -> None:
 
     @settings(max_examples=500, deadline=None, database=None)
     @given(tag=misspelt(), form=st.sampled_from(FORMS))
-    @example("!Vault", "{} {}")
-    @example("!vaul", "{} {}")
-    @example("! vault", "{} {}")
-    @example("!vault:", "{} {}")
-    @example("!!vault", "{} {}")
-    @example("!vault", "'{} {}'")
     @example("1vault", "{} {}")
     @example("!vaultcorrect", "{} {}")
     def save(tag: str, form: str) -> None:

@@ -12,31 +12,21 @@ def within(place: Place, name: str, password: str) -> bytes:
 
 
 def test_inside_and_outside(place: Place) -> None:
+    """What is within a vault is rotated, too, even if the vault has the new secret already."""
     place.put("all.yml", sealed("old", INNER), 0o640)
+    place.put("done.yml", sealed("new", INNER))
     done = place.run(ROTATE, *to_new(place), ".")
-    reported = ["./all.yml: 1 block within a plaintext rotated\n", summary(2, 0, 1, " (dev 1)")]
-    ended("both", done, 0, *reported)
-    after = within(place, "all.yml", "new")
-    assert without_digits(after) == without_digits(INNER), "all around stays"
-    assert texts(after, "new") == [TEXT, None], "one is rotated, the other is not"
-    assert texts(after, "dev") == [None, TEXT], "it stays"
+    reported = [f"./{name}: 1 block within a plaintext rotated\n" for name in ("all.yml", "done.yml")]
+    ended("both", done, 0, *reported, summary(3, 1, 2, " (dev 2)"))
+    for name in ("all.yml", "done.yml"):
+        after = within(place, name, "new")
+        assert without_digits(after) == without_digits(INNER), "all around stays"
+        assert texts(after, "new") == [TEXT, None], "one is rotated, the other is not"
+        assert texts(after, "dev") == [None, TEXT], "it stays"
     assert place.mode("all.yml") == "0o640", "the mode stays"
     before = place.files()
-    ended("again", place.run(ROTATE, *to_new(place), "."), 0, summary(0, 2, 1, " (dev 1)"))
+    ended("again", place.run(ROTATE, *to_new(place), "."), 0, summary(0, 4, 2, " (dev 2)"))
     assert place.files() == before, "all stays"
-
-
-def test_inside_alone(place: Place) -> None:
-    """Only the block is rotated if the vault has the new secret already, or another label and its secret is given."""
-    place.put("done.yml", sealed("new", INNER))
-    place.put("prod.yml", sealed("prod", INNER, "prod"))
-    place.put("unknown.yml", sealed("dev", INNER, "strange"))
-    words = [*to_new(place), *place.by_id("prod", "prod")]
-    ended("within", place.run(ROTATE, *words, "."), 0, summary(2, 1, 4, " (dev 2, prod 1, strange 1)"))
-    found = [texts(within(place, *each), "new") for each in (("done.yml", "new"), ("prod.yml", "prod"))]
-    assert found == [[TEXT, None]] * 2, "one in each is rotated"
-    assert place.get("prod.yml").startswith(b"$ANSIBLE_VAULT;1.2;AES256;prod\n"), "its label stays"
-    assert place.get("unknown.yml") == sealed("dev", INNER, "strange"), "what no secret decrypts stays"
 
 
 def test_faults_within(cases: Companions) -> None:

@@ -1,6 +1,6 @@
-"""ansible-playbook reads everything that the companions write: files in place, edited values, merges, rekeyed files,
-values of encrypt_string, and what Ansible's tool made and ansible-vault-rotate rotated. Both get the passwords from
-scripts and client scripts.
+"""ansible-playbook reads what the companions write: edits, merges, values of encrypt_string, and what Ansible's tool
+made and ansible-vault-rotate rotated. Both get the passwords from scripts and client scripts. `guide` compares files
+that are encrypted and rekeyed in place.
 """
 
 import json
@@ -43,55 +43,26 @@ def value(name: str, text: bytes) -> bytes:
     return block("dev", text, "dev", name)
 
 
+def side(one: str, two: str, a: bytes, b: bytes, plain: int, solved: bytes) -> dict[str, bytes]:
+    """Return the files of a side of the merge."""
+    return {
+        "merged.yml": vault(f"merged_one: {one}\nx: 0\ny: 0\nmerged_two: {two}\n".encode()),
+        "merged_values.yml": value("merged_a", a) + value("merged_b", b) + b"plain: %d\n" % plain,
+        "solved.yml": vault(b"solved: %s\n" % solved),
+        "solved_values.yml": value("solved_value", solved) + b"z: 1\n",
+    }
+
+
 def merged(place: Place) -> Variables:
     """Merge two branches of vaults and of values in YAML, and resolve one conflict of each kind."""
-    base = {
-        "merged.yml": vault(b"merged_one: 1\nx: 0\ny: 0\nmerged_two: 2\n"),
-        "merged_values.yml": value("merged_a", b"a") + value("merged_b", b"b") + b"plain: 1\n",
-        "solved.yml": vault(b"solved: base\n"),
-        "solved_values.yml": value("solved_value", b"base") + b"z: 1\n",
-    }
-    ours = {
-        "merged.yml": vault(b"merged_one: I\nx: 0\ny: 0\nmerged_two: 2\n"),
-        "merged_values.yml": value("merged_a", b"A") + value("merged_b", b"b") + b"plain: 1\n",
-        "solved.yml": vault(b"solved: ours\n"),
-        "solved_values.yml": value("solved_value", b"ours") + b"z: 1\n",
-    }
-    other = {
-        "merged.yml": vault(b"merged_one: 1\nx: 0\ny: 0\nmerged_two: II\n"),
-        "merged_values.yml": value("merged_a", b"a") + value("merged_b", b"B") + b"plain: 2\n",
-        "solved.yml": vault(b"solved: theirs\n"),
-        "solved_values.yml": value("solved_value", b"theirs") + b"z: 1\n",
-    }
-    done = branches(place, base, ours, other, *DEV)
+    base, ours = side("1", "2", b"a", b"b", 1, b"base"), side("I", "2", b"A", b"b", 1, b"ours")
+    done = branches(place, base, ours, side("1", "II", b"a", b"B", 2, b"theirs"), *DEV)
     ended("the merge", done, 1, "solved.yml: 1 conflict", "solved_values.yml: 1 conflict")
     for name in ("solved.yml", "solved_values.yml"):
         ended(f"the solution of {name}", edit(place, TAKE_THEIRS, *DEV, name), 0)
     silent("the commit", add_and_commit(place))
     texts = {"merged_one": "I", "merged_two": "II", "merged_a": "A", "merged_b": "B", "plain": "2"}
     return texts | {"solved": "theirs", "solved_value": "theirs"}
-
-
-def encrypted(place: Place) -> Variables:
-    """Encrypt files in place: two in one run with a client script, one with a script, one with a password file."""
-    runs = {"client": DEV, "second": DEV, "script": CI, "file": OLD}
-    for name in runs:
-        place.put(f"encrypted_{name}.yml", f"encrypted_{name}: by {name}\n".encode())
-    silent("two files", place.run(WITH, "encrypt", *DEV, "encrypted_client.yml", "encrypted_second.yml"))
-    for name in ("script", "file"):
-        silent(name, place.run(WITH, "encrypt", *runs[name], f"encrypted_{name}.yml"))
-    return {f"encrypted_{name}": f"by {name}" for name in runs}
-
-
-def rekeyed(place: Place) -> Variables:
-    """Rekey in place with ansible-vault-with, and with ansible-vault-rotate, which also rekeys values."""
-    place.put("rekeyed.yml", sealed("old", b"rekeyed: in place\n"))
-    place.put("rotated.yml", sealed("prod2", b"rotated: a vault\n", "prod"))
-    place.put("rotated_value.yml", block("prod2", b"a value", "prod", "rotated_value"))
-    silent("rekey", place.run(WITH, "rekey", *OLD, "--new-vault-id", "dev@../keys-client", "rekeyed.yml"))
-    secrets = [*place.by_id("prod", "prod2"), "--new-vault-id", "prod@../keys-client"]
-    ended("rotate", place.run(ROTATE, *secrets, "rotated.yml", "rotated_value.yml"), 0, "2 rotated")
-    return {"rekeyed": "in place", "rotated": "a vault", "rotated_value": "a value"}
 
 
 def rotated_of_theirs(place: Place) -> Variables:
@@ -150,7 +121,7 @@ def test_every_result(place: Place) -> None:
     place.script(CLIENT, "keys-client")
     place.script(SCRIPT)
     texts: Variables = {}
-    for make in (merged, encrypted, rekeyed, rotated_of_theirs, edited, strings):
+    for make in (merged, rotated_of_theirs, edited, strings):
         texts |= make(place)
     files = [name for name in place.files() if name.endswith(".yml")]
     place.put("play.yml", PLAYBOOK.format(files=json.dumps(files), names=[*texts]).encode())

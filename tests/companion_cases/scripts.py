@@ -6,7 +6,7 @@ from pathlib import Path
 import pytest
 
 from companion_cases import CHECK, EDIT, PASSWORDS, TEXT, TEXTCONV, WITH, Place, decrypted, ended, run_changed
-from companion_cases import sealed, silent, use_everywhere
+from companion_cases import sealed, silent
 from companion_cases.both import ours
 from companion_cases.terminal import READING, ask
 from lib.subtests import SubTests
@@ -15,8 +15,6 @@ from lib.subtests import SubTests
 RECORDING = 'echo "$0" "$@" > ../started; cat ../secrets/dev'
 # Options that name scripts, and the arguments that each script gets.
 STARTS = {
-    "--vault-password-file=../script": "",
-    "--vault-id=../script": "",
     "--vault-id=dev@../script": "",
     "--vault-id=dev@../keys-client": " --vault-id dev",
     "--vault-id=dev@../keys-client.py": " --vault-id dev",
@@ -29,7 +27,6 @@ STARTS = {
     "--vault-id=a b@$HOME/keys-client": " --vault-id a b",
 }
 FAILING = {
-    "exit 3": "this script ended with status 3",
     "exit 2": "this script ended with status 2",
     "kill -9 $$": "signal 9 ended this script",
     "echo": "this script wrote no password",
@@ -57,15 +54,6 @@ def test_how_they_start(place: Place, request: pytest.FixtureRequest, option: st
     _, output, errors = ansible.end()
     assert TEXT in output, ("Ansible's tool decrypts it", errors)
     assert started.read_text() == recorded, "it starts it so"
-
-
-def test_every_companion(place: Place) -> None:
-    place.put("a.yml", sealed("dev", label="dev"))
-    place.script(RECORDING, "keys-client")
-    place.script("cat ../secrets/dev2", "new-client.sh")
-    words = ["--vault-id", "dev@../keys-client"]
-    use_everywhere(place, words, ["--new-vault-id", "dev@../new-client.sh"], "dev: decrypted by dev@../keys-client")
-    assert decrypted("dev2", place.get("a.yml")) == TEXT + b"more\n"
 
 
 @pytest.mark.parametrize("text, part", FAILING.items())

@@ -66,12 +66,6 @@ def set_to(place: Place, text: bytes, *words: str) -> Done:
     return place.run("sh", "-c", '"$@" < ../given', "sh", EDIT, *words)
 
 
-@pytest.mark.parametrize("path", VALUES)
-def test_written(place: Place, both: list[str], path: str) -> None:
-    """Every byte of the value is written, and nothing else."""
-    assert shown(place, *both, "--value", path, "vars.yml") == (0, VALUES[path], "")
-
-
 @pytest.mark.parametrize("path", NO_VALUES)
 def test_no_value(place: Place, both: list[str], path: str) -> None:
     status, written, told = shown(place, *both, "--value", path, "vars.yml")

@@ -111,9 +111,6 @@ def test_closed(place: Place) -> None:
     silent("beside quotes", edit(place, "sed -i 's/^  a$/  A/' \"$1\"", *place.by_file("old"), "vars.yml"))
     assert texts(place.get("vars.yml"), "old") == [b"A"], "it is encrypted"
     assert place.get("vars.yml").endswith(b"\n" + quoted), "what is in quotes stays"
-    place.put("plain.yml", b"a: 1\n")
-    done = edit(place, "true", *place.by_file("old"), "plain.yml")
-    ended("no vault", done, 1, "it is not a vault", "ansible-vault-with encrypt", "NAME: !vault TEXT")
     place.put("vars.yml", block("dev"))
     done = edit(place, "true", *place.by_file("old"), "vars.yml")
     tried = f"vars.yml: line 1: secret: no secret decrypts this vault (no label; tried {place.secret('old')})"
