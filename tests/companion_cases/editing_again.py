@@ -117,6 +117,9 @@ def test_newest(place: Place) -> None:
         edit(place, f'echo {number} > "$1"; exit 3', *place.by_file("old"), "all.yml")
     _, newest, _ = sorted(name for name in place.names() if name.startswith(".ansible-vault-saved-"))
     text = decrypted("old", place.get(newest))
+    place.put("../before", decrypted("old", place.get("all.yml")) or b"")
+    done = edit(place, 'cp ../before "$1"', *place.by_file("old"), "--resume", "all.yml")
+    assert (done.returncode, len(kept(place))) == (0, 3), "a copy stays if the edit takes its text back"
     place.shell(f"touch -d 'now + 1 hour' {newest}")
     done = edit(place, "touch ../seen", *place.by_file("old"), "--resume", "all.yml")
     assert (done.returncode, decrypted("old", place.get("all.yml"))) == (0, text), done.stderr

@@ -7,6 +7,7 @@ from pathlib import Path
 
 import pytest
 
+from ansible_vault_companions.files.private_folder import PrivateFolder
 from companion_cases import ABOVE_EDITOR, CHANGE, CHANGED, EDIT, ENCRYPTED, TEXT, Done, Place, decrypted
 from companion_cases import edit, ended, run_changed, sealed, silent
 from lib.needs import needs_mounts
@@ -261,3 +262,13 @@ def test_help(place: Place) -> None:
     text = " ".join(place.run(EDIT, "--help").stdout.split())
     parts = ("an option to wait, such as `code --wait`", "undo and backup files", "memory may be swapped")
     assert [part for part in parts if part not in text] == []
+
+
+def test_without_memory(tmp_path: Path) -> None:
+    """Standard input, which was never in the directory, is kept there if the directory is not in memory."""
+    with PrivateFolder() as folder:
+        shutil.rmtree(folder.path)
+        folder.path, folder.is_in_memory = str(tmp_path), False
+        message = str(folder.keep(OSError("why"), "name", b"text"))
+    assert message == f"why; what you saved is left in plaintext in {tmp_path}"
+    assert (tmp_path / "name").read_bytes() == b"text"

@@ -25,7 +25,7 @@ SETTINGS: dict[str, tuple[dict[str, str], dict[str, str], set[str]]] = {
     "a variable beside it": (NAMED | {"PASSWORD_FILE": "../secrets/old"}, {"far/away/my.cfg": ""}, {"old"}),
     "a missing one": (NAMED, {"tree/ansible.cfg": FILE.format("../secrets/old")}, {"old"}),
     "the current folder": (NAMED, {"far/away/my.cfg": FILE.format("{{CWD}}/../secrets/old")}, {"old"}),
-    "a comment": ({}, {"tree/ansible.cfg": FILE.format("../secrets/dev ; not old") + "# it = x\n"}, {"dev"}),
+    "a comment": ({}, {"tree/ansible.cfg": FILE.format("../secrets/dev ; not old") + "# it = x\nat = %Y\n"}, {"dev"}),
     "another section": ({}, {"tree/ansible.cfg": FILE.format("../secrets/old").replace("defaults", "default")}, set()),
 }
 

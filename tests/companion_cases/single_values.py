@@ -26,7 +26,7 @@ FILE = (
     + block("dev", b"correct horse", "dev", "db_password")
     + b"app:\n  users:\n  - name: a\n    "
     + block("prod", ANY_BYTES, "prod", "pw").replace(b"\n ", b"\n     ")
-    + b"  plain: text # why\n  nothing:\n'a.b \"c\"':\n- "
+    + b"  plain: text # why\n  nothing:\n'a.b \"c\\d\"':\n- "
     + block("dev", b"", "dev", "x").replace(b"\n ", b"\n   ")
 )
 # The path as it is typed, and the value.
@@ -34,9 +34,9 @@ VALUES = {
     "db_password": b"correct horse",
     "app.users[0].pw": ANY_BYTES,
     "app.users[].pw": ANY_BYTES,
-    '"a.b \\"c\\""[0].x': b"",
+    '"a.b \\"c\\\\d\\""[0].x': b"",
 }
-HERE = '; encrypted here: db_password, app.users[0].pw, "a.b \\"c\\""[0].x'
+HERE = '; encrypted here: db_password, app.users[0].pw, "a.b \\"c\\\\d\\""[0].x'
 # Paths that lead to no value, and why.
 NO_VALUES = {
     "pw": f"there is no value pw{HERE}",
@@ -205,6 +205,7 @@ def test_given(place: Place, both: list[str]) -> None:
     """Input that cannot be a value is refused, and so is a terminal, which would show it."""
     words = [*both, "--value", "db_password", "vars.yml"]
     ended("a vault", set_to(place, sealed("dev"), *words), 1, "standard input is a vault")
+    ended("too long", set_to(place, bytes((1 << 24) + 1), *words), 1, "more bytes than a vault can hold")
     ended("two files", set_to(place, b"x", *words, "vars.yml"), 2, "--value takes one VAULT")
     ended("no file", set_to(place, b"x", *words[:-1], "new.yml"), 1, "new.yml: No such file")
     ended("no standard input", place.run("sh", "-c", '"$@" <&-', "sh", EDIT, *words), 1, "Bad file descriptor")

@@ -9,6 +9,8 @@ CLOSED = {b"\0": "control characters", b"\xff": "not UTF-8", b"a\r\nb": "control
 CLOSED[b"$ANSIBLE_VAULT;1.1;AES256\n"] = "itself a vault"
 # What may be typed after the key, and the text that it means.
 TYPED = {
+    # The file has it already.
+    "!vault x": b"x",
     "!vault secret": b"secret",
     "!vault it's # why": b"it's",
     "!vault 'it''s'": b"it's",
@@ -75,7 +77,7 @@ def typed(place: Place, content: bytes, forms: list[str]) -> Done:
 
 
 def test_typed_forms(place: Place) -> None:
-    silent("they are typed", typed(place, b"a: 1\nb: !vault x\n", [f"b: {form}\nc: 2\n" for form in TYPED]))
+    silent("they are typed", typed(place, b"b: !vault x\nc: 2\n", [f"b: {form}\nc: 2\n" for form in TYPED]))
     after = {form: place.get(f"{number}.yml") for number, form in enumerate(TYPED)}
     found = {form: (texts(content, "old"), content.endswith(b"\nc: 2\n")) for form, content in after.items()}
     assert found == {form: ([text], True) for form, text in TYPED.items()}, "each is encrypted, and the rest stays"
@@ -95,8 +97,9 @@ def test_refused_forms(place: Place) -> None:
 
 
 def test_closed(place: Place) -> None:
-    """A text that YAML cannot show stays encrypted, and a comment says so during the edit."""
-    plain = [b"x: 1\n" + block("old", text, name="a") + block("old", b"b", name="b") for text in CLOSED]
+    """A text that YAML cannot show stays encrypted, and a comment says so during the edit. Other comments stay."""
+    comments = b"# ansible-vault: one\n## ansible-vault: two\n"
+    plain = [b"x: 1\n" + comments + block("old", text, name="a") + block("old", b"b", name="b") for text in CLOSED]
     files = {f"{number}.yml": content for number, content in enumerate(plain)}
     for name, content in files.items():
         place.put(name, content)
