@@ -9,6 +9,7 @@ from pathlib import Path
 
 import pytest
 
+from ansible_vault_companions.files.replacing import RANDOM
 from ansible_vault_companions.stopping import GRACE_PERIOD, SAME_SIGNAL
 from lib.needs import needs
 from lib.option_sets import OF_ANSIBLE, companion_help, companion_options, companion_page, described_options, sections
@@ -232,11 +233,28 @@ def test_figures(program: str) -> None:
     assert {pattern: {*re.findall(pattern, text)} for pattern in figures} == {each: {figures[each]} for each in figures}
 
 
-def test_seconds() -> None:
-    """The page of ansible-vault-edit says how long the editor has to end, and when a signal counts as the first one."""
-    text = " ".join(PAGE.with_name("ansible-vault-edit.1").read_text().split())
-    numbers = {"one": 1, "five": 5, "ten": 10}
-    assert [numbers[word] for word in re.findall(r"(\w+) seconds? after", text)] == [GRACE_PERIOD, SAME_SIGNAL]
+def test_figures_in_words() -> None:
+    """The seconds after a signal that an editor has, and that count as one signal; and the end of temporary names."""
+    edit, hook = (" ".join(PAGE.with_name(f"ansible-vault-{each}.1").read_text().split()) for each in ("edit", "hook"))
+    words = [*re.findall(r"(\w+) seconds? after", edit), *re.findall(r"and (\w+) more characters", hook)]
+    numbers = {"one": 1, "five": 5, "eight": 8}
+    assert [numbers.get(word) for word in words] == [GRACE_PERIOD, SAME_SIGNAL, int(RANDOM[-2])]
+
+
+# Paths that the documents give as examples.
+EXAMPLES = {"/dev/fd/number", "/dev/stdin", "/dev/stdout", "/srv/git/ansible-vault", "/usr/local/bin/ansible-vault"}
+CODE = ("Makefile", "companions/**/*", "completions/*", "crates/*/src/**/*.rt", "debian/*", "tools/*")
+
+
+def test_paths() -> None:
+    """Every absolute path in a document is also in the code."""
+    files = [path for pattern in CODE for path in ROOT.glob(pattern) if path.is_file() and path.suffix != ".pyc"]
+    code = "".join(path.read_text() for path in files)
+    text = "".join(document.read_text() for document in DOCUMENTS)
+    paths = re.findall(r"(?<![\w$*./@~{}\]-])/(?:dev|etc|run|srv|tmp|usr|var)[\w./-]*", text)
+    named = {each.rstrip("./") for each in paths}
+    assert len(named) > 10
+    assert {each for each in named - EXAMPLES if each not in code} == set()
 
 
 def test_speed() -> None:

@@ -44,8 +44,14 @@ def test_what_is_beside_an_output(program: str, tmp_path: Path, monkeypatch: pyt
     monkeypatch.setenv("PROGRAM", program)
     case = replace(CASE, stdin=seal(b"right", b"text"))
     assert differences(case, [write_script(tmp_path / "same", 'exec "$PROGRAM" "$@"')]) == []
-    for text in ('"$PROGRAM" "$@" && chmod 644 new', '"$PROGRAM" "$@" && cat new'):
-        assert differences(case, [write_script(tmp_path / "differing", text)]) != []
+    for text in ("chmod 644 new", "cat new", "echo a warning >&2"):
+        assert differences(case, [write_script(tmp_path / "differing", f'"$PROGRAM" "$@" && {text}')]) != []
+
+
+def test_message_of_the_parser(program: str, tmp_path: Path) -> None:
+    case = replace(CASE, words=["decrypt", "--none"])
+    assert differences(case, [program]) == []
+    assert differences(case, [write_script(tmp_path / "silent", "exit 2")]) != []
 
 
 # A fault, and answers that differ from it in one part.

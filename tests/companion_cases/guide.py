@@ -222,7 +222,7 @@ def test_lines(cases: Companions, row: Row) -> None:
 def test_prompt_beside_the_streams(place: Place) -> None:
     """Questions are asked at the terminal, even if no standard stream is one."""
     place.put("a_password_file", PASSWORDS["dev"], 0o600)
-    answers = [(VARIABLE, b"one\n"), (STRING, b"first\n")]
+    answers = [(VARIABLE, b"one\n"), (STRING, b" first \n")]
     session = ask(place, WITH, "encrypt_string", *DEV.split(), "--prompt", answers=answers)
     found = blocks(session.stdout.strip().encode())
-    assert found == [(b"one: !vault |", (b"$ANSIBLE_VAULT;1.2;AES256;dev", ("dev", b"first")))], session
+    assert found == [(b"one: !vault |", (b"$ANSIBLE_VAULT;1.2;AES256;dev", ("dev", b" first ")))], session

@@ -7,6 +7,7 @@ from pathlib import Path
 
 import pytest
 
+from ansible_vault_companions.files.last_save import LastSave
 from ansible_vault_companions.files.private_folder import PrivateFolder
 from companion_cases import ABOVE_EDITOR, CHANGE, CHANGED, EDIT, ENCRYPTED, TEXT, Done, Place, decrypted
 from companion_cases import edit, ended, run_changed, sealed, silent
@@ -272,3 +273,22 @@ def test_without_memory(tmp_path: Path) -> None:
         message = str(folder.keep(OSError("why"), "name", b"text"))
     assert message == f"why; what you saved is left in plaintext in {tmp_path}"
     assert (tmp_path / "name").read_bytes() == b"text"
+
+
+def test_half_a_text(tmp_path: Path, monkeypatch: pytest.MonkeyPatch) -> None:
+    """A text counts as complete once it has stayed the same for a while."""
+    path = tmp_path / "text"
+    path.write_text("before")
+    steps = iter(["whole", "", "half"])
+
+    def wait(_: float) -> bool:
+        """Save the next text, if there is one; return whether this was the last step."""
+        step = next(steps, None)
+        if step:
+            path.write_text(step)
+        return step is None
+
+    save = LastSave(str(path))
+    monkeypatch.setattr(save._end, "wait", wait)
+    save._watch()
+    assert save.text == b"whole"

@@ -91,20 +91,22 @@ PASSWORDS = any_of.sampled_from(["old", "dev", "prod"])
 LABELS = any_of.sampled_from(["", DEFAULT, "dev", "prod"])
 ENVELOPES = any_of.builds(Made, LABELS, PASSWORDS, any_of.sampled_from(FORMS))
 SECRETS = any_of.builds(Named, LABELS, PASSWORDS)
+# A secret of the settings may be missing.
+OF_SETTINGS = any_of.builds(Named, LABELS, any_of.sampled_from(["old", "dev", "prod", "missing"]))
 CASES = any_of.builds(
     lambda made, options, by_settings: Case(
         made, options + [Named(*AROUND)] * any(each.form == "within" for each in made), by_settings
     ),
     any_of.lists(ENVELOPES, min_size=1, max_size=4),
     any_of.lists(SECRETS, min_size=1, max_size=2),
-    any_of.lists(SECRETS, max_size=1),
+    any_of.lists(OF_SETTINGS, max_size=1),
 )
 # A changed label, with secrets of options and of settings; a copied block; a single secret.
 DEV, PROD = Named("dev", "dev"), Named("prod", "prod")
 CHANGED = [Made("dev", "prod", "file"), Made("dev", "prod", "block"), Made("dev", "dev", "file")]
 EXAMPLES = [Case(CHANGED, [DEV, PROD], []), Case(CHANGED, [DEV], [PROD]), Case(CHANGED[:1], [PROD], [])]
 EXAMPLES += [Case(CHANGED[:1], [Named("", "prod")], []), Case(CHANGED[:1], [DEV, Named("", "prod")], [])]
-EXAMPLES += [Case([Made("", "prod", "file")], [DEV, PROD], [])]
+EXAMPLES += [Case([Made("", "prod", "file")], [DEV, PROD], []), Case(CHANGED[:1], [PROD], [Named("dev", "missing")])]
 
 
 def with_cases(test: Callable[[Case], None], number: int) -> None:

@@ -72,7 +72,7 @@ STRANGE: dict[str, tuple[str, dict[str, str], bool]] = {
     "a list": (LIST.format("old@./script, ./script"), {}, False),
     "a variable with a relative path": ("", {"ANSIBLE_VAULT_PASSWORD_FILE": "script"}, False),
     "a list with a relative path": ("", {"ANSIBLE_VAULT_IDENTITY_LIST": "old@../tree/script"}, False),
-    "$PWD": ("", {"ANSIBLE_VAULT_IDENTITY_LIST": "$PWD/script"}, False),
+    "$PWD": ("", {"ANSIBLE_VAULT_IDENTITY_LIST": "$PWD/script, ${PWD}/script"}, False),
     "{{CWD}}": ("", {"ANSIBLE_VAULT_PASSWORD_FILE": "{{CWD}}/script"}, False),
     "a folder that is trusted": (FILE.format("./script"), {"ANSIBLE_CONFIG": "ansible.cfg"}, True),
 }

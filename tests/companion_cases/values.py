@@ -131,6 +131,10 @@ def test_lists(place: Place) -> None:
     place.put("vars.yml", content)
     done = edit(place, 'sed -i "s/one/eins/; s/^l:/l:\\n- !vault neu/" "$1"', *words, "--encrypt-vault-id", "prod")
     ended("new or changed", done, 1, "may be a new value or a changed one")
+    every = 's/one/eins/; s/two/zwei/; s/three/drei/; s/^l:/l:\\n- !vault neu/'
+    for label in ("dev", "prod"):
+        done = edit(place, f'sed -i "{every}" "$1"', *words, "--encrypt-vault-id", label)
+        ended("one of two secrets", done, 1, "may be a new value or a changed one")
 
 
 def test_equal_items(place: Place) -> None:
