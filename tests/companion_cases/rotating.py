@@ -178,5 +178,3 @@ def test_closed_output(place: Place) -> None:
     assert whole == [True] * 12, "each vault is whole"
     is_old = [decrypted("old", content) == TEXT for content in place.files().values()]
     assert True in is_old, "and those that were not begun are not"
-
-

@@ -14,7 +14,8 @@ from pathlib import Path
 import pytest
 
 from companion_cases import ABOVE_EDITOR, CHANGE, CHANGED, CHECK, EDIT, MERGE, PASSWORDS, ROTATE, TEXT, TEXTCONV, WITH
-from companion_cases import Companions, Place, block, decrypted, edit, run_changed, sealed, to_new, versions, wait_until
+from companion_cases import Companions, Place, block, decrypted, edit, ended, run_changed, sealed, summary, to_new
+from companion_cases import versions, wait_until
 from companion_cases.terminal import ask
 from lib.limits import SECONDS
 from lib.subtests import SubTests
@@ -172,6 +173,21 @@ def test_at_each_call(cases: Companions, subtests: SubTests) -> None:
             if companion == EDIT:
                 check_saved(what, place, done.stderr)
             check_whole(what, place)
+
+
+def test_interrupted_then_finished(place: Place) -> None:
+    wanted = {f"{number}.yml": TEXT + b"number: %d\n" % number for number in range(12)}
+    for name, text in wanted.items():
+        place.put(name, sealed("old", text))
+    place.wrap_tool(AT_RUN.format(number=14, trap="", signal="INT"))
+    done = place.run(ROTATE, *to_new(place), "--jobs", "1", ".")
+    assert done.returncode == -signal.SIGINT, "interrupted"
+    half = [decrypted("new", content) == wanted[name] for name, content in place.files().items()]
+    assert True in half and False in half, "some are done and some are not"
+    place.wrap_tool(":")
+    done = place.run(ROTATE, *to_new(place), ".")
+    ended("run again", done, 0, summary(half.count(False), half.count(True)))
+    assert {name: decrypted("new", each) for name, each in place.files().items()} == wanted, "all are done"
 
 
 LEFT_TO_EDITORS = ("INT", "QUIT")
