@@ -260,7 +260,7 @@ def test_paths() -> None:
 def test_speed() -> None:
     """The README's fraction of the time agrees with docs/speed.md."""
     parts = {"a tenth": 10, "a fifteenth": 15, "a twentieth": 20, "a thirtieth": 30}
-    [part] = re.findall(r"for small files takes about (an? \w+) of the CPU time of Ansible", README.read_text())
+    [part] = re.findall(r"decrypts small files in about (an? \w+) of the CPU time of Ansible", README.read_text())
     speed = (ROOT / "docs" / "speed.md").read_text()
     [measured] = re.findall(r"^\| `view`, 1 KiB \|.*\| ([\d.]+) \([^|]*\) \|$", speed, re.MULTILINE)
     assert parts[part] == min(parts.values(), key=lambda each: abs(each - float(measured)))
