@@ -129,9 +129,16 @@ def written(place: Place) -> dict[str, list[str]]:
 def test_while_nobody_reads(place: Place, companion: str, number: int) -> None:
     reader, writer = os.pipe()
     size = fcntl.fcntl(writer, fcntl.F_SETPIPE_SZ, PIPE_SIZE)
+    counts = [0]
+
+    def is_full() -> bool:
+        """Return whether the process waits, and has written nothing since the last look."""
+        counts.append(waiting(reader))
+        return is_asleep(process) and counts[-1] == counts[-2] > size // 2
+
     with os.fdopen(reader), started(place, written(place)[companion], stdout=writer) as process:
         os.close(writer)
-        wait_until(lambda: waiting(reader) > size // 2 and is_asleep(process), "a full pipe")
+        wait_until(is_full, "a full pipe")
         process.send_signal(number)
         assert process.wait(SECONDS) == -number, "it ends by the signal"
 
