@@ -129,6 +129,11 @@ WORKS: dict[str, Work] = {
 def test_linear_time(work: Work, piece: bytes) -> None:
     """A file that is eight times as long takes eight times as long, whatever it contains."""
     small = (piece * (SMALL // len(piece) + 1))[:SMALL]
+    # Other processes may slow down one measurement, but not each of four.
+    assert any(is_linear(work, small) for _ in range(4))
+
+
+def is_linear(work: Work, small: bytes) -> bool:
     times = [seconds(work, small), seconds(work, small * TIMES)]
     # Below a few milliseconds the clock says little.
-    assert times[1] < 0.02 or times[1] < MOST * times[0]
+    return times[1] < 0.02 or times[1] < MOST * times[0]
