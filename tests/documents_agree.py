@@ -9,6 +9,7 @@ from pathlib import Path
 
 import pytest
 
+from ansible_vault_companions.files import reading
 from ansible_vault_companions.files.replacing import RANDOM
 from ansible_vault_companions.stopping import GRACE_PERIOD, SAME_SIGNAL
 from lib.needs import needs
@@ -95,6 +96,8 @@ def test_formats() -> None:
     rows, limits = document_limits(), code_limits()
     wanted = {what: {limits[constant] for constant in constants} for what, constants in LIMITS.items()}
     assert {what: numbers(rows.get(what, "")) for what in LIMITS} == wanted, "and the code's limits"
+    assert reading.LONGEST_PLAINTEXT == limits["PLAINTEXT_LIMIT"], "as the companions have"
+    assert reading.LIMIT == limits["ENVELOPE_LIMIT"]
 
 
 def test_bytes() -> None:

@@ -1,7 +1,6 @@
-"""Run programs, to their end or beside the test, but no longer than it; and open a named pipe without waiting."""
+"""Run programs, to their end or beside the test, but no longer than it."""
 
 import contextlib
-import os
 import subprocess
 from collections.abc import Iterator, Sequence
 from typing import IO, Any
@@ -38,11 +37,6 @@ def started(words: Sequence[str], **options: Any) -> Iterator[subprocess.Popen[A
         for stream in filter(None, (process.stdin, process.stdout, process.stderr)):
             with contextlib.suppress(BrokenPipeError):
                 stream.close()
-
-
-def open_to_read(path: str) -> int:
-    """Open the reading end of a named pipe, which needs no writer."""
-    return os.open(path, os.O_RDONLY | os.O_NONBLOCK)
 
 
 def read_to_end(reader: int) -> bytes:

@@ -19,8 +19,8 @@ def fault(secret: Secret, envelope: bytes) -> str:
 
     Nothing authenticates a label: anybody can change it, or copy the envelope, without a password. So if a secret with
     another label decrypts an envelope, its text must not be encrypted with the password that belongs to the envelope's
-    label, or be trusted as a text of that label. Any secret may decrypt an envelope without a label. If only
-    one secret is named, it may decrypt every label, as with Ansible's tool: no other can be meant.
+    label, or be trusted as a text of that label. Any secret may decrypt an envelope without a label. If only one
+    secret is named, it may decrypt every label, as with Ansible's tool: no other can be meant.
     """
     label = written_label(envelope)
     if not label or secret.label == label or secret.is_only:
