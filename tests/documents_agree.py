@@ -3,6 +3,7 @@ on each crate's first page, which a test also runs.
 """
 
 import re
+import runpy
 import subprocess
 from operator import attrgetter
 from pathlib import Path
@@ -242,6 +243,37 @@ def test_figures_in_words() -> None:
     words = [*re.findall(r"(\w+) seconds? after", edit), *re.findall(r"and (\w+) more characters", hook)]
     numbers = {"one": 1, "five": 5, "eight": 8}
     assert [numbers.get(word) for word in words] == [GRACE_PERIOD, SAME_SIGNAL, int(RANDOM[-2])]
+
+
+# Figures that are not in the code: measured ones, with their units, and those of standards, of other programs and of
+# examples. The pages named here are generated, or say when they were measured.
+UNITS = {"GB", "KiB", "MB", "MiB", "min", "ms", "s"}
+MEASURED = {"11 min", "25 min", "40 min", "50 min", "40 s", "90 s", "36 KiB", "64 KiB", "20 MiB", "16 MiB", "100 MB"}
+OTHERS = {"0600", "09", "100", "12", "120", "127", "20480", "24", "250", "40", "400", "4,097", "5432", "600,000", "99"}
+OTHERS |= {"1.0", "1.1", "1.2", "2.0", "2.26", "2.39", "3.2", "3.9", "2009", "2011"}
+OTHERS |= {"197", "2104", "5652", "8018", "5.2", "6.3", "6.5"}
+ELSEWHERE = {"DECISIONS.md", "speed.md", "verification.md", "verification-reference.md"}
+
+
+def figures(text: str) -> set[tuple[str, str]]:
+    """Return the numbers with at least two digits, and the word after each, except in examples, code and links."""
+    prose = re.sub(r"^(?: {4}|\.[DO]).*$|`[^`\n]*`|\]\([^)]*\)", "", text, flags=re.MULTILINE).replace("\n", " ")
+    return set(re.findall(r"(?<![\w.#+-])(\d[\d,.]*\d)(?![\w-])(?: (\w+))?", prose))
+
+
+def test_every_figure(program: str) -> None:
+    """Each figure is one of the code, of the releases that were tried, or of those above."""
+    code = "\n".join(path.read_text() for path in CRATES.glob("*/src/**/*.rt"))
+    in_code = {int(each.replace("_", "")) for each in re.findall(r"\bconst \w+: \w+ = ([\d_]+);", code)}
+    in_code |= {*code_limits().values(), *code_faults()}
+    known = OTHERS.union(*({f"{each:,}", str(each)} for each in in_code))
+    page = (ROOT / "docs" / "coming-from-ansible.md").read_text()
+    releases = dict(re.findall(r"(\d+\.\d+\.\d+)(?:b\d)? \((\w+)\)", page))
+    assert [*releases.values()] == [*runpy.run_path(str(ROOT / "tools" / "releases"))["RELEASES"]]
+    known |= {version(), least_glibc(program), *releases, *(each.rpartition(".")[0] for each in releases)}
+    found = set().union(*(figures(each.read_text()) for each in DOCUMENTS if each.name not in ELSEWHERE))
+    unknown = {(each, word) for each, word in found if word in UNITS or each not in known}
+    assert {" ".join(each) for each in unknown} == MEASURED
 
 
 # Paths that the documents give as examples.
