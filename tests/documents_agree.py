@@ -160,7 +160,7 @@ PAGES = sorted(PAGE.parent.glob("*.1"))
 DOCUMENTS = [README, ROOT / "CONTRIBUTING.md", *sorted((ROOT / "docs").glob("*.md")), *PAGES]
 # Options of other programs that the documents also name.
 OF_GIT = {"--cached", "--clean", "--filter", "--global", "--merge", "--no-edit", "--no-verify", "--textconv"}
-OF_OTHERS = {"--hook-type", "--sample", "--strict", "--unshallow", "--vault-pass", "--wait"}
+OF_OTHERS = {"--hook-type", "--sample", "--strict", "--unshallow", "--wait"}
 OF_RT = {"--allow-holes", "--anew", "--list-axioms", "--only", "--test"}
 # Options that Ansible's tool has only after release 2.14.
 OF_NEWER = {"--skip-tty-check"}
@@ -248,7 +248,7 @@ def test_figures_in_words() -> None:
 # Figures that are not in the code: measured ones, with their units, and those of standards, of other programs and of
 # examples. The pages named here are generated, or say when they were measured.
 UNITS = {"GB", "KiB", "MB", "MiB", "min", "ms", "s"}
-MEASURED = {"11 min", "25 min", "40 min", "50 min", "40 s", "90 s", "36 KiB", "64 KiB", "20 MiB", "16 MiB", "100 MB"}
+MEASURED = {"11 min", "25 min", "40 min", "50 min", "40 s", "90 s", "36 KiB", "64 KiB", "20 MiB", "16 MiB"}
 OTHERS = {"0600", "09", "100", "12", "120", "127", "20480", "24", "250", "40", "400", "4,097", "5432", "600,000", "99"}
 OTHERS |= {"1.0", "1.1", "1.2", "2.0", "2.26", "2.39", "3.2", "3.9", "2009", "2011"}
 OTHERS |= {"197", "2104", "5652", "8018", "5.2", "6.3", "6.5"}
