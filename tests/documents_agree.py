@@ -14,7 +14,7 @@ from ansible_vault_companions.files import reading
 from ansible_vault_companions.files.replacing import RANDOM
 from ansible_vault_companions.stopping import GRACE_PERIOD, SAME_SIGNAL
 from lib.needs import needs
-from lib.option_sets import OF_ANSIBLE, companion_help, companion_options, companion_page, described_options, sections
+from lib.option_sets import OF_ANSIBLE, companion_options, described_options, sections
 from lib.paths import COMPANIONS, PAGE, README, ROOT, version
 from model.answers import WHITESPACE
 from model.options import is_label
@@ -197,17 +197,6 @@ def test_variables() -> None:
     named = set(re.findall(r"\b([A-Z][A-Z_]+)=", "".join(document.read_text() for document in DOCUMENTS)))
     assert len(named & of_make) > 8
     assert {name for name in named - of_make - OF_PROGRAMS if not name.startswith("ANSIBLE_")} == set()
-
-
-def defaults_in(text: str) -> set[str]:
-    return {each.strip() for each in re.findall(r"by default,? ([\w ]+)", " ".join(text.split()))}
-
-
-def test_defaults() -> None:
-    """A default in a companion's help is also on its page."""
-    said = {(name, each) for name in COMPANIONS for each in defaults_in(companion_help(name))}
-    in_pages = {(name, each) for name in COMPANIONS for each in defaults_in("".join(companion_page(name).values()))}
-    assert len(said) > 0 and said <= in_pages
 
 
 def constant(path: str, name: str) -> int:

@@ -14,10 +14,11 @@ from pathlib import Path
 import pytest
 
 from lib.needs import needs
-from lib.option_sets import OF_ANSIBLE, companion_options, companion_page, described_options
+from lib.option_sets import OF_ANSIBLE, companion_help, companion_options, companion_page, described_options
 from lib.option_sets import help_commands, help_of, help_options, help_text, options_in, page_sets, sections, spellings
 from lib.option_table import Entry, helps_of, table_options
 from lib.paths import COMPANIONS, PAGE, ROOT, version
+from lib.processes import run_text
 from model.options import COMMON, FLAGS, OPTIONS
 
 # The tools that check a page and render it.
@@ -145,6 +146,41 @@ def test_variables() -> None:
     named = set().union(*(re.findall(r"\bEv ([A-Z_]+)", page) for page in pages))
     assert len(read) > 5, ("variables are read", sorted(read))
     assert sorted(read - named) == [], "each is named"
+
+
+REPEATED = "may be repeated"
+
+
+def plain(text: str) -> str:
+    """Return a text without quotes, in small letters. A semicolon counts as the end of a sentence."""
+    return " ".join(re.sub(r"[`'\"]|\(\d\)", "", text).replace(";", ".").lower().split()).rstrip(".") + "."
+
+
+def texts_in(text: str) -> list[tuple[str, str]]:
+    """Return what a help or a shown page says of each command and option, by the option's last spelling."""
+    entries = re.findall(r"^ +(--?\w.*?|[a-z_]+) {2,}(\S.*)$", re.sub(r"\n {10,}(?=\S)", "  ", text), re.MULTILINE)
+    return [(re.sub("[<>]", "", names.split(", ")[-1]).lower(), plain(said)) for names, said in entries]
+
+
+def shown(name: str) -> list[tuple[str, str]]:
+    """Return what a page says of the program, of the options and of the commands."""
+    needs("mandoc")
+    page = run_text(["mandoc", "-T", "ascii", "-O", "width=1000", str(PAGE.with_name(f"{name}.1"))], check=True).stdout
+    text = re.sub(".\b", "", page)
+    return [*texts_in(text), *(("", plain(each)) for each in re.findall(r"\nDESCRIPTION\n +\S+ (?:is )?(.*)", text))]
+
+
+@pytest.mark.parametrize("name", ["ansible-vault", *COMPANIONS])
+def test_words(program: str, name: str) -> None:
+    """What a page says of the program, a command or an option begins with the words of the help."""
+    texts = [companion_help(name)] if name in COMPANIONS else [help_text(program, each) for each in page_sets()]
+    about = next(each for each in texts[-1].split("\n\n") if not each.startswith("usage: "))
+    said = [("", plain(re.split(r"\.\s", about)[0])), *(each for text in texts for each in texts_in(text))]
+    page = dict(shown(SHARED)) | dict(shown(name))
+    assert len(said) > 5
+    assert [(what, words) for what, words in said if not page.get(what, "").startswith(words)] == []
+    others = [what for what, words in said if (REPEATED in words) != (REPEATED in page[what])]
+    assert others == [], "and a page does not add that an option may be repeated"
 
 
 def test_references() -> None:

@@ -43,8 +43,8 @@ def add_options(parser: argparse.ArgumentParser) -> None:
         action="append",
         default=[],
         metavar="PATTERN",
-        help="leave out files and directories with this name, or, if it contains a slash, with this path below PATH; "
-        "* and ? stand for any characters; may be repeated",
+        help="leave out files and directories with this name or, if it contains a slash, with this path below PATH; "
+        "may be repeated; * stands for any text, and ? for any character",
     )
     parser.add_argument("paths", metavar="PATH", nargs="+")
 
