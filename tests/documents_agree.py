@@ -10,8 +10,10 @@ from pathlib import Path
 
 import pytest
 
+from ansible_vault_companions import OLDEST
 from ansible_vault_companions.files import reading
 from ansible_vault_companions.files.replacing import RANDOM
+from ansible_vault_companions.files.searching import PROSE
 from ansible_vault_companions.stopping import GRACE_PERIOD, SAME_SIGNAL
 from lib.needs import needs
 from lib.option_sets import OF_ANSIBLE, companion_options, described_options, sections
@@ -108,6 +110,13 @@ def test_bytes() -> None:
     [(first, last)] = re.findall(r"Its bytes are (\w\w) to (\w\w) except `;`", FORMATS)
     listed = {*range(int(first, 16), int(last, 16) + 1)} - {ord(";")}
     assert listed == {code for code in range(256) if is_label(f"a{chr(code)}b")}
+
+
+def test_documents() -> None:
+    """Each list of suffixes that marks documents, in which blocks may be examples, is the companions' own."""
+    lists = [each for document in DOCUMENTS for each in re.findall(r"\.md(?:`? ?, `?\.\w+)+", document.read_text())]
+    assert len(lists) > 3
+    assert {tuple(re.findall(r"\.\w+", each)) for each in lists} == {PROSE}
 
 
 def test_page() -> None:
@@ -219,6 +228,7 @@ def test_figures(program: str) -> None:
     figures = {
         r"\*\*Status:\*\* ([\d.]+\d)": version(),
         r"glibc (\d+\.\d+)": least_glibc(program),
+        r"Python (\d+\.\d+)": PYTHON,
         r"([\d,]+) rounds of PBKDF2": f"{constant('vault_kdf/src/keys.rt', 'ROUNDS'):,}",
         r"(\d+) MiB(?! of address space)": str(longest),
     }
@@ -239,7 +249,8 @@ def test_figures_in_words() -> None:
 UNITS = {"GB", "KiB", "MB", "MiB", "min", "ms", "s"}
 MEASURED = {"11 min", "25 min", "40 min", "50 min", "40 s", "90 s", "36 KiB", "64 KiB", "20 MiB", "16 MiB", "100 MB"}
 OTHERS = {"0600", "09", "100", "12", "120", "127", "20480", "24", "250", "40", "400", "4,097", "5432", "600,000", "99"}
-OTHERS |= {"1.0", "1.1", "1.2", "2.0", "2.26", "2.39", "3.2", "3.9", "2009", "2011"}
+PYTHON = ".".join(map(str, OLDEST))
+OTHERS |= {PYTHON, "1.0", "1.1", "1.2", "2.0", "2.26", "2.39", "3.2", "2009", "2011"}
 OTHERS |= {"197", "2104", "5652", "8018", "5.2", "6.3", "6.5"}
 ELSEWHERE = {"DECISIONS.md", "speed.md", "verification.md", "verification-reference.md"}
 
