@@ -128,7 +128,7 @@ def test_repeatable_options(shell: str, folder: pathlib.Path, name: str) -> None
 
 
 # The names of values that are files, in the table of the program and in a companion's help.
-FILES_IN_HELP = {"PATH", "[LABEL@]SOURCE", "FILE", "[LABEL@]FILE"}
+FILES_IN_HELP = {"PATH", "SOURCE", "[LABEL@]SOURCE", "FILE", "[LABEL@]FILE"}
 
 
 def values_of(name: str) -> dict[str, str]:

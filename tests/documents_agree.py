@@ -10,11 +10,13 @@ from pathlib import Path
 
 import pytest
 
+from ansible_vault_companions import OLDEST
 from ansible_vault_companions.files import reading
 from ansible_vault_companions.files.replacing import RANDOM
+from ansible_vault_companions.files.searching import PROSE
 from ansible_vault_companions.stopping import GRACE_PERIOD, SAME_SIGNAL
 from lib.needs import needs
-from lib.option_sets import OF_ANSIBLE, companion_help, companion_options, companion_page, described_options, sections
+from lib.option_sets import OF_ANSIBLE, companion_options, described_options, sections
 from lib.paths import COMPANIONS, PAGE, README, ROOT, version
 from model.answers import WHITESPACE
 from model.options import is_label
@@ -110,6 +112,13 @@ def test_bytes() -> None:
     assert listed == {code for code in range(256) if is_label(f"a{chr(code)}b")}
 
 
+def test_documents() -> None:
+    """Each list of suffixes that marks documents, in which blocks may be examples, is the companions' own."""
+    lists = [each for document in DOCUMENTS for each in re.findall(r"\.md(?:`? ?, `?\.\w+)+", document.read_text())]
+    assert len(lists) > 3
+    assert {tuple(re.findall(r"\.\w+", each)) for each in lists} == {PROSE}
+
+
 def test_page() -> None:
     diagnostics = sections(PAGE.read_text())["DIAGNOSTICS"]
     messages = re.findall(r"^\.It (.*)$", diagnostics, re.MULTILINE)
@@ -199,17 +208,6 @@ def test_variables() -> None:
     assert {name for name in named - of_make - OF_PROGRAMS if not name.startswith("ANSIBLE_")} == set()
 
 
-def defaults_in(text: str) -> set[str]:
-    return {each.strip() for each in re.findall(r"by default,? ([\w ]+)", " ".join(text.split()))}
-
-
-def test_defaults() -> None:
-    """A default in a companion's help is also on its page."""
-    said = {(name, each) for name in COMPANIONS for each in defaults_in(companion_help(name))}
-    in_pages = {(name, each) for name in COMPANIONS for each in defaults_in("".join(companion_page(name).values()))}
-    assert len(said) > 0 and said <= in_pages
-
-
 def constant(path: str, name: str) -> int:
     [found] = re.findall(rf"^(?:pub )?const {name}: \w+ = ([\d_]+);$", (CRATES / path).read_text(), re.MULTILINE)
     return int(found)
@@ -230,6 +228,7 @@ def test_figures(program: str) -> None:
     figures = {
         r"\*\*Status:\*\* ([\d.]+\d)": version(),
         r"glibc (\d+\.\d+)": least_glibc(program),
+        r"Python (\d+\.\d+)": PYTHON,
         r"([\d,]+) rounds of PBKDF2": f"{constant('vault_kdf/src/keys.rt', 'ROUNDS'):,}",
         r"(\d+) MiB(?! of address space)": str(longest),
     }
@@ -250,7 +249,8 @@ def test_figures_in_words() -> None:
 UNITS = {"GB", "KiB", "MB", "MiB", "min", "ms", "s"}
 MEASURED = {"11 min", "25 min", "40 min", "50 min", "40 s", "90 s", "36 KiB", "64 KiB", "20 MiB", "16 MiB"}
 OTHERS = {"0600", "09", "100", "12", "120", "127", "20480", "24", "250", "40", "400", "4,097", "5432", "600,000", "99"}
-OTHERS |= {"1.0", "1.1", "1.2", "2.0", "2.26", "2.39", "3.2", "3.9", "2009", "2011"}
+PYTHON = ".".join(map(str, OLDEST))
+OTHERS |= {PYTHON, "1.0", "1.1", "1.2", "2.0", "2.26", "2.39", "3.2", "2009", "2011"}
 OTHERS |= {"197", "2104", "5652", "8018", "5.2", "6.3", "6.5"}
 ELSEWHERE = {"DECISIONS.md", "speed.md", "verification.md", "verification-reference.md"}
 

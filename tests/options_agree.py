@@ -1,8 +1,9 @@
 """The table of options in the code agrees with the manual page, the model and the program's own help; and the options
-of each companion agree in its page and its help. `completions.py` compares what the shells offer. `mandoc` and `groff`
-check the pages.
+of each companion agree in its page and its help, word for word. `completions.py` compares what the shells offer.
+`mandoc` and `groff` check the pages.
 """
 
+import inspect
 import json
 import re
 import subprocess
@@ -13,11 +14,17 @@ from pathlib import Path
 
 import pytest
 
+from ansible_vault_companions import program as companion
+from ansible_vault_companions.files import private_folder, replacing
+from ansible_vault_companions.git import unmerged
+from ansible_vault_companions.plaintext import edits
+from ansible_vault_companions.secrets import settings
 from lib.needs import needs
-from lib.option_sets import OF_ANSIBLE, companion_options, companion_page, described_options
+from lib.option_sets import OF_ANSIBLE, companion_help, companion_options, companion_page, described_options
 from lib.option_sets import help_commands, help_of, help_options, help_text, options_in, page_sets, sections, spellings
 from lib.option_table import Entry, helps_of, table_options
 from lib.paths import COMPANIONS, PAGE, ROOT, version
+from lib.processes import run_text
 from model.options import COMMON, FLAGS, OPTIONS
 
 # The tools that check a page and render it.
@@ -47,11 +54,6 @@ def long(options: Iterable[str]) -> set[str]:
     return {option for option in options if option.startswith("--")}
 
 
-def page_values(text: str, name: str) -> set[str]:
-    """Return the page's names for an option's value, wherever it names both."""
-    return set(re.findall(rf"^\.(?:It|Op|Oc)?.*\bFl -{name}(?= |$)(?: Ar (\S+))?", text, re.MULTILINE))
-
-
 def test_table() -> None:
     """The page and the model agree with the table."""
     table = {entry.option for entry in table_options()}
@@ -59,9 +61,6 @@ def test_table() -> None:
     assert COMMON.union(*OPTIONS.values()) == table, "the model knows the table's options"
     assert sorted(FLAGS) == [entry.option for entry in table_options() if not entry.value_name], "and its flags"
     assert long(described_options()) - {"--help", "--version"} == table, "the page describes the table's options"
-    items = "\n".join(re.findall(r"^\.It Fl .*$", PAGE.read_text(), re.MULTILINE)).replace(" , ", "\n.It ")
-    values = {entry.constant: page_values(items, entry.name) for entry in table_options()}
-    assert values == {entry.constant: {entry.value_name.lower()} for entry in table_options()}, "and their values"
 
 
 def test_commands_in_help(program: str) -> None:
@@ -145,6 +144,64 @@ def test_variables() -> None:
     named = set().union(*(re.findall(r"\bEv ([A-Z_]+)", page) for page in pages))
     assert len(read) > 5, ("variables are read", sorted(read))
     assert sorted(read - named) == [], "each is named"
+
+
+def test_settings() -> None:
+    """The keys of ansible.cfg are in the order of their variables, and its places in the order of the code."""
+    page, pairs = companion_page(SHARED), [each for each in vars(settings).values() if type(each) is tuple]
+    keys = re.findall(r"\bQl (\w+)", page["FILES"].partition("mean the same as the variables")[0])
+    variables = re.findall(r"^\.It Ev (\w+)", page["ENVIRONMENT"], re.MULTILINE)
+    assert {*zip(variables, keys)} == {pair for pair in pairs if pair[0].startswith("ANSIBLE_")}
+    places = re.findall(r"\bPa (\S+)", page["FILES"].partition("or else the first of")[2])
+    assert places[:3] == [f"./{settings.NAME}", settings.HOME, settings.SYSTEM]
+
+
+def test_choices() -> None:
+    """The page of ansible-vault-edit names the editors and the directories that are tried, in the order of the code."""
+    chosen = [(edits, "editor = "), (private_folder, "for place in "), (companion, "TMPDIR")]
+    code = [re.findall(rf"^ +(.*{line}.*)$", inspect.getsource(module), re.MULTILINE) for module, line in chosen]
+    named = re.findall(r"\b(?:Ev|Pa|Ql) ([\w/]+)(?=\n| ,)", companion_page("ansible-vault-edit")["ENVIRONMENT"])
+    assert named == [name for [line] in code for name in re.findall(r'"([\w/]+)"', line)]
+
+
+def test_files() -> None:
+    """The pages name the files that companions make."""
+    pages = "".join(companion_page(name).get("FILES", "") for name in COMPANIONS)
+    made = {f"{each}*" for each in (private_folder.PREFIX, replacing.PREFIX, replacing.SAVED)}
+    named = re.findall(r"^\.It Pa (.*ansible-vault-.*)$", pages, re.MULTILINE)
+    assert {*named} == made | {f".git/{unmerged.CONFLICTS}"}
+
+
+def plain(text: str) -> str:
+    """Return a text without quotes, in small letters. A semicolon counts as the end of a sentence."""
+    return " ".join(re.sub(r"[`'\"]|\(\d\)", "", text).replace(";", ".").lower().split()).rstrip(".") + "."
+
+
+def texts_in(text: str) -> list[tuple[str, str]]:
+    """Return what a help or a shown page says of each command and option, by the option's last spelling."""
+    entries = re.findall(r"^ +(--?\w.*?|[a-z_]+) {2,}(\S.*)$", re.sub(r"\n {10,}(?=\S)", "  ", text), re.MULTILINE)
+    return [(re.sub("[<>]", "", names.split(", ")[-1]).lower(), plain(said)) for names, said in entries]
+
+
+def shown(name: str) -> list[tuple[str, str]]:
+    """Return what a page says of the program, of the options and of the commands."""
+    needs("mandoc")
+    page = run_text(["mandoc", "-T", "ascii", "-O", "width=1000", str(PAGE.with_name(f"{name}.1"))], check=True).stdout
+    text = re.sub(".\b", "", page)
+    return [*texts_in(text), *(("", plain(each)) for each in re.findall(r"\nDESCRIPTION\n +\S+ (?:is )?(.*)", text))]
+
+
+@pytest.mark.parametrize("name", ["ansible-vault", *COMPANIONS])
+def test_words(program: str, name: str) -> None:
+    """What a page says of the program, a command or an option begins with the words of the help."""
+    texts = [companion_help(name)] if name in COMPANIONS else [help_text(program, each) for each in page_sets()]
+    about = next(each for each in texts[-1].split("\n\n") if not each.startswith("usage: "))
+    said = [("", plain(re.split(r"\.\s", about)[0])), *(each for text in texts for each in texts_in(text))]
+    page = dict(shown(SHARED)) | dict(shown(name))
+    assert len(said) > 5
+    assert [(what, words) for what, words in said if not page.get(what, "").startswith(words)] == []
+    others = [what for what, words in said if ("be repeated" in words) != ("be repeated" in page[what])]
+    assert others == [], "and a page does not add that an option may be repeated"
 
 
 def test_references() -> None:

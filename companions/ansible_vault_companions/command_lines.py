@@ -27,7 +27,9 @@ def parser(name: str, summary: str, example: str, ciphers: str = BY_TOOL, **opti
         epilog=f"Example:\n  {example}\n\nFor more, see `man {name}`.\n{NOT_PROVED}; {ciphers}.",
         formatter_class=argparse.RawDescriptionHelpFormatter,
         allow_abbrev=False,
+        add_help=False,
         **options,
     )
-    made.add_argument("-V", "--version", action="version", version=f"{name} {VERSION}")
+    made.add_argument("-h", "--help", action="help", help="print help")
+    made.add_argument("-V", "--version", action="version", version=f"{name} {VERSION}", help="print version")
     return made

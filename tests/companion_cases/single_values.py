@@ -206,7 +206,7 @@ def test_given(place: Place, both: list[str]) -> None:
     words = [*both, "--value", "db_password", "vars.yml"]
     ended("a vault", set_to(place, sealed("dev"), *words), 1, "standard input is a vault")
     ended("too long", set_to(place, bytes((1 << 24) + 1), *words), 1, "more bytes than a vault can hold")
-    ended("two files", set_to(place, b"x", *words, "vars.yml"), 2, "--value takes one VAULT")
+    ended("two files", set_to(place, b"x", *words, "vars.yml"), 2, "--value takes one FILE")
     ended("no file", set_to(place, b"x", *words[:-1], "new.yml"), 1, "new.yml: No such file")
     ended("no standard input", place.run("sh", "-c", '"$@" <&-', "sh", EDIT, *words), 1, "Bad file descriptor")
     needs("stty")

@@ -21,11 +21,11 @@ OVERLAP = 256
 CONTINUATIONS = re.compile(CONTINUED + rb"%s*" % CONTINUED)
 # Documents, in which blocks may be examples.
 PROSE = (".md", ".rst", ".adoc", ".html")
-PLACES = """\
+PLACES = f"""\
 Each PATH is a file or a directory. Directories are searched recursively,
 except .git. Symbolic links to files are followed; a link to a directory is
 followed only if you give it as a PATH. Blocks are found in every file except
-documents (.md, .rst, .adoc, .html), even within other text, and in the
+documents ({', '.join(PROSE)}), even within other text, and in the
 plaintext of vaults. An envelope that cannot be replaced where it stands (such
 as one in quotes, JSON or a comment) counts as a failure, and the message says
 what to do."""
@@ -43,8 +43,8 @@ def add_options(parser: argparse.ArgumentParser) -> None:
         action="append",
         default=[],
         metavar="PATTERN",
-        help="leave out files and directories with this name, or, if it contains a slash, with this path below PATH; "
-        "* and ? stand for any characters; may be repeated",
+        help="leave out files and directories with this name or, if it contains a slash, with this path below PATH; "
+        "may be repeated; * stands for any text, and ? for any character",
     )
     parser.add_argument("paths", metavar="PATH", nargs="+")
 

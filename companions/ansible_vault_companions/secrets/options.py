@@ -10,9 +10,10 @@ from ansible_vault_companions.secrets.settings import Settings
 from ansible_vault_companions.secrets.sources import ASKED, ASKING, READ_AT_MOST, Secret
 
 SOURCES = """\
-FILE contains the password. If it is executable, it is run, and its output
-is the password; if its name, without the suffix, ends in -client, it gets
-the arguments --vault-id LABEL. `prompt` as FILE asks at the terminal."""
+SOURCE is a file that contains the password. If it is executable, it is run,
+and its output is the password; if its name, without the suffix, ends in
+`-client`, it gets the arguments --vault-id LABEL. `prompt` as SOURCE asks at
+the terminal."""
 BY_SETTINGS = """
 Ansible's settings (environment variables or ansible.cfg) add secrets. Once
 you name a secret with one of these options, secrets named in the current
@@ -28,20 +29,21 @@ NONE = (
 def add_options(parser: argparse.ArgumentParser, prefix: str = "", which: str = "") -> None:
     """Adds the options that name secrets. Settings do not apply to options with a prefix."""
     group = parser.add_argument_group(which or "secrets", SOURCES + ("" if prefix else BY_SETTINGS))
+    what = "the source of a new secret" if prefix else "the source of a secret"
     group.add_argument(
         f"--{prefix}vault-id",
         action="append",
         default=[],
-        metavar="[LABEL@]FILE",
-        help=f"a password file, with the label of its secret; may be repeated{' with other labels' * bool(prefix)}",
+        metavar="[LABEL@]SOURCE",
+        help=f"{what}, with its label (default: `default`); may be repeated{' with other labels' * bool(prefix)}",
     )
     group.add_argument(
         f"--{prefix}vault-password-file",
         *([] if prefix else ["--vault-pass-file"]),
         action="append",
         default=[],
-        metavar="FILE",
-        help=f"a password file for the label default{'' if prefix else '; may be repeated'}",
+        metavar="SOURCE",
+        help=f"{what} with the label `default`{'' if prefix else '; may be repeated'}",
     )
     if not prefix:
         group.add_argument(
@@ -50,7 +52,7 @@ def add_options(parser: argparse.ArgumentParser, prefix: str = "", which: str = 
             dest="vault_id",
             default=[],
             const=ASKED,
-            help="ask at the terminal for the password of the label default",
+            help="ask at the terminal for the password of the label `default`",
         )
 
 
