@@ -1,25 +1,32 @@
 """What the tests' own helpers must notice, so that a test that relies on one can fail."""
 
 import runpy
+import string
 import subprocess
 from collections.abc import Callable
 from dataclasses import replace
+from hashlib import shake_128
 from pathlib import Path
+from random import Random
 
 import pytest
+from hypothesis import given
+from hypothesis import strategies as st
 
 from companion_cases import ended
 from lib.ansible import ansible_vault
 from lib.cases import Cases, refusal
 from lib.installed import VERSION
 from lib.links import dead_links
-from lib.paths import ROOT
+from lib.paths import README, ROOT
 from lib.scripts import write_script
 from lib.system_calls import calls_in
-from model.compared import differences
+from model import random_envelopes, random_requests, vaults
+from model.compared import differences, expected
 from model.faults import Fault
-from model.random_requests import Case
-from model.vaults import seal
+from model.options import COMMON, OPTIONS
+from model.random_requests import Case, make
+from model.vaults import SALT, seal
 
 # A request, and programs that differ in one thing from the program that answers it.
 CASE = Case(["decrypt", "--vault-password-file", "right", "--output", "new"], {"right": b"right\n"}, b"no vault\n")
@@ -94,10 +101,49 @@ def test_each_part_is_looked_for() -> None:
             ended("one of two", done, 0, *parts)
 
 
+@given(st.text(sorted({*string.printable} - {*")#"}), max_size=20))
+def test_dead_files(name: str) -> None:
+    text = f"[x](https://x) [x](none{name}) [x](none{name}#x)"
+    assert [*dead_links(README, text)] == [f"none{name}", f"none{name}#x"]
+
+
 def test_dead_links(tmp_path: Path) -> None:
     page = tmp_path / "page.md"
-    page.write_text("# A title\n[1](#a-title) [2](page.md#a-title) [3](#gone) [4](page.md#gone) [5](gone.md)")
-    assert [*dead_links(page)] == ["#gone", "page.md#gone", "gone.md#"]
+    page.write_text("# A title\n```\n# code\n```\n[1](#a-title) [2](page.md#a-title) [3](#code) [4](page.md#gone)")
+    assert [*dead_links(page)] == ["#code", "page.md#gone"]
+
+
+# Faults that no random request meets: one takes a lack of memory, the others a size that is rare.
+NOT_MET = {Fault.MEMORY, Fault.TOO_LONG, Fault.CIPHER_TOO_LONG}
+
+
+def parts_of(word: str) -> set[str]:
+    """Return the word, and what may be an option, a value or a label in it."""
+    option, _, value = word.partition("=")
+    return {word, option, value, word.removeprefix("-n"), word.partition("@")[0], value.partition("@")[0]}
+
+
+def test_kinds_of_requests(monkeypatch: pytest.MonkeyPatch) -> None:
+    """Random requests meet each fault, with each value and each size of the tables. A quick cipher will do here."""
+    repeated, sizes = random_envelopes.repeated, set[int]()
+
+    def cut(random: Random, size: int) -> bytes:
+        sizes.add(size)
+        return repeated(random, min(size, 300))
+
+    monkeypatch.setattr(random_envelopes, "repeated", cut)
+    monkeypatch.setattr(vaults, "keys", lambda password, salt: shake_128(password + b"/" + salt).digest(80))
+    monkeypatch.setattr(vaults, "counter_mode", lambda key, counter, data: data)
+    cases = [make(str(number)) for number in range(3_000)]
+    assert {fault.line for fault in {*Fault} - NOT_MET} - {expected(case, SALT).message for case in cases} == set()
+    assert {*random_envelopes.SIZES, *random_envelopes.LARGE_SIZES} <= sizes, "sizes"
+    assert len(sizes & {*random_envelopes.LIMIT_SIZES}) > 1, "sizes near the limit"
+    said = {part for case in cases for text in (*case.words, *case.files) for part in parts_of(text)}
+    tables = [table for name, table in vars(random_requests).items() if name.isupper() and not isinstance(table, str)]
+    assert len(tables) > 12
+    assert {each for table in tables for each in table if isinstance(each, str)} - said == set(), "values"
+    known = {(command, option) for command, options in OPTIONS.items() for option in options | COMMON}
+    assert known - {(case.words[0], part) for case in cases for word in case.words for part in parts_of(word)} == set()
 
 
 # How pytest ends with a planted fault, and whether the fault is caught.

@@ -1,5 +1,6 @@
 """Random plaintexts and envelopes: intact ones in every layout that the program reads, and damaged ones."""
 
+from collections.abc import Callable
 from random import Random
 
 from model.vaults import CIPHERTEXT_LIMIT, ENVELOPE, ENVELOPE_LIMIT, HEADER, MAGIC, PLAINTEXT_LIMIT
@@ -20,18 +21,20 @@ def repeated(random: Random, size: int) -> bytes:
     return (unit * (size // len(unit) + 1))[:size]
 
 
+STARTS = [MAGIC, MAGIC[:-1], MAGIC + b"X", ENVELOPE, b" " + ENVELOPE, b"\n" + MAGIC, MAGIC.lower()]
+# Each kind of plaintext, and how often it is made.
+PLAINTEXTS: dict[Callable[[Random], bytes], float] = {
+    lambda random: repeated(random, random.choice(LIMIT_SIZES)): 1 / RARELY,
+    lambda random: repeated(random, random.choice(LARGE_SIZES)): 0.05,
+    lambda random: random.choice(STARTS): 0.1,
+    lambda random: random.randbytes(random.choice(SIZES)): 0.35,
+    lambda random: repeated(random, random.choice(SIZES)): 0.5,
+}
+
+
 def plaintext(random: Random) -> bytes:
-    kind = random.random()
-    if kind < 1 / RARELY:
-        return repeated(random, random.choice(LIMIT_SIZES))
-    if kind < 0.05:
-        return repeated(random, random.choice(LARGE_SIZES))
-    if kind < 0.15:
-        starts = [MAGIC, MAGIC[:-1], MAGIC + b"X", ENVELOPE, b" " + ENVELOPE, b"\n" + MAGIC, MAGIC.lower()]
-        return random.choice(starts)
-    if kind < 0.5:
-        return random.randbytes(random.choice(SIZES))
-    return repeated(random, random.choice(SIZES))
+    [make] = random.choices([*PLAINTEXTS], [*PLAINTEXTS.values()])
+    return make(random)
 
 
 def respelled(random: Random, envelope: bytes) -> bytes:
@@ -88,47 +91,53 @@ def damaged(random: Random, envelope: bytes) -> bytes:
     )
 
 
-def wrong_header(random: Random, envelope: bytes) -> bytes:
-    _, _, body = envelope.partition(b"\n")
-    fields = HEADER.split(b";")
-    change = random.randrange(6)
-    if change == 0:
-        fields[1] = random.choice([b"1.0", b"1.3", b"", b"1.1 1", b"1,1", b"1.2x"])
-    elif change == 1:
-        fields[2] = random.choice([b"AES", b"aes256", b"AES256X", b""])
-    elif change == 2:
-        fields.append(random.choice([b"a" * 129, b"a\tb", b"a\x7f", b"d\xc3\xa9v", b"a\x1f"]))
-    elif change == 3:
-        fields = fields[: random.randrange(3)]
-    elif change == 4:
-        fields.append(b"a")
-        fields.append(b"m" * (random.choice([256, 257, 258]) - len(b";".join(fields)) - 1))
-    else:
-        fields[0] = random.choice([MAGIC[:-1], MAGIC.lower(), b" " + MAGIC, b"", MAGIC + b"\xc3\xa9"])
-    return b";".join(fields) + b"\n" + body
+FIELDS = HEADER.split(b";")
+# Each makes the fields of a header that is wrong, or as long as a header may be.
+HEADERS: list[Callable[[Random], list[bytes]]] = [
+    lambda random: [MAGIC, random.choice([b"1.0", b"1.3", b"", b"1.1 1", b"1,1", b"1.2x"]), FIELDS[2]],
+    lambda random: [*FIELDS[:2], random.choice([b"AES", b"aes256", b"AES256X", b""])],
+    lambda random: [*FIELDS, random.choice([b"a" * 129, b"a\tb", b"a\x7f", b"d\xc3\xa9v", b"a\x1f"])],
+    lambda random: FIELDS[: random.randrange(3)],
+    lambda random: [*FIELDS, b"a", b"m" * (random.choice([256, 257, 258]) - len(HEADER + b";a;"))],
+    lambda random: [random.choice([MAGIC[:-1], MAGIC.lower(), b" " + MAGIC, b"", MAGIC + b"\xc3\xa9"]), *FIELDS[1:]],
+]
 
 
-def wrong_inside(random: Random, salt: bytes, tag: bytes, ciphertext: bytes, label: bytes) -> bytes:
-    """Return a well-formed body whose parts are invalid, or not the sealed ones."""
-    change = random.randrange(6)
-    if change == 0:
-        tag = tag[: random.choice([0, 16, 31])] + bytes(random.choice([0, 1]))
-    elif change == 1:
-        salt = bytes(random.choice([255, 256, 257]))
-    elif change == 2:
-        ciphertext = ciphertext[: random.randrange(len(ciphertext) + 1)]
-    elif change == 3:
-        ciphertext += random.choice([b"\x00", bytes(16)])
-    elif change == 4:
-        header, _, body = serialized(salt, tag, ciphertext, label).partition(b"\n")
-        inner = bytes.fromhex(body.decode())
-        byte = random.choice([b"\n", b"g", b"G", b"\r", b" ", b"A", b"0"])
-        index = random.choice([len(inner), random.randrange(len(inner) + 1), len(salt) * 2])
-        return header + b"\n" + (inner[:index] + byte + inner[index + random.randrange(2) :]).hex().encode()
-    else:
-        header, _, body = serialized(salt, tag, ciphertext, label).partition(b"\n")
-        return header + b"\n" + bytes.fromhex(body.decode()).upper().hex().encode()
-    return serialized(salt, tag, ciphertext, label)
+def wrong_header(random: Random, whole: bytes) -> bytes:
+    return b";".join(random.choice(HEADERS)(random)) + b"\n" + whole.partition(b"\n")[2]
+
+
+Parts = tuple[bytes, bytes, bytes]
+# Each changes a salt, a tag or a ciphertext.
+PARTS: list[Callable[[Random, bytes, bytes, bytes], Parts]] = [
+    lambda random, salt, tag, text: (salt, tag[: random.choice([0, 16, 31])] + bytes(random.choice([0, 1])), text),
+    lambda random, salt, tag, text: (bytes(random.choice([255, 256, 257])), tag, text),
+    lambda random, salt, tag, text: (salt, tag, text[: random.randrange(len(text) + 1)]),
+    lambda random, salt, tag, text: (salt, tag, text + random.choice([b"\x00", bytes(16)])),
+]
+
+
+def wrong_part(random: Random, pieces: Parts, label: bytes) -> bytes:
+    return serialized(*random.choice(PARTS)(random, *pieces), label)
+
+
+def wrong_digit(random: Random, pieces: Parts, label: bytes) -> bytes:
+    """Return an envelope with one byte more, or another one, in the digits of its parts."""
+    header, body = serialized(*pieces, label).split(b"\n", 1)
+    inner = bytes.fromhex(body.decode())
+    other = random.choice([b"\n", b"g", b"G", b"\r", b" ", b"A", b"0"])
+    index = random.choice([len(inner), random.randrange(len(inner) + 1), len(pieces[0]) * 2])
+    return header + b"\n" + (inner[:index] + other + inner[index + random.randrange(2) :]).hex().encode()
+
+
+def upper_case(_: Random, pieces: Parts, label: bytes) -> bytes:
+    header, body = serialized(*pieces, label).split(b"\n", 1)
+    return header + b"\n" + bytes.fromhex(body.decode()).upper().hex().encode()
+
+
+def wrong_body(random: Random, pieces: Parts, label: bytes) -> bytes:
+    """Return a well-formed body whose parts are invalid, or not the sealed ones, or spelled otherwise."""
+    return random.choice([*[wrong_part] * 4, wrong_digit, upper_case])(random, pieces, label)
 
 
 def spliced(random: Random, one: bytes, other: bytes) -> bytes:
@@ -146,26 +155,40 @@ def badly_padded(random: Random) -> bytes:
     return whole + random.choice(ends)
 
 
+def intact(random: Random, password: bytes, label: bytes, salt: bytes) -> bytes:
+    whole = seal(password, plaintext(random), label, salt)
+    return whole if len(whole) > 1_000_000 or random.random() < 0.4 else respelled(random, whole)
+
+
+def pieces_of(random: Random, password: bytes, salt: bytes) -> Parts:
+    return parts(password, padded(repeated(random, random.choice(SIZES))), salt)
+
+
+def short(random: Random, password: bytes, label: bytes, salt: bytes) -> bytes:
+    return serialized(*pieces_of(random, password, salt), label)
+
+
+def mixed(random: Random, password: bytes, label: bytes, salt: bytes) -> bytes:
+    other = seal(password, b"another text" * 9, label, random.choice(SALTS))
+    return spliced(random, short(random, password, label, salt), other)
+
+
+# Each kind of envelope, and how often it is made: from a password, a label and a salt.
+ENVELOPES: dict[Callable[[Random, bytes, bytes, bytes], bytes], float] = {
+    intact: 0.5,
+    lambda random, password, label, salt: serialized(*parts(password, badly_padded(random), salt), label): 0.1,
+    lambda random, password, label, salt: wrong_body(random, pieces_of(random, password, salt), label): 0.1,
+    lambda random, *given: wrong_header(random, short(random, *given)): 0.1,
+    mixed: 0.05,
+    lambda random, *given: damaged(random, respelled(random, short(random, *given))): 0.13,
+    lambda random, *_: not_at_all(random): 0.02,
+}
+
+
 def envelope(random: Random, password: bytes, label: bytes) -> bytes:
     """Return an envelope, usually one that can be decrypted. `label` is empty for format 1.1."""
-    salt = random.choice(SALTS)
-    kind = random.random()
-    if kind < 0.5:
-        whole = seal(password, plaintext(random), label, salt)
-        return whole if len(whole) > 1_000_000 or random.random() < 0.4 else respelled(random, whole)
-    if kind < 0.6:
-        return serialized(*parts(password, badly_padded(random), salt), label)
-    pieces = parts(password, padded(repeated(random, random.choice(SIZES))), salt)
-    if kind < 0.7:
-        return wrong_inside(random, *pieces, label)
-    whole = serialized(*pieces, label)
-    if kind < 0.8:
-        return wrong_header(random, whole)
-    if kind < 0.85:
-        return spliced(random, whole, seal(password, b"another text" * 9, label, random.choice(SALTS)))
-    if kind < 0.98:
-        return damaged(random, respelled(random, whole))
-    return not_at_all(random)
+    [make] = random.choices([*ENVELOPES], [*ENVELOPES.values()])
+    return make(random, password, label, random.choice(SALTS))
 
 
 def not_at_all(random: Random) -> bytes:
