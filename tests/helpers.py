@@ -10,14 +10,20 @@ from pathlib import Path
 from random import Random
 
 import pytest
-from hypothesis import given
+from hypothesis import given, settings
 from hypothesis import strategies as st
 
-from companion_cases import ended
+import companion_cases
+from companion_cases import AWKWARD, COMPANIONS, HOOK, Done, Place, ended, oracle, silent, wait_until
+from companion_cases.oracle import DEV, LABEL_OF, NAMES
+from companion_cases.repository import leaked, meant, refused
+from companion_cases.terminal import ask
+from fault_injection import OLD, OLD_MODE, OUTPUT, Left, Scenario, Target, run
 from lib.ansible import ansible_vault
 from lib.cases import Cases, refusal
 from lib.installed import VERSION
 from lib.links import dead_links
+from lib.needs import needs_pyyaml
 from lib.paths import README, ROOT
 from lib.scripts import write_script
 from lib.system_calls import calls_in
@@ -87,6 +93,18 @@ def test_each_part_of_an_answer(tmp_path: Path, check: Callable[[Cases], object]
             check(answering(tmp_path, *wrong))
 
 
+def test_both_commands_that_read(tmp_path: Path) -> None:
+    for command in ("view", "decrypt"):
+        with pytest.raises(AssertionError):
+            Cases(write_script(tmp_path / command, f'[ "$1" = {command} ]'), tmp_path).decrypts([], b"", b"")
+
+
+def test_what_faulty_runs_leave(tmp_path: Path) -> None:
+    scenario = Scenario("x", ["decrypt"], "/dev/null", b"", Target.OLD)
+    script = write_script(tmp_path / "script", "echo 1; echo 2 >&2; echo 3 > .other; exit 4")
+    assert run(scenario, [script]) == Left(4, b"1\n", b"2\n", {OUTPUT: (OLD, OLD_MODE), ".other": (b"3\n", 0o644)})
+
+
 def test_each_line_of_strace_is_a_call() -> None:
     others = ["7 [00007f] read(0,  <unfinished ...>", "7 --- SIGTERM ---"]
     log = "\n".join(['7 [00007f] read(0, ""..., 9) = 3', *others, "7 [???] +++ exited with 0 +++"])
@@ -99,6 +117,92 @@ def test_each_part_is_looked_for() -> None:
     for parts in (["one", "three"], ["three", "two"], ["one\n"], [" two"]):
         with pytest.raises(AssertionError):
             ended("one of two", done, 0, *parts)
+
+
+# Checks of a run, and what passes each.
+CHECKED: dict[str, tuple[Callable[[Done], object], Done]] = {
+    "silent": (lambda done: silent("", done), Done([], 0, "", "")),
+    "refused": (lambda done: refused("", done, "a"), Done([], 1, "", f"{HOOK}: a is not encrypted\n")),
+    "leaked": (lambda done: leaked("", done, {"a": "b"}), Done([], 1, "", f"{HOOK}: a b\n{meant('a')}\n")),
+}
+
+
+@pytest.mark.parametrize("check, right", CHECKED.values(), ids=CHECKED)
+def test_each_part_of_a_run(check: Callable[[Done], object], right: Done) -> None:
+    check(right)
+    wrong = [Done([], 2, "", right.stderr), Done([], right.returncode, "", right.stderr + "x")]
+    for each in [*wrong, Done([], 0, "x", "")]:
+        with pytest.raises(AssertionError):
+            check(each)
+
+
+def test_what_a_place_has(tmp_path: Path) -> None:
+    place = Place(tmp_path, Path("/bin/true"), COMPANIONS)
+    files = {name: name.encode() for name in [*AWKWARD, ".gitattributes", "a/.b/c", "d.git/e"]}
+    for name, content in files.items():
+        place.put(name, content)
+    place.put("../runtime/a/.b", b"")
+    assert (place.files(), {*place.names()}) == (files, files.keys() | {"a", "a/.b", "d.git"})
+    assert place.left() == [f"{place.runtime}/a", f"{place.runtime}/a/.b"]
+    assert not ask(place, "sh", "-c", "stty -echo < /dev/tty", answers=[]).echoes
+
+
+def test_waits(monkeypatch: pytest.MonkeyPatch) -> None:
+    answers = [True, False, False]
+    wait_until(lambda: answers.pop(), "the last answer")
+    assert answers == []
+    monkeypatch.setattr(companion_cases, "SECONDS", 0)
+    with pytest.raises(AssertionError):
+        wait_until(lambda: False, "nothing")
+
+
+any_name = st.sampled_from([*LABEL_OF])
+unhurried = settings(deadline=None)
+
+
+@unhurried
+@given(st.lists(any_name, min_size=1, max_size=3), st.booleans())
+def test_what_a_stranger_sees(names: list[str], is_yaml: bool) -> None:
+    """It takes the passwords of dev for each envelope around a text."""
+    content = b"text-0001\n"
+    for name in names:
+        envelope = oracle.make(name, content, "", 0)
+        content = b"a:\n" + oracle.block(b"b", envelope, b"  ") if is_yaml else envelope
+        assert [spot.envelope for spot in oracle.spots({"x": content})] == [envelope]
+    is_seen = all(LABEL_OF[name] == DEV for name in names)
+    assert oracle.visible(content) == ({b"text-0001"} if is_seen else set())
+
+
+@unhurried
+@given(any_name, st.sampled_from([*NAMES, ""]))
+def test_false_labels(name: str, label: str) -> None:
+    envelope = oracle.make(name, b"x", label, 0)
+    assert (oracle.label_of(envelope), oracle.opened(envelope)) == (label, (name, b"x"))
+    assert oracle.is_false(envelope) == (label not in ("", LABEL_OF[name]))
+    assert oracle.is_false(oracle.make("old", b"x", label, 0)), "a password of nobody"
+
+
+a_value = st.sampled_from([None, ("a", "x"), ("a", "y"), ("b", "x")])
+
+
+@given(a_value, a_value, a_value)
+def test_merged_values(base: oracle.Value | None, other: oracle.Value | None, found: oracle.Value | None) -> None:
+    sides = [(base, other), (other, base)]
+    assert [oracle.is_merged(base, *each, found) for each in sides] == [found == other] * 2, "only one side changes"
+    both = oracle.is_merged(("a", "x"), ("b", "x"), ("a", "y"), found or ("b", "y"))
+    assert both == (found is None), "each side changes a part"
+
+
+def test_values(tmp_path: Path) -> None:
+    needs_pyyaml()
+    assert oracle.values(b"a: 1\n---\nl:\n- {b: !x 2}\n- 3\n") == {
+        ("a",): ("tag:yaml.org,2002:int", "1"), ("l", "0", "b"): ("!x", "2"), ("l", "1"): ("tag:yaml.org,2002:int", "3")
+    }
+    assert oracle.values(oracle.make("dev", b"a: 1\nb: 2\n", "", 0)) == {("a",): ("", "a: 1"), ("b",): ("", "b: 2")}
+    assert oracle.values(b"a: [") is None
+    (tmp_path / ".x").write_bytes(b"y")
+    (tmp_path / "link").symlink_to(".x")
+    assert oracle.read_tree(tmp_path) == {".x": b"y"}
 
 
 @given(st.text(sorted({*string.printable} - {*")#"}), max_size=20))
