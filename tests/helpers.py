@@ -1,5 +1,6 @@
 """What the tests' own helpers must notice, so that a test that relies on one can fail."""
 
+import re
 import runpy
 import string
 import subprocess
@@ -13,10 +14,8 @@ import pytest
 from hypothesis import given, settings
 from hypothesis import strategies as st
 
-import companion_cases
-from companion_cases import AWKWARD, COMPANIONS, HOOK, Done, Place, ended, oracle, silent, wait_until
+from companion_cases import AWKWARD, COMPANIONS, PASSWORDS, Done, Place, ended, oracle, silent, wait_until
 from companion_cases.oracle import DEV, LABEL_OF, NAMES
-from companion_cases.repository import leaked, meant, refused
 from companion_cases.terminal import ask
 from fault_injection import OLD, OLD_MODE, OUTPUT, Left, Scenario, Target, run
 from lib.ansible import ansible_vault
@@ -30,7 +29,6 @@ from lib.system_calls import calls_in
 from model import random_envelopes, random_requests, vaults
 from model.compared import differences, expected
 from model.faults import Fault
-from model.options import COMMON, OPTIONS
 from model.random_requests import Case, make
 from model.vaults import SALT, seal
 
@@ -117,23 +115,10 @@ def test_each_part_is_looked_for() -> None:
     for parts in (["one", "three"], ["three", "two"], ["one\n"], [" two"]):
         with pytest.raises(AssertionError):
             ended("one of two", done, 0, *parts)
-
-
-# Checks of a run, and what passes each.
-CHECKED: dict[str, tuple[Callable[[Done], object], Done]] = {
-    "silent": (lambda done: silent("", done), Done([], 0, "", "")),
-    "refused": (lambda done: refused("", done, "a"), Done([], 1, "", f"{HOOK}: a is not encrypted\n")),
-    "leaked": (lambda done: leaked("", done, {"a": "b"}), Done([], 1, "", f"{HOOK}: a b\n{meant('a')}\n")),
-}
-
-
-@pytest.mark.parametrize("check, right", CHECKED.values(), ids=CHECKED)
-def test_each_part_of_a_run(check: Callable[[Done], object], right: Done) -> None:
-    check(right)
-    wrong = [Done([], 2, "", right.stderr), Done([], right.returncode, "", right.stderr + "x")]
-    for each in [*wrong, Done([], 0, "x", "")]:
+    silent("neither", Done([], 0, "", ""))
+    for other in (Done([], 1, "", ""), Done([], 0, "x", ""), Done([], 0, "", "x")):
         with pytest.raises(AssertionError):
-            check(each)
+            silent("one of three", other)
 
 
 def test_what_a_place_has(tmp_path: Path) -> None:
@@ -147,39 +132,29 @@ def test_what_a_place_has(tmp_path: Path) -> None:
     assert not ask(place, "sh", "-c", "stty -echo < /dev/tty", answers=[]).echoes
 
 
-def test_waits(monkeypatch: pytest.MonkeyPatch) -> None:
+def test_waits() -> None:
     answers = [True, False, False]
-    wait_until(lambda: answers.pop(), "the last answer")
+    wait_until(answers.pop, "the last answer")
     assert answers == []
-    monkeypatch.setattr(companion_cases, "SECONDS", 0)
-    with pytest.raises(AssertionError):
-        wait_until(lambda: False, "nothing")
 
 
-any_name = st.sampled_from([*LABEL_OF])
-unhurried = settings(deadline=None)
+# A password, and the label of an envelope that it encrypts.
+SEALED = st.tuples(st.sampled_from([*PASSWORDS]), st.sampled_from([*NAMES, ""]))
 
 
-@unhurried
-@given(st.lists(any_name, min_size=1, max_size=3), st.booleans())
-def test_what_a_stranger_sees(names: list[str], is_yaml: bool) -> None:
+@settings(deadline=None)
+@given(st.lists(SEALED, min_size=1, max_size=3), st.booleans())
+def test_oracle(layers: list[tuple[str, str]], is_yaml: bool) -> None:
     """It takes the passwords of dev for each envelope around a text."""
     content = b"text-0001\n"
-    for name in names:
-        envelope = oracle.make(name, content, "", 0)
+    for name, label in layers:
+        envelope, owner = oracle.make(name, content, label, 0), LABEL_OF.get(name)
+        assert (oracle.label_of(envelope), oracle.opened(envelope)) == (label, (name, content) if owner else None)
+        assert oracle.is_false(envelope) == (owner is None or label not in ("", owner))
         content = b"a:\n" + oracle.block(b"b", envelope, b"  ") if is_yaml else envelope
         assert [spot.envelope for spot in oracle.spots({"x": content})] == [envelope]
-    is_seen = all(LABEL_OF[name] == DEV for name in names)
+    is_seen = all(LABEL_OF.get(name) == DEV for name, _ in layers)
     assert oracle.visible(content) == ({b"text-0001"} if is_seen else set())
-
-
-@unhurried
-@given(any_name, st.sampled_from([*NAMES, ""]))
-def test_false_labels(name: str, label: str) -> None:
-    envelope = oracle.make(name, b"x", label, 0)
-    assert (oracle.label_of(envelope), oracle.opened(envelope)) == (label, (name, b"x"))
-    assert oracle.is_false(envelope) == (label not in ("", LABEL_OF[name]))
-    assert oracle.is_false(oracle.make("old", b"x", label, 0)), "a password of nobody"
 
 
 a_value = st.sampled_from([None, ("a", "x"), ("a", "y"), ("b", "x")])
@@ -195,9 +170,7 @@ def test_merged_values(base: oracle.Value | None, other: oracle.Value | None, fo
 
 def test_values(tmp_path: Path) -> None:
     needs_pyyaml()
-    assert oracle.values(b"a: 1\n---\nl:\n- {b: !x 2}\n- 3\n") == {
-        ("a",): ("tag:yaml.org,2002:int", "1"), ("l", "0", "b"): ("!x", "2"), ("l", "1"): ("tag:yaml.org,2002:int", "3")
-    }
+    assert {*(oracle.values(b"a: 1\n---\nl:\n- {b: 2}\n- 3\n") or ())} == {("a",), ("l", "0", "b"), ("l", "1")}
     assert oracle.values(oracle.make("dev", b"a: 1\nb: 2\n", "", 0)) == {("a",): ("", "a: 1"), ("b",): ("", "b: 2")}
     assert oracle.values(b"a: [") is None
     (tmp_path / ".x").write_bytes(b"y")
@@ -221,12 +194,6 @@ def test_dead_links(tmp_path: Path) -> None:
 NOT_MET = {Fault.MEMORY, Fault.TOO_LONG, Fault.CIPHER_TOO_LONG}
 
 
-def parts_of(word: str) -> set[str]:
-    """Return the word, and what may be an option, a value or a label in it."""
-    option, _, value = word.partition("=")
-    return {word, option, value, word.removeprefix("-n"), word.partition("@")[0], value.partition("@")[0]}
-
-
 def test_kinds_of_requests(monkeypatch: pytest.MonkeyPatch) -> None:
     """Random requests meet each fault, with each value and each size of the tables. A quick cipher will do here."""
     repeated, sizes = random_envelopes.repeated, set[int]()
@@ -242,12 +209,11 @@ def test_kinds_of_requests(monkeypatch: pytest.MonkeyPatch) -> None:
     assert {fault.line for fault in {*Fault} - NOT_MET} - {expected(case, SALT).message for case in cases} == set()
     assert {*random_envelopes.SIZES, *random_envelopes.LARGE_SIZES} <= sizes, "sizes"
     assert len(sizes & {*random_envelopes.LIMIT_SIZES}) > 1, "sizes near the limit"
-    said = {part for case in cases for text in (*case.words, *case.files) for part in parts_of(text)}
+    texts = [text for case in cases for text in (*case.words, *case.files)]
+    said = {part for text in texts for part in (text, text[2:], *re.split("[=@]", text))}
     tables = [table for name, table in vars(random_requests).items() if name.isupper() and not isinstance(table, str)]
     assert len(tables) > 12
     assert {each for table in tables for each in table if isinstance(each, str)} - said == set(), "values"
-    known = {(command, option) for command, options in OPTIONS.items() for option in options | COMMON}
-    assert known - {(case.words[0], part) for case in cases for word in case.words for part in parts_of(word)} == set()
 
 
 # How pytest ends with a planted fault, and whether the fault is caught.

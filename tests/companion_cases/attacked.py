@@ -30,6 +30,7 @@ STEPS = 12
 # The least number of times that each must happen.
 LEAST = {
     **{"examples": EXAMPLES, "steps": 300, "edit": 60, "rotate": 30, "merge": 25, "merge without a conflict": 15},
+    **{"secrets looked for": 9 * EXAMPLES, "values merged": 60},
     **{"rebase": 8, "cherry-pick": 8, "rekey": 5, "revert": 5, "check": 5},
     **dict.fromkeys(MOVES, 2),
     **{"replace": 15, "relabel": 8, "copy": 8, "guess": 8},

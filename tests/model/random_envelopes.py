@@ -38,7 +38,9 @@ def plaintext(random: Random) -> bytes:
 
 
 def respelled(random: Random, envelope: bytes) -> bytes:
-    """Return the same envelope in another layout."""
+    """Return the same envelope in another layout, unless that would take long."""
+    if len(envelope) > 1_000_000:
+        return envelope
     header, _, body = envelope.partition(b"\n")
     digits = body.replace(b"\n", b"")
     width, end = random.choice(WIDTHS), random.choice(LINE_ENDS)
@@ -103,10 +105,6 @@ HEADERS: list[Callable[[Random], list[bytes]]] = [
 ]
 
 
-def wrong_header(random: Random, whole: bytes) -> bytes:
-    return b";".join(random.choice(HEADERS)(random)) + b"\n" + whole.partition(b"\n")[2]
-
-
 Parts = tuple[bytes, bytes, bytes]
 # Each changes a salt, a tag or a ciphertext.
 PARTS: list[Callable[[Random, bytes, bytes, bytes], Parts]] = [
@@ -117,27 +115,14 @@ PARTS: list[Callable[[Random, bytes, bytes, bytes], Parts]] = [
 ]
 
 
-def wrong_part(random: Random, pieces: Parts, label: bytes) -> bytes:
-    return serialized(*random.choice(PARTS)(random, *pieces), label)
-
-
-def wrong_digit(random: Random, pieces: Parts, label: bytes) -> bytes:
-    """Return an envelope with one byte more, or another one, in the digits of its parts."""
+def wrong_digits(random: Random, pieces: Parts, label: bytes) -> bytes:
+    """Return an envelope whose inner digits are upper case, or have one character more, or another one."""
     header, body = serialized(*pieces, label).split(b"\n", 1)
     inner = bytes.fromhex(body.decode())
     other = random.choice([b"\n", b"g", b"G", b"\r", b" ", b"A", b"0"])
     index = random.choice([len(inner), random.randrange(len(inner) + 1), len(pieces[0]) * 2])
-    return header + b"\n" + (inner[:index] + other + inner[index + random.randrange(2) :]).hex().encode()
-
-
-def upper_case(_: Random, pieces: Parts, label: bytes) -> bytes:
-    header, body = serialized(*pieces, label).split(b"\n", 1)
-    return header + b"\n" + bytes.fromhex(body.decode()).upper().hex().encode()
-
-
-def wrong_body(random: Random, pieces: Parts, label: bytes) -> bytes:
-    """Return a well-formed body whose parts are invalid, or not the sealed ones, or spelled otherwise."""
-    return random.choice([*[wrong_part] * 4, wrong_digit, upper_case])(random, pieces, label)
+    changed = random.choice([inner.upper(), inner[:index] + other + inner[index + random.randrange(2) :]])
+    return header + b"\n" + changed.hex().encode()
 
 
 def spliced(random: Random, one: bytes, other: bytes) -> bytes:
@@ -155,40 +140,24 @@ def badly_padded(random: Random) -> bytes:
     return whole + random.choice(ends)
 
 
-def intact(random: Random, password: bytes, label: bytes, salt: bytes) -> bytes:
-    whole = seal(password, plaintext(random), label, salt)
-    return whole if len(whole) > 1_000_000 or random.random() < 0.4 else respelled(random, whole)
-
-
-def pieces_of(random: Random, password: bytes, salt: bytes) -> Parts:
-    return parts(password, padded(repeated(random, random.choice(SIZES))), salt)
-
-
-def short(random: Random, password: bytes, label: bytes, salt: bytes) -> bytes:
-    return serialized(*pieces_of(random, password, salt), label)
-
-
-def mixed(random: Random, password: bytes, label: bytes, salt: bytes) -> bytes:
-    other = seal(password, b"another text" * 9, label, random.choice(SALTS))
-    return spliced(random, short(random, password, label, salt), other)
-
-
-# Each kind of envelope, and how often it is made: from a password, a label and a salt.
-ENVELOPES: dict[Callable[[Random, bytes, bytes, bytes], bytes], float] = {
-    intact: 0.5,
-    lambda random, password, label, salt: serialized(*parts(password, badly_padded(random), salt), label): 0.1,
-    lambda random, password, label, salt: wrong_body(random, pieces_of(random, password, salt), label): 0.1,
-    lambda random, *given: wrong_header(random, short(random, *given)): 0.1,
-    mixed: 0.05,
-    lambda random, *given: damaged(random, respelled(random, short(random, *given))): 0.13,
-    lambda random, *_: not_at_all(random): 0.02,
-}
-
-
 def envelope(random: Random, password: bytes, label: bytes) -> bytes:
     """Return an envelope, usually one that can be decrypted. `label` is empty for format 1.1."""
-    [make] = random.choices([*ENVELOPES], [*ENVELOPES.values()])
-    return make(random, password, label, random.choice(SALTS))
+    salt = random.choice(SALTS)
+    pieces = parts(password, padded(repeated(random, random.choice(SIZES))), salt)
+    whole, other = serialized(*pieces, label), seal(password, b"another text" * 9, label, random.choice(SALTS))
+    kinds: dict[Callable[[], bytes], float] = {
+        lambda: seal(password, plaintext(random), label, salt): 0.2,
+        lambda: respelled(random, seal(password, plaintext(random), label, salt)): 0.3,
+        lambda: serialized(*parts(password, badly_padded(random), salt), label): 0.1,
+        lambda: serialized(*random.choice(PARTS)(random, *pieces), label): 0.07,
+        lambda: wrong_digits(random, pieces, label): 0.03,
+        lambda: b";".join(random.choice(HEADERS)(random)) + b"\n" + whole.partition(b"\n")[2]: 0.1,
+        lambda: spliced(random, whole, other): 0.05,
+        lambda: damaged(random, respelled(random, whole)): 0.13,
+        lambda: not_at_all(random): 0.02,
+    }
+    [make] = random.choices([*kinds], [*kinds.values()])
+    return make()
 
 
 def not_at_all(random: Random) -> bytes:
