@@ -27,8 +27,9 @@ from lib.signals import heed_signals
 os.environ["HYPOTHESIS_STORAGE_DIRECTORY"] = str(ROOT / "bin" / "hypothesis")
 PROGRAM = ROOT / "bin" / "ansible-vault"
 OUTCOMES = "outcomes"
-# With --floors, at least this many tests of each part must run (OUTCOMES counts the tests without a marker listed
-# here), and the tests must record at least the amounts in LEAST. Subtests count as one of these amounts.
+# With --floors, at least this many tests of each part must run, and not many more, so that the floor is raised in time
+# (OUTCOMES counts the tests without a marker listed here); and the tests must record at least the amounts in LEAST.
+# Subtests count as one of these amounts.
 FLOORS = {OUTCOMES: 2000, "fuzz": 4, "faults": 44, "allocations": 40, "valgrind": 65, "newcomer": 16}
 ROWS = "subtests"
 Report = pytest.TestReport | pytest.CollectReport
@@ -155,7 +156,8 @@ def part_of(report: Report) -> str:
 
 
 def too_few(config: pytest.Config) -> list[str]:
-    """Return a message for each floor that was not reached, or none if the run skipped what it could not run."""
+    """Return a message for each floor that was not reached, or is too low; or none if the run skipped what it could not
+    run."""
     ends = ends_of_tests(config)
     is_partial = any(each.skipped and not may_be_left_out(reason_of(each)) for each in ends)
     if is_partial or not config.getoption("--floors"):
@@ -164,7 +166,9 @@ def too_few(config: pytest.Config) -> list[str]:
     made.update({what: amount for what, (amount, _) in amounts(ends).items()})
     made[ROWS] = len(reports_of(config, "subtests passed"))
     floors = {f"{part} tests": least for part, least in FLOORS.items()} | LEAST
-    return [f"{what}: {made[what]}, of at least {least}" for what, least in floors.items() if made[what] < least]
+    most = {f"{part} tests": least * 1.2 for part, least in FLOORS.items()}
+    low = [f"{what}: {made[what]}, so raise its floor" for what in most if made[what] > most[what]]
+    return low + [f"{what}: {made[what]}, of at least {least}" for what, least in floors.items() if made[what] < least]
 
 
 @pytest.hookimpl(tryfirst=True)

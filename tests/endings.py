@@ -25,6 +25,9 @@ LEFT_OUT = f"""def test_left_out():
 ENDLESS = """import time
     for row in range(3):
         with subtests.test(): time.sleep(600 if row else 0); assert row"""
+LOW = "import conftest; conftest.FLOORS['fuzz'] = -1"
+ENOUGH = """for row in range(1000):
+        with subtests.test(): record_property("random requests", (row < 200, 1))"""
 # The body of a test, pytest's options, its exit status, and the line of counts.
 SAMPLES = {
     "it passes": ("pass", [], 0, "1 passed, 0 failed, 0 skipped"),
@@ -49,6 +52,9 @@ SAMPLES = {
     "too few": ("pass", ["--floors"], 1, "1 passed, 11 failed, 0 skipped"),
     "too few in two processes": ("pass", ["--floors", "--numprocesses=2"], 1, "1 passed, 11 failed, 0 skipped"),
     "too few, and something is left out": (f"pass\n{LEFT_OUT}", ["--floors"], 0, "1 passed, 0 failed, 1 skipped"),
+    "too few, and only root can do it": (ROOT_ONLY.format(user=1), ["--floors"], 1, "0 passed, 11 failed, 1 skipped"),
+    "a floor that is too low": (LOW, ["--floors"], 1, "1 passed, 11 failed, 0 skipped"),
+    "enough of two kinds": (ENOUGH, ["--floors"], 1, "1 passed, 9 failed, 0 skipped"),
     "it cannot be collected": ("pass\nimport no_such", ["--floors"], 1, "0 passed, 12 failed, 0 skipped"),
     "no test of that name": ("pass", ["-k", "another"], 5, "0 passed, 0 failed, 0 skipped"),
 }
@@ -58,7 +64,7 @@ def run_sample(folder: Path, program: str, body: str, options: list[str]) -> sub
     """Run pytest on a test with this body, in a copy of the tests."""
     shutil.copytree(ROOT / "tests", folder / "tests")
     shutil.copy(ROOT / "pytest.ini", folder)
-    (folder / "tests" / "sample.py").write_text(f"def test_it(tmp_path, subtests):\n    {body}\n")
+    (folder / "tests" / "sample.py").write_text(f"def test_it(tmp_path, subtests, record_property):\n    {body}\n")
     kept = {name: value for name, value in os.environ.items() if not name.startswith(("PYTEST_", "REQUIRE_ALL"))}
     words = ["pytest", f"--program={program}", *options, "tests/sample.py"]
     return subprocess.run([sys.executable, "-B", "-m", *words], capture_output=True, text=True, cwd=folder, env=kept)

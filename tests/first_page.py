@@ -31,7 +31,7 @@ def session(program: str, top: pathlib.Path) -> Iterator[tuple[Step, str]]:
 
 
 def test_examples(program: str, tmp_path: pathlib.Path) -> None:
-    assert len(steps(README.read_text())) > 5, "the README has examples"
+    assert len(steps(README.read_text())) == README.read_text().count("\n    $ ") > 5, "each example is a step"
     others = [(step, printed) for step, printed in session(program, tmp_path) if not step.is_met_by(printed)]
     assert others == [], others
 

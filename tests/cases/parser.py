@@ -29,6 +29,7 @@ def test_mistakes(cases: Cases, name: str, mistake: Mistake) -> None:
     """Each mistake has the stored text, which names the wrong word."""
     text = stored_mistakes(name)[mistake.line]
     assert mistake.named in text
+    assert {*stored_mistakes(name)} == {each.line for each in MISTAKES[name]}, "each stored text is compared"
     cases.run(mistake.words, status=2, err=text.encode())
 
 

@@ -30,6 +30,7 @@ STEPS = 12
 # The least number of times that each must happen.
 LEAST = {
     **{"examples": EXAMPLES, "steps": 300, "edit": 60, "rotate": 30, "merge": 25, "merge without a conflict": 15},
+    **{"secrets looked for": 9 * EXAMPLES, "values merged": 60},
     **{"rebase": 8, "cherry-pick": 8, "rekey": 5, "revert": 5, "check": 5},
     **dict.fromkeys(MOVES, 2),
     **{"replace": 15, "relabel": 8, "copy": 8, "guess": 8},
@@ -113,6 +114,7 @@ class Attack(RuleBasedStateMachine):
         is_by_driver = after.get(".gitattributes") == ATTRIBUTES and not is_conflict
         for name, content in after.items():
             if name.endswith(".yml") and self.seen.get(name) != content:
+                self.counts["secrets looked for"] += len(self.secret)
                 out = visible(content) & self.secret
                 assert not out, ("a secret comes out", name, out, content)
                 assert not is_by_driver or values(content) is not None, ("broken YAML", name, content)
@@ -187,6 +189,7 @@ class Attack(RuleBasedStateMachine):
                 known = [values(side[name]) for side in (base, ours, theirs, after)]
                 for key in {key for side in known for key in side or {}}:
                     found = [(side or {}).get(key) for side in known]
+                    self.counts["values merged"] += 1
                     assert is_merged(*found), ("a merge takes another value", name, key, found, done)
         self.abort(how, done)
 

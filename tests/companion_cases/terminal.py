@@ -55,7 +55,7 @@ def ask(place: Place, *words: str, answers: list[tuple[str, bytes]], **variables
         output, errors = program.communicate(timeout=SECONDS)
     shown += _rest(controller)
     os.close(controller)
-    echoes = " -echo " not in modes.read_text()
+    echoes = "echo" in modes.read_text().split()
     return Session(program.returncode, output, errors, shown.decode().replace("\r", ""), echoes)
 
 

@@ -14,14 +14,6 @@ import tempfile
 from pathlib import Path
 from typing import Any
 
-SETTINGS = [
-    "DEFAULT_ASK_VAULT_PASS",
-    "DEFAULT_VAULT_ENCRYPT_IDENTITY",
-    "DEFAULT_VAULT_IDENTITY_LIST",
-    "DEFAULT_VAULT_ID_MATCH",
-    "DEFAULT_VAULT_PASSWORD_FILE",
-]
-
 
 class AnsibleRuns:
     """A process that has imported Ansible's tool and waits for command lines."""
@@ -66,7 +58,7 @@ def use_settings(environment: dict[str, str]) -> None:
     config._parsers = {}
     if config._config_file:
         config._parse_config_file()
-    for name in SETTINGS:
+    for name in (each for each in config.get_configuration_definitions() if "VAULT" in each):
         constants.set_constant(name, config.get_config_value(name, variables=vars(constants)))
 
 

@@ -14,8 +14,10 @@ def headings(text: str) -> set[str]:
 def dead_links(page: Path, text: str | None = None) -> Iterator[str]:
     """Yield the links of a page, or of this text in its place, to a missing file or heading."""
     text = page.read_text() if text is None else text
-    for path, heading in re.findall(r"\]\((?!http)([\w./-]*)(?:#([\w-]+))?\)", text):
+    for link in re.findall(r"\]\(([^)]*)\)", text):
+        path, _, heading = link.partition("#")
         file = page.parent / path
         linked = text if not path else file.read_text() if file.is_file() and heading else ""
-        if not file.exists() or heading and heading not in headings(linked):
-            yield f"{path}#{heading}"
+        is_dead = not file.exists() or heading and heading not in headings(linked)
+        if is_dead and not re.match("https?://", link):
+            yield link

@@ -57,8 +57,8 @@ def help_options(text: str) -> set[str]:
 
 def help_of(text: str, option: str) -> str:
     """Return the help's text for an option."""
-    found = re.search(rf"^ +(?:-\w, )?{option} (.*(?:\n {{12,}}\S.*)*)", text, re.MULTILINE)
-    return " ".join(found[1].split()) if found else ""
+    [found] = re.findall(rf"^ +(?:-\w, )?{option} (.*(?:\n {{12,}}\S.*)*)", text, re.MULTILINE)
+    return " ".join(found.split())
 
 
 def help_commands(text: str) -> list[str]:

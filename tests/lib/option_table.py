@@ -33,9 +33,11 @@ class Entry:
 
 def entries() -> list[Entry]:
     """Return the entries of the table, with each help text on one line."""
-    found = ENTRY.findall(TABLE.read_text())
+    text = TABLE.read_text()
+    found = ENTRY.findall(text)
+    assert len(found) == text.count("OptionEntry = "), "each is understood"
     return [
-        Entry(constant, name, value_name, re.sub(r"\\\n *", "", text)) for constant, name, value_name, text in found
+        Entry(constant, name, value_name, re.sub(r"\\\n *", "", said)) for constant, name, value_name, said in found
     ]
 
 

@@ -5,10 +5,8 @@ import pathlib
 import pty
 import subprocess
 import termios
-import time
 
-from companion_cases import Place
-from lib.limits import SECONDS
+from companion_cases import Place, wait_until
 from lib.paths import ROOT
 from model.vaults import seal, yaml_block
 from shells import all_shown
@@ -75,12 +73,8 @@ class Repository(Place):
 
 def wait_for_question(terminal: int) -> None:
     """Wait until the terminal reads whole lines without echo. While a shell edits a line, it reads key by key."""
-    end = time.monotonic() + SECONDS
-    while time.monotonic() < end:
-        mode = termios.tcgetattr(terminal)[3]
-        if mode & termios.ICANON and not mode & termios.ECHO:
-            return
-        time.sleep(0.02)
+    both = termios.ICANON | termios.ECHO
+    wait_until(lambda: termios.tcgetattr(terminal)[3] & both == termios.ICANON, "the question")
 
 
 def block(name: str, text: str, password: str, label: str) -> str:

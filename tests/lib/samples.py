@@ -6,15 +6,15 @@ from typing import NamedTuple
 import pytest
 
 from lib.cases import TEXT, Cases, by_file, by_id
+from model.options import OPTIONS
 from model.vaults import seal, yaml_block
 
 SALT_TEXT = b"a salt"
 SALT_WORDS = ["--salt", SALT_TEXT.decode()]
 
-
-COMMANDS = ["encrypt", "decrypt", "view", "rekey", "encrypt_string"]
+COMMANDS = [*OPTIONS]
 # The commands with an option --output, those with a FILE, and those with both.
-TO_OUTPUT = [each for each in COMMANDS if each != "view"]
+TO_OUTPUT = [each for each in COMMANDS if "--output" in OPTIONS[each]]
 OF_FILE = [each for each in COMMANDS if each != "encrypt_string"]
 IN_PLACE = [each for each in TO_OUTPUT if each in OF_FILE]
 each_command = pytest.mark.parametrize("command", COMMANDS)

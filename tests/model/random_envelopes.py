@@ -1,5 +1,6 @@
 """Random plaintexts and envelopes: intact ones in every layout that the program reads, and damaged ones."""
 
+from collections.abc import Callable
 from random import Random
 
 from model.vaults import CIPHERTEXT_LIMIT, ENVELOPE, ENVELOPE_LIMIT, HEADER, MAGIC, PLAINTEXT_LIMIT
@@ -20,22 +21,26 @@ def repeated(random: Random, size: int) -> bytes:
     return (unit * (size // len(unit) + 1))[:size]
 
 
+STARTS = [MAGIC, MAGIC[:-1], MAGIC + b"X", ENVELOPE, b" " + ENVELOPE, b"\n" + MAGIC, MAGIC.lower()]
+# Each kind of plaintext, and how often it is made.
+PLAINTEXTS: dict[Callable[[Random], bytes], float] = {
+    lambda random: repeated(random, random.choice(LIMIT_SIZES)): 1 / RARELY,
+    lambda random: repeated(random, random.choice(LARGE_SIZES)): 0.05,
+    lambda random: random.choice(STARTS): 0.1,
+    lambda random: random.randbytes(random.choice(SIZES)): 0.35,
+    lambda random: repeated(random, random.choice(SIZES)): 0.5,
+}
+
+
 def plaintext(random: Random) -> bytes:
-    kind = random.random()
-    if kind < 1 / RARELY:
-        return repeated(random, random.choice(LIMIT_SIZES))
-    if kind < 0.05:
-        return repeated(random, random.choice(LARGE_SIZES))
-    if kind < 0.15:
-        starts = [MAGIC, MAGIC[:-1], MAGIC + b"X", ENVELOPE, b" " + ENVELOPE, b"\n" + MAGIC, MAGIC.lower()]
-        return random.choice(starts)
-    if kind < 0.5:
-        return random.randbytes(random.choice(SIZES))
-    return repeated(random, random.choice(SIZES))
+    [make] = random.choices([*PLAINTEXTS], [*PLAINTEXTS.values()])
+    return make(random)
 
 
 def respelled(random: Random, envelope: bytes) -> bytes:
-    """Return the same envelope in another layout."""
+    """Return the same envelope in another layout, unless that would take long."""
+    if len(envelope) > 1_000_000:
+        return envelope
     header, _, body = envelope.partition(b"\n")
     digits = body.replace(b"\n", b"")
     width, end = random.choice(WIDTHS), random.choice(LINE_ENDS)
@@ -88,47 +93,36 @@ def damaged(random: Random, envelope: bytes) -> bytes:
     )
 
 
-def wrong_header(random: Random, envelope: bytes) -> bytes:
-    _, _, body = envelope.partition(b"\n")
-    fields = HEADER.split(b";")
-    change = random.randrange(6)
-    if change == 0:
-        fields[1] = random.choice([b"1.0", b"1.3", b"", b"1.1 1", b"1,1", b"1.2x"])
-    elif change == 1:
-        fields[2] = random.choice([b"AES", b"aes256", b"AES256X", b""])
-    elif change == 2:
-        fields.append(random.choice([b"a" * 129, b"a\tb", b"a\x7f", b"d\xc3\xa9v", b"a\x1f"]))
-    elif change == 3:
-        fields = fields[: random.randrange(3)]
-    elif change == 4:
-        fields.append(b"a")
-        fields.append(b"m" * (random.choice([256, 257, 258]) - len(b";".join(fields)) - 1))
-    else:
-        fields[0] = random.choice([MAGIC[:-1], MAGIC.lower(), b" " + MAGIC, b"", MAGIC + b"\xc3\xa9"])
-    return b";".join(fields) + b"\n" + body
+FIELDS = HEADER.split(b";")
+# Each makes the fields of a header that is wrong, or as long as a header may be.
+HEADERS: list[Callable[[Random], list[bytes]]] = [
+    lambda random: [MAGIC, random.choice([b"1.0", b"1.3", b"", b"1.1 1", b"1,1", b"1.2x"]), FIELDS[2]],
+    lambda random: [*FIELDS[:2], random.choice([b"AES", b"aes256", b"AES256X", b""])],
+    lambda random: [*FIELDS, random.choice([b"a" * 129, b"a\tb", b"a\x7f", b"d\xc3\xa9v", b"a\x1f"])],
+    lambda random: FIELDS[: random.randrange(3)],
+    lambda random: [*FIELDS, b"a", b"m" * (random.choice([256, 257, 258]) - len(HEADER + b";a;"))],
+    lambda random: [random.choice([MAGIC[:-1], MAGIC.lower(), b" " + MAGIC, b"", MAGIC + b"\xc3\xa9"]), *FIELDS[1:]],
+]
 
 
-def wrong_inside(random: Random, salt: bytes, tag: bytes, ciphertext: bytes, label: bytes) -> bytes:
-    """Return a well-formed body whose parts are invalid, or not the sealed ones."""
-    change = random.randrange(6)
-    if change == 0:
-        tag = tag[: random.choice([0, 16, 31])] + bytes(random.choice([0, 1]))
-    elif change == 1:
-        salt = bytes(random.choice([255, 256, 257]))
-    elif change == 2:
-        ciphertext = ciphertext[: random.randrange(len(ciphertext) + 1)]
-    elif change == 3:
-        ciphertext += random.choice([b"\x00", bytes(16)])
-    elif change == 4:
-        header, _, body = serialized(salt, tag, ciphertext, label).partition(b"\n")
-        inner = bytes.fromhex(body.decode())
-        byte = random.choice([b"\n", b"g", b"G", b"\r", b" ", b"A", b"0"])
-        index = random.choice([len(inner), random.randrange(len(inner) + 1), len(salt) * 2])
-        return header + b"\n" + (inner[:index] + byte + inner[index + random.randrange(2) :]).hex().encode()
-    else:
-        header, _, body = serialized(salt, tag, ciphertext, label).partition(b"\n")
-        return header + b"\n" + bytes.fromhex(body.decode()).upper().hex().encode()
-    return serialized(salt, tag, ciphertext, label)
+Parts = tuple[bytes, bytes, bytes]
+# Each changes a salt, a tag or a ciphertext.
+PARTS: list[Callable[[Random, bytes, bytes, bytes], Parts]] = [
+    lambda random, salt, tag, text: (salt, tag[: random.choice([0, 16, 31])] + bytes(random.choice([0, 1])), text),
+    lambda random, salt, tag, text: (bytes(random.choice([255, 256, 257])), tag, text),
+    lambda random, salt, tag, text: (salt, tag, text[: random.randrange(len(text) + 1)]),
+    lambda random, salt, tag, text: (salt, tag, text + random.choice([b"\x00", bytes(16)])),
+]
+
+
+def wrong_digits(random: Random, pieces: Parts, label: bytes) -> bytes:
+    """Return an envelope whose inner digits are upper case, or have one character more, or another one."""
+    header, body = serialized(*pieces, label).split(b"\n", 1)
+    inner = bytes.fromhex(body.decode())
+    other = random.choice([b"\n", b"g", b"G", b"\r", b" ", b"A", b"0"])
+    index = random.choice([len(inner), random.randrange(len(inner) + 1), len(pieces[0]) * 2])
+    changed = random.choice([inner.upper(), inner[:index] + other + inner[index + random.randrange(2) :]])
+    return header + b"\n" + changed.hex().encode()
 
 
 def spliced(random: Random, one: bytes, other: bytes) -> bytes:
@@ -149,23 +143,21 @@ def badly_padded(random: Random) -> bytes:
 def envelope(random: Random, password: bytes, label: bytes) -> bytes:
     """Return an envelope, usually one that can be decrypted. `label` is empty for format 1.1."""
     salt = random.choice(SALTS)
-    kind = random.random()
-    if kind < 0.5:
-        whole = seal(password, plaintext(random), label, salt)
-        return whole if len(whole) > 1_000_000 or random.random() < 0.4 else respelled(random, whole)
-    if kind < 0.6:
-        return serialized(*parts(password, badly_padded(random), salt), label)
     pieces = parts(password, padded(repeated(random, random.choice(SIZES))), salt)
-    if kind < 0.7:
-        return wrong_inside(random, *pieces, label)
-    whole = serialized(*pieces, label)
-    if kind < 0.8:
-        return wrong_header(random, whole)
-    if kind < 0.85:
-        return spliced(random, whole, seal(password, b"another text" * 9, label, random.choice(SALTS)))
-    if kind < 0.98:
-        return damaged(random, respelled(random, whole))
-    return not_at_all(random)
+    whole, other = serialized(*pieces, label), seal(password, b"another text" * 9, label, random.choice(SALTS))
+    kinds: dict[Callable[[], bytes], float] = {
+        lambda: seal(password, plaintext(random), label, salt): 0.2,
+        lambda: respelled(random, seal(password, plaintext(random), label, salt)): 0.3,
+        lambda: serialized(*parts(password, badly_padded(random), salt), label): 0.1,
+        lambda: serialized(*random.choice(PARTS)(random, *pieces), label): 0.07,
+        lambda: wrong_digits(random, pieces, label): 0.03,
+        lambda: b";".join(random.choice(HEADERS)(random)) + b"\n" + whole.partition(b"\n")[2]: 0.1,
+        lambda: spliced(random, whole, other): 0.05,
+        lambda: damaged(random, respelled(random, whole)): 0.13,
+        lambda: not_at_all(random): 0.02,
+    }
+    [make] = random.choices([*kinds], [*kinds.values()])
+    return make()
 
 
 def not_at_all(random: Random) -> bytes:
