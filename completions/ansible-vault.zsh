@@ -122,7 +122,7 @@ _ansible_vault() {
         '*--'{vault-password-file,vault-pass-file}'=[a password file for the label default]:file:_ansible_vault_files'
         '*'{-J,--ask-vault-password,--ask-vault-pass}'[ask for a password of the label default]'
     )
-    _arguments -C \
+    _arguments -C -A '-*' \
         $secrets \
         '(- *)'{-h,--help}'[print help]' \
         '(- *)'{-V,--version}'[print version]' \

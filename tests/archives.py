@@ -13,6 +13,7 @@ import pytest
 from lib.installed import PREFIX_FILES, VERSION, check_program, files_below, run_make
 from lib.needs import needs_checkout
 from lib.paths import ROOT
+from lib.scripts import searched_first, write_script
 
 SOURCE = f"ansible-vault-{VERSION}"
 PROGRAM = f"ansible-vault-{VERSION}-linux-x86_64"
@@ -20,7 +21,9 @@ ARCHIVES = [f"{SOURCE}.tar.gz", f"{PROGRAM}.tar.gz"]
 
 
 def made(program: str, folder: pathlib.Path, at: pathlib.Path = ROOT, **options: Any) -> list[bytes]:
-    """Run `make dist` in a checkout, and return the archives and their checksums."""
+    """Run `make dist` in a checkout after that of an older version, and return the archives and their checksums."""
+    folder.mkdir(parents=True)
+    (folder / "ansible-vault-0.1.tar.gz").touch()
     done = run_make(program, "dist", f"DIST={folder}", "CPU=", at=at, **options)
     assert done.returncode == 0, done.stderr
     assert sorted(path.name for path in folder.iterdir()) == sorted([*ARCHIVES, "SHA256SUMS"])
@@ -84,3 +87,11 @@ def test_made_again(program: str, archives: pathlib.Path, tmp_path: pathlib.Path
 def test_time_from_the_environment(program: str) -> None:
     done = run_make(program, "-n", "dist", "CPU=", env=os.environ | {"SOURCE_DATE_EPOCH": "1000"})
     assert {*re.findall(r"--mtime=(\S+)", done.stdout)} == {"@1000"}
+
+
+@pytest.mark.parametrize("tool", ["git", "tar", "gzip", "install", "sha256sum"])
+def test_failed_step(program: str, tmp_path: pathlib.Path, tool: str) -> None:
+    needs_checkout()
+    write_script(tmp_path / "stand-ins" / tool, "exit 1")
+    words = [f"DIST={tmp_path}/dist", "CPU="]
+    assert run_make(program, "dist", *words, env=searched_first(tmp_path / "stand-ins")).returncode == 2

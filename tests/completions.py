@@ -21,13 +21,10 @@ FILES = ["one.pass", "one.yml", "two.yml", "with a space.pass", "-dash.yml"]
 OFFERED = {
     "": set(OPTIONS),
     "encr": {"encrypt", "encrypt_string"},
-    "view on": {"one.pass", "one.yml"},
     "encrypt folder/": {"folder/inner.yml"},
-    "view -- on": {"one.pass", "one.yml"},
     "encrypt -- -": {"-dash.yml"},
     "decrypt --vault-password-file one.pass -- folder/": {"folder/inner.yml"},
     "view --vault-id dev@one.p": {"dev@one.pass"},
-    "encrypt_string -- on": set(),
 }
 
 
@@ -68,15 +65,10 @@ def test_checkout_with_a_space(shell: str, folder: pathlib.Path, monkeypatch: py
 # The same for the companions.
 WITH_COMMANDS = [*OPTIONS, "create", "edit"]
 OFFERED_BY_COMPANIONS = {
-    "ansible-vault-edit on": {"one.pass", "one.yml"},
     "ansible-vault-rotate folder/": {"folder/inner.yml"},
-    "ansible-vault-rotate one.yml tw": {"two.yml"},
-    "ansible-vault-edit one.yml tw": {"two.yml"},
     "ansible-vault-rotate --new-vault-id dev@one.p": {"dev@one.pass"},
-    "ansible-vault-hook on": {"one.pass", "one.yml"},
     "ansible-vault-hook --install --vault-id dev@one.p": {"dev@one.pass"},
     "ansible-vault-check one.yml -- -": {"-dash.yml"},
-    "ansible-vault-edit -- on": {"one.pass", "one.yml"},
     "ansible-vault-merge one.yml two.yml folder/": {"folder/inner.yml"},
     "ansible-vault-check --ask-vault-pass tw": {"two.yml"},
     "ansible-vault-with ": {*WITH_COMMANDS},
@@ -90,6 +82,21 @@ OFFERED_BY_COMPANIONS = {
     "ansible-vault-with encrypt --encrypt-vault-id on": set(),
     "ansible-vault-with view -- one.yml -": {"-dash.yml"},
 }
+
+
+# The starts of command lines that arguments follow, and of those that take only one.
+STARTS = [f"ansible-vault {command}" for command in OPTIONS] + [f"ansible-vault-with {each}" for each in WITH_COMMANDS]
+STARTS += [name for name in COMPANIONS if name != "ansible-vault-with"]
+TAKE_ONE = [*STARTS[: len(OPTIONS)], "ansible-vault-with encrypt_string", "ansible-vault-with create"]
+TAKE_ONE += ["ansible-vault-textconv"]
+
+
+@pytest.mark.parametrize("start", STARTS)
+def test_arguments(shell: str, folder: pathlib.Path, start: str) -> None:
+    """Every file and directory is offered for an argument, and nothing else; no file for the text of encrypt_string."""
+    lines = [start, f"{start} --", *([] if start in TAKE_ONE else [f"{start} one.yml", f"{start} -- one.yml two.yml"])]
+    found = {line: {each.replace("\\", "").rstrip("/") for each in SHELLS[shell](f"{line} ", folder)} for line in lines}
+    assert found == dict.fromkeys(lines, set() if "encrypt_string" in start else {*FILES, "folder"})
 
 
 def offered_options(shell: str, words: str, folder: pathlib.Path, alias: str = "") -> list[str]:
@@ -127,6 +134,16 @@ def test_repeatable_options(shell: str, folder: pathlib.Path, name: str) -> None
     assert [each for each in options if each not in offered_options(shell, f"{name} {each} one.pass", folder)] == []
 
 
+@pytest.mark.parametrize("line", ["-vault rekey", "-vault-with encrypt_string", "-vault-edit", "-vault-hook"])
+def test_excluded_in_zsh(folder: pathlib.Path, line: str) -> None:
+    """If an option excludes another, so does the other."""
+    needs_shell("zsh")
+    options = {*offered_options("zsh", f"ansible{line}", folder)} - {"-h", "--help", "-V", "--version"}
+    left = {option: offered_options("zsh", f"ansible{line} {option} one.pass", folder) for option in options}
+    excluded = {(one, other) for one in options for other in options - {one, *left[one]}}
+    assert (excluded, len(excluded) > 1) == ({(other, one) for one, other in excluded}, True)
+
+
 # The names of values that are files, in the table of the program and in a companion's help.
 FILES_IN_HELP = {"PATH", "SOURCE", "[LABEL@]SOURCE", "FILE", "[LABEL@]FILE"}
 
@@ -145,8 +162,10 @@ def test_values(shell: str, folder: pathlib.Path, name: str) -> None:
     """Files are offered for an option whose value is a file, and for no other."""
     values = values_of(name)
     assert len(values) > 2
-    found = {start: SHELLS[shell](f"{start} one.p", folder) for start in values}
-    assert found == {start: {"one.pass"} if value in FILES_IN_HELP else set() for start, value in values.items()}
+    wanted = {start: {"one.pass"} if value in FILES_IN_HELP else set() for start, value in values.items()}
+    for before in (" ", "="):
+        found = {start: SHELLS[shell](f"{start}{before}one.p", folder) for start in values}
+        assert {start: {each.split("=")[-1] for each in offered} for start, offered in found.items()} == wanted
 
 
 @pytest.mark.parametrize("line, wanted", OFFERED_BY_COMPANIONS.items(), ids=OFFERED_BY_COMPANIONS)

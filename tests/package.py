@@ -53,8 +53,9 @@ def test_contents(package: pathlib.Path, tmp_path: pathlib.Path) -> None:
     assert "libc6" in field(package, "Depends"), "the package depends on the C library"
     python = f"python3 (>= {'.'.join(map(str, OLDEST))})"
     assert python in field(package, "Depends"), "and on the oldest Python that runs the companions"
-    assert "python3-yaml" in field(package, "Recommends"), "it recommends PyYAML, for blocks in YAML"
-    assert field(package, "Conflicts") + field(package, "Breaks") == "", "the package takes no other away"
+    others = {name: field(package, name) for name in ("Recommends", "Suggests", "Conflicts", "Breaks", "Replaces")}
+    wanted = {"Recommends": "python3-yaml", "Suggests": "git", "Conflicts": "", "Breaks": "", "Replaces": ""}
+    assert others == wanted, "it recommends PyYAML, for blocks in YAML, and takes no other package away"
     folder = tmp_path / "package"
     subprocess.run(["dpkg-deb", "-R", str(package), str(folder)], check=True)
     assert files_below(folder / "usr") == PACKAGE_FILES, "the package puts its files below /usr"
@@ -112,6 +113,8 @@ def test_made_again(copy: pathlib.Path, package: pathlib.Path, name: str) -> Non
     (copy / "bin/ansible-vault").rename(copy / name)
     write_script(copy.parent / "rt", "echo rt is run >&2; exit 1")
     (copy / "man/ansible-vault.1").touch()
+    # An interrupted build left it.
+    write_script(copy / "bin/package/source/docs/stale.md", "")
     environment = searched_first(copy.parent) | {"TZ": "Asia/Tokyo"}
     done = run_make(name, "package", at=copy, umask=0o077, env=environment)
     assert done.returncode == 0, done.stderr
@@ -153,6 +156,48 @@ THEIRS = {
 }
 BOTH_HAVE = [path for path in THEIRS if "ansible-vault" in path]
 OTHER = "/usr/bin/ansible-vault-original"
+
+
+# The calls of each script that Debian's policy lists (6.5).
+CALLS = {
+    "preinst": ["install", "install 1 2", "upgrade 1 2", "abort-upgrade 2"],
+    "postinst": ["configure", "configure 1", "abort-upgrade 2", "abort-remove", "abort-deconfigure in-favour other 1"],
+    "prerm": ["remove", "upgrade 2", "failed-upgrade 1 2", "remove in-favour other 1", "deconfigure in-favour other 1"],
+    "postrm": ["remove", "disappear other 1", "abort-install", "abort-install 1 2"]
+    + ["purge", "upgrade 2", "failed-upgrade 1 2", "abort-upgrade 1 2"],
+}
+# The state after the calls of a script, by what changes: diversions, and whether the companions are compiled.
+DIVERTED, COMPILED = {path.replace("/", ":") for path in BOTH_HAVE}, {"compiled"}
+# In place of the tools that keep this state: in files of the current directory.
+KEEPING = {
+    "dpkg-divert": """\
+for path; do :; done
+name=$(printf %s "${path#/}" | tr / :)
+case " $* " in *" --add "*) touch "$name" ;; *" --remove "*) rm -f "$name" ;; esac""",
+    "py3compile": "touch compiled",
+    "py3clean": "rm -f compiled",
+}
+
+
+@pytest.mark.parametrize("before", [set[str](), DIVERTED | COMPILED], ids=["nothing", "everything"])
+@pytest.mark.parametrize("script, call", [(script, call) for script, calls in CALLS.items() for call in calls])
+def test_maintainer_script(tmp_path: pathlib.Path, script: str, call: str, before: set[str]) -> None:
+    """What a call leaves behind depends only on the script, except that postrm keeps the diversions in an upgrade."""
+    state = tmp_path / "state"
+    state.mkdir()
+    for name in before:
+        (state / name).touch()
+    for tool, text in KEEPING.items():
+        write_script(tmp_path / "tools" / tool, text)
+    command = ["sh", str(ROOT / "debian" / script), *call.split()]
+    subprocess.run(command, cwd=state, env=searched_first(tmp_path / "tools"), check=True)
+    after = {
+        "preinst": before | DIVERTED,
+        "postinst": before | COMPILED,
+        "prerm": before - COMPILED,
+        "postrm": before if re.search("upgrade|purge", call) else before - DIVERTED,
+    }
+    assert {each.name for each in state.iterdir()} == after[script]
 
 
 class Beside:

@@ -119,7 +119,7 @@ RUNS = {
 # Finds packages only after an update of the lists.
 APT = """\
 if [ "$1" = update ]; then touch '{lists}'; exit 0; fi
-if [ -e '{lists}' ] && {installs}; then exit 0; fi
+if [ -e '{lists}' ] && [ "$2 $DEBIAN_FRONTEND" = "-y noninteractive" ] && {installs}; then exit 0; fi
 echo "E: no package: $*"; exit 100"""
 
 
@@ -184,20 +184,3 @@ def test_all_tests_are_run(program: str) -> None:
     [command] = [line for line in done.stdout.splitlines() if "pytest" in line]
     assert " -m '' " in command and " --floors " in command
 
-
-def test_program_that_is_named() -> None:
-    """It is not built, even if it has the default's name."""
-    programs = (str(ROOT / "bin/ansible-vault"), "bin/ansible-vault")
-    assert ["rt run" in run_make(each, "-n", "-B", "all").stdout for each in programs] == [True, False]
-
-
-def test_source_that_changes_during_the_gate(tmp_path: Path) -> None:
-    """The source is newer than the program that `make check` took from the gate, so `make test` builds it again."""
-    shutil.copy(ROOT / "Makefile", tmp_path)
-    source, log = tmp_path / "crates/ansible_vault/src/main.rt", tmp_path / "log"
-    built = [f"crates/{name}/out/{name}" for name in ("ansible_vault", "vault_allocation_failures")]
-    for path in ("crates/ansible_vault/src/main.rt", "crates.txt", "CHANGELOG.md", "tools/progress.py", *built):
-        write_script(tmp_path / path, f"echo \"$*\" >> '{log}'; sleep 0.02; touch '{source}'")
-    done = run_make(str(ROOT / "bin/ansible-vault"), "check", "PARTIAL=yes", "PYTEST=true", "CPU=", at=tmp_path)
-    assert done.returncode == 0, done.stderr
-    assert re.findall(r"/(ci|ansible_vault)\.log rt (\w+)", log.read_text()) == [("ci", "ci"), ("ansible_vault", "run")]

@@ -10,6 +10,7 @@ import pytest
 from lib.clone import PROVING, cloned, typed
 from lib.paths import README, ROOT, version
 from lib.readme import commands
+from makefile import GOALS
 
 pytestmark = [pytest.mark.newcomer, pytest.mark.timeout(PROVING)]
 
@@ -23,7 +24,6 @@ RUN_BY_OTHERS = {
     "fresh-machine": "nothing: it takes an hour, and is run before a release",
     "releases": "nothing: it takes root and the network, and is run before a release",
 }
-PHONY = re.compile(r"^\.PHONY: ((?:.*\\\n)*.*)$", re.MULTILINE)
 # Commands that show that a target works, and what each leaves or prints.
 SMALL = {
     "make CPU=x86-64-v3 bin/ansible-vault && bin/ansible-vault --version": r"ansible-vault \d+\.\d+\.\d+\n\Z",
@@ -71,10 +71,8 @@ def scripts() -> Iterator[str]:
 
 def test_all_are_typed() -> None:
     """Some test runs each target of the Makefile, and something runs each script."""
-    [phony] = PHONY.findall((ROOT / "Makefile").read_text())
     typed_words = " ".join([*commands(README.read_text()), *SMALL, "make uninstall make clean"])
-    goals = {*phony.split()} - {"\\", "FORCE"}
-    assert {goal for goal in goals if not re.search(rf"(?<![-\w]){goal}\b", typed_words)} == RUN_BY_OTHERS.keys()
+    assert {goal for goal in GOALS if not re.search(rf"(?<![-\w]){goal}\b", typed_words)} == RUN_BY_OTHERS.keys()
     tests = (str(path.relative_to(ROOT)) for path in ROOT.glob("tests/*.py"))
     callers = {path: (ROOT / path).read_text() for path in ("Makefile", ".ci/run", *scripts(), *tests)}
     for name in scripts():
