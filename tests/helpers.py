@@ -186,8 +186,9 @@ def test_dead_files(name: str) -> None:
 
 def test_dead_links(tmp_path: Path) -> None:
     page = tmp_path / "page.md"
-    page.write_text("# A title\n```\n# code\n```\n[1](#a-title) [2](page.md#a-title) [3](#code) [4](page.md#gone)")
-    assert [*dead_links(page)] == ["#code", "page.md#gone"]
+    links = "[1](#a-title) [2](page.md#a-title) [3](#code) [4](page.md#gone) [5](h.md)"
+    page.write_text(f"# A title\n```\n# code\n```\n{links}")
+    assert [*dead_links(page)] == ["#code", "page.md#gone", "h.md"]
 
 
 # Faults that no random request meets: one takes a lack of memory, the others a size that is rare.
@@ -206,7 +207,8 @@ def test_kinds_of_requests(monkeypatch: pytest.MonkeyPatch) -> None:
     monkeypatch.setattr(vaults, "keys", lambda password, salt: shake_128(password + b"/" + salt).digest(80))
     monkeypatch.setattr(vaults, "counter_mode", lambda key, counter, data: data)
     cases = [make(str(number)) for number in range(3_000)]
-    assert {fault.line for fault in {*Fault} - NOT_MET} - {expected(case, SALT).message for case in cases} == set()
+    wanted = {fault.line for fault in {*Fault} - NOT_MET} | {b"", None}
+    assert wanted - {expected(case, SALT).message for case in cases} == set(), "faults, a success, the parser's text"
     assert {*random_envelopes.SIZES, *random_envelopes.LARGE_SIZES} <= sizes, "sizes"
     assert len(sizes & {*random_envelopes.LIMIT_SIZES}) > 1, "sizes near the limit"
     texts = [text for case in cases for text in (*case.words, *case.files)]

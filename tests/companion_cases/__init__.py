@@ -126,8 +126,8 @@ class Place:
 
     def files(self) -> dict[str, bytes]:
         """Return the content of each file in the tree, except git's own."""
-        found = {str(each.relative_to(self.tree)): each for each in self.tree.rglob("*")}
-        return {name: path.read_bytes() for name, path in found.items() if path.is_file() and not name.startswith(".git/")}
+        found = {name: self.tree / name for name in self.names() if not name.startswith(".git/")}
+        return {name: path.read_bytes() for name, path in found.items() if path.is_file()}
 
     def names(self) -> list[str]:
         return sorted(str(each.relative_to(self.tree)) for each in self.tree.rglob("*"))
