@@ -113,9 +113,10 @@ def test_install(tmp_path: pathlib.Path, make: Make, destination: str, path: str
 def test_modes(make: Make, place: pathlib.Path) -> None:
     """Everybody can use what somebody with another umask installs."""
     assert make("install", umask=0o077).returncode == 0
-    modes = {path.relative_to(place): path.stat().st_mode for path in place.rglob("*")}
-    needed = {path: 0o055 if stat.S_ISDIR(mode) else 0o044 for path, mode in modes.items()}
-    assert [path for path, mode in modes.items() if mode & needed[path] != needed[path]] == []
+    modes = {path: stat.S_IMODE(path.stat().st_mode) for path in place.rglob("*")}
+    programs = {place / "bin" / "ansible-vault", *(place / "lib/ansible-vault").glob("ansible-vault-*")}
+    run = {path for path in modes if path.is_dir() or path.resolve() in programs}
+    assert modes == {path: 0o755 if path in run else 0o644 for path in modes}
     assert len(modes) > len(LOCAL_FILES)
 
 
@@ -193,19 +194,27 @@ def test_link_to_a_folder(tmp_path: pathlib.Path, make: Make, place: pathlib.Pat
     assert files_below(folder) == set(), "and the folder stays"
 
 
-# In place of a tool: the call with this number kills the script that runs the tool.
+# In place of a tool: the call with this number fails, or kills the script that runs the tool.
 ENDING = """\
 echo >> '{calls}'
-[ "$(wc -l < '{calls}')" -lt {number} ] || {{ kill -9 "$PPID"; exit 1; }}
+[ "$(wc -l < '{calls}')" -ne {number} ] || {{ {kill} exit 1; }}
 exec {tool} "$@"
 """
 
 
-@pytest.mark.parametrize("tool, number", [("mv", 1), ("mv", 2), ("mv", 12), ("install", 9), ("ln", 1), ("ln", 9)])
-def test_interrupted(tmp_path: pathlib.Path, make: Make, place: pathlib.Path, tool: str, number: int) -> None:
+KILL = 'kill -9 "$PPID";'
+ENDS = [*(("mv", number, KILL) for number in (1, 2, 12)), ("install", 9, KILL), ("ln", 1, KILL), ("ln", 9, KILL)]
+ENDS += [("mv", 12, ""), ("install", 9, ""), ("ln", 1, "")]
+
+
+@pytest.mark.parametrize("tool, number, kill", ENDS)
+def test_interrupted(
+    tmp_path: pathlib.Path, make: Make, place: pathlib.Path, tool: str, number: int, kill: str
+) -> None:
     """After an interrupted installation, another one is possible, and so is uninstalling it."""
     tools, copy = tmp_path / "tools", tmp_path / "copy"
-    write_script(tools / tool, ENDING.format(calls=tmp_path / "calls", number=number, tool=shutil.which(tool)))
+    text = ENDING.format(calls=tmp_path / "calls", number=number, tool=shutil.which(tool), kill=kill)
+    write_script(tools / tool, text)
     assert make("install", env=searched_first(tools)).returncode != 0, "it is interrupted"
     shutil.copytree(place, copy, symlinks=True)
     if (copy / "lib/ansible-vault/installed.sha256").exists():
@@ -221,9 +230,10 @@ def test_changed(make: Make, place: pathlib.Path) -> None:
     program, page = place / "bin/ansible-vault", place / "share/man/man1/ansible-vault-edit.1"
     links = [place / "bin/ansible-vault-edit", place / "share/bash-completion/completions/ansible-vault-edit"]
     stray = place / "lib/ansible-vault/stray"
-    for path in (program, page, *links, stray):
+    aside = program.rename(place.with_name("moved"))
+    for path in (page, *links, stray):
         path.unlink(missing_ok=True)
-    program.symlink_to("/bin/true")
+    program.symlink_to(aside)
     links[0].symlink_to("elsewhere")
     for path in (page, links[1], stray):
         theirs(path)

@@ -36,11 +36,61 @@ def test_each_script_is_looked_at() -> None:
     assert others == ["rules", "zsh_matches"]
 
 
+def test_each_check_counts(monkeypatch: pytest.MonkeyPatch, capsys: pytest.CaptureFixture[str]) -> None:
+    """Every kind of file is given to its tools, and one failure is enough to fail."""
+    needs_checkout()
+    lint = runpy.run_path(str(LINT))
+    given: list[tuple[str, set[str]]] = []
+    failing = -1
+
+    def passes(tool: str, *words: str | Path) -> bool:
+        given.append((tool, {Path(word).name for word in words}))
+        return len(given) - 1 != failing
+
+    monkeypatch.setitem(lint["main"].__globals__, "passes", passes)
+    monkeypatch.setitem(lint["main"].__globals__, "long_lines", lambda *_: [])
+    with pytest.raises(SystemExit, match="0"):
+        lint["main"]()
+    looked_at = [("pyflakes3", "lint"), ("shellcheck", "run"), ("mandoc", "ansible-vault.1"), ("tools/dead_names", "")]
+    looked_at += [("mypy", name) for name in ("chart.py", "ansible-vault-edit", "conftest.py", "lint")]
+    found = [any(tool == each and name in {*names, ""} for each, names in given) for tool, name in looked_at]
+    assert (all(found), len(given)) == (True, len(looked_at)), given
+    for failing in range(len(looked_at)):
+        given.clear()
+        with pytest.raises(SystemExit, match="1"):
+            lint["main"]()
+        assert capsys.readouterr().out.endswith(f"lint: {len(looked_at)} passed, 1 failed\n")
+
+
+# The most columns of a kind of file.
+WIDTHS = {"a.py": 120, "a.bash": 120, "a.rt": 100, "a.antt": 100, "a.md": None}
+
+
+@pytest.mark.parametrize("name, width", WIDTHS.items())
+def test_long_lines(
+    tmp_path: Path, monkeypatch: pytest.MonkeyPatch, capsys: pytest.CaptureFixture[str], name: str, width: int | None
+) -> None:
+    main = runpy.run_path(str(LINT))["main"]
+    changed = {"passes": lambda *_: True, "ROOT": tmp_path, "tracked_files": lambda: [tmp_path / name]}
+    for each, value in changed.items():
+        monkeypatch.setitem(main.__globals__, each, value)
+    (tmp_path / name).write_text("x" * (width or 999) + "\n" + "x" * ((width or 999) + 1))
+    with pytest.raises(SystemExit, match="1" if width else "0"):
+        main()
+    printed = capsys.readouterr().out
+    assert printed.startswith(f"{name}:2: {width + 1} columns of at most {width}\nlint: " if width else "lint: ")
+
+
 def test_dead_names(tmp_path: Path) -> None:
-    for path in ("tools/dead_names", "crates/one/src/lib.rt"):
+    """It finds a name, an import and an edit."""
+    for path in ("tools/dead_names", "crates/one/src/lib.rt", "crates/one/must-fail/gone.edit"):
         (tmp_path / path).parent.mkdir(parents=True)
     shutil.copy(ROOT / "tools" / "dead_names", tmp_path / "tools")
-    (tmp_path / "crates/one/src/lib.rt").write_text("pub fn used() {}\n\npub fn unused() {\n    used()\n}\n")
+    imports = "ghost use Rattle.two.specs.Three.{four};\n\n"
+    (tmp_path / "crates/one/src/lib.rt").write_text(imports + "pub fn used() {}\n\npub fn unused() {\n    used()\n}\n")
+    (tmp_path / "crates/one/must-fail/gone.edit").write_text("file: src/lib.rt\nold: another text\nnew: a text\n")
     done = subprocess.run([str(tmp_path / "tools" / "dead_names")], capture_output=True, text=True)
-    found = "crates/one/src/lib.rt:3: unused is mentioned nowhere else"
-    assert (done.returncode, done.stdout.splitlines()[0]) == (1, found)
+    found = ["crates/one/src/lib.rt:5: unused is mentioned nowhere else"]
+    found += ["crates/one/src/lib.rt: four is imported and not used"]
+    found += [f"crates/one/must-fail/gone.edit: not once in {tmp_path}/crates/one/src/lib.rt: another text"]
+    assert (done.returncode, done.stdout.splitlines()[:-1]) == (1, found)

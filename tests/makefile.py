@@ -22,11 +22,12 @@ PROGRAM, FAILURES, BENCH = "ansible_vault", "vault_allocation_failures", "vault_
 BUILT = {PROGRAM: "bin/ansible-vault", FAILURES: f"bin/{FAILURES}", BENCH: f"bin/{BENCH}"}
 RUN = {PROGRAM: "--version", FAILURES: "drive view", BENCH: "counter-mode 48 1"}
 SOURCES = ["crates.txt", *(f"crates/vault_aes/{name}" for name in ("src/laws.rt", "specs/A.antt", "proofs/A/B.antt"))]
+CHECKED = [PROGRAM, FAILURES]
 NEWER = "x86-64-v3"
 # What each goal builds before its own commands. The others build nothing.
 BUILDS = {
     **dict.fromkeys("all demo mutants planted coverage fuzz faults install dist package releases".split(), {PROGRAM}),
-    **dict.fromkeys(["test", "check"], {PROGRAM, FAILURES}),
+    **dict.fromkeys(["test", "check"], {*CHECKED}),
     "bench": {PROGRAM, BENCH},
 }
 # The goals whose commands get the value of each variable.
@@ -70,7 +71,8 @@ class Rules:
             write_script(folder / f"crates/{name}/out/{name}", f"echo {name}")
 
     def make(self, *words: str) -> subprocess.CompletedProcess[str]:
-        environment = {name: value for name, value in searched_first(self.folder / "stand-ins").items() if name != "CPU"}
+        environment = searched_first(self.folder / "stand-ins")
+        environment.pop("CPU", None)
         return run_make(str(ROOT / "bin/ansible-vault"), *words, at=self.folder, env=environment)
 
     def asked(self, *words: str) -> list[str]:
@@ -79,6 +81,10 @@ class Rules:
         done = self.make(*words)
         assert done.returncode == 0, done.stderr
         return [line.partition(" ")[2] for line in self.log.read_text().splitlines()]
+
+    def check_built(self, *names: str) -> None:
+        for name in names:
+            assert (self.folder / BUILT[name]).read_text() == (self.folder / f"crates/{name}/out/{name}").read_text()
 
 
 @pytest.fixture
@@ -92,7 +98,7 @@ def test_built_again(rules: Rules, name: str) -> None:
     build = [f"{name}: run -- {RUN[name]}"]
     make = partial(rules.asked, BUILT[name])
     assert (make(), make()) == (build, [])
-    assert (rules.folder / BUILT[name]).read_bytes() == (rules.folder / f"crates/{name}/out/{name}").read_bytes()
+    rules.check_built(name)
     for source in SOURCES:
         (rules.folder / source).touch()
         assert (source, make(), make()) == (source, build, [])
@@ -115,7 +121,7 @@ def test_failed_build(rules: Rules, name: str) -> None:
 # What happens during the gate, the processor, and what is built for the tests after it.
 GATES = {
     "nothing": (":", "", []),
-    "a source changes": ("sleep 0.02; touch crates.txt", "", [f"{name}: run -- {RUN[name]}" for name in RUN if name != BENCH]),
+    "a source changes": ("sleep 0.02; touch crates.txt", "", [f"{name}: run -- {RUN[name]}" for name in CHECKED]),
     "nothing, for a newer processor": (":", NEWER, [f"{PROGRAM}: run --cpu {NEWER} -- {RUN[PROGRAM]}"]),
 }
 
@@ -128,6 +134,7 @@ def test_gate(rules: Rules, during: str, cpu: str, built: list[str]) -> None:
     [gate, *others, tested] = rules.asked("check", f"CPU={cpu}", f"PYTEST={tests}")
     assert (gate, others) == (f"{rules.folder.name}: ci", built)
     assert rules.log.read_text().split()[0].isdigit(), "the number of jobs"
+    rules.check_built(*CHECKED)
 
 
 def test_goals(rules: Rules) -> None:

@@ -18,12 +18,14 @@ from lib.processes import run_text
 from lib.scripts import searched_first, write_script
 
 GATE = "its own lines\nrt: vault_aes proved\nrt: vault_kdf proved\n"
+# Variables that a run of these tests may have set.
+OURS = ("REQUIRE_ALL", "PARTIAL", "DEBIAN_FRONTEND")
 PROGRESS = str(ROOT / "tools" / "progress.py")
 
 
 def with_tools(folder: Path) -> dict[str, str]:
     """Return the environment, with a directory of programs first on PATH."""
-    return {name: value for name, value in searched_first(folder).items() if name not in ("REQUIRE_ALL", "PARTIAL")}
+    return {name: value for name, value in searched_first(folder).items() if name not in OURS}
 
 
 @pytest.mark.parametrize("status, count", [(0, "12 passed, 0 failed\n"), (1, "11 passed, 1 failed\n"), (2, "")])
@@ -164,6 +166,24 @@ for package; do
     case $package in zsh) continue ;; acl) state=config-files ;; esac
     printf "$(printf %s "$format" | sed "s/\${Package}/$package/; s/\${db:Status-Status}/$state/")"
 done"""
+
+
+# The packages of the programs that tests ask for, if they have other names, or every system has them.
+PACKAGES = dict.fromkeys(["awk", "bash", "dpkg-deb", "rt", "stty"], "") | dict.fromkeys(["cc", "nm"], "build-essential")
+PACKAGES |= {"dh": "debhelper", "localedef": "locales", "man": "man-db", "setfacl": "acl"}
+# Those of the modules and of the other programs that they use.
+OTHERS = "ansible-core bash-completion graphviz groff-base python3-coverage python3-hypothesis python3-matplotlib "
+OTHERS += "python3-pytest python3-pytest-subtests python3-pytest-timeout python3-pytest-xdist python3-yaml"
+
+
+def test_packages(tmp_path: Path) -> None:
+    """What the tests need is installed, and nothing else."""
+    write_script(tmp_path / "dpkg-query", "exit 1")
+    listed = run_text([str(ROOT / "tools" / "missing_packages")], env=with_tools(tmp_path)).stdout.split()
+    texts = "\n".join(path.read_text() for path in ROOT.glob("tests/**/*.py"))
+    asked = re.findall(r'"([\w-]+)"', " ".join(re.findall(r"\bneeds\((.*)\)", texts)))
+    needed = {PACKAGES.get(tool, tool) for tool in asked} - {""}
+    assert {*listed} == {*OTHERS.split(), *needed}
 
 
 @pytest.mark.parametrize("goal", ["test", "check"])
