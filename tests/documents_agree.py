@@ -115,7 +115,7 @@ def test_bytes() -> None:
 def test_documents() -> None:
     """Each list of suffixes that marks documents, in which blocks may be examples, is the companions' own."""
     lists = [each for document in DOCUMENTS for each in re.findall(r"\.md(?:`? ?, `?\.\w+)+", document.read_text())]
-    assert len(lists) > 3
+    assert len(lists) > 2
     assert {tuple(re.findall(r"\.\w+", each)) for each in lists} == {PROSE}
 
 
