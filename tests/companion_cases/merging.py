@@ -218,9 +218,11 @@ def test_secrets_of_vaults(tmp_path: Path, monkeypatch: pytest.MonkeyPatch) -> N
     needs("git")
     monkeypatch.chdir(repository(tmp_path / "diff3", "diff3"))
     plaintexts = [b"the base\n", b"our text\n", b"their text\n"]
+    # Both sides change the text, or one of them.
+    changes = [plaintexts, [*plaintexts[:2], plaintexts[0]], [plaintexts[0], *plaintexts[::2]]]
     moved = 0
-    for vaults in itertools.product(VAULTS, repeat=3):
-        values = [Value("", text, *vault, 0, 0) for text, vault in zip(plaintexts, vaults)]
+    for changed, vaults in itertools.product(changes, itertools.product(VAULTS, repeat=3)):
+        values = [Value("", text, *vault, 0, 0) for text, vault in zip(changed, vaults)]
         before, ours, theirs = values
         tool = Model()
         is_kept = ours.password == theirs.password and ours.label == theirs.label
@@ -234,14 +236,17 @@ def test_secrets_of_vaults(tmp_path: Path, monkeypatch: pytest.MonkeyPatch) -> N
             continue
         assert not ours.is_mislabelled() and not theirs.is_mislabelled(), vaults
         secret, text = tool.opened(result)
-        for each in (each for each in values if each.text in text):
+        allowed = set()
+        for each in values:
             is_same_label = (each.label, LABELS[each.password]) == (ours.label, LABELS[secret.path])
-            assert each.password == secret.path or is_same_label and not each.is_mislabelled(), (vaults, each)
-        assert ours.text in text and theirs.text in text, vaults
+            if each.password == secret.path or is_same_label and not each.is_mislabelled():
+                allowed.add(each.text)
+        assert {each for each in changed if each in text} <= allowed, vaults
+        assert all(each in text for each in {*changed} - {before.text}), vaults
         if ours.password != theirs.password:
             assert secret.path == (ours if before.password == theirs.password else theirs).password, vaults
             moved += 1
-    assert moved == 12, "those that are rekeyed"
+    assert moved == 36, "those that are rekeyed"
 
 
 def test_secrets_of_values() -> None:

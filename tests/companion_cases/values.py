@@ -146,3 +146,8 @@ def test_equal_items(place: Place) -> None:
     after = place.get("list.yml")
     assert (first in after, after.endswith(second + b"\n")) == (False, True), after
     assert texts(after, "old")[0] == b"changed"
+    keyed = block("old", b"same", "old", "a") + block("prod", b"same", "prod", "b")
+    place.put("list.yml", keyed)
+    done = edit(place, 'sed -i "s/^a:/c:/; s/^b:/d:/" "$1"', *words)
+    ended("both get other keys", done, 1, "c is new; choose its secret with --encrypt-vault-id")
+    assert place.get("list.yml") == keyed
