@@ -3,33 +3,29 @@
 import os
 
 import pytest
-from companion_cases import PASSWORDS, ROTATE, TEXT, Place, block, decrypted, ended, sealed, summary, to_new
-from companion_cases.repository import SALTS
+from companion_cases import ROTATE, TEXT, Place, block, decrypted, ended, sealed, summary, to_new
 from lib.subtests import SubTests
-from model.vaults import seal
 
 
 def test_by_label(place: Place) -> None:
-    """Envelopes whose label is not named keep every byte. Copies stay copies, and equal texts do not become copies."""
+    """Envelopes whose label is not named keep every byte."""
     place.put("all.yml", sealed("old"))
     place.put("dev/vars.yml", sealed("dev", label="dev"))
     place.put("prod/vars.yml", sealed("prod", label="prod"))
-    place.put("prod/copy.yml", sealed("prod", label="prod"))
-    place.put("prod/more.yml", seal(PASSWORDS["prod"], TEXT, b"prod", SALTS[1]))
+    place.put("prod/more.yml", sealed("prod", label="prod"))
     place.put("blocks.yml", block("dev", label="dev", name="a") + block("prod", label="prod", name="b"))
     place.put("plain.yml", TEXT)
     place.put("strange.yml", sealed("dev2", label="strange"))
     before = place.files()
     old = [*place.by_file("old"), *place.by_id("dev", "dev"), *place.by_id("prod", "prod")]
     done = place.run(ROTATE, *old, *place.by_id("prod", "prod2", "new-"), ".")
-    counts = summary(4, 0, 4, " (default 1, dev 2, strange 1)")
+    counts = summary(3, 0, 4, " (default 1, dev 2, strange 1)")
     ended("prod alone", done, 0, "./prod/vars.yml: rotated\n", "./blocks.yml: 1 block rotated\n", counts)
     after = place.files()
     stays = [name for name in before if before[name] == after[name]]
     assert sorted(stays) == ["all.yml", "dev/vars.yml", "plain.yml", "strange.yml"], "the others stay"
-    rotated = [after[f"prod/{name}.yml"] for name in ("vars", "copy", "more")]
-    assert [decrypted("prod2", each) for each in rotated] == [TEXT] * 3, "these are under the new secret"
-    assert rotated[0] == rotated[1] != rotated[2], "only the copy is one"
+    rotated = [after["prod/vars.yml"], after["prod/more.yml"]]
+    assert [decrypted("prod2", each) for each in rotated] == [TEXT] * 2, "these are under the new secret"
     assert {each.partition(b"\n")[0] for each in rotated} == {b"$ANSIBLE_VAULT;1.2;AES256;prod"}, "and keep their label"
     assert after["blocks.yml"].startswith(block("dev", label="dev", name="a")), "the block of dev stays"
 
