@@ -23,6 +23,7 @@ PLAIN = b"password: plain\n"
 A, B = below("a", PASSWORD), below("b", PASSWORD)
 A_PLAIN, B_PLAIN = below("a", PLAIN), below("b", PLAIN)
 A_ANEW = below("a", block("new", name="password"))
+QUOTED = below("a", b'password: !vault "%s"\n' % sealed("old").replace(b"\n", b"\\n"))
 ITEM = b"users:\n- " + PASSWORD
 PLAIN_ITEM = b"- password: x\n"
 ANCHOR = b"x: &x plain\n"
@@ -141,6 +142,7 @@ CHANGES: dict[str, tuple[Files, Files, dict[str, str]]] = {
         {"b.yml": IN_PART.format("a.password of a.yml")},
     ),
     "a file with a value": ({"a.yml": A}, {"c.yml": A_PLAIN}, {"c.yml": IN_PART.format("a.password of a.yml")}),
+    "a value in quotes": ({"a.yml": QUOTED}, {"c.yml": A_PLAIN}, {"c.yml": IN_PART.format("a.password of a.yml")}),
     **{
         f"a plaintext moves: {text!r}": (
             {"a.yml": PASSWORD + b"x: 1\n", "b.yml": PLAIN},
