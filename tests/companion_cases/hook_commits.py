@@ -3,7 +3,7 @@
 import pytest
 
 from companion_cases import HOOK, TEXT, Place, block, ended, sealed, silent
-from companion_cases.repository import IN_PART, WHOLE, committed, leaked, meant, refused, under_git, unmarking
+from companion_cases.repository import GONE, IN_PART, WHOLE, committed, leaked, meant, refused, under_git, unmarking
 from lib.subtests import SubTests
 
 pytestmark = pytest.mark.usefixtures("git")
@@ -58,6 +58,19 @@ def test_each_commit(place: Place, subtests: SubTests) -> None:
     place.shell("git checkout -q --orphan empty && git commit -qm one")
     done = place.run(HOOK, "--since", first)
     ended("a first commit", done, 1, "a.vault.yml is not encrypted")
+
+
+def test_attributes_of_each_commit(place: Place) -> None:
+    """Each commit says itself which plaintext is meant."""
+    under_git(place, "")
+    committed(place, "a.yml", sealed("old"))
+    first = committed(place, "c.yml", sealed("new"))
+    place.shell("git mv a.yml b.yml")
+    place.put("c.yml", TEXT)
+    leak = committed(place, "b.yml", TEXT)[:10]
+    committed(place, ".gitattributes", b"*.yml -ansible-vault\n")
+    leaks = {f"{leak}: c.yml": WHOLE, f"{leak}: b.yml": GONE.format("a.yml")}
+    leaked("it is meant later", place.run(HOOK, "--since", first), leaks)
 
 
 def test_merge_of_several_branches(place: Place) -> None:
