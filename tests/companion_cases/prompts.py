@@ -79,6 +79,9 @@ def test_every_companion(place: Place) -> None:
     session = ask(place, ROTATE, *word, "--new-vault-id", "dev@prompt", ".", answers=answers)
     check_session("rotate", session, OF_DEV, NEW_OF_DEV, AGAIN_OF_DEV)
     assert decrypted("dev2", place.get("a.yml")) == b"more\nmore\n", "what was rotated"
+    answers = typed("dev2", NEW_OF_DEV, AGAIN_OF_DEV)
+    session = ask(place, EDIT, *word, "a.yml", "b.yml", answers=answers, EDITOR=editor)
+    check_session("edit of two, one of which is new", session, NEW_OF_DEV, AGAIN_OF_DEV)
 
 
 def test_by_settings(place: Place) -> None:
