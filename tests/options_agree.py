@@ -1,6 +1,6 @@
-"""The table of options in the code agrees with the manual page, the model and the program's own help; and the options
-of each companion agree in its page and its help, word for word. `completions.py` compares what the shells offer.
-`mandoc` and `groff` check the pages.
+"""The table of options in the code agrees with the manual page, the model and the program's own help; and the help of
+each companion agrees with its page, word for word. `completions.py` compares what the shells offer. `mandoc` and
+`groff` check the pages.
 """
 
 import inspect
@@ -177,6 +177,7 @@ def plain(text: str) -> str:
     return " ".join(re.sub(r"[`'\"]|\(\d\)", "", text).replace(";", ".").lower().split()).rstrip(".") + "."
 
 
+# What a help or a shown page lists on a line of its own, with a text; and the headings of a help.
 ENTRY = re.compile(r"^ +(--?\w.*?|[a-z_]+) {2,}(\S.*)$", re.MULTILINE)
 HEADING = re.compile(r"^(?:positional arguments:\n +[A-Z]+|options:|(?:old |new )?secrets:)$", re.MULTILINE)
 
@@ -193,13 +194,13 @@ def texts_in(text: str) -> list[tuple[str, str]]:
 
 
 def statements(text: str) -> set[str]:
-    """Return a text's sentences, list items and commands. Blank lines separate paragraphs."""
+    """Return the sentences, list items and commands of a text whose paragraphs are separated by blank lines."""
     parts = re.split(r":?(?:\n+ +[-o] +|\n+ +(?=\$ )|\n\n)", re.sub(r"\\\n+ +", "", text))
     return {each for part in parts for each in re.split(r"(?<=\.) ", plain(part))}
 
 
 def wide(name: str) -> str:
-    """Return a page as it is shown with each paragraph on one line. Its description begins like that in the help."""
+    """Return a page with each paragraph on one line. Leave out the name with which its description begins."""
     needs("mandoc")
     page = run_text(["mandoc", "-T", "ascii", "-O", "width=1000", str(PAGE.with_name(f"{name}.1"))], check=True).stdout
     return re.sub(r"(?<=\nDESCRIPTION\n) +\S+ (?:is )?", "", re.sub(".\b", "", page))
