@@ -1,6 +1,6 @@
-"""The table of options in the code agrees with the manual page, the model and the program's own help; and the options
-of each companion agree in its page and its help, word for word. `completions.py` compares what the shells offer.
-`mandoc` and `groff` check the pages.
+"""The table of options in the code agrees with the manual page, the model and the program's own help; and the help of
+each companion agrees with its page, word for word. `completions.py` compares what the shells offer. `mandoc` and
+`groff` check the pages.
 """
 
 import inspect
@@ -177,18 +177,39 @@ def plain(text: str) -> str:
     return " ".join(re.sub(r"[`'\"]|\(\d\)", "", text).replace(";", ".").lower().split()).rstrip(".") + "."
 
 
+# What a help or a shown page lists on a line of its own, with a text; and the headings of a help.
+ENTRY = re.compile(r"^ +(--?\w.*?|[a-z_]+) {2,}(\S.*)$", re.MULTILINE)
+HEADING = re.compile(r"^(?:positional arguments:\n +[A-Z]+|options:|(?:old |new )?secrets:)$", re.MULTILINE)
+
+
+def joined(text: str) -> str:
+    """Return a text with each entry on one line."""
+    return re.sub(r"\n {10,}(?=\S)", "  ", text)
+
+
 def texts_in(text: str) -> list[tuple[str, str]]:
     """Return what a help or a shown page says of each command and option, by the option's last spelling."""
-    entries = re.findall(r"^ +(--?\w.*?|[a-z_]+) {2,}(\S.*)$", re.sub(r"\n {10,}(?=\S)", "  ", text), re.MULTILINE)
+    entries = ENTRY.findall(joined(text))
     return [(re.sub("[<>]", "", names.split(", ")[-1]).lower(), plain(said)) for names, said in entries]
+
+
+def statements(text: str) -> set[str]:
+    """Return the sentences, list items and commands of a text whose paragraphs are separated by blank lines."""
+    parts = re.split(r":?(?:\n+ +[-o] +|\n+ +(?=\$ )|\n\n)", re.sub(r"\\\n+ +", "", text))
+    return {each for part in parts for each in re.split(r"(?<=\.) ", plain(part))}
+
+
+def wide(name: str) -> str:
+    """Return a page with each paragraph on one line. Leave out the name with which its description begins."""
+    needs("mandoc")
+    page = run_text(["mandoc", "-T", "ascii", "-O", "width=1000", str(PAGE.with_name(f"{name}.1"))], check=True).stdout
+    return re.sub(r"(?<=\nDESCRIPTION\n) +\S+ (?:is )?", "", re.sub(".\b", "", page))
 
 
 def shown(name: str) -> list[tuple[str, str]]:
     """Return what a page says of the program, of the options and of the commands."""
-    needs("mandoc")
-    page = run_text(["mandoc", "-T", "ascii", "-O", "width=1000", str(PAGE.with_name(f"{name}.1"))], check=True).stdout
-    text = re.sub(".\b", "", page)
-    return [*texts_in(text), *(("", plain(each)) for each in re.findall(r"\nDESCRIPTION\n +\S+ (?:is )?(.*)", text))]
+    text = wide(name)
+    return [*texts_in(text), *(("", plain(each)) for each in re.findall(r"\nDESCRIPTION\n(.*)", text))]
 
 
 @pytest.mark.parametrize("name", ["ansible-vault", *COMPANIONS])
@@ -202,6 +223,17 @@ def test_words(program: str, name: str) -> None:
     assert [(what, words) for what, words in said if not page.get(what, "").startswith(words)] == []
     others = [what for what, words in said if ("be repeated" in words) != ("be repeated" in page[what])]
     assert others == [], "and a page does not add that an option may be repeated"
+
+
+@pytest.mark.parametrize("name", COMPANIONS)
+def test_sentences(name: str) -> None:
+    """What else a help says is in the page, or in the one that describes what the companions share, word for word."""
+    _, _, text = ENTRY.sub("", joined(companion_help(name))).partition("\n\n")
+    said = statements(HEADING.sub("", text)) - {f"for more, see man {name}."}
+    pages = "".join(wide(each) for each in (name, SHARED))
+    assert len(said) > 20
+    assert [each for each in said if each.startswith("$ ") and name in each], "it has an example"
+    assert sorted(said - statements(pages.replace("\n", "\n\n"))) == []
 
 
 def test_references() -> None:

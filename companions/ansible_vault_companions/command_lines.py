@@ -8,8 +8,7 @@ from typing import Any, NoReturn
 from ansible_vault_companions import VERSION
 from ansible_vault_companions.program import shown
 
-NOT_PROVED = "This program is tested, not proved"
-BY_TOOL = "it leaves encryption to ansible-vault"
+NOT_PROVED = "Companions are tested, not proved. They leave encryption to ansible-vault."
 
 
 class Parser(argparse.ArgumentParser):
@@ -19,12 +18,12 @@ class Parser(argparse.ArgumentParser):
         self.exit(2, f"{self.format_usage()}{self.prog}: error: {shown(message)}\n")
 
 
-def parser(name: str, summary: str, example: str, ciphers: str = BY_TOOL, **options: Any) -> argparse.ArgumentParser:
-    """A parser that exits with status 2 if the command line is invalid. `ciphers` says what does the encryption."""
+def parser(name: str, summary: str, example: str, **options: Any) -> argparse.ArgumentParser:
+    """A parser that exits with status 2 if the command line is invalid."""
     made = Parser(
         prog=name,
         description=summary,
-        epilog=f"Example:\n  {example}\n\nFor more, see `man {name}`.\n{NOT_PROVED}; {ciphers}.",
+        epilog=f"{example}\n\nFor more, see `man {name}`.\n{NOT_PROVED}",
         formatter_class=argparse.RawDescriptionHelpFormatter,
         allow_abbrev=False,
         add_help=False,

@@ -159,11 +159,6 @@ def test_refused_secrets(place: Place, subtests: SubTests, name: str) -> None:
     ended("4096 bytes", place.run(CHECK, "--vault-password-file=../long", "a.yml"), 0)
 
 
-# What a companion's help says of encryption and, for the hook, of commits that it does not see.
-BY_TOOL = ("it leaves encryption to ansible-vault.",)
-SAYS = {HOOK: ("it encrypts and decrypts nothing.", "--no-verify, for cherry-pick, revert, rebase and am")}
-
-
 def test_help_of_each(place: Place, subtests: SubTests) -> None:
     names = sorted(each.name for each in COMPANIONS.glob("ansible-vault-*"))
     assert len(names) == 7, "there are seven"
@@ -175,5 +170,5 @@ def test_help_of_each(place: Place, subtests: SubTests) -> None:
             if word in ("--version", "-V"):
                 assert (done.returncode, done.stdout) == (0, f"{name} {version()}\n")
             else:
-                parts = [f"usage: {name}", f"Example:\n  {name} ", *SAYS.get(name, BY_TOOL)]
-                ended("help", done, 0, *parts, "This program is tested, not proved; ")
+                says = ["git runs no hook with --no-verify"] if name == HOOK else []
+                ended("help", done, 0, f"usage: {name}", *says, "Companions are tested, not proved. They leave ")

@@ -25,10 +25,9 @@ PLACES = f"""\
 Each PATH is a file or a directory. Directories are searched recursively,
 except .git. Symbolic links to files are followed; a link to a directory is
 followed only if you give it as a PATH. Blocks are found in every file except
-documents ({', '.join(PROSE)}), even within other text, and in the
-plaintext of vaults. An envelope that cannot be replaced where it stands (such
-as one in quotes, JSON or a comment) counts as a failure, and the message says
-what to do."""
+documents ({', '.join(PROSE)}), even within other text. An envelope
+that cannot be replaced where it stands counts as a failure, and the message
+says what to do."""
 
 
 class Unsearched(Refused):

@@ -10,16 +10,16 @@ from ansible_vault_companions.secrets.settings import Settings
 from ansible_vault_companions.secrets.sources import ASKED, ASKING, READ_AT_MOST, Secret
 
 SOURCES = """\
-SOURCE is a file that contains the password. If it is executable, it is run,
-and its output is the password; if its name, without the suffix, ends in
-`-client`, it gets the arguments --vault-id LABEL. `prompt` as SOURCE asks at
-the terminal."""
-BY_SETTINGS = """
-Ansible's settings (environment variables or ansible.cfg) add secrets. Once
-you name a secret with one of these options, secrets named in the current
-directory are ignored: of ./ansible.cfg, only vault_id_match counts, and
-relative paths in other settings are skipped. If ANSIBLE_CONFIG is a
-relative path, nothing is ignored."""
+A SOURCE is a file that contains the password. If the file is executable, it
+is run, and its standard output is the password. If its name without the
+suffix ends in `-client`, it gets the arguments --vault-id LABEL. If the
+SOURCE is `prompt`, you are asked for the password at the terminal.
+Options and Ansible's settings (environment variables and ansible.cfg) name
+secrets. Once you name a secret with --vault-id, --vault-password-file or -J,
+secrets named in the current directory are ignored: of ./ansible.cfg, only
+vault_id_match counts, and relative paths in your other settings are skipped.
+If ANSIBLE_CONFIG is itself a relative path, as in ANSIBLE_CONFIG=ansible.cfg,
+nothing is ignored."""
 NONE = (
     "no secret is given: name one with --vault-id or --vault-password-file, in ANSIBLE_VAULT_PASSWORD_FILE or "
     "in ansible.cfg, or type one with --ask-vault-password"
@@ -28,7 +28,7 @@ NONE = (
 
 def add_options(parser: argparse.ArgumentParser, prefix: str = "", which: str = "") -> None:
     """Adds the options that name secrets. Settings do not apply to options with a prefix."""
-    group = parser.add_argument_group(which or "secrets", SOURCES + ("" if prefix else BY_SETTINGS))
+    group = parser.add_argument_group(which or "secrets", None if prefix else SOURCES)
     what = "the source of a new secret" if prefix else "the source of a secret"
     group.add_argument(
         f"--{prefix}vault-id",
