@@ -135,6 +135,13 @@ def test_lists(place: Place) -> None:
     for label in ("dev", "prod"):
         done = edit(place, f'sed -i "{every}" "$1"', *words, "--encrypt-vault-id", label)
         ended("one of two secrets", done, 1, "may be a new value or a changed one")
+    # After these, an item of dev might have come from one of prod.
+    for after in ("two! three new", "two three new", "one! two! three"):
+        place.put("vars.yml", content)
+        lines = "".join(f"- !vault {each}\\n" for each in after.split())
+        done = edit(place, f"printf 'l:\\n{lines}' > \"$1\"", *words)
+        ended(after, done, 1, "may be a new value or a changed one")
+        assert place.get("vars.yml") == content, after
 
 
 def test_equal_items(place: Place) -> None:

@@ -79,19 +79,21 @@ def unclear(value: Value, why: str) -> Refused:
 def actions(blocks: list[Decrypted], typed: list[Typed], choice: Choice) -> list[Action]:
     """The action for each value, in order."""
     found: dict[int, Action] = {}
-    left: dict[Path, list[Decrypted]] = defaultdict(list)
+    before: dict[Path, list[Decrypted]] = defaultdict(list)
     for block in blocks:
-        left[block.path].append(block)
+        before[block.path].append(block)
+    left = {path: list(before[path]) for path in before}
     by_path: dict[Path, dict[int, Typed]] = defaultdict(dict)
     for number, each in enumerate(typed):
         by_path[each.value.path][number] = each
     for path, values in by_path.items():
-        found.update(_keep(left[path], values))
+        found.update(_keep(left.get(path, []), values))
     unkept = [block for block in blocks if block in left[block.path]]
     for path, values in by_path.items():
         changed = {number: each for number, each in values.items() if number not in found}
-        if left[path]:
-            found.update(_change(left[path], changed, choice))
+        if left.get(path):
+            in_place = dict(zip(values, before[path])) if len(values) == len(before[path]) else {}
+            found.update(_change(before[path], left[path], changed, in_place, choice))
     for number, each in enumerate(typed):
         if number not in found:
             found[number] = _moved(unkept, each.plaintext) or Action(None, choice.key(each.value))
@@ -113,14 +115,22 @@ def _keep(left: list[Decrypted], values: dict[int, Typed]) -> dict[int, Action]:
     return {number: Action(block) for number, block in kept.items()}
 
 
-def _change(left: list[Decrypted], typed: dict[int, Typed], choice: Choice) -> dict[int, Action]:
-    """Decides on changed values whose keys led to blocks before: as many as there are blocks, or fewer, or more."""
+def _change(
+    before: list[Decrypted],
+    left: list[Decrypted],
+    typed: dict[int, Typed],
+    in_place: dict[int, Decrypted],
+    choice: Choice,
+) -> dict[int, Action]:
+    """Decides on changed values whose keys led to blocks before. If those had several keys, only a single value can be
+    matched with its block, and only in the same place."""
     keys = {block.key for block in left}
+    are_alike = len({block.key for block in before}) == 1
     found = {}
     for place, (number, each) in enumerate(typed.items()):
-        if len(typed) == len(left):
+        if len(typed) == len(left) and (are_alike or len(left) == 1 and in_place.get(number) == left[0]):
             found[number] = Action(left[place], left[place].key)
-        elif len(typed) > len(left) and keys != {*choice.keys()}:
+        elif len(typed) >= len(left) and keys != {*choice.keys()}:
             raise unclear(each.value, NEW_OR_CHANGED)
         elif len(keys) == 1:
             found[number] = Action(left[0], left[0].key)
