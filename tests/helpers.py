@@ -4,6 +4,7 @@ import re
 import runpy
 import string
 import subprocess
+from collections import Counter
 from collections.abc import Callable
 from dataclasses import replace
 from hashlib import shake_128
@@ -209,6 +210,8 @@ def test_kinds_of_requests(monkeypatch: pytest.MonkeyPatch) -> None:
     cases = [make(str(number)) for number in range(3_000)]
     wanted = {fault.line for fault in {*Fault} - NOT_MET} | {b"", None}
     assert wanted - {expected(case, SALT).message for case in cases} == set(), "faults, a success, the parser's text"
+    given = Counter(case.words[0] for case in cases if case.stdin.startswith(vaults.MAGIC))
+    assert {each for each, count in given.items() if count > 200} == {"decrypt", "view", "rekey"}, "vaults as input"
     assert {*random_envelopes.SIZES, *random_envelopes.LARGE_SIZES} <= sizes, "sizes"
     assert len(sizes & {*random_envelopes.LIMIT_SIZES}) > 1, "sizes near the limit"
     texts = [text for case in cases for text in (*case.words, *case.files)]

@@ -16,7 +16,7 @@ TOOLS = {
     "Name your secrets once": ["ansible-playbook"],
     "Vaults and blocks for playbooks": ["ansible-playbook"],
     "Type a password": ["bash"],
-    "Check in a pipeline": ["ansible-playbook"],
+    "Run the checks in a pipeline": ["ansible-playbook"],
 }
 PLAYBOOK = """\
 - hosts: all
@@ -269,7 +269,7 @@ RECIPES = {
     "Use a password manager": check_manager,
     "Merge": check_merge,
     "Keep plaintext out of commits": check_hook,
-    "Check in a pipeline": check_pipeline,
+    "Run the checks in a pipeline": check_pipeline,
 }
 
 
