@@ -170,7 +170,7 @@ DOCUMENTS = [README, ROOT / "CONTRIBUTING.md", *sorted((ROOT / "docs").glob("*.m
 # Options of other programs that the documents also name.
 OF_GIT = {"--cached", "--clean", "--filter", "--global", "--merge", "--no-edit", "--no-verify", "--ours", "--textconv"}
 OF_GIT |= {"--theirs"}
-OF_OTHERS = {"--hook-type", "--sample", "--strict", "--unshallow", "--wait"}
+OF_OTHERS = {"--hook-type", "--no-install-recommends", "--sample", "--strict", "--unshallow", "--wait"}
 OF_RT = {"--allow-holes", "--anew", "--list-axioms", "--only", "--test"}
 # Options that Ansible's tool has only after release 2.14.
 OF_NEWER = {"--skip-tty-check"}
