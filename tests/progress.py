@@ -203,4 +203,3 @@ def test_all_tests_are_run(program: str) -> None:
     done = run_make(program, "-n", "test", "PARTIAL=yes")
     [command] = [line for line in done.stdout.splitlines() if "pytest" in line]
     assert " -m '' " in command and " --floors " in command
-
