@@ -54,8 +54,8 @@ def check_differences(repository: Repository, shell: str) -> None:
     name = "group_vars/all/vault.yml"
     repository.put(".gitattributes", MARKS.encode())
     texts = [f"db_password: {each}\n".encode() for each in ("first", "second", "third")]
-    contents = [texts[0], seal(PASSWORDS["old.pass"], texts[1]), seal(PASSWORDS["new.pass"], texts[2])]
-    for content in contents:
+    vaults = [seal(PASSWORDS[f"{name}.pass"], text, b"prod") for name, text in (("prod", texts[1]), ("new", texts[2]))]
+    for content in (texts[0], *vaults):
         repository.put(name, content)
         repository.shell("git add . && git commit -qm change")
     found = repository.shown(shell).splitlines()
@@ -118,26 +118,25 @@ def check_asked(repository: Repository, shell: str) -> None:
 
 
 def check_rotation(repository: Repository, shell: str) -> None:
-    repository.put("vars/a.yml", seal(PASSWORDS["old.pass"], b"a"))
-    repository.put("b.yml", block("secret", "b", "old.pass", "").encode())
-    kept = seal(PASSWORDS["prod.pass"], b"c", b"prod")
+    repository.put("vars/a.yml", seal(PASSWORDS["prod.pass"], b"a", b"prod"))
+    repository.put("b.yml", block("secret", "b", "prod.pass", "prod").encode())
+    kept = seal(PASSWORDS["old.pass"], b"c")
     repository.put("c.yml", kept)
     repository.shell("rm ~/.vault/new.pass")
-    summary = "2 rotated, 0 under the new secret already, 1 with other labels (prod 1), 0 failed"
+    summary = "2 rotated, 0 under the new secret already, 1 with other labels (default 1), 0 failed"
     assert repository.shown(shell).splitlines()[-1] == summary
-    shown = repository.shell('ansible-vault view --vault-password-file "$HOME"/.vault/new.pass vars/a.yml').stdout
+    shown = repository.shell('ansible-vault view --vault-id prod@"$HOME"/.vault/new.pass vars/a.yml').stdout
     assert (shown, repository.get("c.yml")) == ("a", kept), "the vault is under the new secret"
     output = repository.shell("stat -c %a ~/.vault/new.pass; base64 --decode < ~/.vault/new.pass | wc -c").stdout
     assert output == "600\n32\n", "which has 32 bytes, and is readable by its owner only"
 
 
 def check_check(repository: Repository, shell: str) -> None:
-    repository.put("vars/a.yml", seal(PASSWORDS["new.pass"], b"a"))
-    repository.put("b.yml", block("secret", "b", "prod.pass", "prod").encode())
-    home = repository.environment["HOME"]
+    repository.put("vars/a.yml", seal(PASSWORDS["new.pass"], b"a", b"prod"))
+    repository.put("b.yml", block("secret", "b", "new.pass", "prod").encode())
     lines = [
-        "./b.yml:2: secret: prod: decrypted by prod@~/.vault/prod.pass",
-        f"./vars/a.yml: default: decrypted by {home}/.vault/new.pass",
+        "./b.yml:2: secret: prod: decrypted by prod@~/.vault/new.pass",
+        "./vars/a.yml: prod: decrypted by prod@~/.vault/new.pass",
         "2 decrypted, 0 not",
     ]
     assert repository.shown(shell).splitlines() == lines

@@ -16,8 +16,8 @@ suffix ends in `-client`, it gets the arguments --vault-id LABEL. If the
 SOURCE is `prompt`, you are asked for the password at the terminal.
 Options and Ansible's settings (environment variables and ansible.cfg) name
 secrets. Once you name a secret with --vault-id, --vault-password-file or -J,
-secrets named in the current directory are ignored: of ./ansible.cfg, only
-vault_id_match counts, and relative paths in your other settings are skipped.
+secrets named in the current directory are ignored: only vault_id_match is
+read from ./ansible.cfg, and relative paths in your other settings are skipped.
 If ANSIBLE_CONFIG is itself a relative path, as in ANSIBLE_CONFIG=ansible.cfg,
 nothing is ignored."""
 NONE = (
