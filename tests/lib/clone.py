@@ -6,7 +6,7 @@ from pathlib import Path
 
 import pytest
 
-from lib.needs import needs, needs_checkout
+from lib.needs import is_confined, needs, needs_checkout
 from lib.paths import ROOT
 
 # Seconds. If `rt` has cached nothing, as after a gate from scratch, the first build proves everything again.
@@ -32,11 +32,14 @@ def cloned(tmp_path_factory: pytest.TempPathFactory) -> Path:
 
 
 def typed(command: str, folder: Path, **variables: str) -> str:
-    """Run a command in a shell without the variables of this test run, and return what it prints. It must succeed."""
+    """Run a command in a shell without the variables of this test run and, if root may take it away, without a network.
+    Return what it prints. It must succeed.
+    """
     ours = ("MAKE", "PYTEST_", "REQUIRE_")
     kept = {name: value for name, value in os.environ.items() if not name.startswith(ours)}
+    offline = [] if is_confined() else ["unshare", "--net"]
     done = subprocess.run(
-        ["bash", "-O", "expand_aliases", "-c", command],
+        [*offline, "bash", "-O", "expand_aliases", "-c", command],
         cwd=folder,
         env=kept | variables,
         stdin=subprocess.DEVNULL,

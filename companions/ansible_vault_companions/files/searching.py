@@ -42,7 +42,8 @@ def add_options(parser: argparse.ArgumentParser) -> None:
         action="append",
         default=[],
         metavar="PATTERN",
-        help="leave out files and directories with this name or, if it contains a slash, with this path below PATH; "
+        help="leave out files and directories whose name matches PATTERN or, if PATTERN contains a slash, whose path "
+        "relative to PATH matches it; "
         "may be repeated; * stands for any text, and ? for any character",
     )
     parser.add_argument("paths", metavar="PATH", nargs="+")

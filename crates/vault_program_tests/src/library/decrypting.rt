@@ -4,7 +4,7 @@ use vault_core::{Fault, Secrets, password_of, prepare_decrypt_in};
 use vault_kdf::Meter;
 use vault_text::{CIPHERTEXT_LIMIT, Label, MemSink, MemSource, TextMemory};
 
-/// The plaintext of a vault; `password_file` has the contents of the password file.
+/// Decrypts a vault; `password_file` is the content of the password file.
 pub fn decrypt(alloc: Global, vault: &[u8], password_file: &[u8]) -> Result<Vec<u8>, Fault> {
     let password = password_of(password_file)?;
     let mut secrets = Secrets::new();

@@ -4,8 +4,8 @@ use vault_core::{Fault, Form, Secrets, password_of, prepare_encrypt_in};
 use vault_kdf::Meter;
 use vault_text::{CIPHERTEXT_LIMIT, Label, MemSink, MemSource, Salt, TextMemory};
 
-/// A vault of a plaintext, with a label and the password in a password file. No other plaintext
-/// may have the same salt.
+/// Encrypts a plaintext as a vault, with a label and the password from a password file. No other
+/// plaintext may have the same salt.
 pub fn encrypt<'a>(
     alloc: Global,
     plaintext: &[u8],
