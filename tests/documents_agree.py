@@ -14,7 +14,7 @@ from ansible_vault_companions import OLDEST
 from ansible_vault_companions.files import reading
 from ansible_vault_companions.files.replacing import RANDOM
 from ansible_vault_companions.files.searching import PROSE
-from ansible_vault_companions.stopping import GRACE_PERIOD, SAME_SIGNAL
+from ansible_vault_companions.stopping import GRACE_PERIOD
 from lib.needs import needs
 from lib.option_sets import OF_ANSIBLE, companion_options, described_options, sections
 from lib.paths import COMPANIONS, PAGE, README, ROOT, version
@@ -124,7 +124,7 @@ def test_page() -> None:
     messages = re.findall(r"^\.It (.*)$", diagnostics, re.MULTILINE)
     texts = [text for texts in code_texts().values() for text in texts]
     assert sorted(messages) == sorted(texts), "the manual page explains every message"
-    longest = re.search(r"Plaintext has at most ([\d,]+) bytes", diagnostics)
+    longest = re.search(r"Plaintext may have at most ([\d,]+) bytes", diagnostics)
     assert longest and numbers(longest[1]) == {code_limits()["PLAINTEXT_LIMIT"]}, "and names the longest plaintext"
 
 
@@ -238,11 +238,11 @@ def test_figures(program: str) -> None:
 
 
 def test_figures_in_words() -> None:
-    """The seconds after a signal that an editor has, and that count as one signal; and the end of temporary names."""
+    """The seconds that an editor has after a signal, and the end of temporary names."""
     edit, hook = (" ".join(PAGE.with_name(f"ansible-vault-{each}.1").read_text().split()) for each in ("edit", "hook"))
-    words = [*re.findall(r"(\w+) seconds? after", edit), *re.findall(r"and (\w+) more characters", hook)]
-    numbers = {"one": 1, "five": 5, "eight": 8}
-    assert [numbers.get(word) for word in words] == [GRACE_PERIOD, SAME_SIGNAL, int(RANDOM[-2])]
+    words = [*re.findall(r"(\w+) seconds later", edit), *re.findall(r"and (\w+) more characters", hook)]
+    numbers = {"five": 5, "eight": 8}
+    assert [numbers.get(word) for word in words] == [GRACE_PERIOD, int(RANDOM[-2])]
 
 
 # Figures that are not in the code: measured ones, with their units, and those of standards, of other programs and of
@@ -262,6 +262,22 @@ def figures(text: str) -> set[tuple[str, str]]:
     return set(re.findall(r"(?<![\w.#+-])(\d[\d,.]*\d)(?![\w-])(?: (\w+))?", prose))
 
 
+def ported_crates() -> dict[str, str]:
+    """Return the version of each crate that security.md says is compiled in."""
+    [listed] = re.findall(r"the kit's ports of (.*); check", (ROOT / "docs" / "security.md").read_text())
+    return dict(re.findall(r"(\w+) (\d+\.\d+\.\d+)", listed))
+
+
+def test_ported_crates() -> None:
+    """They are those of debian/copyright, in the versions that the kit names."""
+    licensed = re.findall(r"^Files: (\w+)/\*$", (ROOT / "debian" / "copyright").read_text(), re.MULTILINE)
+    assert {name.partition("_")[0] for name in ported_crates()} == {*licensed}
+    needs("rt")
+    kit = Path(subprocess.run(["rt", "doc"], capture_output=True, text=True).stdout.strip()).parent
+    pages = "".join((kit / "rattle" / name / "README.md").read_text() for name in licensed).replace("`", "")
+    assert [name for name, number in ported_crates().items() if f"{name} {number}" not in pages] == []
+
+
 def test_every_figure(program: str) -> None:
     """Each figure is one of the code, of the releases that were tried, or of those above."""
     code = "\n".join(path.read_text() for path in CRATES.glob("*/src/**/*.rt"))
@@ -271,7 +287,7 @@ def test_every_figure(program: str) -> None:
     page = (ROOT / "docs" / "coming-from-ansible.md").read_text()
     releases = dict(re.findall(r"(\d+\.\d+\.\d+)(?:b\d)? \((\w+)\)", page))
     assert [*releases.values()] == [*runpy.run_path(str(ROOT / "tools" / "releases"))["RELEASES"]]
-    known |= {version(), least_glibc(program), *releases, *(each.rpartition(".")[0] for each in releases)}
+    known |= {version(), least_glibc(program), *ported_crates().values(), *releases, *(each.rpartition(".")[0] for each in releases)}
     found = set().union(*(figures(each.read_text()) for each in DOCUMENTS if each.name not in ELSEWHERE))
     unknown = {(each, word) for each, word in found if word in UNITS or each not in known}
     assert {" ".join(each) for each in unknown} == MEASURED

@@ -4,7 +4,7 @@ import os
 
 import pytest
 
-from companion_cases import CHECK, PASSWORDS, ROTATE, Place, sealed, summary
+from companion_cases import CHECK, PASSWORDS, ROTATE, TEXT, WITH, Place, sealed, summary
 
 
 @pytest.mark.parametrize("around", [b"%s", b"%s\n", b"%s\r\n", b"  %s\t\n\n"])
@@ -45,3 +45,13 @@ def test_chain_of_links(place: Place, holder: str) -> None:
     place.script('echo "ansible-vault [core 2.14.18]"', "tools/ansible-vault")
     done = place.run(str(links[0]), *place.by_file("old"), ".")
     assert (done.returncode, done.stdout.splitlines()[-1], done.stderr) == (0, "1 decrypted, 0 not", "")
+
+
+def test_named_as_the_tool(place: Place) -> None:
+    """For scripts that call `ansible-vault`, a link of that name leads to the companion."""
+    place.put("a.yml", sealed("old"))
+    link = place.path / "first" / "ansible-vault"
+    link.parent.mkdir()
+    link.symlink_to(place.tools / WITH)
+    done = place.run(str(link), "view", *place.by_file("old"), "a.yml")
+    assert (done.returncode, done.stdout, done.stderr) == (0, TEXT.decode(), "")

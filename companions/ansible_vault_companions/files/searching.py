@@ -42,8 +42,8 @@ def add_options(parser: argparse.ArgumentParser) -> None:
         action="append",
         default=[],
         metavar="PATTERN",
-        help="leave out files and directories whose name matches PATTERN or, if PATTERN contains a slash, whose path "
-        "relative to PATH matches it; "
+        help="leave out files and directories whose name matches PATTERN or, if PATTERN contains a slash, whose "
+        "location below PATH matches it; "
         "may be repeated; * stands for any text, and ? for any character",
     )
     parser.add_argument("paths", metavar="PATH", nargs="+")

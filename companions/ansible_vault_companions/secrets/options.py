@@ -14,12 +14,12 @@ A SOURCE is a file that contains the password. If the file is executable, it
 is run, and its standard output is the password. If its name without the
 suffix ends in `-client`, it gets the arguments --vault-id LABEL. If the
 SOURCE is `prompt`, you are asked for the password at the terminal.
-Options and Ansible's settings (environment variables and ansible.cfg) name
-secrets. Once you name a secret with --vault-id, --vault-password-file or -J,
-secrets named in the current directory are ignored: only vault_id_match is
-read from ./ansible.cfg, and relative paths in your other settings are skipped.
-If ANSIBLE_CONFIG is itself a relative path, as in ANSIBLE_CONFIG=ansible.cfg,
-nothing is ignored."""
+You can give secrets as options and in Ansible's settings (environment
+variables and ansible.cfg). Once you give one
+with --vault-id, --vault-password-file or -J, secrets from the current
+directory are ignored: only vault_id_match is read from ./ansible.cfg, and
+relative paths in your other settings are skipped. If ANSIBLE_CONFIG is itself
+a relative path, as in ANSIBLE_CONFIG=ansible.cfg, nothing is ignored."""
 NONE = (
     "no secret is given: name one with --vault-id or --vault-password-file, in ANSIBLE_VAULT_PASSWORD_FILE or "
     "in ansible.cfg, or type one with --ask-vault-password"

@@ -17,7 +17,7 @@ ELF = b"\x7fELF"
 
 def path_for(companion: str) -> str:
     """The path of the ansible-vault beside a companion, otherwise of the one on PATH."""
-    path = beside(companion, NAME) or _program(filter(None, os.get_exec_path()), NAME)
+    path = beside(companion, NAME) or _program(filter(None, os.get_exec_path()), NAME, companion)
     if path is None:
         raise Refused(f"there is no {NAME} beside this program or on PATH; install it")
     return path
@@ -25,7 +25,7 @@ def path_for(companion: str) -> str:
 
 def beside(companion: str, name: str) -> str | None:
     """The path of another program beside a companion."""
-    return _program(_folders(companion), name)
+    return _program(_folders(companion), name, companion)
 
 
 def has_messages(path: str) -> bool:
@@ -47,9 +47,13 @@ def take_over(path: str, words: list[str], secrets: list[Secret]) -> int:
     os.execv(path, [path, *words])
 
 
-def _program(folders: Iterable[str], name: str) -> str | None:
-    paths = (os.path.join(folder, name) for folder in folders)
-    return next((path for path in paths if os.access(path, os.X_OK) and not os.path.isdir(path)), None)
+def _program(folders: Iterable[str], name: str, companion: str) -> str | None:
+    """The first program of this name that is not the companion itself, to which a link may have given the name."""
+    for folder in folders:
+        path = os.path.join(folder, name)
+        if os.access(path, os.X_OK) and not os.path.isdir(path) and not os.path.samefile(path, companion):
+            return path
+    return None
 
 
 def _folders(program: str) -> Iterator[str]:
