@@ -120,7 +120,7 @@ for name in check rotate
     complete -c ansible-vault-$name -l tracked -d 'Look only at files that git tracks'
     complete -c ansible-vault-$name -l exclude -x -d 'Leave out files and directories with this name or path'
 end
-complete -c ansible-vault-hook -l all -d 'Check every file of the current commit'
+complete -c ansible-vault-hook -l all -d 'Check every file in the current commit'
 complete -c ansible-vault-hook -l since -x -d 'Check each commit after this one'
 complete -c ansible-vault-hook -l install -d 'Set up this clone'
 complete -c ansible-vault-hook -l uninstall -d 'Undo what --install has set up'

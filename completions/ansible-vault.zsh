@@ -38,7 +38,7 @@ _ansible_vault_arguments() {
     local -a common=($help '(- *)'{-V,--version}'[print version]')
     local -a labels=('*--label=[decrypt only what has this label, and count the rest]:label: ')
     local -a commits=(
-        '(--since --install --uninstall)--all[check every file of the current commit]'
+        '(--since --install --uninstall)--all[check every file in the current commit]'
         '(--all --install --uninstall)--since=[check each commit after this one]:commit: '
         '(--all --since --uninstall)--install[set up this clone]'
         '(--all --since --install)--uninstall[undo what --install has set up]'

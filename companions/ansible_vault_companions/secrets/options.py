@@ -15,7 +15,7 @@ is run, and its standard output is the password. If its name without the
 suffix ends in `-client`, it gets the arguments --vault-id LABEL. If the
 SOURCE is `prompt`, you are asked for the password at the terminal.
 You can give secrets as options and in Ansible's settings (environment
-variables and ansible.cfg). Once you give one
+variables and ansible.cfg). Once you give a secret
 with --vault-id, --vault-password-file or -J, secrets from the current
 directory are ignored: only vault_id_match is read from ./ansible.cfg, and
 relative paths in your other settings are skipped. If ANSIBLE_CONFIG is itself
