@@ -86,7 +86,7 @@ AXIOMS = re.compile(
 def test_axioms() -> None:
     """Their numbers add up, and agree with the last builds. A build whose proof was kept does not log them."""
     found = {pair for log in (ROOT / "bin").glob("*.log") for pair in AXIOMS.findall(log.read_text())}
-    numbers = r"`axioms=(\d+)`[^,]*, (\d+) of the C library and (\d+) of"
+    numbers = r"`axioms=(\d+)`, (\d+) in the kit's `libc` and (\d+) in its `os`"
     [(total, library, system)] = re.findall(numbers, PAGE.read_text())
     assert found <= {(library, system)} and int(total) == int(library) + int(system)
 
