@@ -164,6 +164,13 @@ def test_choices() -> None:
     assert named == [name for [line] in code for name in re.findall(r'"([\w/]+)"', line)]
 
 
+def test_next_steps() -> None:
+    """The page of ansible-vault-merge quotes the commands that its message tells the user to run."""
+    told = re.findall(r"`(git [^`]+?) ?\{0\}`", COMPANIONS["ansible-vault-merge"].read_text())
+    page = PAGE.with_name("ansible-vault-merge.1").read_text()
+    assert len(told) == 2 and {*told} <= {*re.findall(r"^\.Ql (git .+?)(?: Ns)? Ar path", page, re.MULTILINE)}
+
+
 def test_files() -> None:
     """The pages name the files that companions make."""
     pages = "".join(companion_page(name).get("FILES", "") for name in COMPANIONS)
