@@ -55,6 +55,9 @@ def test_without_driver(place: Place, style: str, what: str, versions: list[byte
     found = [decrypted("old", place.get("a.yml"))] if what == "a vault" else texts(place.get("a.yml"), "old")
     wanted = [OURS, THEIRS] if conflicts else [BOTH]
     assert [text for text in found if text != BASE] == wanted, f"{what}: all that it is made of is whole"
+    edit(place, 'cp "$1" ../seen', *secrets, "a.yml")
+    seen = (place.path / "seen").read_bytes().split()
+    assert {*seen} >= {*b" ".join(wanted).split()}, f"{what}: the editor shows it in plaintext"
 
 
 def test_markers_in_a_commit(place: Place) -> None:

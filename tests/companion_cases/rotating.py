@@ -1,9 +1,10 @@
 """ansible-vault-rotate: which vaults get which secret, what is reported, and what stays."""
 
 import os
+from itertools import product
 
 import pytest
-from companion_cases import ROTATE, TEXT, Place, block, decrypted, ended, sealed, summary, to_new
+from companion_cases import NOBODY, ROTATE, TEXT, Place, block, decrypted, ended, sealed, summary, to_new
 from lib.subtests import SubTests
 
 
@@ -95,9 +96,10 @@ def test_unreadable(place: Place) -> None:
 
 def test_owners_and_modes(place: Place) -> None:
     modes = {"a.yml": 0o600, "b.yml": 0o664, "c.yml": 0o444, "d.yml": 0o2755}
-    for name, mode in modes.items():
+    for (name, mode), owner in zip(modes.items(), product((NOBODY, 0), repeat=2)):
         place.put(name, sealed("old"), mode)
-        place.give(name)
+        if os.geteuid() == 0:
+            os.chown(place.tree / name, *owner)
         os.chmod(place.tree / name, mode)
     owners = [(place.tree / name).stat()[4:6] for name in modes]
     try:

@@ -371,3 +371,11 @@ def test_signals_at_the_start(place: Place) -> None:
     assert done.returncode == -signal.SIGTERM, "the status"
     assert not (place.path / "survived").exists(), "the editor is ended"
     check_whole("at the start", place)
+
+
+@pytest.mark.parametrize("name", ("CHLD", "CONT", "URG", "WINCH"))
+def test_ends_no_program(place: Place, name: str) -> None:
+    """A signal that ends no program by default, such as that of a resized terminal, does not end an edit."""
+    place.put("a.yml", sealed("old"))
+    done = edit(place, f"kill -{name} {ABOVE_EDITOR}; {CHANGE}", *place.by_file("old"), "a.yml")
+    assert (done.returncode, done.stderr, decrypted("old", place.get("a.yml"))) == (0, "", CHANGED)
