@@ -264,7 +264,7 @@ def figures(text: str) -> set[tuple[str, str]]:
 
 def ported_crates() -> dict[str, str]:
     """Return the version of each crate that security.md says is compiled in."""
-    [listed] = re.findall(r"the kit's ports of (.*); check", (ROOT / "docs" / "security.md").read_text())
+    [listed] = re.findall(r"and its ports of (.*); check", (ROOT / "docs" / "security.md").read_text())
     return dict(re.findall(r"(\w+) (\d+\.\d+\.\d+)", listed))
 
 
