@@ -221,24 +221,25 @@ def test_kinds_of_requests(monkeypatch: pytest.MonkeyPatch) -> None:
     assert {each for table in tables for each in table if isinstance(each, str)} - said == set(), "values"
 
 
-# How pytest ends with a planted fault, and whether the fault is caught.
+# How pytest ends with a planted fault, and what becomes of the fault.
 ENDS = {
-    "a test fails": (1, "FAILED tests/a.py::test_b - why\n", True),
-    "no test fails": (0, "1 passed\n", False),
-    "nothing can be collected": (2, "ERROR tests/a.py - why\n", False),
-    "there is no such test": (5, "no tests ran\n", False),
-    "pytest does not start": (1, "No module named pytest\n", False),
+    "a test fails": (1, "FAILED tests/a.py::test_b - why\n", "caught"),
+    "no test fails": (0, "1 passed\n", "failed"),
+    "a test is skipped": (0, "SKIPPED [1] tests/a.py:2: why\n1 passed, 1 skipped\n", "skipped"),
+    "nothing can be collected": (2, "ERROR tests/a.py - why\n", "failed"),
+    "there is no such test": (5, "no tests ran\n", "failed"),
+    "pytest does not start": (1, "No module named pytest\n", "failed"),
 }
 
 
-@pytest.mark.parametrize("status, output, is_caught", ENDS.values(), ids=ENDS)
-def test_planted_faults(program: str, status: int, output: str, is_caught: bool) -> None:
+@pytest.mark.parametrize("status, output, outcome", ENDS.values(), ids=ENDS)
+def test_planted_faults(program: str, status: int, output: str, outcome: str) -> None:
     tool = runpy.run_path(str(ROOT / "tools" / "plant_faults"))
     result_of = tool["result_of"]
     result_of.__globals__["run_tests"] = lambda *_: subprocess.CompletedProcess([], status, output)
     fault = {"file": "README.md", "old": "# ansible-vault, verified", "new": "# another", "test": "a.py b"}
-    assert result_of(Path(program), fault).is_caught == is_caught
-    assert not result_of(Path(program), fault | {"old": "not there"}).is_caught
+    assert result_of(Path(program), fault).outcome.value == outcome
+    assert result_of(Path(program), fault | {"old": "not there"}).outcome.value == "failed"
 
 
 # How Ansible's tool behaves in a locale that is not UTF-8, and how each tool identifies itself.

@@ -1,4 +1,6 @@
-"""tools/machine, with stand-ins for every program that it runs but the shell's: nothing is mounted or installed."""
+"""tools/machine, which is for root, with stand-ins for every program that it runs but the shell's: nothing is mounted
+or installed.
+"""
 
 import shutil
 import subprocess
@@ -7,6 +9,7 @@ from pathlib import Path
 
 import pytest
 
+from lib.needs import needs_root
 from lib.paths import ROOT
 from lib.scripts import write_script
 
@@ -28,6 +31,7 @@ def kept(tmp_path: Path) -> Iterator[Path]:
 
 def ran(folder: Path, *words: str, failing: str = "") -> tuple[int, list[str]]:
     """Return the status of tools/machine, and the commands that it ran."""
+    needs_root()
     tools, log = folder / "tools", folder / "log"
     for name in ("debootstrap", "env", "mount", "pivot_root", "umount", "unshare"):
         text = f"echo \"{name} $*\" >> '{log}'\n{ACTS.get(name, '')}\n[ {name} != '{failing}' ]"

@@ -257,6 +257,8 @@ def test_behind_theirs(beside: Beside) -> None:
     beside.check_both("installed")
     beside.do("an upgrade of ours", "-i", str(later(beside.package, beside.folder, VERSION + "+later")))
     beside.check_both("ours upgraded")
+    beside.do("going back to ours", "-i", str(beside.package))
+    beside.check_both("ours of before")
     beside.do("an upgrade of Ansible", "-i", beside.theirs("2.15", "# later\n"))
     beside.check_both("Ansible upgraded", "# later\n")
     beside.do("removal", "-r", "ansible-vault")

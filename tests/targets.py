@@ -1,5 +1,6 @@
 """Each target of the Makefile and each script that it runs, at a small size, in a clone that has nothing else."""
 
+import os
 import re
 import subprocess
 from collections.abc import Iterator
@@ -8,6 +9,7 @@ from pathlib import Path
 import pytest
 
 from lib.clone import PROVING, cloned, typed
+from lib.needs import is_confined
 from lib.paths import README, ROOT, version
 from lib.readme import commands
 from makefile import GOALS
@@ -24,10 +26,12 @@ RUN_BY_OTHERS = {
     "fresh-machine": "nothing: it takes an hour, and is run before a release",
     "releases": "nothing: it takes root and the network, and is run before a release",
 }
+# How many of ten planted faults are caught at least. For some, the test takes root.
+CAUGHT = "10" if os.geteuid() == 0 and not is_confined() else "([5-9]|10)"
 # Commands that show that a target works, and what each leaves or prints.
 SMALL = {
     "make CPU=x86-64-v3 bin/ansible-vault && bin/ansible-vault --version": r"ansible-vault \d+\.\d+\.\d+\n\Z",
-    "make CPU= planted PLANTED='--sample 3 --jobs 2 --seed {seed}'": r"\nplant_faults: 3 planted, 0 failed\n\Z",
+    "make CPU= planted PLANTED='--sample 10 --seed {seed}'": rf"\nplant_faults: {CAUGHT} caught, 0 failed, ",
     "make CPU= coverage COVERED=tests/companion_cases/textconv.py LEAST_COVERED=20": r"\nTOTAL +\d+ +\d+ +[2-9]\d%\n",
     "make CPU= mutants MUTANTS=vault_aes/wrong_rotation": r"\n1 passed, 0 failed\n\Z",
     "make CPU= bench QUICK=yes CHART=bin/speed.svg && tail -n 1 bin/speed.svg": r"</svg>\n\Z",

@@ -43,8 +43,7 @@ def add_options(parser: argparse.ArgumentParser) -> None:
         default=[],
         metavar="PATTERN",
         help="leave out files and directories whose name matches PATTERN or, if PATTERN contains a slash, whose "
-        "location below PATH matches it; "
-        "may be repeated; * stands for any text, and ? for any character",
+        "location below PATH matches it; may be repeated; * stands for any text, and ? for any character",
     )
     parser.add_argument("paths", metavar="PATH", nargs="+")
 
