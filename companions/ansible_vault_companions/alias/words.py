@@ -2,8 +2,6 @@
 
 from __future__ import annotations
 
-import os
-
 from ansible_vault_companions.alias.table import ASKS, ENCRYPT_STRING, FLAG, IGNORED, NAMING, OUTPUT, PROMPT, SALT
 from ansible_vault_companions.alias.table import SALT_FILE, STDIN_NAME, VALUE, VARIABLE, VERBOSE, VIEW
 from ansible_vault_companions.alias.table import kind_of, known_to
@@ -66,8 +64,7 @@ class Words:
             strings = [each for each in self.arguments if each != STANDARD_INPUT]
             reads_input = len(strings) < len(self.arguments) or self.has(STDIN_NAME)
             count = len(strings) + reads_input + self.has(PROMPT)
-        is_fixed = self.has(SALT) or os.path.isfile(self.value(SALT_FILE) or "")
-        return is_fixed and count > 1
+        return self.has(SALT, SALT_FILE) and count > 1
 
     def secret_options(self) -> list[str]:
         """The options that name secrets, under the names that the tool has for them."""
