@@ -84,7 +84,9 @@ def wanted(setting: str, program: str, secrets: list[str]) -> str:
     """The command for a setting. It has the companion's full path if the companion is not on PATH."""
     name, rest = SETTINGS[setting]
     path = name if shutil.which(name) else os.path.join(os.path.dirname(program), name)
-    return shlex.join([path, *secrets]) + rest
+    words = shlex.join([path, *secrets])
+    # git replaces what follows a percent sign in the command of a merge driver.
+    return (words.replace("%", "%%") if "%" in rest else words) + rest
 
 
 def install_setting(setting: str, value: str) -> str:

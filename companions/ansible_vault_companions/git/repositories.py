@@ -51,7 +51,9 @@ def _tracked(paths: list[str]) -> list[str]:
 @lru_cache(maxsize=None)
 def _repository(folder: str) -> str | None:
     """The top directory of the repository that contains this directory, if any."""
-    if os.path.lexists(os.path.join(folder, ".git")):
-        return folder
-    above = os.path.dirname(folder)
-    return None if above == folder else _repository(above)
+    while not os.path.lexists(os.path.join(folder, ".git")):
+        above = os.path.dirname(folder)
+        if above == folder:
+            return None
+        folder = above
+    return folder

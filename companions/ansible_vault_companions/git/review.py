@@ -70,7 +70,8 @@ class Review:
         pattern = attributes.pattern(file.name)
         is_leftover = replacing.is_leftover(os.path.basename(os.fsdecode(file.name)))
         if is_leftover and not attributes.is_meant_plain(file.name, index):
-            return Fault(LEFTOVER, "\n".join([TO_REMOVE.format(_shown(file.name)), MEANT.format(pattern)]))
+            remove = TO_REMOVE.format(shlex.quote(_shown(file.name)))
+            return Fault(LEFTOVER, f"{remove}\n{MEANT.format(pattern)}")
         if file.blob in self.conflicts:
             return Fault(damage.UNMERGED, TO_MERGE)
         if file.is_link or not (marks or file.before):

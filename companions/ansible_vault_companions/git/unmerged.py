@@ -31,12 +31,8 @@ def note_conflict(content: bytes, folder: str | None = None) -> None:
     """Notes in the repository of a directory, if there is one, that a content still has to be merged."""
     notes = _notes(folder)
     if notes:
-        with open(notes, "a", encoding="ascii", opener=_private) as file:
+        with open(notes, "a", encoding="ascii") as file:
             file.writelines(f"{blob}\n" for blob in _blobs(content, folder))
-
-
-def _private(path: str, flags: int) -> int:
-    return os.open(path, flags, 0o600)
 
 
 def _blobs(content: bytes, folder: str | None) -> list[str]:
@@ -56,7 +52,7 @@ def note_unmerged(name: str, ours: str, theirs: str) -> None:
     notes = _notes()
     if notes:
         blobs = git("hash-object", "--no-filters", "--", ours, theirs).decode().split()
-        with open(notes, "a", encoding="ascii", opener=_private) as file:
+        with open(notes, "a", encoding="ascii") as file:
             file.write(f"{' '.join(blobs)} {os.fsencode(name).hex()} {_head()}\n")
 
 
@@ -66,7 +62,7 @@ def forget_unmerged(name: str) -> None:
     lines = _lines(notes)
     kept = [words for words in lines if words[2:3] != [os.fsencode(name).hex()]]
     if notes and len(kept) < len(lines):
-        with open(notes, "w", encoding="ascii", opener=_private) as file:
+        with open(notes, "w", encoding="ascii") as file:
             file.writelines(f"{' '.join(words)}\n" for words in kept)
 
 
@@ -125,6 +121,7 @@ def _notes(folder: str | None = None) -> str | None:
 def _lines(notes: str | None) -> list[list[str]]:
     try:
         with open(notes or os.devnull, encoding="ascii") as file:
-            return [line.split() for line in file]
+            # A line without its end was cut off.
+            return [line.split() for line in file if line.endswith("\n")]
     except FileNotFoundError:
         return []

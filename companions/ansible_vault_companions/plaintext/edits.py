@@ -130,6 +130,8 @@ def set_value(tool: Tool, value: SingleValue, path: str, args: argparse.Namespac
         text = _standard_input()
         if text.startswith(MAGIC):
             raise Refused(GIVEN_A_VAULT)
+        if not text:
+            raise Refused("standard input is empty")
         with stopping.postponed():
             if not value.is_as_it_was(text):
                 this.put_back(text, "")

@@ -27,7 +27,6 @@ NO_VAULT = (
 )
 NO_SUCH_LABEL = "no secret has the label of --encrypt-vault-id"
 UNCLEAR = "it does not exist; choose the secret for a new vault with --encrypt-vault-id"
-NO_OPTION = "its label {} has an @, so no option can name it; change it in its first line"
 TO_ADD = "; or, to add values without seeing the others, choose a secret for the new ones with --encrypt-vault-id"
 
 
@@ -112,7 +111,7 @@ def load(tool: Tool, secrets: list[Secret], path: str, new_label: str | None) ->
     keys, plaintext = layers.decrypted(lambda vault: tool.decrypt(vault, secrets), content)
     for _, label in keys:
         if "@" in label:
-            raise Refused(NO_OPTION.format(label))
+            raise Refused(labels.NO_OPTION.format(label))
     return Vault(target, keys, plaintext, envelope)
 
 

@@ -8,7 +8,6 @@ from typing import ClassVar, Iterable
 from ansible_vault_companions.files.changes import Change, changed
 from ansible_vault_companions.files.envelopes import MAGIC
 from ansible_vault_companions.git import damage
-from ansible_vault_companions.plaintext.loading import NO_OPTION
 from ansible_vault_companions.plaintext.single import NO_TEXT, NOT_ENCRYPTED
 from ansible_vault_companions.program import Refused, shown
 from ansible_vault_companions.secrets import labels
@@ -58,7 +57,7 @@ class SingleValue:
         self.before = self._decrypted(decrypt)
         self.keys: list[Key] = [choice.key(found)] if self.is_chosen or not self.before else [self.before.key]
         if "@" in self.keys[0][1]:
-            raise Refused(NO_OPTION.format(self.keys[0][1]))
+            raise Refused(labels.NO_OPTION.format(self.keys[0][1]))
         # Fails early, before a text is read that might be lost.
         self._with_envelope(NO_ENVELOPE)
 

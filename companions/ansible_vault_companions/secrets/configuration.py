@@ -34,4 +34,6 @@ def _text(path: str) -> str:
         content = file.read(LONGEST + 1)
     if len(content) > LONGEST:
         raise Refused(f"it has more than {LONGEST:,} bytes")
+    if b"\0" in content:
+        raise Refused("it has a NUL byte")
     return content.decode()

@@ -2,10 +2,14 @@
 
 from __future__ import annotations
 
+import shlex
+
 from ansible_vault_companions.files.envelopes import written_label
 from ansible_vault_companions.program import shown
 from ansible_vault_companions.secrets.settings import PROMPT
 from ansible_vault_companions.secrets.sources import DEFAULT, Secret
+
+NO_OPTION = "its label {} has an @, so no option can name it; change it in its first line"
 
 
 def in_order(secrets: list[Secret], label: str | None) -> list[Secret]:
@@ -26,11 +30,13 @@ def fault(secret: Secret, envelope: bytes) -> str:
     if not label or secret.label == label or secret.is_only:
         return ""
     other, meant = shown(secret.label), shown(label)
-    place = PROMPT if secret.is_prompt else secret.place
+    mends = f"write {other} as the label in its first line"
+    if "@" not in label:
+        option = shlex.quote(shown(f"{label}@{PROMPT if secret.is_prompt else secret.place}"))
+        mends = f"either {mends} or, if that secret also belongs to {meant}, name it with --vault-id {option}"
     return (
         f"its label is {meant}, but {shown(secret.given)}, a secret with the label {other}, decrypts it; find out who "
-        f"changed the label or copied the text here; then either write {other} as the label in its first line or, if "
-        f"that secret also belongs to {meant}, name it with --vault-id {shown(f'{label}@{place}')}"
+        f"changed the label or copied the text here; then {mends}"
     )
 
 
@@ -39,4 +45,6 @@ def tried(envelope: bytes, secrets: list[Secret]) -> str:
     label = written_label(envelope)
     names = ", ".join(shown(secret.given) for secret in secrets) or "none: no secret has its label"
     has = f"label {shown(label)}" if label else "no label"
-    return f"({has}; tried {names}): name its secret with --vault-id {shown(label or DEFAULT)}@FILE"
+    if label and "@" in label:
+        return f"({has}; tried {names}): {NO_OPTION.format(shown(label))}"
+    return f"({has}; tried {names}): name its secret with --vault-id {shlex.quote(shown(label or DEFAULT))}@FILE"

@@ -58,7 +58,8 @@ class Settings:
         """The path of the password file; empty if there is none."""
         path = self._value(PASSWORD_FILE)
         folder = "" if PASSWORD_FILE[0] in os.environ or not self.path else os.path.dirname(self.path)
-        if not path or not (folder or self._is_trusted(path)) or (CURRENT in path and not self.trusts_folder):
+        leads_here = CURRENT in path or "PWD" in path
+        if not path or not (folder or self._is_trusted(path)) or (leads_here and not self.trusts_folder):
             return ""
         return expanded(path.replace(CURRENT, os.getcwd()) if CURRENT in path else path, folder)
 
@@ -84,9 +85,9 @@ class Settings:
 
 
 def _restriction(section: Section) -> dict[str, str]:
-    """The key of the current directory's ansible.cfg that only restricts, if it is there and can be read."""
+    """The key of the current directory's ansible.cfg that restricts, unless it is empty or cannot be read."""
     try:
-        return {key: value for key, value in section(NAME).items() if key == ID_MATCH[1]}
+        return {key: value for key, value in section(NAME).items() if key == ID_MATCH[1] and _unquoted(value)}
     except Refused:
         return {}
 
