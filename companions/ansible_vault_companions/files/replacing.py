@@ -51,10 +51,9 @@ def check_replaceable(target: str) -> None:
     os.unlink(_write_beside(target, b""))
 
 
-def save_copy(target: str, content: bytes, name: str = "") -> str:
-    """Writes a private copy beside the target, or else in $TMPDIR, and returns its path. For another file that an
-    editor left, `name` becomes the end of the copy's name."""
-    suffix = f"-{_end_of(name, LONGEST_END)}" if name else ""
+def save_copy(target: str, content: bytes, name: str) -> str:
+    """Writes a private copy beside the target, or else in $TMPDIR, and returns its path, which ends with `name`."""
+    suffix = f"-{_end_of(name, LONGEST_END)}"
     (folder, prefix), (other_folder, other_prefix) = _places_of_copies(target)
     try:
         return _write_new(folder, content, prefix=prefix, suffix=suffix)
@@ -62,10 +61,10 @@ def save_copy(target: str, content: bytes, name: str = "") -> str:
         return _write_new(other_folder, content, prefix=other_prefix, suffix=suffix)
 
 
-def copies(target: str, is_last_save: bool = False) -> list[str]:
-    """The paths of all copies for a target, or only of those of last saves, which have no `name` at their end."""
+def copies(target: str, name: str = "") -> list[str]:
+    """The paths of all copies for a target, or only of those whose `name` matches this pattern."""
     found = []
-    end = r"\Z" if is_last_save else r"(?:-|\Z)"
+    end = rf"-{name}\Z" if name else r"(?:-|\Z)"
     for folder, prefix in _places_of_copies(target):
         is_copy = re.compile(f"{re.escape(prefix)}{RANDOM}{end}").match
         with suppress(OSError):

@@ -99,7 +99,8 @@ def _is_excluded(path: str, patterns: Collection[str]) -> bool:
 
 
 def is_prose(path: str) -> bool:
-    return path.lower().endswith(PROSE)
+    """Whether it is a document. A link is one if its file is."""
+    return os.path.realpath(path).lower().endswith(PROSE)
 
 
 def contents(path: str, with_prose: bool = False) -> bytes:

@@ -16,8 +16,12 @@ PLAIN = "/-_.@+,"
 
 
 def marks(names: list[bytes], index: str | None = None, folder: str | None = None) -> dict[bytes, set[str]]:
-    """The attributes that mark each of these files, from the index or, if a directory is given, from its files."""
-    return _with_values(names, {DIFF: NAME, VAULT_ALONE: b"set"}, index, folder)
+    """The attributes that mark each of these files, from the index or, if a directory is given, from its files. None
+    marks a file whose attribute `-ansible-vault` allows plaintext."""
+    found = _with_values(names, {DIFF: NAME, VAULT_ALONE: b"set"}, index, folder)
+    marked = [name for name in names if found[name]]
+    exempt = _with_values(marked, {VAULT_ALONE: b"unset"}, index, folder) if marked else {}
+    return {name: set() if exempt.get(name) else attributes for name, attributes in found.items()}
 
 
 def drivers(names: list[bytes]) -> dict[bytes, set[str]]:

@@ -13,7 +13,8 @@ from ansible_vault_companions.program import Refused
 # in core.fsmonitor to read an index, the hook post-index-change to write one, and a transport (and so core.sshCommand
 # or a credential helper) to fetch an object that a partial clone lacks. These are switched off. Filters, pagers, and
 # programs for diff and merge belong to git commands that are not used here.
-OFF = ("-c", "core.fsmonitor=false", "-c", "submodule.recurse=false")
+# `check-attr` overlooks the attributes of directories outside of a sparse checkout, so that is off as well.
+OFF = ("-c", "core.fsmonitor=false", "-c", "submodule.recurse=false", "-c", "core.sparseCheckout=false")
 HOOKS_OFF = ("-c", f"core.hooksPath={os.devnull}")
 # These commands run no hook, and need the real setting to say where the hooks are.
 OF_HOOKS = ("rev-parse", "config")

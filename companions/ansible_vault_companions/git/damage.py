@@ -5,14 +5,18 @@ from __future__ import annotations
 import binascii
 import re
 import shlex
+from contextlib import suppress
 
 from ansible_vault_companions.files.envelopes import LINE, MAGIC, Envelope, has_valid_header, matched
+from ansible_vault_companions.files.finding import START
 from ansible_vault_companions.git.attributes import VAULT_ALONE
-from ansible_vault_companions.program import shown
+from ansible_vault_companions.program import Refused, shown
+from ansible_vault_companions.yaml import nodes
 from ansible_vault_companions.yaml.hidden import envelopes
 
 NOT_ENCRYPTED = "is not encrypted"
 DAMAGED = "is a damaged vault"
+ONLY_TAGGED = "has plaintext with the tag `!vault` in line {}"
 UNMERGED = "has git's conflict markers"
 TORN = "has git's conflict markers within an envelope, since it was merged without ansible-vault-merge"
 MERGE_AGAIN = (
@@ -91,7 +95,17 @@ def fault_of_marked(content: bytes, marks: set[str]) -> str | None:
     if is_unmerged(content):
         return UNMERGED
     damaged = next((each for each in found if not _is_whole_block(content, each)), None)
-    return f"has a damaged block in line {damaged.line}" if damaged else None
+    return f"has a damaged block in line {damaged.line}" if damaged else only_tagged(content)
+
+
+def only_tagged(content: bytes) -> str | None:
+    """The reason to refuse YAML in which a value has the tag of a block but is plaintext, or None. Without PyYAML, no
+    such value is found."""
+    with suppress(Refused):
+        for node in nodes.nodes(content, nodes.TAGS):
+            if node.style != nodes.ALIAS and not START.match(node.text.encode(errors="replace").lstrip()):
+                return ONLY_TAGGED.format(node.line)
+    return None
 
 
 def _is_whole_block(content: bytes, block: Envelope) -> bool:

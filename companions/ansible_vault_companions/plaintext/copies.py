@@ -3,6 +3,7 @@
 from __future__ import annotations
 
 import argparse
+import hashlib
 import os
 import shlex
 from contextlib import suppress
@@ -27,7 +28,13 @@ SHOWS = "ansible-vault-textconv"
 BELOW = b"# What was saved begins below.\n"
 # The end of the name for a copy of the previous save.
 BEFORE = "before"
+# The end of the name for a copy of the last save.
+OF = r"of-[0-9a-f]{16}"
 NO_COPY = "no earlier edit left a copy beside it or in $TMPDIR; edit it without --resume"
+CHANGED = (
+    "it has changed since the edit that left {}, and --resume would undo that change; `ansible-vault-textconv` shows "
+    "the copy: take from it what you need"
+)
 SEVERAL = (
     "--resume cannot tell which value gets which secret, because {} and the file together use several secrets; "
     "`ansible-vault-textconv` shows the copy: take from it what you need"
@@ -70,7 +77,7 @@ class Copies:
     def keep_encrypted(self, content: bytes, why: Exception, is_finished: bool) -> Refused:
         """Writes encrypted content to a copy. Returns the exception that says where it is, and how to put it back."""
         try:
-            copy = replacing.save_copy(self.vault.target, content)
+            copy = replacing.save_copy(self.vault.target, content, _mark(self.vault.content))
         except OSError:
             return self.folder.keep(why, self.name, self.text)
         count = len(self.vault.keys)
@@ -119,12 +126,21 @@ class Copies:
         return f"; what the editor left is encrypted in {', '.join(paths)}" if paths else ""
 
 
-def newest(target: str) -> str:
-    """The newest copy of an edit. Files of other users are ignored: in $TMPDIR, anybody can use such a name."""
-    found = [each for each in replacing.copies(target, is_last_save=True) if os.lstat(each).st_uid == os.geteuid()]
+def _mark(content: bytes | None) -> str:
+    """Marks the copy of an edit with the encrypted content that the edit began with."""
+    return f"of-{hashlib.sha256(content or b'').hexdigest()[:16]}"
+
+
+def newest(vault: Vault | Values) -> str:
+    """The newest copy of an edit. Refuses it if the file has changed since: a text may only replace the content that it
+    began with. Files of other users are ignored: in $TMPDIR, anybody can use such a name."""
+    found = [each for each in replacing.copies(vault.target, OF) if os.lstat(each).st_uid == os.geteuid()]
     if not found:
         raise Refused(NO_COPY)
-    return max(found, key=os.path.getmtime)
+    copy = max(found, key=os.path.getmtime)
+    if not copy.endswith(_mark(vault.content)):
+        raise Refused(CHANGED.format(program.shown(copy)))
+    return copy
 
 
 def taken_up(copy: str, vault: Vault | Values, decrypt: Decrypt) -> bytes:

@@ -117,7 +117,7 @@ def load(tool: Tool, secrets: list[Secret], path: str, new_label: str | None) ->
 
 def _load_values(tool: Tool, target: str, content: bytes, choice: Choice) -> Values:
     if TAG_NAME not in content:
-        raise Refused(NO_VAULT)
+        raise Refused(next((each.obstacle for each in envelopes(content) if each.obstacle), NO_VAULT))
     showing = inline.showing(content, lambda envelope: tool.decrypt(envelope, choice.secrets), with_notes=True)
     if not showing.found.values:
         raise Refused(NO_VAULT)
