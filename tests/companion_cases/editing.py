@@ -34,16 +34,17 @@ def test_where_the_plaintext_lies(place: Place, folder: str) -> None:
 # What changes nothing, the exit status of the edit, and what it prints.
 STOPS = {
     "true": (0, "nothing was changed; if the editor returned at once, give it an option to wait"),
-    'rm -r "${1%/*}"': (1, "all.yml: the editor left no file; nothing was changed\n"),
+    'rm -r "${1%/*}"': (1, ".yml: the editor left no file; nothing was changed\n"),
 }
 
 
 @pytest.mark.parametrize("editor", STOPS)
 def test_what_stays(place: Place, editor: str) -> None:
-    """If an edit fails or changes nothing, the vault is not even written, and nothing is left."""
+    """If an edit fails or changes nothing, the vault is not even written, no new one is made, and nothing is left."""
     place.put("all.yml", vault := sealed("old"))
     before = (place.tree / "all.yml").stat()
-    ended("the edit", edit(place, editor, *place.by_file("old"), "all.yml"), *STOPS[editor])
+    for name in ("all.yml", "new.yml"):
+        ended(name, edit(place, editor, *place.by_file("old"), name), *STOPS[editor])
     after = (place.tree / "all.yml").stat()
     assert (after.st_ino, after.st_mtime_ns) == (before.st_ino, before.st_mtime_ns), "the vault is not written"
     assert (place.files(), place.left()) == ({"all.yml": vault}, []), "it stays, and nothing is left"
@@ -114,15 +115,3 @@ def test_editors(place: Place, visual: str) -> None:
     silent("the edit", done)
     assert (place.path / "words").read_text() == "--wait|two words|"
     assert decrypted("old", place.get("all.yml")) == CHANGED, "the text"
-
-
-def test_links(place: Place) -> None:
-    place.put("shared/all.yml", sealed("old"))
-    targets = {"link.yml": "shared/all.yml", "chain.yml": str(place.tree / "link.yml"), "new.yml": "shared/new.yml"}
-    for name, target in targets.items():
-        (place.tree / name).symlink_to(target)
-    silent("a link", edit(place, CHANGE, *place.by_file("old"), "chain.yml"))
-    silent("a link to nothing", edit(place, 'echo a > "$1"', *place.by_file("old"), "new.yml"))
-    assert {name: os.readlink(place.tree / name) for name in targets} == targets, "links stay links"
-    found = [decrypted("old", place.get(f"shared/{name}")) for name in ("all.yml", "new.yml")]
-    assert found == [CHANGED, b"a\n"], "their files are changed"

@@ -48,7 +48,6 @@ NO_YAML = "it cannot be read as YAML"
 # What the editor does when it opens again, what is typed at each question, and why the edit is given up.
 ENDS = {
     "no": (":", [b"no\n"], NO_YAML),
-    "the terminal says nothing": (":", [b"\x04"], NO_YAML),
     "an interrupt": (":", [b"\x03"], NO_YAML),
     "no, later": (":", [b"yes\n", b"yes\n", b"no\n"], NO_YAML),
     "it empties the text and fails": ('sed -i /new/d "$1"; exit 3', [b"yes\n"], "status 3"),

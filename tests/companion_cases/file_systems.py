@@ -70,12 +70,7 @@ os.link = link
 
 MOUNT = "36 35 98:0 / {} rw,noatime master:1 - ext3 /dev/root rw,errors=continue\n"
 # Names of mount points, and what the system writes for them.
-MOUNTED = {
-    "plain.yml": r"plain.yml",
-    "a b\t\n.yml": r"a\040b\011\012.yml",
-    r"digits\040.yml": r"digits\134040.yml",
-    "größe.yml": "größe.yml",
-}
+MOUNTED = {"größe.yml": "größe.yml", "a b\t\n.yml": r"a\040b\011\012.yml", r"c\040.yml": r"c\134040.yml"}
 
 
 @pytest.mark.parametrize("name", MOUNTED)
@@ -101,15 +96,12 @@ replacing.open = opened
         ended("another file", run(MOUNTED[name]), 0)
 
 
-@pytest.mark.parametrize("command, password", {"rekey": "new", "decrypt": None}.items())
-def test_attributes_of_security_modules(place: Place, command: str, password: str | None) -> None:
+def test_attributes_of_security_modules(place: Place) -> None:
     """The system gives the new file these attributes. Setting or removing them takes a right that the user may lack."""
     labelled = """
 listed = os.listxattr
 os.listxattr = lambda target: [*listed(target), "security.selinux"]
 """
     place.put("a.yml", sealed("old"))
-    words = to_new(place) if password else place.by_file("old")
-    silent(command, run_changed(place, WITH, labelled, [command, *words, "a.yml"]))
-    content = place.get("a.yml")
-    assert (decrypted(password, content) if password else content) == TEXT
+    silent("rekey", run_changed(place, WITH, labelled, ["rekey", *to_new(place), "a.yml"]))
+    assert decrypted("new", place.get("a.yml")) == TEXT

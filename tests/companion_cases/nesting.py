@@ -55,10 +55,6 @@ def test_memory(layer: str) -> None:
     assert peak(lambda: now_plain(text, plain)) < 500 * len(text), "what is in plaintext now"
 
 
-def megabytes(place: Place) -> float:
-    return int((place.path / "peak").read_text()) / 1000
-
-
 @pytest.mark.parametrize("companion", (TEXTCONV, EDIT))
 def test_peak(place: Place, companion: str) -> None:
     needs_pyyaml()
@@ -66,7 +62,7 @@ def test_peak(place: Place, companion: str) -> None:
     editor = place.script("sed -i 's/^  x$/  y/' \"$1\"", "editor")
     done = run_changed(place, companion, NOTE_PEAK, [*place.by_file("old"), "vars.yml"], EDITOR=editor)
     ended("200 KB", done, 0)
-    assert 5 < megabytes(place) < 100
+    assert 5_000 < int(place.get("../peak")) < 100_000
 
 
 def test_long_files(place: Place) -> None:
@@ -78,4 +74,4 @@ def test_long_files(place: Place) -> None:
     done = run_changed(place, TEXTCONV, show, [*place.by_file("old"), "long.yml"])
     ended("it", done, 0, "long.yml: shown as it is: it is longer than any vault")
     assert (place.path / "shown").stat().st_size == length, "all of it"
-    assert 5 < megabytes(place) < 40
+    assert 5_000 < int(place.get("../peak")) < 40_000

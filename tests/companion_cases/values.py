@@ -23,9 +23,11 @@ TYPED = {
 REFUSED = {
     "b: !vault\n": "line 1: b is missing after `!vault`",
     "b: !vault a\n  b\n": "line 1: b continues on further lines",
+    "b: !vault 'a\n  b'\n": "line 1: b continues on further lines",
     "b: !vault >\n  a\n": "line 1: b is a folded scalar",
     "b: !vault\n  a\n": "line 1: b is below its tag",
     "b: !vault [a]\n": "line 1: b is a list, a mapping or a key, not a string",
+    "b: !vault {{ a }}\n": "line 1: b is a list, a mapping or a key, not a string",
     "b: !vault |-\n  a\x01\n": "line 1: b has control characters",
     'b: !vault "\\q"\n': "line 1: it cannot be read as YAML: found unknown escape character",
     "b: {c: !vault x}\n": "line 1: c is within brackets",
@@ -43,12 +45,6 @@ def test_what_changes(place: Place) -> None:
     assert texts(after, "prod") == [b"uno", None], "it is encrypted by its secret"
     assert after.count(b";1.2;AES256;prod\n") == 1, "under its label"
     assert (after.endswith(stays), place.mode("vars.yml")) == (True, "0o640"), "all else stays"
-    add = 'printf "\\nnew: !vault word\\n" >> "$1"'
-    done = edit(place, add, *words)
-    ended("a new one", done, 1, "new is new; choose its secret with --encrypt-vault-id", "is encrypted in")
-    assert place.get("vars.yml") == after, "nothing is written"
-    ended("a chosen one", edit(place, add, *words, "--encrypt-vault-id", "prod"), 0)
-    assert texts(place.get("vars.yml"), "prod") == [b"uno", None, b"word"], "it is encrypted"
     done = edit(place, 'sed -i "s/^c: !vault /c: /" "$1"', *words)
     ended("a tag that is removed", done, 0, "no longer encrypted: c")
     assert place.left() == [], "nothing is left"
@@ -77,7 +73,7 @@ def test_refused_forms(place: Place, text: str) -> None:
     assert (decrypted("old", place.get(copy)), place.get("vars.yml")) == (text.encode(), before)
 
 
-CLOSED = {b"\0": "control characters", b"\xff": "not UTF-8", "\u2028".encode(): "control characters"}
+CLOSED = {b"a\r\nb": "control characters", b"\xff": "not UTF-8", "\u2028".encode(): "control characters"}
 CLOSED[b"$ANSIBLE_VAULT;1.1;AES256\n"] = "itself a vault"
 
 

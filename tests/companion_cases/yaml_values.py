@@ -7,8 +7,6 @@ import binascii
 import random
 from collections import Counter
 
-import pytest
-
 from ansible_vault_companions.files.changes import Change, changed
 from ansible_vault_companions.program import Refused
 from ansible_vault_companions.secrets.sources import Secret
@@ -209,15 +207,6 @@ def encrypted(showing: inline.Showing, text: bytes) -> bytes | str:
         return inline.encrypted(showing, text, Hexadecimal(), Choice([SECRET], None))
     except Refused as fault:
         return str(fault)
-
-
-@pytest.mark.parametrize("text", (b"a: !vault new\n            # a comment\n", b"a: !vault new\xe2\x80\xa8b: 1"))
-def test_no_place(text: bytes) -> None:
-    """A text that would not be read as intended is not written."""
-    needs_pyyaml()
-    data = b"a: !vault |\n  " + envelope(b"old").replace(b"\n", b"\n  ") + b"\n"
-    showing = inline.showing(data, decrypt, with_notes=True)
-    assert encrypted(showing, text) == inline.NO_PLACE, f"{text!r}"
 
 
 def test_conflicts() -> None:
