@@ -59,8 +59,7 @@ REFUSED = [
     (OLD, "plain.yml", "not a vault"),
     (OLD, "missing/new.yml", "No such file"),
     (PROD, "odd.yml", "its label a@b"),
-    (OLD, "vars.yml", "line 1: secret: no secret decrypts this vault (label prod; tried "),
-    (OLD, "vars.yml", "choose a secret for the new ones with --encrypt-vault-id"),
+    (OLD, "vars.yml", "line 1: secret: no secret decrypts this vault (no label; tried ../secrets/old); or, to add"),
     (BOTH, "new.yml", "choose the secret for a new vault with --encrypt-vault-id"),
     (f"{BOTH} --encrypt-vault-id other", "new.yml", "no secret has the label of --encrypt-vault-id"),
 ]
@@ -72,7 +71,7 @@ def test_refused(place: Place, options: str, name: str, why: str) -> None:
     place.put("all.yml", sealed("old"))
     place.put("plain.yml", TEXT)
     place.put("odd.yml", sealed("prod", label="a@b"))
-    place.put("vars.yml", block("prod", label="prod"))
+    place.put("vars.yml", block("dev"))
     os.link(place.tree / "all.yml", place.path / "second name")
     before = place.files()
     ended("the edit", edit(place, "touch ../started", *options.split(), name), 1, f"{name}: ", why)
@@ -103,6 +102,14 @@ def test_labels(place: Place) -> None:
     for envelope in (envelope_of(place.get(name)) or b"" for name in ("all.yml", "vars.yml")):
         assert envelope.startswith(b"$ANSIBLE_VAULT;1.2;AES256;prod\n"), "the label stays"
         assert decrypted("prod", envelope) == CHANGED, "the password stays"
+
+
+def test_links(place: Place) -> None:
+    place.put("shared/all.yml", sealed("old"))
+    (place.tree / "link.yml").symlink_to("shared/all.yml")
+    silent("a link", edit(place, CHANGE, *place.by_file("old"), "link.yml"))
+    assert os.readlink(place.tree / "link.yml") == "shared/all.yml", "it stays a link"
+    assert decrypted("old", place.get("shared/all.yml")) == CHANGED, "its file is changed"
 
 
 @pytest.mark.parametrize("visual", ("'{}' --wait \"two words\"", ""))

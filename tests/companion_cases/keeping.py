@@ -168,6 +168,13 @@ def test_harmless_editors(place: Place, attempt: int) -> None:
     assert (place.names(), place.left()) == (["all.yml"], []), "nothing is left"
 
 
+def test_help(place: Place) -> None:
+    """It warns of copies that editors and memory keep."""
+    text = " ".join(place.run(EDIT, "--help").stdout.split())
+    parts = ("an option to wait, such as `code --wait`", "undo and backup files", "memory may be swapped")
+    assert [part for part in parts if part not in text] == []
+
+
 def test_without_memory(tmp_path: Path) -> None:
     """Standard input, which was never in the directory, is kept there if the directory is not in memory."""
     with PrivateFolder() as folder:

@@ -17,8 +17,8 @@ from lib.needs import needs, needs_pyyaml
 
 BLOCK = b"a: !vault |\n  " + envelope(b"the first").replace(b"\n", b"\n  ") + b"\n"
 # Other tags, and texts, about which there is no question.
-OTHERS = ["!secret x", "!env_var X y", "!reference [a]", "!!binary eA==", "'wow! Vault'", "x != vault", "vault x"]
-OTHERS += ["!vault x", "!vault-encrypted x", "!<!vault> x"]
+OTHERS = ["!Sub x", "!valid x", "!env_var X y", "!reference [a]", "!!binary eA==", "'wow! Vault'", "x != vault"]
+OTHERS += ["vault x", "!vault x", "!vault-encrypted x", "!<!vault> x"]
 SECRET = "correct horse"
 
 
@@ -31,10 +31,10 @@ def test_saved_in_another(place: Place, codec: str) -> None:
     """The file stays, and the copy contains every byte that was saved. A vault may contain them, since it is encrypted
     as a whole."""
     needs_pyyaml()
-    before = block("old", TEXT) + "# größe\n".encode()
-    place.put("vars.yml", before)
+    place.put("vars.yml", before := block("old", TEXT))
     place.put("all.yml", sealed("old"))
-    typed = f"secret: !vault |\n  {TEXT.decode()}# größe\n".encode(codec)
+    # In ASCII, only other bytes tell that it is not UTF-8.
+    typed = f"secret: !vault |\n  {TEXT.decode()}{'# größe' if codec == 'latin-1' else '# x'}\n".encode(codec)
     place.put("../typed", typed)
     silent("a vault", edit(place, 'cp ../typed "$1"', *place.by_file("old"), "all.yml"))
     assert decrypted("old", place.get("all.yml")) == typed

@@ -7,18 +7,17 @@ import binascii
 import random
 from collections import Counter
 
+import pytest
+
 from ansible_vault_companions.files.changes import Change, changed
 from ansible_vault_companions.program import Refused
 from ansible_vault_companions.secrets.sources import Secret
 from ansible_vault_companions.tool.tool import Tool
 from ansible_vault_companions.yaml import inline, nodes
 from ansible_vault_companions.yaml.matching import Choice
-from ansible_vault_companions.yaml.values import Scan, Value
+from ansible_vault_companions.yaml.values import Scan
 from lib.needs import needs_pyyaml
 
-SEED = 62
-TEXTS = 700
-HEADER = b"$ANSIBLE_VAULT;1.1;AES256\n"
 SECRET = Secret("default", "", "")
 LINE_ENDS = ["\n"] * 3 + ["\r\n", "\r", "\x85"]
 KEYS = ["a", "b c", "'q: ''x'", '"\\u00e9\\t"', "größe", "&k c", "!!str 1", "? d\n{}", "<<"]
@@ -54,7 +53,7 @@ IN_CONFLICT = [
 
 
 def envelope(plaintext: bytes) -> bytes:
-    return HEADER + binascii.hexlify(plaintext) + b"\n"
+    return b"$ANSIBLE_VAULT;1.1;AES256\n" + binascii.hexlify(plaintext) + b"\n"
 
 
 def decrypt(text: bytes) -> tuple[Secret, bytes]:
@@ -78,7 +77,7 @@ class Generator:
     """Generates nested mappings and lists of scalars, some of which are blocks."""
 
     def __init__(self, number: int) -> None:
-        self.random = random.Random(f"{SEED} {number}")
+        self.random = random.Random(number)
 
     def text(self) -> str:
         documents = [self.collection(3, 0) for _ in range(self.random.choice((1, 1, 1, 2)))]
@@ -152,19 +151,15 @@ def composed(text: str) -> list[tuple[tuple[str, ...], str]] | None:
     return found
 
 
-def is_text(value: Value) -> bool:
-    return not value.is_key and value.style not in (nodes.LIST, nodes.MAPPING)
-
-
 def scanned(data: bytes) -> list[tuple[tuple[str, ...], str]]:
-    return [((*value.path,), value.content.decode()) for value in Scan(data).values if is_text(value)]
+    return [((*value.path,), value.content.decode()) for value in Scan(data).values]
 
 
 def test_shown_and_encrypted() -> None:
     """PyYAML reads each shown value as its plaintext, and what is not changed keeps every byte."""
     needs_pyyaml()
     counts: Counter[str] = Counter()
-    for number in range(TEXTS):
+    for number in range(700):
         text = Generator(number).text()
         wanted = composed(text)
         if wanted is None:
@@ -207,6 +202,14 @@ def encrypted(showing: inline.Showing, text: bytes) -> bytes | str:
         return inline.encrypted(showing, text, Hexadecimal(), Choice([SECRET], None))
     except Refused as fault:
         return str(fault)
+
+
+@pytest.mark.parametrize("text", (b"a: !vault new\n            # a comment\n", b"a: !vault new\xe2\x80\xa8b: 1"))
+def test_no_place(text: bytes) -> None:
+    """A text that would not be read as intended is not written."""
+    needs_pyyaml()
+    data = b"a: !vault |\n  " + envelope(b"old").replace(b"\n", b"\n  ") + b"\n"
+    assert encrypted(inline.showing(data, decrypt, with_notes=True), text) == inline.NO_PLACE
 
 
 def test_conflicts() -> None:
