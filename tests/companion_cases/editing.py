@@ -59,7 +59,8 @@ REFUSED = [
     (OLD, "plain.yml", "not a vault"),
     (OLD, "missing/new.yml", "No such file"),
     (PROD, "odd.yml", "its label a@b"),
-    (OLD, "vars.yml", "line 1: secret: no secret decrypts this vault (no label; tried ../secrets/old); or, to add"),
+    (OLD, "vars.yml", "line 1: secret: no secret decrypts this vault (no label; tried ../secrets/old)"),
+    (OLD, "vars.yml", "; or, to add values without seeing the others, choose a secret for the new ones with"),
     (BOTH, "new.yml", "choose the secret for a new vault with --encrypt-vault-id"),
     (f"{BOTH} --encrypt-vault-id other", "new.yml", "no secret has the label of --encrypt-vault-id"),
 ]

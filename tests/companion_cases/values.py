@@ -4,7 +4,8 @@ import re
 
 import pytest
 
-from companion_cases import ENCRYPTED, Done, Place, block, decrypted, edit, ended, lines_of, sealed, silent, texts
+from companion_cases import ENCRYPTED, TEXT, Done, Place, block, decrypted, edit, ended, lines_of, sealed, silent
+from companion_cases import texts
 from lib.subtests import SubTests
 
 # What may be typed after the key, and the text that it means.
@@ -36,18 +37,11 @@ REFUSED = {
 }
 
 
-def test_what_changes(place: Place) -> None:
-    stays = b"b: 2  # x\n" + block("old", b"two\n", name="c") + b"z: 1"
-    place.put("vars.yml", block("prod", b"one", "prod", "a") + stays, 0o640)
-    words = [*place.by_file("old"), *place.by_id("prod", "prod"), "vars.yml"]
-    silent("a change", edit(place, 'sed -i s/one/uno/ "$1"', *words))
-    after = place.get("vars.yml")
-    assert texts(after, "prod") == [b"uno", None], "it is encrypted by its secret"
-    assert after.count(b";1.2;AES256;prod\n") == 1, "under its label"
-    assert (after.endswith(stays), place.mode("vars.yml")) == (True, "0o640"), "all else stays"
-    done = edit(place, 'sed -i "s/^c: !vault /c: /" "$1"', *words)
-    ended("a tag that is removed", done, 0, "no longer encrypted: c")
-    assert place.left() == [], "nothing is left"
+def test_tag_that_is_removed(place: Place) -> None:
+    place.put("vars.yml", block("old"), 0o640)
+    done = edit(place, 'sed -i "s/!vault //" "$1"', *place.by_file("old"), "vars.yml")
+    ended("the edit", done, 0, "vars.yml: no longer encrypted: secret")
+    assert (place.get("vars.yml"), place.mode("vars.yml")) == (b"secret: |\n  " + TEXT, "0o640")
 
 
 def type_into(place: Place, content: bytes, text: str) -> Done:

@@ -40,15 +40,12 @@ b: !vault three
 d:
 - !vault 'fünf'
 >>>>>>> theirs
-e: !vault |
-  six
 """
 IN_CONFLICT = [
     (["a"], "one", "one"),
     (["b", "c"], "two", "|-\n    two"),
     (["b"], "three", "three"),
     (["d"], "fünf", "'fünf'"),
-    (["e"], "six\n", "|\n  six"),
 ]
 
 
