@@ -85,9 +85,6 @@ def test_sealing_fails(place: Place, after: str) -> None:
     assert place.get("all.yml") == sealed("old"), "the vault stays"
 
 
-BELOW = b"# What was saved begins below.\n"
-
-
 @pytest.mark.parametrize("saved, is_vault", ((sealed("dev"), True), (b"$ANSIBLE_VAULT;1.1;AES256\n6162\n", False)))
 def test_saved_vaults(place: Place, saved: bytes, is_vault: bool) -> None:
     """An editor that saves a vault leaves no plaintext. A text that only begins like a vault is encrypted."""
@@ -96,11 +93,11 @@ def test_saved_vaults(place: Place, saved: bytes, is_vault: bool) -> None:
     editor = 'cp ../typed "$1"; cp ../typed "$1.swp"; echo >> "$1.swp"; exit 3'
     done = edit(place, editor, *place.by_file("old"), "all.yml")
     ended("the edit", done, 1, "you saved a vault", "; what you saved is encrypted in ")
-    copies = {content for name, content in place.files().items() if name != "all.yml"}
-    if not is_vault:
-        copies = {decrypted("old", copy) for copy in copies}
-    assert copies == ({saved, saved + b"\n"} if is_vault else {BELOW + saved, BELOW + saved + b"\n"})
-    assert (place.get("all.yml"), place.left(), "plaintext" in done.stderr) == (sealed("old"), [], False)
+    files = place.files()
+    assert (files.pop("all.yml"), place.left(), "plaintext" in done.stderr) == (sealed("old"), [], False)
+    found = {copy if is_vault else decrypted("old", copy) for copy in files.values()}
+    begin = b"" if is_vault else b"# What was saved begins below.\n"
+    assert found == {begin + saved, begin + saved + b"\n"}, "the copies"
 
 
 # The name of a vault is the longest possible one, and so is that of a file that the editor leaves.

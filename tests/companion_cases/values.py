@@ -92,7 +92,7 @@ LIST = b"l:\n" + b"".join(
     for name, text in [("dev", b"one"), ("prod", b"two"), ("dev", b"three")]
 )
 # What may stand in the list afterwards, and an option that chooses a label for new values.
-UNCLEAR = [
+UNCLEAR: list[tuple[str, list[str]]] = [
     ("neu eins two three", ["--encrypt-vault-id", "prod"]),
     ("neu eins zwei drei", ["--encrypt-vault-id", "dev"]),
     # After these, an item of dev might have come from one of prod.
