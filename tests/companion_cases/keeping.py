@@ -100,8 +100,9 @@ def test_saved_vaults(place: Place, saved: bytes, is_vault: bool) -> None:
     assert found == {begin + saved, begin + saved + b"\n"}, "the copies"
 
 
-# The name of a vault is the longest possible one, and so is that of a file that the editor leaves.
+# Names that leave no space for a longer name: of a vault, and of a file that the editor leaves.
 NAME, SWAP = "ö" * 120 + "all.yml", "ä" * 120 + ".swp"
+# An editor that leaves files of its own.
 LEAVES = f'cd "${{1%/*}}"; printf typed > {SWAP}; : > empty; cp "$1" "$1~"; ln -s nowhere ".#link"'
 # How the editor ends, the texts of the copies, and the message before and after the name of the swap file's copy.
 ENDS = {
@@ -112,8 +113,8 @@ ENDS = {
 
 @pytest.mark.parametrize("end", ENDS)
 def test_what_the_editor_left(place: Place, end: str) -> None:
-    """If the editor is ended or fails, its own files may contain unsaved text. They are encrypted, too. The name of a
-    copy has the ends of names."""
+    """If the editor is ended or fails, its own files may contain unsaved text. They are encrypted, too. The names of
+    copies contain the ends of long names."""
     wanted, why, after = ENDS[end]
     place.put(NAME, sealed("old"))
     done = edit(place, f"{LEAVES}; {end}", *place.by_file("old"), NAME)
