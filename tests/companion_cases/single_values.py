@@ -157,6 +157,7 @@ REFUSED = [
     (NEVER, "--value db_password vars.yml vars.yml", 2, "--value takes one FILE"),
     ("< vault.yml", "--value db_password vars.yml", 1, "standard input is a vault"),
     ("< ../long", "--value db_password vars.yml", 1, "more bytes than a vault can hold"),
+    ("<&-", "--value db_password vars.yml", 1, "Bad file descriptor"),
 ]
 
 
