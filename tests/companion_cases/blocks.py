@@ -3,44 +3,27 @@
 import os
 import re
 
-import pytest
-
-from companion_cases import BODY, ROTATE, TEXT, TEXTCONV, Companions, Place, block, ended, lines_of, sealed, summary
+from companion_cases import BODY, ROTATE, TEXT, TEXTCONV, Place, block, ended, lines_of, sealed, summary
 from companion_cases import texts, to_new, without_digits
 
-LABELLED = lines_of(sealed("old", label="default"), 2)
-DEEP = b"".join(b" " * n + b"a:\n" for n in range(30))
 # The content of a file, and how many of its blocks are rotated.
 FILES = {
     "no last line end": (b"a: !vault |\n" + BODY, 1),
-    "a last line without an end": (b"a: !vault |\n" + BODY + b"\nb: 1", 1),
     "CR LF": (b"---\r\na: !vault |\r\n" + lines_of(sealed("old"), 6, b"\r\n") + b"\r\nb: 1\r\n", 1),
-    "CR LF and no last line end": (b"a: !vault |\r\n" + lines_of(sealed("old"), 2, b"\r\n"), 1),
     "lists": (b"a:\n  - !vault |\n" + lines_of(sealed("old"), 4) + b"\n  - b\n  - - !vault |\n" + BODY + b"\n", 2),
-    "quoted keys": (b'"a: b": !vault |\n' + BODY + b"\n'it''s': !vault |\n" + BODY + b"\n", 2),
     "a vault with CR LF": (sealed("old").replace(b"\n", b"\r\n"), 1),
-    "any depth": (DEEP + b" " * 30 + b"b: !vault |\n" + lines_of(sealed("old"), 31) + b"\n", 1),
     "marks": (
-        b"a: !vault |-\n" + BODY + b"\nb: !vault |+\n" + BODY + b"\nc: !vault |2-   # why\n" + LABELLED + b"\n",
-        3,
-    ),
-    "the long tag": (b"a: !vault-encrypted |\n" + BODY + b"\n", 1),
-    "an anchor": (b"a: &x !vault |\n" + BODY + b"\nb: !vault &y |\n" + BODY + b"\nc: *x\n", 2),
-    "a document of its own": (
-        b"--- !vault |\n" + BODY + b"\n...\n--- !vault |\n" + lines_of(sealed("old"), 0) + b"\n",
+        b"a: !vault |-\n" + BODY + b"\nb: !vault |2+   # why\n" + lines_of(sealed("old", label="default"), 2) + b"\n",
         2,
     ),
+    "an anchor": (b"a: &x !vault |\n" + BODY + b"\nb: !vault-encrypted &y |\n" + BODY + b"\nc: *x\n", 2),
+    "a document of its own": (b"a\n--- !vault |\n" + lines_of(sealed("old"), 0) + b"\n", 1),
     "digits as keys": (b"a: !vault |\n" + BODY + b"\ndeadbeef: 1\nabcd\n", 1),
     "empty lines": (b"\n\na: !vault |\n\n\n" + BODY + b"\n\n\nb:\n\n", 1),
     "upper case": (b"a: !vault |\n" + re.sub(rb"(?m)^ +[0-9a-f]+$", lambda found: found[0].upper(), BODY) + b"\n", 1),
     "bytes of any kind": (b"\xef\xbb\xbf# \xff\x00\x85\xe2\x80\xa8\t\r\na: !vault |\n" + BODY + b"\n# \x0c \xfe", 1),
-    "side by side": (b"a: !vault |\n" + BODY + b"\nb: !vault |\n" + lines_of(sealed("old"), 12) + b"\n", 2),
     "a comment like a block": (b"# $ANSIBLE_VAULT;1.1;AES256\na: !vault |\n" + BODY + b"\n#  6162\n", 1),
     "within a text": (b"script: |\n  x: !vault |\n" + lines_of(sealed("old"), 6) + b"\n  y: 1\n", 1),
-    "words about vaults": (
-        b"a: $ANSIBLE_VAULT;1.1;AES256 is a header\nb: '!vault |'\n  $ANSIBLE_VAULT;1.1;AES256\n",
-        0,
-    ),
 }
 
 
@@ -58,33 +41,28 @@ def test_around(place: Place) -> None:
 
 # Makes a run of this command wait until another one has started, and fail if none does.
 MEET = """\
-if [ "$1" = {} ]; then
-    touch ../run.$$
-    for i in $(seq 500); do [ "$(ls ../run.* | wc -l)" -gt 1 ] && break; sleep 0.02; done
-    [ "$(ls ../run.* | wc -l)" -gt 1 ] || {{ echo "ERROR! it runs alone" >&2; exit 4; }}
+if [ "$1" = {0} ]; then
+    touch ../{0}.$$
+    for i in $(seq 500); do [ "$(ls ../{0}.* | wc -l)" -gt 1 ] && break; sleep 0.02; done
+    [ "$(ls ../{0}.* | wc -l)" -gt 1 ] || {{ echo "ERROR! it runs alone" >&2; exit 4; }}
 fi"""
 
 
-def test_at_once(cases: Companions) -> None:
-    """The blocks of a file are decrypted and encrypted concurrently. A refused secret is reported once."""
+def test_at_once(place: Place) -> None:
+    """The blocks of a file are encrypted concurrently, and with several processors also decrypted. A refused secret is
+    reported once."""
     wanted = [b"text %d" % number for number in range(8)]
-    content = b"".join(block("old", text, name=f"n{number}") for number, text in enumerate(wanted))
-    place = cases.place()
-    place.put("vars.yml", content)
+    for name in ("rotated.yml", "shown.yml"):
+        place.put(name, b"".join(block("old", text, name=f"n{number}") for number, text in enumerate(wanted)))
     place.wrap_tool(MEET.format("encrypt"))
-    done = place.run(ROTATE, *to_new(place), "--jobs", "2", ".")
-    ended("rotate", done, 0, "./vars.yml: 8 blocks rotated", summary(8))
-    assert texts(place.get("vars.yml"), "new") == wanted, "they are rotated"
-    if len(os.sched_getaffinity(0)) < 2:
-        pytest.skip("there is one processor")
+    done = place.run(ROTATE, *to_new(place), "--jobs", "2", "rotated.yml")
+    ended("rotate", done, 0, "rotated.yml: 8 blocks rotated", summary(8))
+    assert texts(place.get("rotated.yml"), "new") == wanted, "they are rotated"
+    place.wrap_tool(MEET.format("view") if len(os.sched_getaffinity(0)) > 1 else ":")
     shown = "".join(f"n{number}: !vault |-\n  text {number}\n" for number in range(8))
-    place = cases.place()
-    place.put("vars.yml", content)
-    place.wrap_tool(MEET.format("view"))
-    done = place.run(TEXTCONV, *place.by_file("old"), "vars.yml")
-    assert (done.returncode, done.stdout) == (0, shown), "textconv"
-    place = cases.place()
-    place.put("vars.yml", content)
-    done = place.run(TEXTCONV, *place.by_file("missing"), *place.by_file("old"), "vars.yml")
+    done = place.run(TEXTCONV, *place.by_file("old"), "shown.yml")
+    assert (done.returncode, done.stdout, done.stderr) == (0, shown, ""), "textconv"
+    place.wrap_tool(":")
+    done = place.run(TEXTCONV, *place.by_file("missing"), *place.by_file("old"), "shown.yml")
     assert (done.returncode, done.stdout) == (0, shown), "textconv with a secret that is missing"
     assert done.stderr.count("missing: a password file cannot be opened") == 1, "what is refused"

@@ -6,14 +6,16 @@ import os
 
 import pytest
 
-from companion_cases import CHANGE, CHANGED, EDIT, ENCRYPTED, TEXT, Place, block, decrypted, edit
-from companion_cases import ended, sealed, texts
+from companion_cases import CHANGE, EDIT, TEXT, Place, block, decrypted, edit, ended, sealed, texts
 from companion_cases.mistakes import commands
 from companion_cases.terminal import READING, Session, ask
 from lib.needs import needs, needs_pyyaml
 
 AGAIN = "Open the editor again? (yes, no): "
+SHOWN = f"secret: !vault |\n  {TEXT.decode()}"
 TYPO = 'new: !vault "more'
+TYPED = f"{SHOWN}{TYPO}\n".encode()
+MEND = "sed -i 's/\"more/more/' \"$1\""
 # The first run of the editor makes a mistake, and the others do something else. Each run notes what it sees.
 MISTAKES = f"""\
 cat "$1" >> ../seen
@@ -21,12 +23,12 @@ if grep -q '^new' "$1"; then {{}}; else echo '{TYPO}' >> "$1"; fi
 """
 
 
-def at_terminal(place: Place, editor: str, *answers: tuple[str, bytes]) -> Session:
+def at_terminal(place: Place, editor: str, *typed: bytes) -> Session:
     needs("stty")
     needs_pyyaml()
     place.put("vars.yml", block("old"))
     words = [*READING, EDIT, *place.by_file("old"), "vars.yml"]
-    return ask(place, *words, answers=[*answers], EDITOR=place.script(editor, "editor"))
+    return ask(place, *words, answers=[(AGAIN, each) for each in typed], EDITOR=place.script(editor, "editor"))
 
 
 def kept(place: Place) -> list[bytes | None]:
@@ -34,27 +36,22 @@ def kept(place: Place) -> list[bytes | None]:
 
 
 def test_mended(place: Place) -> None:
-    session = at_terminal(place, MISTAKES.format("sed -i 's/\"more/more/' \"$1\""), (AGAIN, b"yes\n"))
+    session = at_terminal(place, MISTAKES.format(MEND), b"yes\n")
     assert (session.returncode, session.stderr) == (0, "")
     assert "vars.yml: line 3: it cannot be read as YAML: " in session.shown, "the reason is shown"
-    shown = f"secret: !vault |\n  {TEXT.decode()}"
-    assert (place.path / "seen").read_text() == f"{shown}{shown}{TYPO}\n", "the text is there again"
+    assert (place.path / "seen").read_text() == f"{SHOWN}{SHOWN}{TYPO}\n", "the text is there again"
     assert texts(place.get("vars.yml"), "old") == [TEXT, b"more"]
     assert (place.names(), place.left()) == (["vars.yml"], []), "nothing is left"
 
 
-TYPED = f"secret: !vault |\n  {TEXT.decode()}{TYPO}\n".encode()
 NO_YAML = "it cannot be read as YAML"
 # What the editor does when it opens again, what is typed at each question, and why the edit is given up.
 ENDS = {
     "no": (":", [b"no\n"], NO_YAML),
-    "the terminal says nothing": (":", [b"\x04"], NO_YAML),
     "an interrupt": (":", [b"\x03"], NO_YAML),
     "no, later": (":", [b"yes\n", b"yes\n", b"no\n"], NO_YAML),
-    "the editor fails": ("exit 3", [b"yes\n"], "status 3"),
     "it empties the text and fails": ('sed -i /new/d "$1"; exit 3', [b"yes\n"], "status 3"),
     "a folder in its place": ('rm "$1"; mkdir "$1"', [b"yes\n"], "Is a directory"),
-    "the text is gone": ('rm "$1"', [b"yes\n"], "the editor left no file"),
 }
 
 
@@ -62,7 +59,7 @@ ENDS = {
 def test_given_up(place: Place, what: str) -> None:
     """An edit that is given up is kept."""
     later, typed, why = ENDS[what]
-    session = at_terminal(place, MISTAKES.format(later), *((AGAIN, each) for each in typed))
+    session = at_terminal(place, MISTAKES.format(later), *typed)
     status = 130 if what == "an interrupt" else 1
     assert (session.returncode, kept(place), place.left()) == (status, [TYPED], []), session
     assert why in session.stderr and "what you saved is encrypted in" in session.stderr
@@ -71,7 +68,7 @@ def test_given_up(place: Place, what: str) -> None:
 
 def test_without_a_change(place: Place) -> None:
     """Taking the mistake back counts as no change."""
-    session = at_terminal(place, MISTAKES.format('sed -i /new/d "$1"'), (AGAIN, b"yes\n"))
+    session = at_terminal(place, MISTAKES.format('sed -i /new/d "$1"'), b"yes\n")
     assert (session.returncode, "nothing was changed" in session.stderr, kept(place)) == (0, True, [])
     assert place.get("vars.yml") == block("old")
 
@@ -82,33 +79,22 @@ def test_resumed(place: Place) -> None:
     place.put("vars.yml", block("old"), 0o640)
     done = edit(place, f"echo '{TYPO}' >> \"$1\"", *place.by_file("old"), "vars.yml")
     [command] = commands(done.stderr)
-    assert kept(place) == [TYPED]
-    ended("not mended", place.shell(command, EDITOR="true"), 1, "it cannot be read as YAML")
+    ended("not mended", place.shell(command, EDITOR="true"), 1, NO_YAML)
     assert kept(place) == [TYPED, TYPED], "it is kept twice"
-    editor = place.script('cp "$1" ../seen; ' + "sed -i 's/\"more/more/' \"$1\"", "editor")
-    done = place.shell(command, EDITOR=editor)
+    done = place.shell(command, EDITOR=place.script(f'cp "$1" ../seen; {MEND}', "editor"))
     assert (done.returncode, done.stderr.count("an earlier edit is encrypted in")) == (0, 1), done.stderr
     assert (place.path / "seen").read_bytes() == TYPED
     assert texts(place.get("vars.yml"), "old") == [TEXT, b"more"]
     assert (place.mode("vars.yml"), len(kept(place)), place.left()) == ("0o640", 1, []), "that copy is gone"
 
 
-@pytest.mark.parametrize("name", ("all.yml", "-rf x.yml"))
-def test_vaults(place: Place, name: str) -> None:
-    """The edit of a vault is resumed after the editor failed, even if the vault does not exist yet."""
-    for content in (sealed("old"), None):
-        if content:
-            place.put(name, content)
-        else:
-            (place.tree / name).unlink()
-        text = CHANGE if content else 'echo new > "$1"'
-        done = edit(place, f'{text}; echo typed > "${{1%/*}}/other"; exit 3', *place.by_file("old"), "--", name)
-        assert ENCRYPTED.search(done.stderr.replace("; what the editor left", "\n")), done.stderr
-        ended("resumed", edit(place, 'echo more >> "$1"', *place.by_file("old"), "--resume", "--", name), 0)
-        assert decrypted("old", place.get(name)) == (CHANGED if content else b"new\n") + b"more\n"
-        for copy in place.tree.glob(".ansible-vault-saved-*"):
-            assert decrypted("old", copy.read_bytes()) == b"typed\n", "what the editor left stays"
-            copy.unlink()
+def test_new_vault(place: Place) -> None:
+    """The edit of a vault that does not exist yet is resumed after the editor failed."""
+    name, words = "-rf x.yml", [*place.by_file("old"), "--", "-rf x.yml"]
+    ended("failed", edit(place, 'echo new > "$1"; echo typed > "$1.swp"; exit 3', *words), 1)
+    ended("resumed", edit(place, 'echo more >> "$1"', "--resume", *words), 0)
+    assert decrypted("old", place.get(name)) == b"new\nmore\n"
+    assert kept(place) == [b"typed\n"], "what the editor left stays"
 
 
 def test_newest(place: Place) -> None:
@@ -117,11 +103,12 @@ def test_newest(place: Place) -> None:
         edit(place, f'echo {number} > "$1"; exit 3', *place.by_file("old"), "all.yml")
     _, newest, _ = sorted(name for name in place.names() if name.startswith(".ansible-vault-saved-"))
     text = decrypted("old", place.get(newest))
-    place.put("../before", decrypted("old", place.get("all.yml")) or b"")
-    done = edit(place, 'cp ../before "$1"', *place.by_file("old"), "--resume", "all.yml")
+    place.put("../before", TEXT)
+    words = [*place.by_file("old"), "--resume", "all.yml"]
+    done = edit(place, 'cp ../before "$1"', *words)
     assert (done.returncode, len(kept(place))) == (0, 3), "a copy stays if the edit takes its text back"
     place.shell(f"touch -d 'now + 1 hour' {newest}")
-    done = edit(place, "touch ../seen", *place.by_file("old"), "--resume", "all.yml")
+    done = edit(place, "true", *words)
     assert (done.returncode, decrypted("old", place.get("all.yml"))) == (0, text), done.stderr
     assert {*kept(place)} == {b"0\n", b"1\n", b"2\n"} - {text}
 
@@ -129,20 +116,19 @@ def test_newest(place: Place) -> None:
 def test_nothing_to_resume(place: Place) -> None:
     """A copy that belongs to another user is not resumed."""
     place.put("all.yml", sealed("old"))
+    words = [*place.by_file("old"), "--resume", "all.yml"]
     if os.geteuid() == 0:
         place.put(".ansible-vault-saved-all.yml-abcdefgh", sealed("old", b"theirs"))
         place.give(".ansible-vault-saved-all.yml-abcdefgh")
-    done = edit(place, "touch ../started", *place.by_file("old"), "--resume", "all.yml")
-    ended("no copy", done, 1, "all.yml: no earlier edit left a copy")
-    words = [*place.by_file("old"), "--resume", "--value", "a", "all.yml"]
-    ended("no editor", place.run(EDIT, *words), 2, "--resume is for an editor")
+    ended("no copy", edit(place, "touch ../started", *words), 1, "all.yml: no earlier edit left a copy")
+    ended("no editor", place.run(EDIT, "--value", "a", *words), 2, "--resume is for an editor")
     assert not (place.path / "started").exists()
 
 
 # A file at first, and what somebody exchanges it for.
 EXCHANGED = {
-    "a vault": (sealed("prod", label="prod"), sealed("dev", label="prod"), sealed("dev", label="dev")),
-    "values": (block("prod", label="prod"), block("dev", label="prod"), block("dev", label="dev")),
+    "a vault": (sealed("prod", label="prod"), sealed("dev", label="prod")),
+    "a value": (block("prod", label="prod"), block("dev", label="prod")),
     "a value of two": (
         block("prod", label="prod") + block("dev", label="dev", name="b"),
         block("dev", label="prod") + block("dev", label="dev", name="b"),
@@ -154,15 +140,14 @@ EXCHANGED = {
 def test_under_another_password(place: Place, what: str) -> None:
     """If somebody has exchanged the file meanwhile, the resumed text does not get that file's password."""
     needs_pyyaml()
-    before, *exchanged = EXCHANGED[what]
+    before, exchanged = EXCHANGED[what]
     both = [*place.by_id("dev", "dev"), *place.by_id("prod", "prod")]
     place.put("a.yml", before)
     edit(place, f"{CHANGE}; exit 3", *both, "a.yml")
-    for content in exchanged:
-        place.put("a.yml", content)
-        done = edit(place, "touch ../started", *both, "--resume", "a.yml")
-        ended(what, done, 1, "a.yml: --resume cannot tell which value gets which secret, because ")
-        assert (place.get("a.yml"), (place.path / "started").exists()) == (content, False)
+    place.put("a.yml", exchanged)
+    done = edit(place, "touch ../started", *both, "--resume", "a.yml")
+    ended(what, done, 1, "a.yml: --resume cannot tell which value gets which secret, because ")
+    assert (place.get("a.yml"), (place.path / "started").exists()) == (exchanged, False)
     if what != "a value of two":
         place.put("a.yml", before)
         ended("as it was", edit(place, "true", *both, "--resume", "a.yml"), 0)

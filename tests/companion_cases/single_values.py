@@ -5,7 +5,6 @@ from __future__ import annotations
 import os
 from collections import Counter
 from collections.abc import Iterator
-from pathlib import Path
 
 import pytest
 
@@ -15,9 +14,9 @@ from ansible_vault_companions.program import Refused
 from ansible_vault_companions.yaml.matching import Choice
 from ansible_vault_companions.yaml.nodes import nodes
 from ansible_vault_companions.yaml.typed_paths import typed
-from companion_cases import EDIT, ENCRYPTED, TEXTCONV, Done, Place, block, ended, sealed, silent, texts
+from companion_cases import EDIT, TEXTCONV, Done, Place, block, ended, sealed, silent, texts
 from companion_cases.terminal import READING, ask
-from companion_cases.yaml_values import SECRET, Generator, Hexadecimal, decrypt
+from companion_cases.yaml_values import SECRET, Generator, Hexadecimal, composed, decrypt
 from lib.needs import needs, needs_pyyaml
 
 ANY_BYTES = b"\x00\xff\r\n two \n\n"
@@ -37,15 +36,19 @@ VALUES = {
     '"a.b \\"c\\\\d\\""[0].x': b"",
 }
 HERE = '; encrypted here: db_password, app.users[0].pw, "a.b \\"c\\\\d\\""[0].x'
-# Paths that lead to no value, and why.
-NO_VALUES = {
-    "pw": f"there is no value pw{HERE}",
-    "app.users.pw": "there is no value app.users.pw",
-    "app.users[1].pw": "there is no value app.users[1].pw",
-    'a.b "c"[0].x': "there is no value",
-    "app.plain": "app.plain is not encrypted",
-    "app.users": "app.users is not encrypted",
-}
+WITHIN = b"db:\n  password: 'it''s'\n  list: [1]\n" + block("prod", b"inner", "prod", "x")
+VAULT = sealed("dev", WITHIN, "dev")
+# The content of a file, a path that leads to no single value, and why.
+NOT_SHOWN = [
+    (FILE, "pw", f"vars.yml: there is no value pw{HERE}"),
+    (FILE, "app.users.pw", "there is no value app.users.pw"),
+    (FILE, "app.users[1].pw", "there is no value app.users[1].pw"),
+    (FILE, "app.plain", "app.plain is not encrypted"),
+    (block("dev", b"one", "dev", "a") * 2, "a", "2 values are at a"),
+    (b'a: !vault "$ANSIBLE_VAULT;1.1;AES256"\n', "a", "an envelope in quotes"),
+    (VAULT, "db", "db is a list, a mapping or an alias"),
+    (VAULT, "y", "there is no value y"),
+]
 
 
 @pytest.fixture
@@ -61,38 +64,34 @@ def shown(place: Place, *words: str) -> tuple[int, bytes, str]:
     return done.returncode, done.stdout, done.stderr.decode()
 
 
-def set_to(place: Place, text: bytes, *words: str) -> Done:
+def set_to(place: Place, text: bytes, *words: str, **variables: str) -> Done:
     place.put("../given", text)
-    return place.run("sh", "-c", '"$@" < ../given', "sh", EDIT, *words)
+    return place.run("sh", "-c", '"$@" < ../given', "sh", EDIT, *words, **variables)
 
 
-@pytest.mark.parametrize("path", NO_VALUES)
-def test_no_value(place: Place, both: list[str], path: str) -> None:
+def check_values(place: Place, secrets: list[str], wanted: dict[str, bytes]) -> None:
+    found = {path: shown(place, *secrets, "--value", path, "vars.yml") for path in wanted}
+    assert found == {path: (0, text, "") for path, text in wanted.items()}
+
+
+@pytest.mark.parametrize("content, path, why", NOT_SHOWN, ids=[why for _, _, why in NOT_SHOWN])
+def test_not_shown(place: Place, both: list[str], content: bytes, path: str, why: str) -> None:
+    place.put("vars.yml", content)
     status, written, told = shown(place, *both, "--value", path, "vars.yml")
-    assert (status, written) == (1, b"") and f"vars.yml: {NO_VALUES[path]}" in told, told
-
-
-def test_no_secret(place: Place, both: list[str]) -> None:
-    wanted = "ansible-vault-textconv: vars.yml: no secret decrypts this vault (label prod; tried dev@"
-    status, written, told = shown(place, *both[:2], "--value", "app.users[].pw", "vars.yml")
-    assert (status, written, told[: len(wanted)]) == (1, b"", wanted)
-    assert shown(place, *both[:2], "--value", "db_password", "vars.yml") == (0, b"correct horse", ""), "the other one"
-    assert shown(place, *both, "--value", "x", "missing.yml")[:2] == (1, b"")
-    place.put("twice.yml", block("dev", b"one", "dev", "a") * 2)
-    assert "2 values are at a" in shown(place, *both, "--value", "a", "twice.yml")[2]
-    place.put("quoted.yml", b'a: !vault "$ANSIBLE_VAULT;1.1;AES256"\n')
-    assert "an envelope in quotes" in shown(place, *both, "--value", "a", "quoted.yml")[2]
+    assert (status, written) == (1, b"") and why in told, told
 
 
 def test_within_a_vault(place: Place, both: list[str]) -> None:
-    text = b"db:\n  password: 'it''s'\n  port: 0x10\n  list: [1]\n" + block("prod", b"inner", "prod", "x")
-    place.put("vault.yml", sealed("dev", text, "dev"))
-    for path, value in (("db.password", b"it's"), ("db.port", b"0x10"), ("db.list[0]", b"1"), ("x", b"inner")):
-        assert shown(place, *both, "--value", path, "vault.yml") == (0, value, ""), path
-    for path, why in (("db", "db is a list, a mapping or an alias"), ("y", "there is no value y")):
-        status, written, told = shown(place, *both, "--value", path, "vault.yml")
-        assert (status, written, why in told) == (1, b"", True), told
-    ended("set", set_to(place, b"x", *both, "--value", "db.password", "vault.yml"), 1, "the whole file is a vault")
+    place.put("vars.yml", VAULT)
+    check_values(place, both, {"db.password": b"it's", "db.list[0]": b"1", "x": b"inner"})
+
+
+def test_one_secret(place: Place, both: list[str]) -> None:
+    """Other values need not be decrypted."""
+    check_values(place, both[:2], {"db_password": b"correct horse"})
+    wanted = "ansible-vault-textconv: vars.yml: no secret decrypts this vault (label prod; tried dev@"
+    status, written, told = shown(place, *both[:2], "--value", "app.users[].pw", "vars.yml")
+    assert (status, written, told[: len(wanted)]) == (1, b"", wanted)
 
 
 def test_below_a_commit(place: Place, both: list[str]) -> None:
@@ -103,43 +102,27 @@ def test_below_a_commit(place: Place, both: list[str]) -> None:
     assert (done.returncode, done.stdout) == (1, FILE.decode())
 
 
-SET = [(path, b"new") for path in VALUES]
-SET += [("db_password", text) for text in (b"", b"new\n", ANY_BYTES, b"!vault |\n", b"$ANSIBLE_")]
-
-
-@pytest.mark.parametrize("path, text", SET)
+@pytest.mark.parametrize("path, text", [*((path, b"\xff\r\nnew\n\n") for path in VALUES), ("db_password", b"")])
 def test_set(place: Place, both: list[str], path: str, text: bytes) -> None:
     """The value keeps its label and secret, and everything else keeps every byte."""
     silent("it is set", set_to(place, text, *both, "--value", path, "vars.yml"))
-    assert shown(place, *both, "--value", path, "vars.yml") == (0, text, "")
-    others = {each: value for each, value in VALUES.items() if value != VALUES[path]}
-    assert {each: shown(place, *both, "--value", each, "vars.yml")[1] for each in others} == others, "the others stay"
+    check_values(place, both, {each: text if value == VALUES[path] else value for each, value in VALUES.items()})
     files = [each.splitlines() for each in (FILE, place.get("vars.yml"))]
     before, after = ([line for line in lines if not line.strip().isalnum()] for lines in files)
     assert (after, place.mode("vars.yml")) == (before, "0o640"), "the labels, the layout and the mode stay"
 
 
-def test_as_it_was(place: Place, both: list[str]) -> None:
-    silent("the same text", set_to(place, b"correct horse", *both, "--value", "db_password", "vars.yml"))
-    assert place.get("vars.yml") == FILE, "keeps its envelope"
-
-
 def test_moved(place: Place, both: list[str]) -> None:
     """--encrypt-vault-id moves a value to another label, whether or not a secret decrypts it."""
-    words = ["--encrypt-vault-id", "prod", "--value", "db_password", "vars.yml"]
-    silent("moved", set_to(place, b"correct horse", *both, *words))
-    assert place.get("vars.yml").count(b";prod\n") == 2, "the label"
-    [found, *_] = texts(place.get("vars.yml"), "prod")
-    assert found == b"correct horse", "the secret"
-    place.put("vars.yml", FILE)
-    silent("by the new secret alone", set_to(place, b"new", *both[2:], *words))
-    assert texts(place.get("vars.yml"), "prod")[0] == b"new"
-    place.put("vars.yml", FILE)
-    done = set_to(place, b"x", *both, "--encrypt-vault-id", "x", *words[2:])
-    ended("no such label", done, 1, "no secret has the label")
-    done = place.run("sh", "-c", 'ANSIBLE_VAULT_ENCRYPT_IDENTITY=prod "$@" < ../given', "sh", EDIT, *both, *words[2:])
-    silent("a setting", done)
-    assert place.get("vars.yml").count(b";prod\n") == 1, "does not move it"
+    as_it_was, words = b"correct horse", ["--value", "db_password", "vars.yml"]
+    prod = ["--encrypt-vault-id", "prod", *words]
+    silent("the same text", set_to(place, as_it_was, *both, *words, ANSIBLE_VAULT_ENCRYPT_IDENTITY="prod"))
+    assert place.get("vars.yml") == FILE, "keeps its envelope, whatever the settings say"
+    for text, secrets in ((as_it_was, both), (b"new", both[2:])):
+        place.put("vars.yml", FILE)
+        silent("moved", set_to(place, text, *secrets, *prod))
+        assert place.get("vars.yml").count(b";prod\n") == 2, "the label"
+        assert texts(place.get("vars.yml"), "prod")[0] == text, "the secret"
 
 
 NEW = {
@@ -154,67 +137,58 @@ NEW = {
 
 @pytest.mark.parametrize("path", NEW)
 def test_new(place: Place, both: list[str], path: str) -> None:
-    """A new value is encrypted only with a secret that --encrypt-vault-id names."""
-    ended("no secret", set_to(place, b"new", *both, "--value", path, "vars.yml"), 1, "--encrypt-vault-id")
-    assert place.get("vars.yml") == FILE, "the file stays"
-    words = ["--encrypt-vault-id", "prod", "--value", path, "vars.yml"]
-    silent("a secret", set_to(place, b"new", *both, *words))
+    silent("a secret", set_to(place, b"new", *both, "--encrypt-vault-id", "prod", "--value", path, "vars.yml"))
     assert NEW[path] in place.get("vars.yml")
-    assert shown(place, *both, "--value", path, "vars.yml") == (0, b"new", "")
-    assert {each: shown(place, *both, "--value", each, "vars.yml")[1] for each in VALUES} == VALUES, "the others stay"
+    check_values(place, both, VALUES | {path: b"new"})
 
 
-REFUSED = {
-    "app.users": "app.users is a list, a mapping or an alias",
-    "app.users[1]": "there is no value app.users[1]",
-    "nowhere.new": "there is no value nowhere.new",
-    "port.new": "there is no value port.new",
-}
+# The standard input, the options and the file, and why the edit is refused. Most paths are refused before anything is
+# read.
+NEVER, TO_PROD = "<> ../never", "--encrypt-vault-id prod --value"
+REFUSED = [
+    (NEVER, f"{TO_PROD} app.users vars.yml", 1, "app.users is a list, a mapping or an alias"),
+    (NEVER, f"{TO_PROD} app.users[1] vars.yml", 1, "there is no value app.users[1]"),
+    (NEVER, f"{TO_PROD} port.new vars.yml", 1, "there is no value port.new"),
+    (NEVER, "--encrypt-vault-id x --value db_password vars.yml", 1, "no secret has the label"),
+    (NEVER, "--value port vars.yml", 1, "port is not encrypted; to encrypt it there, choose its secret with"),
+    (NEVER, "--value db.password vault.yml", 1, "the whole file is a vault"),
+    (NEVER, "--value db_password conflict.yml", 1, "git's conflict markers"),
+    (NEVER, "--value db_password new.yml", 1, "new.yml: No such file"),
+    (NEVER, "--value db_password vars.yml vars.yml", 2, "--value takes one FILE"),
+    ("< vault.yml", "--value db_password vars.yml", 1, "standard input is a vault"),
+    ("< ../long", "--value db_password vars.yml", 1, "more bytes than a vault can hold"),
+    ("<&-", "--value db_password vars.yml", 1, "Bad file descriptor"),
+]
 
 
-@pytest.mark.parametrize("path", REFUSED)
-def test_refused(place: Place, both: list[str], path: str) -> None:
-    """A path is refused before standard input is read."""
+@pytest.mark.parametrize("standard_input, words, status, why", REFUSED)
+def test_refused(place: Place, both: list[str], standard_input: str, words: str, status: int, why: str) -> None:
     os.mkfifo(place.path / "never")
-    words = [EDIT, *both, "--encrypt-vault-id", "prod", "--value", path, "vars.yml"]
-    ended("it", place.run("sh", "-c", '"$@" <> ../never', "sh", *words), 1, REFUSED[path])
-    assert (place.get("vars.yml"), place.left()) == (FILE, [])
+    place.put("vault.yml", VAULT)
+    place.put("conflict.yml", b"<<<<<<< ours\n" + FILE + b"=======\n>>>>>>> theirs\n")
+    place.put("../long", bytes((1 << 24) + 1))
+    before = place.files()
+    ended("the edit", place.run("sh", "-c", f'"$@" {standard_input}', "sh", EDIT, *both, *words.split()), status, why)
+    assert (place.files(), place.left()) == (before, [])
+
+
+def test_terminal(place: Place, both: list[str]) -> None:
+    """A terminal is refused, since it would show what is typed."""
+    needs("stty")
+    session = ask(place, *READING, EDIT, *both, "--value", "db_password", "vars.yml", answers=[])
+    assert (session.returncode, "use a pipe or a file" in session.stderr, place.left()) == (1, True, []), session
 
 
 def test_not_lost(place: Place, both: list[str]) -> None:
     """A text that cannot be put back is in an encrypted copy, and the message has the command that puts it back."""
-    words = [*both, "--value", "db_password", "vars.yml"]
-    place.wrap_tool('[ "$1" = encrypt ] && echo "# theirs" >> vars.yml')
-    done = set_to(place, b"typed", *words)
-    ended("changed meanwhile", done, 1, "another program changed it meanwhile; what you saved is encrypted in ")
-    [copy] = ENCRYPTED.findall(done.stderr)
-    assert texts(Path(copy).read_bytes(), "dev")[0] == b"typed"
-    os.unlink(copy)
-    place.put("vars.yml", FILE)
     place.wrap_tool('[ "$1" = encrypt ] && mkdir ../once 2> /dev/null && exit 9')
-    done = set_to(place, b"typed", *words)
+    done = set_to(place, b"typed", *both, "--value", "db_password", "vars.yml")
     ended("the tool fails", done, 1, "what you saved is encrypted in ", "To put it into vars.yml:")
     assert place.get("vars.yml") == FILE, "the file stays"
     command = done.stderr.splitlines()[-1].strip()
     ended("the command puts it back", place.shell(command), 0, "an earlier edit is encrypted in")
     assert texts(place.get("vars.yml"), "dev")[0] == b"typed"
     assert (place.names(), place.left()) == (["vars.yml"], []), "nothing is left"
-
-
-def test_given(place: Place, both: list[str]) -> None:
-    """Input that cannot be a value is refused, and so is a terminal, which would show it."""
-    words = [*both, "--value", "db_password", "vars.yml"]
-    ended("a vault", set_to(place, sealed("dev"), *words), 1, "standard input is a vault")
-    ended("too long", set_to(place, bytes((1 << 24) + 1), *words), 1, "more bytes than a vault can hold")
-    ended("two files", set_to(place, b"x", *words, "vars.yml"), 2, "--value takes one FILE")
-    ended("no file", set_to(place, b"x", *words[:-1], "new.yml"), 1, "new.yml: No such file")
-    ended("no standard input", place.run("sh", "-c", '"$@" <&-', "sh", EDIT, *words), 1, "Bad file descriptor")
-    needs("stty")
-    session = ask(place, *READING, EDIT, *words, answers=[])
-    assert (session.returncode, "use a pipe or a file" in session.stderr) == (1, True), session
-    place.put("vars.yml", b"<<<<<<< ours\n" + FILE + b"=======\n>>>>>>> theirs\n")
-    ended("a conflict", set_to(place, b"x", *words), 1, "git's conflict markers")
-    assert place.left() == []
 
 
 def leaves(data: bytes) -> Iterator[tuple[str, bool, str | None, str]]:
@@ -230,20 +204,18 @@ def test_anything() -> None:
     counts: Counter[str] = Counter()
     for number in range(150):
         data = Generator(number).text().encode()
-        try:
-            before = [*leaves(data)]
-        except Refused:
+        if composed(data.decode()) is None:
             continue
+        before = [*leaves(data)]
         for path in {path for path, is_key, _, _ in before if not is_key}:
-            for label in (None, "default"):
-                try:
-                    value = SingleValue("", data, path, decrypt, Choice([SECRET], label))
-                    after = value.encrypted(Hexadecimal(), b"neu")
-                except Refused:
-                    counts["refused"] += 1
-                    continue
-                counts["set" if value.before else "new"] += 1
-                assert value_of(after, path, decrypt) == b"neu", (data, path)
-                others = [[each for each in found if each[0] != value.path] for found in (before, [*leaves(after)])]
-                assert others[0] == others[1], (data, path)
+            try:
+                value = SingleValue("", data, path, decrypt, Choice([SECRET], "default"))
+                after = value.encrypted(Hexadecimal(), b"neu")
+            except Refused:
+                counts["refused"] += 1
+                continue
+            counts["set" if value.before else "new"] += 1
+            assert value_of(after, path, decrypt) == b"neu", (data, path)
+            others = [[each for each in found if each[0] != value.path] for found in (before, [*leaves(after)])]
+            assert others[0] == others[1], (data, path)
     assert min(counts.values()) > 100 and len(counts) == 3, counts
