@@ -2,7 +2,7 @@
 dev. Whatever the two do, dev's passwords decrypt no text of prod's, unchanged values stay as they were, and each merge
 results in valid YAML.
 
-`--seed` chooses what they do. `labels` has more of rekey and check, which trust a secret only with its own label.
+`--seed` chooses what they do. `labels` has rekey and check, which trust a secret only with its own label, too.
 """
 
 from __future__ import annotations
@@ -17,21 +17,21 @@ import pytest
 
 from companion_cases import EDIT, ROTATE, Done, Place
 from companion_cases.forked import STEP, Forks
-from companion_cases.oracle import DEV, ENVELOPE, LINK, NAMES, PROD, Spot, Tree, block, envelopes, is_false, is_merged
+from companion_cases.oracle import DEV, ENVELOPE, NAMES, PROD, Spot, Tree, block, envelopes, is_false, is_merged
 from companion_cases.oracle import label_of, make, opened, read_tree, spots, spots_of, values, visible
 from companion_cases.repository import AUTHOR, set_driver
 from companion_cases.stranger import MOVES, Stranger
 from lib.needs import needs, needs_pyyaml
-from model.vaults import MAGIC
 
 EXAMPLES, STEPS = 50, 8
 # The least number of times that each must happen.
 LEAST = {
-    **{"edit": 60, "rotate": 30, "merge": 25, "merge without a conflict": 15, "rebase": 8, "cherry-pick": 8},
+    **{"edit": 60, "rotate": 30, "merge": 33, "merge without a conflict": 15, "rebase": 8},
     **dict.fromkeys(MOVES, 2),
     **{"replace": 15, "relabel": 8, "copy": 8, "guess": 8, "secrets looked for": 9 * EXAMPLES},
 }
 ATTRIBUTES = b"*.yml merge=ansible-vault\n"
+TAKING = {"merge": ["merge", "--quiet", "--no-edit", "stranger"], "rebase": ["rebase", "--quiet", "stranger"]}
 # Values at several depths, two of them with the same key, and the indentation of each.
 LAYOUT = b"a: 1\n%sb: 1\ndb:\n%s  port: 1\nweb:\n    users:\n      -\n%s        c: 1\n      -\n%sd: 1\n"
 VALUES = [(b"first", 0), (b"second", 2), (b"password", 8), (b"password", 8)]
@@ -39,11 +39,6 @@ VALUES = [(b"first", 0), (b"second", 2), (b"password", 8), (b"password", 8)]
 EDITOR = """awk -v n={} -v new={} '/text-[0-9]+/ && ++i == n {{ sub(/text-[0-9]+/, new) }} {{ print }}' "$1" > "$1.new"
 mv "$1.new" "$1"
 """
-TAKING = {
-    "merge": ["merge", "--quiet", "--no-edit", "stranger"],
-    "cherry-pick": ["cherry-pick", "stranger"],
-    "rebase": ["rebase", "--quiet", "stranger"],
-}
 
 
 class Attack:
@@ -52,8 +47,6 @@ class Attack:
     def __init__(self, place: Place, random: Random, counts: Counter[str]) -> None:
         self.place, self.random, self.counts = place, random, counts
         self.secrets = [word for label, names in NAMES.items() for name in names for word in place.by_id(label, name)]
-        # A file of somebody else.
-        self.outside = place.path / "outside.yml"
         self.numbers = itertools.count(1)
         # The index of each label's current password.
         self.current = {DEV: 0, PROD: 0}
@@ -74,7 +67,6 @@ class Attack:
         self.place.tree.mkdir()
         self.place.shell("git init -q --template= --initial-branch=main && git config gc.auto 0")
         set_driver(self.place, *self.secrets)
-        self.outside.write_bytes(make("dev", b"text-0000", DEV, 0))
         texts: dict[str, bytes] = {}
         blocks = []
         for key, spaces in VALUES:
@@ -99,9 +91,7 @@ class Attack:
         lines += [f"from refs/heads/{parent}^0" for parent in parents]
         stream = "\n".join([*lines, "deleteall", ""]).encode()
         for name, content in tree.items():
-            mode = b"120000" if content.startswith(LINK) else b"100644"
-            data = content.removeprefix(LINK)
-            stream += b"M %s inline %s\ndata %d\n%s\n" % (mode, name.encode(), len(data), data)
+            stream += b"M 100644 inline %s\ndata %d\n%s\n" % (name.encode(), len(content), content)
         assert self.place.run_on(stream, "git", "fast-import", "--quiet", "--force").returncode == 0
 
     def run(self, *words: str, **variables: str) -> Done:
@@ -112,13 +102,12 @@ class Attack:
     def look(self, is_conflict: bool = False) -> Tree:
         """Check what the owner has after a step, and return it."""
         after = read_tree(self.place.tree)
-        is_by_driver = after.get(".gitattributes") == ATTRIBUTES and not is_conflict
         for name, content in after.items():
             if name.endswith(".yml") and self.seen.get(name) != content:
                 self.counts["secrets looked for"] += len(self.secret)
                 out = visible(content) & self.secret
                 assert not out, ("a secret comes out", name, out, content)
-                assert not is_by_driver or values(content) is not None, ("broken YAML", name, content)
+                assert is_conflict or values(content) is not None, ("broken YAML", name, content)
         self.seen = after
         return after
 
@@ -143,7 +132,7 @@ class Attack:
         theirs = self.attack()
         for _ in range(self.random.randint(1, 2)):
             self.work(edits=0.8)
-        self.merge(self.random.choice(["merge", "merge", "cherry-pick", "rebase"]), base, theirs)
+        self.merge(self.random.choice(["merge", "merge", "rebase"]), base, theirs)
         self.touched = set()
 
     def work(self, edits: float) -> None:
@@ -176,12 +165,11 @@ class Attack:
             self.look()
             return
         self.did(f"{how} without a conflict")
-        if ours[".gitattributes"] == theirs[".gitattributes"] == ATTRIBUTES:
-            for name in ours.keys() & base.keys() & theirs.keys() & after.keys():
-                known = [values(side[name]) or {} for side in (base, ours, theirs, after)]
-                for key in set().union(*known):
-                    found = [side.get(key) for side in known]
-                    assert is_merged(*found), ("a merge takes another value", name, key, found, done)
+        for name in ours.keys() & base.keys() & theirs.keys() & after.keys():
+            known = [values(side[name]) or {} for side in (base, ours, theirs, after)]
+            for key in set().union(*known):
+                found = [side.get(key) for side in known]
+                assert is_merged(*found), ("a merge takes another value", name, key, found, done)
 
     def edit(self) -> None:
         """Change one text of a file, often of a place that the stranger has changed."""
@@ -220,19 +208,15 @@ class Attack:
         return changed
 
     def rotate(self, label: str) -> None:
-        outside = self.outside.read_bytes()
         self.current[label] = 1 - self.current[label]
         new = NAMES[label][self.current[label]]
         done = self.run(ROTATE, "--jobs=1", *self.secrets, *self.place.by_id(label, new, "new-"), ".")
-        assert outside == self.outside.read_bytes(), ("a rotation writes outside", done)
         for old, now in self.changed(done, self.seen):
             was, rotated = opened(old), opened(now)
             is_due = label_of(old) == label and not is_false(old) and was and rotated == was._replace(name=new)
             is_nested = was and envelopes(was.text)
             assert is_due or is_nested, ("a rotation changes what has another password", old, now, done)
-        # git may have joined two vaults, which a companion takes for one.
-        found = (envelopes(content)[: 1 if content.startswith(MAGIC) else None] for content in self.seen.values())
-        there = [old for each in found for old in each if label_of(old) == label]
+        there = [old for content in self.seen.values() for old in envelopes(content) if label_of(old) == label]
         assert done.returncode or not any(map(is_false, there)), ("a rotation passes over a false label", done)
         self.commit("rotate")
 

@@ -4,19 +4,12 @@ import re
 
 import pytest
 
-from companion_cases import CHECK, ROTATE, TEXT, TEXTCONV, Done, Place, block, decrypted, edit, ended, silent
+from companion_cases import CHECK, ROTATE, TEXT, TEXTCONV, Place, block, decrypted, edit, ended, silent
 from lib.subtests import SubTests
 
 SHOWN = b"a: !vault |\n  the word of dev\nb: !vault |\n  the word of prod\nnew: !vault more\n"
 KEPT = re.compile(r"; what you saved is encrypted in (\S+), with 2 secrets, one inside the other\n")
 NOTE = b"# The vault below is under another secret; ansible-vault-edit decrypts both.\n"
-
-
-def copy_of(place: Place, done: Done) -> bytes:
-    """Return the copy that a failed edit kept, which is under both secrets."""
-    told = KEPT.search(done.stderr)
-    assert (done.returncode, bool(told), place.left()) == (1, True, []), done
-    return place.get(told[1] if told else "")
 
 
 def within(copy: bytes, inner: str = "prod") -> bytes | None:
@@ -32,9 +25,12 @@ def keep_unfinished(place: Place) -> str:
     values = block("dev", b"the word of dev\n", "dev", "a") + block("prod", b"the word of prod\n", "prod", "b")
     place.put("vars.yml", values)
     secrets = [*place.by_id("dev", "dev"), *place.by_id("prod", "prod")]
-    assert within(copy_of(place, edit(place, 'echo "new: !vault more" >> "$1"', *secrets, "vars.yml"))) == SHOWN
-    assert place.get("vars.yml") == values, "the file stays"
+    done = edit(place, 'echo "new: !vault more" >> "$1"', *secrets, "vars.yml")
     [name] = [name for name in place.names() if name != "vars.yml"]
+    told = KEPT.search(done.stderr)
+    assert (done.returncode, told and told[1]) == (1, str(place.tree / name)), done
+    assert (place.get("vars.yml"), place.left()) == (values, []), "the file stays, and no plaintext is left"
+    assert within(place.get(name)) == SHOWN
     return name
 
 
@@ -63,8 +59,10 @@ def test_edited_again(place: Place, subtests: SubTests) -> None:
     silent("both", edit(place, 'cp "$1" ../seen; echo last >> "$1"', *both, name))
     assert (place.path / "seen").read_bytes() == SHOWN, "the editor has the text"
     assert within(place.get(name)) == SHOWN + b"last\n", "it is under both again"
-    copy = copy_of(place, edit(place, 'echo worse >> "$1"; exit 3', *both, name))
-    assert within(copy) == SHOWN + b"last\nworse\n", "a copy of the copy"
+    done = edit(place, 'echo worse >> "$1"; exit 3', *both, name)
+    ended("an editor that fails", done, 1, "the editor failed", "what you saved is encrypted in ")
+    [copy] = [each for each in place.names() if each not in ("vars.yml", name)]
+    assert within(place.get(copy)) == SHOWN + b"last\nworse\n", "a copy of the copy"
 
 
 OF_LABEL = block("dev", TEXT, "dev", "a")

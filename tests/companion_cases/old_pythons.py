@@ -7,7 +7,7 @@ from pathlib import Path
 
 import pytest
 
-from lib.paths import COMPANIONS
+from lib.paths import COMPANIONS, ROOT
 
 # Runs a program as another Python would. The parts of the standard library imported here see the real version.
 AS_OTHER = """\
@@ -40,7 +40,7 @@ def test_refused(name: str) -> None:
 
 def test_what_it_reads() -> None:
     """Python 3.6, which has no `from __future__ import annotations`, can parse all that it needs to print that line."""
-    for path in (*COMPANIONS.values(), COMPANIONS["ansible-vault-edit"].parent / "ansible_vault_companions/__init__.py"):
+    for path in (*COMPANIONS.values(), ROOT / "companions/ansible_vault_companions/__init__.py"):
         tree = ast.parse(path.read_text(), feature_version=(3, 6))
         imported = {each.module for each in ast.walk(tree) if isinstance(each, ast.ImportFrom)}
         assert "__future__" not in imported, path

@@ -25,9 +25,8 @@ ENVELOPE = re.compile(rb"\$ANSIBLE_VAULT;1\.[12];AES256(?:;(?P<label>[\w-]+))?[ 
 BLOCK = re.compile(
     rb"(?m)^(?P<spaces> *)(?P<key>[\w-]+): (?P<tag>![\w-]+) \|-?\n(?P<body> +\$ANSIBLE_VAULT[^\n]*\n(?: +[0-9a-f]+\n)+)"
 )
-# The content of each file, or LINK and the target of a link.
+# The content of each file.
 Tree = dict[str, bytes]
-LINK = b"link to "
 # The tag and the text of each value, by its keys. For a vault, the values are the lines of its text.
 Value = tuple[str, str]
 Values = dict[tuple[str, ...], Value]

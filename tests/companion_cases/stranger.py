@@ -5,10 +5,9 @@ from __future__ import annotations
 from collections.abc import Iterator
 from random import Random
 
-from companion_cases.oracle import DEV, LINK, NAMES, PROD, TOKEN, Spot, Tree, block, label_of, make, opened, spots
+from companion_cases.oracle import DEV, NAMES, PROD, TOKEN, Spot, Tree, block, label_of, make, opened, spots
 from companion_cases.oracle import spots_of, with_label
 
-ATTRIBUTES = [b"*.yml -merge", b"*.yml merge=union", b"*.yml !merge !diff"]
 LABELS = [DEV, PROD, ""]
 
 
@@ -82,13 +81,6 @@ class Stranger:
     def rename(self) -> None:
         self.tree[self.new_name("moved")] = self.tree.pop(self.spot().file)
 
-    def link(self) -> None:
-        target = self.random.choice([*["../outside.yml"] * 3, "nowhere", ".", self.spot().file])
-        self.tree[self.new_name("link")] = LINK + target.encode()
-
-    def attributes(self) -> None:
-        self.tree[".gitattributes"] += self.random.choice(ATTRIBUTES) + b"\n"
-
     def nest(self) -> None:
         """Put an envelope into a text in YAML, or into the plaintext of a vault."""
         inner = block(b"x", self.relabelled(self.spot()), b"  ")
@@ -97,8 +89,4 @@ class Stranger:
 
 
 # The more important moves are listed more often.
-MOVES = [
-    *["relabel", "copy", "guess", "link"] * 3,
-    *["replace"] * 5,
-    *["nest", "retag", "rename", "attributes"],
-]
+MOVES = [*["relabel", "copy", "guess"] * 3, *["replace"] * 5, "nest", "retag", "rename"]

@@ -22,15 +22,14 @@ OTHERS = {
     "protocol.allow": "always",
     "protocol.ext.allow": "always",
 }
-HOOKS = "commit-msg post-checkout post-index-change post-merge pre-commit pre-merge-commit reference-transaction".split()
+HOOKS = "post-checkout post-index-change post-merge pre-commit pre-merge-commit reference-transaction".split()
 ATTRIBUTES = "* filter=x merge=ansible-vault ident\n*.yml diff=ansible-vault\n*.dat filter=y\n"
 # Commands of git in the same directory, without a companion, and the programs that they start.
 PLAIN = """
     git hash-object a.yml other.dat
     git read-tree HEAD
     git diff
-    git -c diff.external= diff
-    git -c diff.external= -c diff.ansible-vault.command= diff
+    git diff --no-ext-diff
     git cat-file -p HEAD~3:gone.yml
 """
 STARTED = """
