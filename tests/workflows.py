@@ -163,7 +163,7 @@ def check_differences(repository: Repository, shell: str) -> None:
         repository.shell("git add . && git commit -qm change")
     found = repository.shown(shell).splitlines()
     assert found == ["db_password: third", f"{VAULT}:db_password: third"], "git shows and finds the plaintext"
-    changed = re.findall(r"^[-+]db_password: (.*)$", repository.shown("git log -p --format="), re.MULTILINE)
+    changed = re.findall(r"^[-+]db_password: (.*)$", repository.shell("git log -p --format=").stdout, re.MULTILINE)
     assert changed == ["second", "third", "first", "second", "first"], "git shows the plaintext of each commit"
 
 

@@ -143,11 +143,9 @@ class Place:
 
     def wrap_tool(self, text: str, name: str = "ansible-vault") -> None:
         """Wrap the program, or git, in a script that first runs this shell text."""
-        path = self.tools / name
-        path.unlink(missing_ok=True)
-        program = str(self.program) if name == "ansible-vault" else shutil.which(name)
-        path.write_text(f'#!/bin/sh\n{text}\nexec {program} "$@"\n')
-        path.chmod(0o755)
+        (self.tools / name).unlink(missing_ok=True)
+        program = self.program if name == "ansible-vault" else shutil.which(name)
+        self.script(f'{text}\nexec {program} "$@"', f"tools/{name}")
 
     def run(self, *words: str, folder: str = ".", **variables: str) -> Done:
         where = {"cwd": self.tree / folder, "env": self.environment | variables}

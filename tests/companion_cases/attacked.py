@@ -1,8 +1,7 @@
 """A repository of an owner, who knows the passwords dev and prod, and merges the commits of a stranger, who knows only
-dev. Whatever the two do, dev's passwords decrypt no text of prod's, unchanged values stay as they were, and each merge
-results in valid YAML.
+dev. Whatever the two do, dev's passwords decrypt no text of prod's, and what nobody has changed stays as it was.
 
-`--seed` chooses what they do. `labels` has rekey and check, which trust a secret only with its own label, too.
+`--seed` chooses what they do. `random_merges` compares merges with git's, and `labels` has check and rekey.
 """
 
 from __future__ import annotations
@@ -17,8 +16,8 @@ import pytest
 
 from companion_cases import EDIT, ROTATE, Done, Place
 from companion_cases.forked import STEP, Forks
-from companion_cases.oracle import DEV, ENVELOPE, NAMES, PROD, Spot, Tree, block, envelopes, is_false, is_merged
-from companion_cases.oracle import label_of, make, opened, read_tree, spots, spots_of, values, visible
+from companion_cases.oracle import DEV, ENVELOPE, NAMES, PROD, Spot, Tree, block, envelopes, is_false, label_of
+from companion_cases.oracle import make, opened, read_tree, spots, spots_of, visible
 from companion_cases.repository import AUTHOR, set_driver
 from companion_cases.stranger import MOVES, Stranger
 from lib.needs import needs, needs_pyyaml
@@ -26,7 +25,7 @@ from lib.needs import needs, needs_pyyaml
 EXAMPLES, STEPS = 50, 8
 # The least number of times that each must happen.
 LEAST = {
-    **{"edit": 60, "rotate": 30, "merge": 33, "merge without a conflict": 15, "rebase": 8},
+    **{"edit": 60, "rotate": 30, "merge": 15, "merge with a conflict": 5, "rebase": 8},
     **dict.fromkeys(MOVES, 2),
     **{"replace": 15, "relabel": 8, "copy": 8, "guess": 8, "secrets looked for": 9 * EXAMPLES},
 }
@@ -99,17 +98,15 @@ class Attack:
         assert "Traceback" not in done.stderr, ("a companion fails", done)
         return done
 
-    def look(self, is_conflict: bool = False) -> Tree:
-        """Check what the owner has after a step, and return it."""
+    def look(self) -> None:
+        """Check what the owner has after a step."""
         after = read_tree(self.place.tree)
         for name, content in after.items():
             if name.endswith(".yml") and self.seen.get(name) != content:
                 self.counts["secrets looked for"] += len(self.secret)
                 out = visible(content) & self.secret
                 assert not out, ("a secret comes out", name, out, content)
-                assert is_conflict or values(content) is not None, ("broken YAML", name, content)
         self.seen = after
-        return after
 
     def commit(self, what: str) -> None:
         self.look()
@@ -128,11 +125,10 @@ class Attack:
 
     def take(self) -> None:
         """Take the stranger's changes, after the owner has changed something else."""
-        base = self.seen
-        theirs = self.attack()
+        self.attack()
         for _ in range(self.random.randint(1, 2)):
             self.work(edits=0.8)
-        self.merge(self.random.choice(["merge", "merge", "rebase"]), base, theirs)
+        self.merge(self.random.choice(["merge", "merge", "rebase"]))
         self.touched = set()
 
     def work(self, edits: float) -> None:
@@ -142,8 +138,8 @@ class Attack:
         else:
             self.rotate(self.random.choice([DEV, DEV, DEV, PROD]))
 
-    def attack(self) -> Tree:
-        """Let the stranger make a commit, and return its files."""
+    def attack(self) -> None:
+        """Let the stranger make a commit."""
         stranger = Stranger(dict(self.seen), self.numbers, self.random)
         for move in self.random.choices(MOVES, k=self.random.randint(1, 3)):
             getattr(stranger, move)()
@@ -152,24 +148,15 @@ class Attack:
         self.secret -= stranger.guessed
         was = {(spot.place, spot.envelope) for spot in spots(self.seen)}
         self.touched = {spot.place for spot in spots(stranger.tree) if (spot.place, spot.envelope) not in was}
-        return stranger.tree
 
-    def merge(self, how: str, base: Tree, theirs: Tree) -> None:
-        ours = self.seen
+    def merge(self, how: str) -> None:
         done = self.run("git", *TAKING[how])
-        after = self.look(bool(done.returncode))
-        self.did(how)
+        self.look()
+        self.did(f"{how} with a conflict" if done.returncode else how)
         if done.returncode:
             self.run("git", how, "--abort")
             self.run("git", "reset", "--quiet", "--hard")
             self.look()
-            return
-        self.did(f"{how} without a conflict")
-        for name in ours.keys() & base.keys() & theirs.keys() & after.keys():
-            known = [values(side[name]) or {} for side in (base, ours, theirs, after)]
-            for key in set().union(*known):
-                found = [side.get(key) for side in known]
-                assert is_merged(*found), ("a merge takes another value", name, key, found, done)
 
     def edit(self) -> None:
         """Change one text of a file, often of a place that the stranger has changed."""

@@ -63,9 +63,9 @@ ROWS = [
     Row("decrypt --vault-pass-file=$HOME/tree/ppold foo.yml", "old"),
     Row("encrypt_string --ask-vault-pass 'a' --name b", typed=TWICE),
     Row(f"encrypt_string {DEV} -nname 'a string'"),
-    Row(f"encrypt_string {DEV} 'first' 'second' 'third' -n one --name two"),
+    Row(f"encrypt_string {DEV} $' first\\n' 'größe: # two ' 'third' -n one --name two"),
     Row(f"encrypt_string {DEV} --stdin-name 'db_password' <<< letmein"),
-    Row(f"encrypt_string {DEV} 'first' --name one --stdin-name two <<< second"),
+    Row(f"encrypt_string {DEV} 'first' --name one --stdin-name two <<< ' second '"),
     Row(f"encrypt_string {DEV} --stdin-name 'db_password' --output new.yml <<< letmein", since=(2, 14)),
     Row(f"encrypt_string {DEV} 'first' --output new.yml", since=(2, 14)),
     Row(
