@@ -22,12 +22,12 @@ from companion_cases.repository import AUTHOR, set_driver
 from companion_cases.stranger import MOVES, Stranger
 from lib.needs import needs, needs_pyyaml
 
-EXAMPLES, STEPS = 50, 8
+EXAMPLES, STEPS = 30, 8
 # The least number of times that each must happen.
 LEAST = {
     **{"edit": 60, "rotate": 30, "merge": 15, "merge with a conflict": 5, "rebase": 8},
     **dict.fromkeys(MOVES, 2),
-    **{"replace": 15, "relabel": 8, "copy": 8, "guess": 8, "secrets looked for": 9 * EXAMPLES},
+    **{"replace": 15, "relabel": 8, "copy": 8, "guess": 8, "secrets looked for": 450},
 }
 ATTRIBUTES = b"*.yml merge=ansible-vault\n"
 TAKING = {"merge": ["merge", "--quiet", "--no-edit", "stranger"], "rebase": ["rebase", "--quiet", "stranger"]}
