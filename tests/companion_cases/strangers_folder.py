@@ -30,7 +30,6 @@ PLAIN = """
     git read-tree HEAD
     git diff
     git diff --no-ext-diff
-    git cat-file -p HEAD~3:gone.yml
 """
 STARTED = """
     core.fsmonitor filter.x.clean filter.y.process post-index-change diff.external diff.ansible-vault.command
@@ -44,11 +43,9 @@ USED = """
 
 
 def commit_files(place: Place) -> None:
-    """Make two branches, an open conflict, files that differ from the index, and a missing object."""
+    """Make two branches, an open conflict, and files that differ from the index."""
     place.environment.update(AUTHOR)
     place.shell("git init -q -b main")
-    place.put("gone.yml", sealed("old", b"gone\n"))
-    place.shell("git add -A && git commit -qm zeroth && git rm -q gone.yml")
     place.put("a.yml", sealed("old"))
     place.put("b.yml", block("old"))
     place.shell("git add -A && git commit -qm first && git branch other")
@@ -66,9 +63,12 @@ def commit_files(place: Place) -> None:
     for name in ("b.yml", "plain.txt", "other.dat"):
         place.put(name, TEXT)
     place.shell("git add c.yml && git -c core.fsmonitor=true update-index --fsmonitor")
-    # git fetches a missing object from the promisor.
-    missing = place.shell("git rev-parse HEAD~3:gone.yml").stdout.strip()
-    (place.tree / ".git/objects" / missing[:2] / missing[2:]).unlink()
+
+
+def lose(place: Place, name: str) -> None:
+    """Remove the object of a committed file. git would fetch it from the promisor."""
+    blob = place.shell(f"git rev-parse HEAD:{name}").stdout.strip()
+    (place.tree / ".git/objects" / blob[:2] / blob[2:]).unlink()
 
 
 def trap(place: Place, name: str, folder: str) -> str:
@@ -108,9 +108,20 @@ def test_one_place() -> None:
 
 
 def test_git_alone(stranger: Place) -> None:
-    """Without a companion, git starts these programs; otherwise, the next test could not fail."""
+    """Without a companion, git starts these programs; otherwise, the next tests could not fail."""
     stranger.shell(PLAIN)
+    lose(stranger, "b.yml")
+    stranger.shell("git cat-file -p HEAD:b.yml")
     assert set(STARTED) - started(stranger) == set()
+
+
+def test_missing_object(stranger: Place) -> None:
+    """The hook needs the old version of a file that is staged, and does not fetch it."""
+    stranger.shell("git add b.yml")
+    lose(stranger, "b.yml")
+    started(stranger)
+    done = stranger.run(HOOK)
+    assert (done.returncode, started(stranger)) == (1, set()), done
 
 
 def test_companions(stranger: Place) -> None:
