@@ -144,7 +144,7 @@ class Place:
     def wrap_tool(self, text: str, name: str = "ansible-vault") -> None:
         """Wrap the program, or git, in a script that first runs this shell text."""
         (self.tools / name).unlink(missing_ok=True)
-        program = self.program if name == "ansible-vault" else shutil.which(name)
+        program = str(self.program) if name == "ansible-vault" else shutil.which(name)
         self.script(f'{text}\nexec {program} "$@"', f"tools/{name}")
 
     def run(self, *words: str, folder: str = ".", **variables: str) -> Done:

@@ -203,8 +203,6 @@ class Attack:
             is_due = label_of(old) == label and not is_false(old) and was and rotated == was._replace(name=new)
             is_nested = was and envelopes(was.text)
             assert is_due or is_nested, ("a rotation changes what has another password", old, now, done)
-        there = [old for content in self.seen.values() for old in envelopes(content) if label_of(old) == label]
-        assert done.returncode or not any(map(is_false, there)), ("a rotation passes over a false label", done)
         self.commit("rotate")
 
 

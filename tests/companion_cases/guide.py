@@ -110,7 +110,7 @@ def blocks(data: bytes) -> list[Block]:
     return [(part.partition(b"\n")[0] if b"!vault" in part else b"", described(part)) for part in parts if part]
 
 
-@pytest.mark.parametrize("row", ROWS, ids=lambda row: row.line)
+@pytest.mark.parametrize("row", ROWS, ids=[row.line for row in ROWS])
 def test_lines(cases: Companions, row: Row) -> None:
     needs("bash")
     place = cases.place()
