@@ -198,12 +198,13 @@ class Attack:
         self.current[label] = 1 - self.current[label]
         new = NAMES[label][self.current[label]]
         done = self.run(ROTATE, "--jobs=1", *self.secrets, *self.place.by_id(label, new, "new-"), ".")
-        for old, now in self.changed(done, self.seen):
+        changed = self.changed(done, self.seen)
+        for old, now in changed:
             was, rotated = opened(old), opened(now)
             is_due = label_of(old) == label and not is_false(old) and was and rotated == was._replace(name=new)
             is_nested = was and envelopes(was.text)
             assert is_due or is_nested, ("a rotation changes what has another password", old, now, done)
-        self.commit("rotate")
+        self.commit("rotate" if changed else "rotation of nothing")
 
 
 def test_stranger(place: Place, pytestconfig: pytest.Config) -> None:
