@@ -4,34 +4,43 @@ page and of the companions' help. None offers a `~` that nobody would expand.
 
 import pathlib
 import re
-import shutil
 
 import pytest
 
-import shells
+from lib.needs import needs
 from lib.option_sets import OF_ANSIBLE, companion_help, companion_options, companion_values, page_sets
 from lib.option_table import table_options
 from lib.paths import COMPANIONS
 from model.options import COMMON, OPTIONS
-from shells import SHELLS, needs_shell, typed_in_bash
+from shells import SHELLS, typed_in_bash
 
 FILES = ["one.pass", "one.yml", "two.yml", "with a space.pass", "-dash.yml"]
-
-# The starts of command lines, and the commands and paths that are offered.
+WITH = "ansible-vault-with"
+WITH_COMMANDS = [*OPTIONS, "create", "edit"]
+# The starts of command lines, and the commands, options and paths that are offered.
 OFFERED = {
-    "": set(OPTIONS),
-    "encr": {"encrypt", "encrypt_string"},
-    "encrypt folder/": {"folder/inner.yml"},
-    "encrypt -- -": {"-dash.yml"},
-    "decrypt --vault-password-file one.pass -- folder/": {"folder/inner.yml"},
-    "view --vault-id dev@one.p": {"dev@one.pass"},
+    "ansible-vault ": set(OPTIONS),
+    "ansible-vault encr": {"encrypt", "encrypt_string"},
+    "ansible-vault encrypt folder/": {"folder/inner.yml"},
+    "ansible-vault encrypt -- -": {"-dash.yml"},
+    "ansible-vault view --vault-id dev@one.p": {"dev@one.pass"},
+    "ansible-vault-with ": {*WITH_COMMANDS},
+    "ansible-vault-with --vault-id one.pass encr": {"encrypt", "encrypt_string"},
+    "ansible-vault-with --vault-password-file one.pass view on": {"one.pass", "one.yml"},
+    "ansible-vault-with -J encrypt one.yml tw": {"two.yml"},
+    "ansible-vault-with encrypt_string --sh": {"--show-input"},
+    "ansible-vault-with view -- one.yml -": {"-dash.yml"},
+    "ansible-vault-rotate folder/": {"folder/inner.yml"},
+    "ansible-vault-rotate --new-vault-id dev@one.p": {"dev@one.pass"},
+    "ansible-vault-check one.yml -- -": {"-dash.yml"},
+    "ansible-vault-check --ask-vault-pass tw": {"two.yml"},
 }
 
 
 @pytest.fixture(params=SHELLS)
 def shell(request: pytest.FixtureRequest) -> str:
     name: str = request.param
-    needs_shell(name)
+    needs(name)
     return name
 
 
@@ -43,52 +52,17 @@ def folder(tmp_path: pathlib.Path) -> pathlib.Path:
     return tmp_path
 
 
-def replacing(shell: str, wanted: set[str]) -> set[str]:
-    """Return what the shell offers: bash replaces only the text from the `@` on, the others the whole value."""
-    return {each.replace("dev@", "@") if shell == "bash" else each for each in wanted}
-
-
-@pytest.mark.parametrize("words, wanted", OFFERED.items(), ids=OFFERED)
-def test_program(shell: str, folder: pathlib.Path, words: str, wanted: set[str]) -> None:
-    assert SHELLS[shell](f"ansible-vault {words}", folder) == replacing(shell, wanted)
-
-
-def test_checkout_with_a_space(shell: str, folder: pathlib.Path, monkeypatch: pytest.MonkeyPatch) -> None:
-    """The completions, and the scripts that ask the shells, may be below a path with a space."""
-    for name in ("HERE", "COMPLETIONS"):
-        copy = folder / "a checkout" / name.lower()
-        shutil.copytree(getattr(shells, name), copy)
-        monkeypatch.setattr(shells, name, copy)
-    assert SHELLS[shell]("ansible-vault view on", folder) == {"one.pass", "one.yml"}
-
-
-# The same for the companions.
-WITH_COMMANDS = [*OPTIONS, "create", "edit"]
-OFFERED_BY_COMPANIONS = {
-    "ansible-vault-rotate folder/": {"folder/inner.yml"},
-    "ansible-vault-rotate --new-vault-id dev@one.p": {"dev@one.pass"},
-    "ansible-vault-hook --install --vault-id dev@one.p": {"dev@one.pass"},
-    "ansible-vault-check one.yml -- -": {"-dash.yml"},
-    "ansible-vault-merge one.yml two.yml folder/": {"folder/inner.yml"},
-    "ansible-vault-check --ask-vault-pass tw": {"two.yml"},
-    "ansible-vault-with ": {*WITH_COMMANDS},
-    "ansible-vault-with --vault-id one.pass encr": {"encrypt", "encrypt_string"},
-    "ansible-vault-with --vault-password-file one.pass view on": {"one.pass", "one.yml"},
-    "ansible-vault-with -J encrypt one.yml tw": {"two.yml"},
-    "ansible-vault-with decrypt --output tw": {"two.yml"},
-    "ansible-vault-with rekey --new-vault-password-file one.p": {"one.pass"},
-    "ansible-vault-with edit on": {"one.pass", "one.yml"},
-    "ansible-vault-with encrypt_string on": set(),
-    "ansible-vault-with encrypt --encrypt-vault-id on": set(),
-    "ansible-vault-with view -- one.yml -": {"-dash.yml"},
-}
+@pytest.mark.parametrize("line", OFFERED)
+def test_offered(shell: str, folder: pathlib.Path, line: str) -> None:
+    """After a label, bash replaces only the text from the `@` on, the others the whole value."""
+    wanted = {each.replace("dev@", "@") if shell == "bash" else each for each in OFFERED[line]}
+    assert SHELLS[shell](line, folder) == wanted
 
 
 # The starts of command lines that arguments follow, and of those that take only one.
-STARTS = [f"ansible-vault {command}" for command in OPTIONS] + [f"ansible-vault-with {each}" for each in WITH_COMMANDS]
-STARTS += [name for name in COMPANIONS if name != "ansible-vault-with"]
-TAKE_ONE = [*STARTS[: len(OPTIONS)], "ansible-vault-with encrypt_string", "ansible-vault-with create"]
-TAKE_ONE += ["ansible-vault-textconv"]
+STARTS = [f"ansible-vault {command}" for command in OPTIONS] + [f"{WITH} {command}" for command in WITH_COMMANDS]
+STARTS += [name for name in COMPANIONS if name != WITH]
+TAKE_ONE = [*STARTS[: len(OPTIONS)], f"{WITH} encrypt_string", f"{WITH} create", "ansible-vault-textconv"]
 
 
 @pytest.mark.parametrize("start", STARTS)
@@ -99,25 +73,27 @@ def test_arguments(shell: str, folder: pathlib.Path, start: str) -> None:
     assert found == dict.fromkeys(lines, set() if "encrypt_string" in start else {*FILES, "folder"})
 
 
-def offered_options(shell: str, words: str, folder: pathlib.Path, alias: str = "") -> list[str]:
+def offered_options(shell: str, words: str, folder: pathlib.Path) -> list[str]:
     """Return the options that a shell offers after one dash and after two."""
-    offered = SHELLS[shell](f"{words} -", folder, alias) | SHELLS[shell](f"{words} --", folder, alias)
-    return sorted(offered - set(FILES))
+    return sorted((SHELLS[shell](f"{words} -", folder) | SHELLS[shell](f"{words} --", folder)) - set(FILES))
 
 
-def options_of(name: str) -> set[str]:
-    return set().union(*companion_options(name))
+def options_of(line: str) -> set[str]:
+    """Return the options that a program takes, or a command of the tool or of ansible-vault-with."""
+    name, _, command = line.partition(" ")
+    if name == "ansible-vault":
+        return page_sets()[command or None]
+    if not command:
+        return set().union(*companion_options(name))
+    if command not in OPTIONS:
+        return options_of("ansible-vault-edit")
+    own = options_of(WITH) - {"-V", "--version"}
+    return page_sets()[command] | own | OF_ANSIBLE.get(command, set())
 
 
-@pytest.mark.parametrize("command", page_sets(), ids=str)
-def test_options(shell: str, folder: pathlib.Path, command: str | None) -> None:
-    words = f"ansible-vault {command}" if command else "ansible-vault"
-    assert offered_options(shell, words, folder) == sorted(page_sets()[command])
-
-
-@pytest.mark.parametrize("name", COMPANIONS)
-def test_options_of_companions(shell: str, folder: pathlib.Path, name: str) -> None:
-    assert offered_options(shell, name, folder) == sorted(options_of(name))
+@pytest.mark.parametrize("line", ["ansible-vault", *COMPANIONS, *(start for start in STARTS if " " in start)])
+def test_options(shell: str, folder: pathlib.Path, line: str) -> None:
+    assert offered_options(shell, line, folder) == sorted(options_of(line))
 
 
 def repeatable(name: str) -> list[str]:
@@ -137,7 +113,7 @@ def test_repeatable_options(shell: str, folder: pathlib.Path, name: str) -> None
 @pytest.mark.parametrize("line", ["-vault rekey", "-vault-with encrypt_string", "-vault-edit", "-vault-hook"])
 def test_excluded_in_zsh(folder: pathlib.Path, line: str) -> None:
     """If an option excludes another, so does the other."""
-    needs_shell("zsh")
+    needs("zsh")
     options = {*offered_options("zsh", f"ansible{line}", folder)} - {"-h", "--help", "-V", "--version"}
     left = {option: offered_options("zsh", f"ansible{line} {option} one.pass", folder) for option in options}
     excluded = {(one, other) for one in options for other in options - {one, *left[one]}}
@@ -168,100 +144,39 @@ def test_values(shell: str, folder: pathlib.Path, name: str) -> None:
         assert {start: {each.split("=")[-1] for each in offered} for start, offered in found.items()} == wanted
 
 
-@pytest.mark.parametrize("line, wanted", OFFERED_BY_COMPANIONS.items(), ids=OFFERED_BY_COMPANIONS)
-def test_companions(shell: str, folder: pathlib.Path, line: str, wanted: set[str]) -> None:
-    assert SHELLS[shell](line, folder) == replacing(shell, wanted)
+SHORT = "alias ansible-vault=ansible-vault-with"
+ALIASES = [SHORT, "alias ansible-vault='ansible-vault-with --vault-id one.pass'"]
+# With this option, zsh does not expand an alias before it completes.
+IN_ZSH = f"setopt complete_aliases; {SHORT}"
 
 
-# Aliases that make ansible-vault run ansible-vault-with for everything that is typed.
-ALIASES = {
-    "short": "alias ansible-vault=ansible-vault-with",
-    "long": "alias ansible-vault='ansible-vault-with --vault-id one.pass'",
-}
-SHORT = ALIASES["short"]
-
-
-@pytest.mark.parametrize("command", WITH_COMMANDS)
-@pytest.mark.parametrize("name, alias", [("ansible-vault-with", ""), ("ansible-vault", SHORT)], ids=["name", "alias"])
-def test_options_of_commands(shell: str, folder: pathlib.Path, name: str, alias: str, command: str) -> None:
-    """After a command, ansible-vault-with takes the tool's options, and its own for secrets."""
-    own = options_of("ansible-vault-with") - {"-V", "--version"}
-    of_tool = page_sets().get(command, set()) | own | OF_ANSIBLE.get(command, set())
-    wanted = of_tool if command in OPTIONS else options_of("ansible-vault-edit")
-    assert offered_options(shell, f"{name} {command}", folder, alias) == sorted(wanted)
-
-
-@pytest.mark.parametrize("line", [line for line in OFFERED_BY_COMPANIONS if line.startswith("ansible-vault-with ")])
-@pytest.mark.parametrize("alias", ALIASES.values(), ids=ALIASES)
-def test_alias(shell: str, folder: pathlib.Path, alias: str, line: str) -> None:
+def test_alias(shell: str, folder: pathlib.Path) -> None:
     """Through an alias, ansible-vault has the completion of ansible-vault-with."""
-    words = line.removeprefix("ansible-vault-with ")
-    assert SHELLS[shell](f"ansible-vault {words}", folder, alias) == OFFERED_BY_COMPANIONS[line]
+    wanted = {line: offered for line, offered in OFFERED.items() if line.startswith(f"{WITH} ")}
+    for alias in [*ALIASES, IN_ZSH] if shell == "zsh" else ALIASES:
+        found = {line: SHELLS[shell](line.replace(WITH, "ansible-vault"), folder, alias) for line in wanted}
+        assert found == wanted, alias
 
 
 def test_alias_of_another_tool(shell: str, folder: pathlib.Path) -> None:
-    assert SHELLS[shell]("ansible-vault ", folder, "alias ansible-vault-edit=ansible-vault-with") == set(OPTIONS)
+    assert SHELLS[shell]("ansible-vault ", folder, f"alias ansible-vault-edit={WITH}") == set(OPTIONS)
 
 
-def test_alias_that_zsh_does_not_expand(folder: pathlib.Path) -> None:
-    """The option may be set in somebody's zsh."""
-    needs_shell("zsh")
-    assert SHELLS["zsh"]("ansible-vault ", folder, f"setopt complete_aliases; {SHORT}") == {*WITH_COMMANDS}
-
-
-@pytest.mark.parametrize("line, wanted", {"cre": ["create"], "-J edit one.y": ["-J", "edit", "one.yml"]}.items())
-def test_alias_typed_in_bash(folder: pathlib.Path, line: str, wanted: list[str]) -> None:
-    needs_shell("bash")
-    assert typed_in_bash(line, folder, SHORT) == wanted
-
-
-# Paths that begin with `~`, and whether the shell expands it there.
-HOME_PATHS = {
-    "view --vault-id ~/one.p": True,
-    "view --vault-password-file ~/one.p": True,
-    "view ~/one.p": True,
-    "decrypt --output ~/one.p": True,
-    "view --vault-id dev@~/one.p": False,
-    "view --vault-id=~/one.p": False,
-    "view --vault-id=dev@~/one.p": False,
-    "view --vault-password-file=~/one.p": False,
-    "rekey --new-vault-id=dev@~/one.p": False,
-    "rekey --new-vault-password-file=~/one.p": False,
-    "decrypt --output=~/one.p": False,
-    "encrypt --salt-file=~/one.p": False,
-}
-
-
-@pytest.mark.parametrize("words, is_expanded", HOME_PATHS.items())
-@pytest.mark.parametrize("name", ("ansible-vault", "ansible-vault-with"))
-def test_home(
-    shell: str, folder: pathlib.Path, monkeypatch: pytest.MonkeyPatch, name: str, words: str, is_expanded: bool
-) -> None:
+def test_home(shell: str, folder: pathlib.Path, monkeypatch: pytest.MonkeyPatch) -> None:
     """`~` is offered where the shell expands it. Otherwise the directory's path is offered, and in fish, nothing."""
     monkeypatch.setenv("HOME", str(folder))
     (folder / "work").mkdir()
-    offered = SHELLS[shell](f"{name} {words}", folder / "work")
-    if is_expanded:
-        assert offered == {"~/one.pass"}
-    elif shell == "fish":
-        assert offered == set()
-    else:
-        assert [each.partition("/")[2] for each in offered] == [f"{folder}/one.pass"[1:]]
-
-
-# What is typed before a tab in bash, and the arguments that the command receives.
-TYPED = {
-    "rek": ["rekey"],
-    "view with": ["view", "with a space.pass"],
-    "view --vault-password-file with": ["view", "--vault-password-file", "with a space.pass"],
-    "view --vault-id dev@one.p": ["view", "--vault-id", "dev@one.pass"],
-    "rekey --new-vault-id=dev@one.p": ["rekey", "--new-vault-id=dev@one.pass"],
-    "view --vault-id dev@with": ["view", "--vault-id", "dev@with a space.pass"],
-    r"view --vault-id dev@with\ a": ["view", "--vault-id", "dev@with a space.pass"],
-    "rekey --new-vault-id=dev@with": ["rekey", "--new-vault-id=dev@with a space.pass"],
-    "view --vault-id dev@~/one.p": ["view", "--vault-id", "dev@HOME/one.pass"],
-    "view --vault-id=~/with": ["view", "--vault-id=HOME/with a space.pass"],
-}
+    starts = {start: value for start, value in values_of("ansible-vault").items() if value in FILES_IN_HELP}
+    labelled = [start for start, value in starts.items() if "@" in value]
+    assert len(labelled) > 1
+    for line in ("ansible-vault view ~/one.p", *(f"{start} ~/one.p" for start in starts)):
+        assert SHELLS[shell](line, folder / "work") == {"~/one.pass"}, line
+    others = [*(f"{start}=~/one.p" for start in starts)]
+    others += [f"{start}{before}dev@~/one.p" for start in labelled for before in (" ", "=")]
+    for line in others:
+        offered = SHELLS[shell](line, folder / "work")
+        wanted = [] if shell == "fish" else [f"{folder}/one.pass"[1:]]
+        assert [each.partition("/")[2] for each in offered] == wanted, line
 
 
 # Values typed with quotes or backslashes in fish, and the whole value that is offered.
@@ -274,17 +189,30 @@ QUOTED = {
 }
 
 
-@pytest.mark.parametrize("option", ("--vault-id ", "--vault-id="))
 @pytest.mark.parametrize("value, wanted", QUOTED.items())
-def test_quoted_in_fish(folder: pathlib.Path, value: str, wanted: str, option: str) -> None:
-    needs_shell("fish")
-    start = option if option.endswith("=") else ""
-    assert SHELLS["fish"](f"ansible-vault view {option}{value}", folder) == {start + wanted}
+def test_quoted_in_fish(folder: pathlib.Path, value: str, wanted: str) -> None:
+    needs("fish")
+    for option, start in (("--vault-id ", ""), ("--vault-id=", "--vault-id=")):
+        assert SHELLS["fish"](f"ansible-vault view {option}{value}", folder) == {start + wanted}
+
+
+# What is typed before a tab in bash, where an alias stands for ansible-vault-with, and the arguments that it receives.
+TYPED = {
+    "cre": ["create"],
+    "-J edit one.y": ["-J", "edit", "one.yml"],
+    "view with": ["view", "with a space.pass"],
+    "view --vault-password-file with": ["view", "--vault-password-file", "with a space.pass"],
+    "view --vault-id dev@one.p": ["view", "--vault-id", "dev@one.pass"],
+    "view --vault-id dev@with": ["view", "--vault-id", "dev@with a space.pass"],
+    r"view --vault-id dev@with\ a": ["view", "--vault-id", "dev@with a space.pass"],
+    "rekey --new-vault-id=dev@with": ["rekey", "--new-vault-id=dev@with a space.pass"],
+    "view --vault-id dev@~/one.p": ["view", "--vault-id", "dev@HOME/one.pass"],
+    "view --vault-id=~/with": ["view", "--vault-id=HOME/with a space.pass"],
+}
 
 
 @pytest.mark.parametrize("line", TYPED)
 def test_typed_in_bash(line: str, folder: pathlib.Path, monkeypatch: pytest.MonkeyPatch) -> None:
-    needs_shell("bash")
+    needs("bash")
     monkeypatch.setenv("HOME", str(folder))
-    wanted = [word.replace("HOME", str(folder)) for word in TYPED[line]]
-    assert typed_in_bash(line, folder) == wanted
+    assert typed_in_bash(line, folder, SHORT) == [word.replace("HOME", str(folder)) for word in TYPED[line]]

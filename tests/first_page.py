@@ -9,7 +9,6 @@ import pathlib
 import subprocess
 import sys
 import tempfile
-from collections.abc import Iterator
 
 from lib.installed import run_make
 from lib.paths import COMPANIONS, README
@@ -18,22 +17,14 @@ from lib.readme import Step, steps
 from lib.scripts import searched_first
 
 
-def session(program: str, top: pathlib.Path) -> Iterator[tuple[Step, str]]:
-    """Run the steps in a new directory below `top`. Yield each with its output."""
-    folder, tools = top / "folder", top / "tools"
-    folder.mkdir()
-    tools.mkdir()
-    for name, path in (*COMPANIONS.items(), ("ansible-vault", pathlib.Path(program))):
-        (tools / name).symlink_to(path)
-    for step in steps(README.read_text()):
-        command = ["sh", "-c", step.command]
-        yield step, run_text(command, cwd=folder, env=searched_first(tools), stderr=subprocess.STDOUT).stdout
-
-
-def test_examples(program: str, tmp_path: pathlib.Path) -> None:
-    assert len(steps(README.read_text())) == README.read_text().count("\n    $ ") > 5, "each example is a step"
-    others = [(step, printed) for step, printed in session(program, tmp_path) if not step.is_met_by(printed)]
-    assert others == [], others
+def test_demo(program: str) -> None:
+    """`make demo` prints the session as the README shows it."""
+    session = steps(README.read_text())
+    assert len(session) == README.read_text().count("\n    $ ") > 5, "each example is a step"
+    done = run_make(program, "demo")
+    assert (done.returncode, done.stderr) == (0, ""), done.stdout
+    wanted = "\n".join(f"$ {step.command}\n{step.wanted}".strip("\n") for step in session)
+    assert Step("make demo", wanted).is_met_by(done.stdout), done.stdout
 
 
 def test_steps_are_compared_whole() -> None:
@@ -41,19 +32,18 @@ def test_steps_are_compared_whole() -> None:
     assert [Step("x", "one\n...\nfour").is_met_by(text) for text in printed] == [True, False, False]
 
 
-def test_demo(program: str) -> None:
-    """`make demo` prints the session as the README shows it."""
-    done = run_make(program, "demo")
-    session = "\n".join(f"$ {step.command}\n{step.wanted}".strip("\n") for step in steps(README.read_text()))
-    assert (done.returncode, done.stderr) == (0, ""), "make demo ends well"
-    assert Step("make demo", session).is_met_by(done.stdout), "and prints the session"
-
-
 def show(program: str) -> bool:
     """Print the session, and return whether the README agrees."""
     agrees = True
     with tempfile.TemporaryDirectory() as top:
-        for step, printed in session(program, pathlib.Path(top)):
+        folder, tools = pathlib.Path(top, "folder"), pathlib.Path(top, "tools")
+        folder.mkdir()
+        tools.mkdir()
+        for name, path in (*COMPANIONS.items(), ("ansible-vault", pathlib.Path(program))):
+            (tools / name).symlink_to(path)
+        for step in steps(README.read_text()):
+            command = ["sh", "-c", step.command]
+            printed = run_text(command, cwd=folder, env=searched_first(tools), stderr=subprocess.STDOUT).stdout
             print(f"$ {step.command}\n{printed}", end="", flush=True)
             agrees &= step.is_met_by(printed)
     return agrees

@@ -8,8 +8,7 @@ import pytest
 from lib.needs import needs
 from lib.option_sets import sections
 from lib.paths import COMPANIONS, PAGE
-from lib.repository import MARKS, PASSWORDS, SETTINGS, Repository, block
-from model.vaults import seal
+from lib.repository import MARKS, PASSWORDS, SETTINGS, Repository, block, vault
 
 
 @pytest.fixture
@@ -36,31 +35,28 @@ def check_encrypt(repository: Repository, shell: str) -> None:
     repository.put("plain.yml", b"plain: text\n")
     repository.put("group_vars/all/.keep", b"")
     repository.shown(shell)
-    first = repository.get("group_vars/all/vault.yml").splitlines()[0]
-    assert first == b"$ANSIBLE_VAULT;1.2;AES256;prod", "one is a vault"
+    assert repository.get(MERGED).splitlines()[0] == b"$ANSIBLE_VAULT;1.2;AES256;prod", "one is a vault"
     assert repository.get("other.yml") == b"plain: text\n", "the other is its plaintext"
 
 
 def check_string(repository: Repository, shell: str) -> None:
     repository.put("vars.yml", b"first: 1\n")
     repository.shown(shell, secret="correct horse")
-    first, second, text = repository.get("vars.yml").decode().split("\n", 2)
-    assert (first, second) == ("first: 1", "db_password: !vault |"), "it is appended"
-    repository.put("block", "".join(line.strip() + "\n" for line in text.splitlines()).encode())
-    shown = repository.shell("ansible-vault view --vault-password-file prod.pass block").stdout
-    assert shown == "correct horse", "of the secret"
+    assert repository.get("vars.yml").startswith(b"first: 1\ndb_password: !vault |\n"), "it is appended"
+    value = "ansible-vault-textconv --vault-id prod@prod.pass --value db_password vars.yml"
+    assert repository.shown(value) == "correct horse", "of the secret"
 
 
 def check_typed(repository: Repository, shell: str) -> None:
     needs("bash", "zsh")
-    repository.put("vault.yml", seal(PASSWORDS["old.pass"], b"shown\n"))
-    rows = [(interpreter, password) for interpreter in ("bash", "zsh") for password in ("the old one", "another")]
-    done = [repository.shell(f"{{ {shell}\n}} <<< '{password}'", interpreter) for interpreter, password in rows]
-    found = {row: (ran.returncode, ran.stdout) for row, ran in zip(rows, done)}
-    assert found == {row: (0, "shown\n") if row[1] == "the old one" else (1, "") for row in rows}
-    shown = repository.pasted(shell, "the old one")
-    assert "shown\r\n" in shown, "pasted on a terminal it waits for the password"
-    assert "the old one" not in shown, "and the password is not shown"
+    repository.put("vault.yml", vault(b"shown\n", "old.pass", ""))
+    for interpreter in ("bash", "zsh"):
+        for password, wanted in {"the old one": (0, "shown\n"), "another": (1, "")}.items():
+            done = repository.shell(f"{{ {shell}\n}} <<< '{password}'", interpreter)
+            assert (done.returncode, done.stdout) == wanted, (interpreter, password)
+    screen = repository.pasted(shell, "the old one")
+    assert "shown\r\n" in screen, "pasted on a terminal it waits for the password"
+    assert "the old one" not in screen, "and the password is not shown"
 
 
 DISPLAYS = {"Encrypt a file": check_encrypt, "Make a block": check_string, "Type a password,": check_typed}
@@ -75,31 +71,20 @@ def test_example(repository: Repository, title: str) -> None:
     DISPLAYS[title](repository, examples()[title])
 
 
-LOST_PASSWORD = """\
-ansible-vault encrypt --vault-password-file pass --output pass plain
-ansible-vault view --vault-password-file pass pass
-"""
-CUT_LOG = """\
-ansible-vault encrypt --vault-password-file pass --output vault plain
-ansible-vault decrypt --vault-password-file pass --output {} vault >> log
-"""
-
-
 def test_lost_password(repository: Repository) -> None:
-    repository.put("pass", b"a password\n")
-    repository.put("plain", b"text\n")
-    ran = repository.shell(LOST_PASSWORD)
-    wanted = (1, "", "ERROR! a password file is itself a vault\n")
-    assert (ran.returncode, ran.stdout, ran.stderr) == wanted, "its only copy is lost"
+    """A vault in place of its password file cannot be decrypted: its only copy is lost."""
+    repository.shell("echo text | ansible-vault encrypt --vault-password-file old.pass --output old.pass")
+    ran = repository.shell("ansible-vault view --vault-password-file old.pass old.pass")
+    assert (ran.returncode, ran.stdout, ran.stderr) == (1, "", "ERROR! a password file is itself a vault\n")
 
 
 @pytest.mark.parametrize("path, left", [("/dev/stdout", b"text\n"), ("-", b"first\ntext\n")])
 def test_cut_log(repository: Repository, path: str, left: bytes) -> None:
-    repository.put("pass", b"a password\n")
-    repository.put("plain", b"text\n")
+    """Writing to /dev/stdout cuts off a file to which a shell appends."""
+    repository.put("vault", vault(b"text\n"))
     repository.put("log", b"first\n")
-    ran = repository.shell(CUT_LOG.format(path))
-    assert (ran.returncode, ran.stderr, repository.get("log")) == (0, "", left)
+    repository.shown(f"ansible-vault decrypt --vault-id prod@prod.pass --output {path} vault >> log")
+    assert repository.get("log") == left
 
 
 # In place of an editor that must be told to wait.
@@ -115,23 +100,19 @@ EXAMPLES = [(name, title) for name in COMPANIONS for title in examples(PAGE.with
 
 def example_repository(repository: Repository, password: str) -> str:
     """Create what the examples on the companions' pages work on, and return the editor."""
-
-    def vault(text: bytes) -> bytes:
-        return seal(PASSWORDS[password], text, b"prod")
-
     repository.put("ansible.cfg", SETTINGS.encode())
     repository.put(".gitattributes", MARKS.encode())
     for name in (MERGED, "a.yml", "b.yml"):
-        repository.put(name, vault(b"a: 1\nb: 2\nc: 3\nd: 4\n"))
-    repository.put("host_vars/web1.yml", block("db_password", "correct horse", password, "prod").encode())
+        repository.put(name, vault(b"a: 1\nb: 2\nc: 3\nd: 4\n", password))
+    repository.put("host_vars/web1.yml", block("db_password", b"correct horse", password))
     repository.put("get-pass", b"#!/bin/sh\ncat prod.pass\n", 0o755)
     repository.shell("git add -A && git commit -qm one && git update-ref refs/remotes/origin/main HEAD")
     repository.shell("git checkout -qb branch")
-    repository.put(MERGED, vault(b"a: 1\nb: 2\nc: 3\nd: 5\n"))
+    repository.put(MERGED, vault(b"a: 1\nb: 2\nc: 3\nd: 5\n", password))
     repository.shell("git commit -qam two && git checkout -q -")
-    repository.put(MERGED, vault(b"a: 0\nb: 2\nc: 3\nd: 4\n"))
+    repository.put(MERGED, vault(b"a: 0\nb: 2\nc: 3\nd: 4\n", password))
     repository.shell("git commit -qam three")
-    repository.command(CODE, "code")
+    repository.script(CODE, "tools/code")
     return repository.script("sed -i -e 's/horse/staple/' -e 's/a: ./a: 2/' \"$1\"")
 
 

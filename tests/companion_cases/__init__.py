@@ -4,7 +4,6 @@
 depends on the program itself.
 """
 
-import compileall
 import hmac
 import os
 import re
@@ -17,8 +16,8 @@ from pathlib import Path
 from typing import Any
 
 from lib.limits import SECONDS
-from lib.lines_run import note_lines
 from lib.paths import ROOT
+from lib.processes import run, run_text
 from model.vaults import apply_keystream, seal, tag_of, yaml_block
 
 COMPANIONS = ROOT / "companions"
@@ -38,7 +37,6 @@ ABOVE_EDITOR = "$(cut -d ' ' -f 4 /proc/$PPID/stat)"
 # Match the digits of an envelope, and a whole envelope.
 DIGITS = re.compile(rb"(?m)^( *)[0-9a-fA-F]{20,}(?=\r?$)")
 FOUND = re.compile(rb"(?m)^ *\$ANSIBLE_VAULT;1.*(?:\n *[0-9a-fA-F]+\r?$)+")
-SUMMARY = "{} rotated, {} under the new secret already, {} with other labels{}, {} failed"
 ENCRYPTED = re.compile(r"; what you saved is encrypted in (.+)\n")
 # Notes what other processes can see of a run of the program, and its limit for core dumps.
 NOTE = "{ tr '\\0' '\\n' < /proc/$$/cmdline; tr '\\0' '\\n' < /proc/$$/environ; } >> ../seen; ulimit -c >> ../cores"
@@ -126,8 +124,8 @@ class Place:
 
     def files(self) -> dict[str, bytes]:
         """Return the content of each file in the tree, except git's own."""
-        found = {name: self.tree / name for name in self.names() if not name.startswith(".git/")}
-        return {name: path.read_bytes() for name, path in found.items() if path.is_file()}
+        names = [name for name in self.names() if not name.startswith(".git/")]
+        return {name: self.get(name) for name in names if (self.tree / name).is_file()}
 
     def names(self) -> list[str]:
         return sorted(str(each.relative_to(self.tree)) for each in self.tree.rglob("*"))
@@ -145,31 +143,20 @@ class Place:
 
     def wrap_tool(self, text: str, name: str = "ansible-vault") -> None:
         """Wrap the program, or git, in a script that first runs this shell text."""
-        path = self.tools / name
-        path.unlink(missing_ok=True)
+        (self.tools / name).unlink(missing_ok=True)
         program = str(self.program) if name == "ansible-vault" else shutil.which(name)
-        path.write_text(f'#!/bin/sh\n{text}\nexec {program} "$@"\n')
-        path.chmod(0o755)
+        self.script(f'{text}\nexec {program} "$@"', f"tools/{name}")
 
     def run(self, *words: str, folder: str = ".", **variables: str) -> Done:
-        return subprocess.run(
-            words,
-            cwd=self.tree / folder,
-            env=self.environment | variables,
-            stdin=subprocess.DEVNULL,
-            capture_output=True,
-            text=True,
-            errors="surrogateescape",
-            timeout=SECONDS,
-        )
+        where = {"cwd": self.tree / folder, "env": self.environment | variables}
+        return run_text(words, errors="surrogateescape", **where)
 
     def shell(self, text: str, interpreter: str = "sh", folder: str = ".", **variables: str) -> Done:
         return self.run(interpreter, "-c", text, folder=folder, **variables)
 
     def run_on(self, data: bytes, *words: str, **variables: str) -> subprocess.CompletedProcess[bytes]:
         """Run with this standard input. The outputs are bytes."""
-        where = self.environment | variables
-        return subprocess.run(words, cwd=self.tree, env=where, input=data, capture_output=True, timeout=SECONDS)
+        return run(words, data, cwd=self.tree, env=self.environment | variables)
 
     def start(self, *words: str, **options: Any) -> subprocess.Popen[str]:
         """Start a program. Its standard streams are empty, unless these options of Popen say something else."""
@@ -210,29 +197,18 @@ runpy.run_path(sys.argv[0], run_name="__main__")
     return place.run(script, str(place.tools / companion), *words, **variables)
 
 
-def copy_tools(program: str, folder: Path) -> None:
-    """Copy the program and the compiled companions. Every user may read the copies, wherever the repository is."""
-    shutil.copytree(COMPANIONS, folder / "companions")
-    note_lines(folder / "companions")
-    compileall.compile_dir(folder / "companions", quiet=1)
-    shutil.copy(program, folder / "ansible-vault")
-    subprocess.run(["chmod", "-R", "go=rX", str(folder)], check=True)
-
-
 class Companions:
     """Makes places with these copies of the companions and the program, each in a directory of its own."""
 
     def __init__(self, copies: Path, folder: Path) -> None:
-        self.folder = folder
+        self.copies, self.folder = copies, folder
         self.places = 0
-        self.companions = copies / "companions"
-        self.program = copies / "ansible-vault"
 
     def place(self) -> Place:
         self.places += 1
         path = self.folder / f"place{self.places}"
         path.mkdir()
-        return Place(path, self.program, self.companions)
+        return Place(path, self.copies / "ansible-vault", self.copies / "companions")
 
 
 def ended(what: str, done: Done, status: int, *parts: str) -> None:
@@ -278,7 +254,9 @@ def texts(data: bytes, password: str) -> list[bytes | None]:
 
 
 def summary(changed: int, had_it: int = 0, others: int = 0, named: str = "", failed: int = 0) -> str:
-    return SUMMARY.format(changed, had_it, others, named, failed)
+    """Return the last line of a rotation."""
+    done = f"{changed} rotated, {had_it} under the new secret already"
+    return f"{done}, {others} with other labels{named}, {failed} failed"
 
 
 def to_new(place: Place) -> list[str]:

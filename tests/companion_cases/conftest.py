@@ -1,20 +1,29 @@
 """Fixtures for the tests of the companions."""
 
+import compileall
+import shutil
+import subprocess
 import tempfile
 from collections.abc import Iterator
 from pathlib import Path
 
 import pytest
 
-from companion_cases import Companions, Place, copy_tools
+from companion_cases import COMPANIONS, Companions, Place
 from lib.ansible_runs import AnsibleRuns
+from lib.lines_run import note_lines
 from lib.needs import needs, needs_ansible
 
 
 @pytest.fixture(scope="session")
 def copies(program: str) -> Iterator[Path]:
+    """The program and the compiled companions. Every user may read these copies, wherever the repository is."""
     with tempfile.TemporaryDirectory(prefix="ansible-vault-tools-") as folder:
-        copy_tools(program, Path(folder))
+        companions = shutil.copytree(COMPANIONS, Path(folder, "companions"))
+        note_lines(companions)
+        compileall.compile_dir(companions, quiet=1)
+        shutil.copy(program, f"{folder}/ansible-vault")
+        subprocess.run(["chmod", "-R", "go=rX", folder], check=True)
         yield Path(folder)
 
 

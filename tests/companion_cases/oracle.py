@@ -4,7 +4,6 @@ from __future__ import annotations
 
 import os
 import re
-from collections import Counter
 from collections.abc import Iterable, Iterator, Sequence
 from functools import lru_cache
 from pathlib import Path
@@ -26,9 +25,8 @@ ENVELOPE = re.compile(rb"\$ANSIBLE_VAULT;1\.[12];AES256(?:;(?P<label>[\w-]+))?[ 
 BLOCK = re.compile(
     rb"(?m)^(?P<spaces> *)(?P<key>[\w-]+): (?P<tag>![\w-]+) \|-?\n(?P<body> +\$ANSIBLE_VAULT[^\n]*\n(?: +[0-9a-f]+\n)+)"
 )
-# The content of each file, or LINK and the target of a link.
+# The content of each file.
 Tree = dict[str, bytes]
-LINK = b"link to "
 # The tag and the text of each value, by its keys. For a vault, the values are the lines of its text.
 Value = tuple[str, str]
 Values = dict[tuple[str, ...], Value]
@@ -46,19 +44,18 @@ class Opened(NamedTuple):
 
 
 class Spot(NamedTuple):
-    """The place of an envelope: a whole file, or a value, with its number among values with the same key, from 1."""
+    """The place of an envelope: a whole file, without a key, or a value."""
 
     file: str
     key: bytes
-    number: int
     start: int
     end: int
     spaces: bytes
     envelope: bytes
 
     @property
-    def place(self) -> tuple[str, bytes, int]:
-        return self[:3]
+    def place(self) -> tuple[str, bytes]:
+        return self.file, self.key
 
 
 def make(name: str, text: bytes, label: str, number: int) -> bytes:
@@ -98,7 +95,7 @@ def opened(envelope: bytes) -> Opened | None:
 def is_false(envelope: bytes) -> bool:
     """Return whether no password decrypts the envelope, or only one that belongs to another label than its own."""
     found = opened(envelope)
-    return found is None or label_of(envelope) not in ("", found.label)
+    return not found or label_of(envelope) not in ("", found.label)
 
 
 def visible(content: bytes) -> set[bytes]:
@@ -113,14 +110,9 @@ def visible(content: bytes) -> set[bytes]:
 @lru_cache(maxsize=4096)
 def spots_of(file: str, content: bytes) -> list[Spot]:
     if content.startswith(MAGIC):
-        return [Spot(file, b"", 1, 0, len(content), b"", content)]
-    found = []
-    numbers: Counter[bytes] = Counter()
-    for each in BLOCK.finditer(content):
-        numbers[each["key"]] += 1
-        [envelope] = envelopes(each["body"])
-        found.append(Spot(file, each["key"], numbers[each["key"]], *each.span(), each["spaces"], envelope))
-    return found
+        return [Spot(file, b"", 0, len(content), b"", content)]
+    found = BLOCK.finditer(content)
+    return [Spot(file, each["key"], *each.span(), each["spaces"], *envelopes(each["body"])) for each in found]
 
 
 def spots(tree: Tree) -> list[Spot]:
@@ -171,4 +163,4 @@ def is_merged(*versions: Value | None) -> bool:
 def read_tree(folder: Path) -> Tree:
     """Return the files of a directory, without links."""
     names = sorted(each.name for each in os.scandir(folder) if each.is_file(follow_symlinks=False))
-    return {name: (folder / name).read_bytes() for name in names if name != ".git"}
+    return {name: (folder / name).read_bytes() for name in names}

@@ -6,6 +6,7 @@ import subprocess
 from typing import Any
 
 from lib.paths import FIXTURES, ROOT, version
+from lib.processes import run, run_text
 
 VERSION = version()
 
@@ -39,8 +40,7 @@ def run_make(
 
 
 def printed(*words: str, cwd: pathlib.Path | None = None, **variables: str) -> str:
-    environment = os.environ | variables
-    return subprocess.run(words, capture_output=True, text=True, env=environment, cwd=cwd).stdout
+    return run_text(words, env=os.environ | variables, cwd=cwd).stdout
 
 
 def files_below(folder: pathlib.Path) -> set[str]:
@@ -51,10 +51,9 @@ def check_program(program: pathlib.Path, where: str) -> None:
     output = printed(str(program), "--version").strip()
     assert output == f"ansible-vault {VERSION}", f"{where} prints its version"
     password = str(FIXTURES / "one.password")
-    with open(FIXTURES / "format-1.1.vault") as vault:
-        command = [str(program), "view", "--vault-password-file", password]
-        shown = subprocess.run(command, stdin=vault, capture_output=True, text=True)
-    assert (shown.stdout, shown.stderr) == ("a" * 16, ""), f"{where} shows a vault"
+    vault = (FIXTURES / "format-1.1.vault").read_bytes()
+    shown = run([str(program), "view", "--vault-password-file", password], vault)
+    assert (shown.stdout, shown.stderr) == (b"a" * 16, b""), f"{where} shows a vault"
     check_companions(program, where, ["--vault-password-file", password])
 
 

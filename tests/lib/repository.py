@@ -2,14 +2,13 @@
 
 import os
 import pathlib
-import pty
-import subprocess
 import termios
 
 from companion_cases import Place, wait_until
+from companion_cases.repository import AUTHOR
 from lib.paths import ROOT
 from model.vaults import seal, yaml_block
-from shells import all_shown
+from shells import all_shown, bash_at_terminal
 
 # The last one contains characters that some shells' `echo` would interpret.
 PASSWORDS = {
@@ -23,6 +22,14 @@ MARKS = "*.vault.yml diff=ansible-vault merge=ansible-vault\nvault.yml diff=ansi
 SETTINGS = "[defaults]\nvault_identity_list = prod@~/.vault/prod.pass\n"
 
 
+def vault(text: bytes, password: str = "prod.pass", label: str = "prod") -> bytes:
+    return seal(PASSWORDS[password], text, label.encode())
+
+
+def block(name: str, text: bytes, password: str = "prod.pass") -> bytes:
+    return yaml_block(vault(text, password), name.encode())
+
+
 class Repository(Place):
     """A place under git. The password files are in it, for the examples of the manual page, and in ~/.vault."""
 
@@ -30,17 +37,12 @@ class Repository(Place):
         named = path / "ansible-vault"
         named.symlink_to(program)
         super().__init__(path, named, ROOT / "companions")
-        people = (f"GIT_{who}_{what}" for who in ("AUTHOR", "COMMITTER") for what in ("NAME", "EMAIL"))
-        self.environment |= dict.fromkeys(people, "a@b")
+        self.environment |= AUTHOR
         self.shell("git init -q && echo '*.pass' > .gitignore")
         for name, password in PASSWORDS.items():
             self.put(name, password + b"\n")
             self.put(f"../.vault/{name}", password + b"\n")
         (path / ".vault").chmod(0o700)
-
-    def command(self, text: str, name: str) -> None:
-        """Put a shell script on PATH."""
-        self.script(text, f"tools/{name}")
 
     def shown(self, text: str, **variables: str) -> str:
         """Run shell commands, which must end well, and return what they print."""
@@ -50,32 +52,14 @@ class Repository(Place):
 
     def pasted(self, shell: str, password: str) -> str:
         """Paste shell commands into a terminal, type the password when asked, and return what it shows."""
-        controller, terminal = pty.openpty()
-        process = subprocess.Popen(
-            ["bash", "--norc", "--noprofile", "-i"],
-            cwd=self.tree,
-            env=self.environment | {"PS1": "$ ", "TERM": "dumb"},
-            stdin=terminal,
-            stdout=terminal,
-            stderr=terminal,
-            start_new_session=True,
-        )
-        os.close(terminal)
-        os.write(controller, shell.encode())
-        wait_for_question(controller)
-        os.write(controller, f"{password}\nexit\n".encode())
-        shown = all_shown(controller)
-        process.kill()
-        process.wait()
-        os.close(controller)
-        return shown.decode()
+        with bash_at_terminal(self.tree, self.environment | {"PS1": "$ ", "TERM": "dumb"}) as terminal:
+            os.write(terminal, shell.encode())
+            wait_for_question(terminal)
+            os.write(terminal, f"{password}\nexit\n".encode())
+            return all_shown(terminal).decode()
 
 
 def wait_for_question(terminal: int) -> None:
     """Wait until the terminal reads whole lines without echo. While a shell edits a line, it reads key by key."""
     both = termios.ICANON | termios.ECHO
     wait_until(lambda: termios.tcgetattr(terminal)[3] & both == termios.ICANON, "the question")
-
-
-def block(name: str, text: str, password: str, label: str) -> str:
-    return yaml_block(seal(PASSWORDS[password], text.encode(), label.encode()), name.encode()).decode()

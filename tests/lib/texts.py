@@ -32,21 +32,26 @@ class Mistake(NamedTuple):
         return shlex.join(self.words)
 
 
-def of_program() -> list[Mistake]:
-    """Return mistakes without a command: none, an unknown and a misspelled command, an unknown option, and a value for
-    an option that takes none."""
-    return [
-        Mistake([], "subcommand"),
-        Mistake(["show"], "show"),
-        Mistake(["encryp"], "encryp"),
-        Mistake(["--loud"], "--loud"),
-        Mistake(["--version=x"], "--version"),
-    ]
+# Without a command: none, an unknown and a misspelled command, an unknown option, and a value for one that takes none.
+OF_PROGRAM = [
+    Mistake([], "subcommand"),
+    Mistake(["show"], "show"),
+    Mistake(["encryp"], "encryp"),
+    Mistake(["--loud"], "--loud"),
+    Mistake(["--version=x"], "--version"),
+]
+TWICE = ["--output", "a", "--output", "b"]
+# With several mistakes: the first is named, but an unknown option before one given twice.
+OF_REKEY = [
+    Mistake(["rekey", *TWICE, "--loud"], "--loud"),
+    Mistake(["rekey", *TWICE, "x", "y"], "--output"),
+    Mistake(["rekey", "x", "y", "--help"], "'y'"),
+]
 
 
 def of_command(command: str) -> list[Mistake]:
     """Return an unknown and a misspelled option, a word too many, an option without its value, and one given twice."""
-    twice = ["--output", "a", "--output", "b"] if "--output" in OPTIONS[command] else ["--require-id-match"] * 2
+    twice = TWICE if "--output" in OPTIONS[command] else ["--require-id-match"] * 2
     mistakes = [
         (["--loud"], "--loud"),
         (["--ask-vault-password"], "--ask-vault-password"),
@@ -57,19 +62,8 @@ def of_command(command: str) -> list[Mistake]:
     return [Mistake([command, *words], named) for words, named in mistakes]
 
 
-def of_several(command: str) -> list[Mistake]:
-    """Return lines with several mistakes: the first is named, but an unknown option before one given twice."""
-    twice = ["--output", "a", "--output", "b"]
-    several = [
-        ([*twice, "--loud"], "--loud"),
-        ([*twice, "x", "y"], "--output"),
-        (["x", "y", "--help"], "'y'"),
-    ]
-    return [Mistake([command, *words], named) for words, named in several]
-
-
-MISTAKES = {PROGRAM: of_program()} | {command: of_command(command) for command in OPTIONS}
-MISTAKES["rekey"] += of_several("rekey")
+MISTAKES = {PROGRAM: OF_PROGRAM} | {command: of_command(command) for command in OPTIONS}
+MISTAKES["rekey"] += OF_REKEY
 
 
 def help_path(name: str) -> Path:

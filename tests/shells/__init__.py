@@ -1,17 +1,18 @@
 """What bash, zsh and fish offer for a command line of the program or of a companion."""
 
+import contextlib
 import functools
 import os
 import pathlib
-import pty
+import re
 import select
 import shlex
 import shutil
-import subprocess
 import tempfile
+from collections.abc import Iterator, Mapping
 
 from lib.limits import SECONDS
-from lib.needs import needs
+from lib.processes import run_text, started
 
 HERE = pathlib.Path(__file__).resolve().parent
 COMPLETIONS = HERE.parent.parent / "completions"
@@ -30,16 +31,21 @@ COMP_CWORD=$(($# - 1))
 "${BASH_REMATCH[1]}" "$1" "$text"
 printf '%s\n' "${COMPREPLY[@]}"
 """
+# Drops fish's own completion for the other tool of this name first.
+FISH = """
+complete -C "$argv[2] " >/dev/null
+complete -e $argv[2]
+source $argv[1]
+eval "$argv[4]"
+complete -C "$argv[3]"
+"""
 
 
 def readline_words(line: str) -> list[str]:
     """Return the line's words, of which the last is the one to complete."""
-    words = []
+    words: list[str] = []
     for word in line.split(" "):
-        pieces = word.replace("=", "\0=\0").replace("@", "\0@\0").split("\0")
-        words += [piece for piece in pieces[:-1] if piece]
-        if pieces[-1] or len(pieces) == 1:
-            words.append(pieces[-1])
+        words += [piece for piece in re.split("([=@])", word) if piece] or [""]
     return words
 
 
@@ -50,8 +56,7 @@ def readline_text(line: str) -> str:
 
 
 def printed(command: list[str], folder: pathlib.Path) -> set[str]:
-    run = subprocess.run(command, cwd=folder, capture_output=True, text=True, timeout=SECONDS, check=True)
-    return {line for line in run.stdout.split("\n") if line}
+    return {line for line in run_text(command, cwd=folder, check=True).stdout.split("\n") if line}
 
 
 def bash(line: str, folder: pathlib.Path, alias: str = "") -> set[str]:
@@ -61,61 +66,54 @@ def bash(line: str, folder: pathlib.Path, alias: str = "") -> set[str]:
     return printed(command, folder)
 
 
+@contextlib.contextmanager
+def bash_at_terminal(folder: pathlib.Path, environment: Mapping[str, str]) -> Iterator[int]:
+    """Start bash on a terminal, and yield the other side of the terminal."""
+    controller, terminal = os.openpty()
+    streams = dict.fromkeys(("stdin", "stdout", "stderr"), terminal)
+    command = ["bash", "--norc", "--noprofile", "-i"]
+    with started(command, cwd=folder, env=environment, start_new_session=True, **streams):
+        os.close(terminal)
+        yield controller
+        os.close(controller)
+
+
 def all_shown(terminal: int) -> bytes:
     """Return everything shown until the shell on the other side ends, or waits for the end of a word."""
     shown = b""
-    while True:
-        try:
-            waits = not select.select([terminal], [], [], SECONDS)[0]
-            piece = b"" if waits else os.read(terminal, 4096)
-        except OSError:
-            piece = b""
-        if not piece:
-            return shown
-        shown += piece
+    with contextlib.suppress(OSError):
+        while select.select([terminal], [], [], SECONDS)[0]:
+            shown += os.read(terminal, 4096)
+    return shown
 
 
 def typed_in_bash(line: str, folder: pathlib.Path, alias: str = ":") -> list[str]:
     """Type a command line on a terminal and end it with a tab. Return the arguments that the command gets."""
-    controller, terminal = pty.openpty()
-    shell = subprocess.Popen(
-        ["bash", "--norc", "--noprofile", "-i"], cwd=folder, stdin=terminal, stdout=terminal, stderr=terminal
-    )
     body = "{ printf 'got'; printf '<%s>' \"$@\"; echo .; }"
     definitions = f"{NAME}() {body}; {NAME}-with() {body}; {alias}"
     setup = f"bind 'set bell-style none'; source {shlex.quote(f'{COMPLETIONS / NAME}.bash')}; {definitions}"
-    os.close(terminal)
-    os.write(controller, f"{setup}\n{NAME} {line}\t\nexit\n".encode())
-    shown = all_shown(controller).decode()
-    os.close(controller)
-    shell.kill()
-    shell.wait()
+    with bash_at_terminal(folder, os.environ) as terminal:
+        os.write(terminal, f"{setup}\n{NAME} {line}\t\nexit\n".encode())
+        shown = all_shown(terminal).decode()
     return shown.split("got<")[-1].split(">.\r")[0].split("><")
 
 
 def fish(line: str, folder: pathlib.Path, alias: str = "") -> set[str]:
     script = COMPLETIONS / f"{NAME}.fish"
-    # First drop fish's own completion for the other tool of this name.
-    text = 'complete -C "$argv[2] " >/dev/null; complete -e $argv[2]; source $argv[1]; eval "$argv[4]"; '
-    text += 'complete -C "$argv[3]"'
-    found = printed(["fish", "--no-config", "-c", text, str(script), line.split(" ")[0], line, alias], folder)
+    found = printed(["fish", "--no-config", "-c", FISH, str(script), line.split(" ")[0], line, alias], folder)
     return {match.split("\t")[0] for match in found}
 
 
 @functools.cache
-def zsh_functions(completions: pathlib.Path) -> tempfile.TemporaryDirectory[str]:
+def zsh_functions() -> tempfile.TemporaryDirectory[str]:
     """Return a directory with the completion under zsh's name for it. zsh caches there which functions it found."""
     functions = tempfile.TemporaryDirectory()
-    shutil.copy(completions / f"{NAME}.zsh", pathlib.Path(functions.name) / f"_{NAME}")
+    shutil.copy(COMPLETIONS / f"{NAME}.zsh", pathlib.Path(functions.name) / f"_{NAME}")
     return functions
 
 
 def zsh(line: str, folder: pathlib.Path, alias: str = "") -> set[str]:
-    return printed([str(HERE / "zsh_matches"), zsh_functions(COMPLETIONS).name, line, alias], folder)
+    return printed([str(HERE / "zsh_matches"), zsh_functions().name, line, alias], folder)
 
 
 SHELLS = {"bash": bash, "zsh": zsh, "fish": fish}
-
-
-def needs_shell(name: str) -> None:
-    needs(name)
