@@ -57,6 +57,7 @@ REFUSED = [
     (NEW, "all.yml", "no secret decrypts this vault"),
     (OLD, "all.yml", "hard links"),
     (OLD, "plain.yml", "not a vault"),
+    (OLD, "marked.yml", "an envelope after a byte order mark; remove the mark"),
     (OLD, "missing/new.yml", "No such file"),
     (PROD, "odd.yml", "its label a@b"),
     (OLD, "vars.yml", "line 1: secret: no secret decrypts this vault (no label; tried ../secrets/old)"),
@@ -71,6 +72,7 @@ def test_refused(place: Place, options: str, name: str, why: str) -> None:
     """A refused edit does not even start the editor."""
     place.put("all.yml", sealed("old"))
     place.put("plain.yml", TEXT)
+    place.put("marked.yml", b"\xef\xbb\xbf" + sealed("old"))
     place.put("odd.yml", sealed("prod", label="a@b"))
     place.put("vars.yml", block("dev"))
     os.link(place.tree / "all.yml", place.path / "second name")

@@ -125,8 +125,9 @@ def test_nothing_to_resume(place: Place) -> None:
     assert not (place.path / "started").exists()
 
 
-# A file at first, and what somebody exchanges it for.
-EXCHANGED = {
+# A file at first, and what somebody else changes it to.
+CHANGES = {
+    "another text": (sealed("prod", label="prod"), sealed("prod", b"theirs", label="prod")),
     "a vault": (sealed("prod", label="prod"), sealed("dev", label="prod")),
     "a value": (block("prod", label="prod"), block("dev", label="prod")),
     "a value of two": (
@@ -136,19 +137,21 @@ EXCHANGED = {
 }
 
 
-@pytest.mark.parametrize("what", EXCHANGED)
-def test_under_another_password(place: Place, what: str) -> None:
-    """If somebody has exchanged the file meanwhile, the resumed text does not get that file's password."""
+@pytest.mark.parametrize("what", CHANGES)
+def test_changed_meanwhile(place: Place, what: str) -> None:
+    """If the file has changed, the resumed text does not replace it, and does not get its password."""
     needs_pyyaml()
-    before, exchanged = EXCHANGED[what]
+    before, changed = CHANGES[what]
     both = [*place.by_id("dev", "dev"), *place.by_id("prod", "prod")]
     place.put("a.yml", before)
     edit(place, f"{CHANGE}; exit 3", *both, "a.yml")
-    place.put("a.yml", exchanged)
+    place.put("a.yml", changed)
     done = edit(place, "touch ../started", *both, "--resume", "a.yml")
-    ended(what, done, 1, "a.yml: --resume cannot tell which value gets which secret, because ")
-    assert (place.get("a.yml"), (place.path / "started").exists()) == (exchanged, False)
-    if what != "a value of two":
-        place.put("a.yml", before)
-        ended("as it was", edit(place, "true", *both, "--resume", "a.yml"), 0)
-        assert place.get("a.yml") != before
+    ended(what, done, 1, "a.yml: it has changed since the edit that left ")
+    assert (place.get("a.yml"), (place.path / "started").exists()) == (changed, False)
+    place.put("a.yml", before)
+    done = edit(place, "true", *both, "--resume", "a.yml")
+    is_put_back = what != "a value of two"
+    why = "" if is_put_back else "a.yml: --resume cannot tell which value gets which secret, because "
+    ended("as it was", done, 0 if is_put_back else 1, why)
+    assert (place.get("a.yml") != before, place.names() == ["a.yml"]) == (is_put_back, is_put_back)

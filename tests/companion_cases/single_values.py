@@ -102,9 +102,10 @@ def test_below_a_commit(place: Place, both: list[str]) -> None:
     assert (done.returncode, done.stdout) == (1, FILE.decode())
 
 
-@pytest.mark.parametrize("path, text", [*((path, b"\xff\r\nnew\n\n") for path in VALUES), ("db_password", b"")])
-def test_set(place: Place, both: list[str], path: str, text: bytes) -> None:
+@pytest.mark.parametrize("path", VALUES)
+def test_set(place: Place, both: list[str], path: str) -> None:
     """The value keeps its label and secret, and everything else keeps every byte."""
+    text = b"\xff\r\nnew\n\n"
     silent("it is set", set_to(place, text, *both, "--value", path, "vars.yml"))
     check_values(place, both, {each: text if value == VALUES[path] else value for each, value in VALUES.items()})
     files = [each.splitlines() for each in (FILE, place.get("vars.yml"))]
@@ -156,6 +157,7 @@ REFUSED = [
     (NEVER, "--value db_password new.yml", 1, "new.yml: No such file"),
     (NEVER, "--value db_password vars.yml vars.yml", 2, "--value takes one FILE"),
     ("< vault.yml", "--value db_password vars.yml", 1, "standard input is a vault"),
+    ("< /dev/null", "--value db_password vars.yml", 1, "standard input is empty"),
     ("< ../long", "--value db_password vars.yml", 1, "more bytes than a vault can hold"),
     ("<&-", "--value db_password vars.yml", 1, "Bad file descriptor"),
 ]
