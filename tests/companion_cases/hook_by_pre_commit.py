@@ -1,12 +1,10 @@
 """ansible-vault-hook as the pre-commit framework runs it, and with files as arguments."""
 
 import os
-import shlex
-from typing import Any
 
 import pytest
 
-from companion_cases import HOOK, TEXT, Done, Place, block, ended, sealed, silent
+from companion_cases import COMPANIONS, HOOK, TEXT, Done, Place, block, ended, sealed, silent
 from companion_cases.hook_commits import ATTRIBUTES
 from companion_cases.repository import GONE, WHOLE, add_and_commit, leaked, refused, under_git
 from lib.needs import needs_pyyaml
@@ -14,30 +12,30 @@ from lib.paths import ROOT
 
 pytestmark = pytest.mark.usefixtures("git")
 
-# The keys of a hook that this test takes into account.
-KNOWN = {"id", "name", "description", "entry", "language", "always_run", "pass_filenames", "require_serial", "stages"}
-KNOWN.add("minimum_pre_commit_version")
+# The keys of the hook that say how pre-commit runs it, and those that do not.
+RUN_AS = {
+    "entry": f"companions/{HOOK}",
+    "language": "script",
+    "always_run": True,
+    "require_serial": True,
+    "stages": ["pre-commit", "pre-merge-commit"],
+}
+OTHERS = {"id", "name", "description", "minimum_pre_commit_version"}
 
 
-def definition() -> dict[str, Any]:
+def test_definition() -> None:
     needs_pyyaml()
     import yaml
 
-    hook: dict[str, Any]
     [hook] = yaml.safe_load((ROOT / ".pre-commit-hooks.yaml").read_text())
-    assert hook.keys() <= KNOWN and hook["language"] == "script"
-    assert hook["stages"] == ["pre-commit", "pre-merge-commit"], "as --install has them"
-    return hook
+    assert {key: value for key, value in hook.items() if key not in OTHERS} == RUN_AS
 
 
-def by_framework(place: Place, *names: str) -> Done:
-    """Run the entry as pre-commit does: in the top directory, with the files of the commit or the named ones."""
-    hook = definition()
+def by_framework(place: Place) -> Done:
+    """Run it as pre-commit does, in the top directory, with the files of the commit."""
     listed = place.shell("git diff --staged --name-only --no-ext-diff -z --diff-filter=ACMRTUXB").stdout
-    files = [name for name in names or listed.split("\0")[:-1] if not os.path.islink(place.tree / name)]
-    program, *words = shlex.split(hook["entry"])
-    assert files or hook["always_run"], "it runs where a commit only takes files away"
-    return place.run(str(ROOT / program), *words, *(files if hook.get("pass_filenames", True) else []))
+    files = [name for name in listed.split("\0")[:-1] if not os.path.islink(place.tree / name)]
+    return place.run(str(COMPANIONS / HOOK), *files)
 
 
 def test_pre_commit(place: Place) -> None:
@@ -48,33 +46,26 @@ def test_pre_commit(place: Place) -> None:
     place.shell("git add -A")
     silent("vaults", by_framework(place))
     add_and_commit(place)
-    silent("nothing", by_framework(place))
     place.put("a.yml", TEXT)
-    place.shell("git add a.yml")
+    place.shell("git add -A")
     leaked("plaintext", by_framework(place), {"a.yml": WHOLE})
-    place.shell("git reset -q --hard && git rm -q a.yml")
-    silent("a removal", by_framework(place))
-    os.unlink(place.tree / "b.yml")
-    (place.tree / "b.yml").symlink_to("c.yml")
+    place.shell("git rm -qf a.yml b.yml && ln -s c.yml b.yml")
     place.put("c.yml", TEXT)
     place.shell("git add -A")
-    why = f"points to c.yml, and {WHOLE}"
-    done = by_framework(place)
-    ended("a link, which pre-commit does not name, and what has moved", done, 1, f"b.yml {why}", GONE.format("a.yml"))
+    link = f"b.yml points to c.yml, and {WHOLE}"
+    ended("a link, which pre-commit does not name", by_framework(place), 1, link, f"c.yml {GONE.format('a.yml')}")
 
 
-def test_all_files(place: Place) -> None:
+def test_files(place: Place) -> None:
     """Files that the commit does not change are checked if they are named."""
     under_git(place, ATTRIBUTES)
     for name in ("a.vault.yml", "inner/b.vault.yml", "plain.yml"):
         place.put(name, TEXT)
-    place.shell("git add -A && git commit -qm one")
-    silent("nothing is staged", place.run(HOOK))
+    add_and_commit(place)
     names = ["a.vault.yml", "inner/b.vault.yml"]
-    refused("all", by_framework(place, *names, "plain.yml"), *names)
+    refused("all", place.run(HOOK, *names, "plain.yml"), *names)
     refused("a folder", place.run(HOOK, "inner"), "inner/b.vault.yml")
-    refused("from below", place.shell(f"{HOOK} b.vault.yml ../plain.yml", folder="inner"), "inner/b.vault.yml")
-    silent("another", place.run(HOOK, "plain.yml"))
+    refused("from below", place.run(HOOK, "b.vault.yml", "../plain.yml", folder="inner"), "inner/b.vault.yml")
     place.put("c.vault.yml", TEXT)
     place.shell("git add -A")
     refused("what is staged counts still", place.run(HOOK, "plain.yml"), "c.vault.yml")

@@ -2,40 +2,25 @@
 each kind of line end. For values in YAML, random_merges.py shows the same.
 """
 
-import re
-
 import pytest
 
 from ansible_vault_companions.merging.lines import merged_lines
 from ansible_vault_companions.program import Refused
-from companion_cases import CHECK, MERGE, PASSWORDS, Place, decrypted, versions
+from companion_cases import MERGE, Place, decrypted, sealed, versions
 from companion_cases.repository import by_git, under_git
 from lib.needs import needs
 from lib.subtests import SubTests
-from model.vaults import seal
 
 FILLER = b"f: 1\ng: 2\nh: 3\ni: 4\n"
 # Base, ours and theirs.
 TEXTS = {
     "each side": (b"a: 1\n" + FILLER + b"b: 1\n", b"a: 2\n" + FILLER + b"b: 1\n", b"a: 1\n" + FILLER + b"b: 2\n"),
     "two conflicts": (b"a: 1\n" + FILLER + b"b: 1\n", b"a: 2\n" + FILLER + b"b: 2\n", b"a: 3\n" + FILLER + b"b: 3\n"),
-    "a conflict of the last line's end": (FILLER + b"b: 1", FILLER + b"b: 1\n", FILLER + b"b: 3"),
-    "no common base": (b"", b"a: 1\n" + FILLER, b"a: 2\n" + FILLER),
+    "an unfinished last line": (FILLER + b"b: 1", FILLER + b"b: 1\n", FILLER + b"b: 3"),
     "one side is empty": (b"a: 1\n", b"", b"a: 2\n"),
     # These lines are outside of the conflict, or within it in the style diff3.
     "what both have": (b"a: 1\n", b"x: 1\na: 2\ny: 1\n", b"x: 1\na: 3\ny: 1\n"),
 }
-
-
-def check_merge(place: Place, plain: list[bytes], wanted: bytes, conflicts: int) -> None:
-    """Merge vaults of these texts into a file that has the number of conflicts in its name."""
-    name = f"{len(place.files())} with {conflicts}.yml"
-    sides = versions(place, name, *(seal(PASSWORDS["old"], each) for each in plain))
-    done = place.run(MERGE, *place.by_file("old"), *sides)
-    count = f"{conflicts} conflict{'s' if conflicts > 1 else ''}"
-    message = f"{MERGE}: {name}: {count}; resolve with ansible-vault-edit\n"
-    assert (done.returncode, done.stdout, done.stderr) == ((1, "", message) if conflicts else (0, "", "")), "the status"
-    assert decrypted("old", place.get(name)) == wanted
 
 
 @pytest.mark.parametrize("end", (b"\n", b"\r\n"))
@@ -46,15 +31,19 @@ def test_styles(place: Place, subtests: SubTests, style: str, end: bytes) -> Non
     place.run("git", "config", "merge.conflictStyle", style)
     for what, contents in TEXTS.items():
         plain = [each.replace(b"\n", end) for each in contents]
+        wanted, conflicts = by_git(place.tree, plain, place.environment)
+        name = f"{what}.yml"
         with subtests.test(what):
-            check_merge(place, plain, *by_git(place.tree, plain, place.environment))
-    lines = place.run(CHECK, *place.by_file("old"), ".").stderr.splitlines()
-    found = [line.split(": ")[1].partition(":")[0] for line in lines if "conflict markers" in line]
-    conflicting = [f"./{name}" for name in place.files() if re.search("with [1-9]", name)]
-    assert sorted(found) == sorted(conflicting), "the check finds markers where there are conflicts"
+            merge = versions(place, name, *(sealed("old", each) for each in plain))
+            done = place.run(MERGE, *place.by_file("old"), *merge)
+            count = f"{conflicts} conflict{'s' if conflicts > 1 else ''}"
+            message = f"{MERGE}: {name}: {count}; resolve with ansible-vault-edit\n"
+            wanted_run = (1, "", message) if conflicts else (0, "", "")
+            assert (done.returncode, done.stdout, done.stderr) == wanted_run
+            assert decrypted("old", place.get(name)) == wanted
 
 
-@pytest.mark.parametrize("count", (0, 1, 2, 126, 127, 128, 255, 256, 257, 300))
+@pytest.mark.parametrize("count", (0, 1, 127, 128, 256))
 def test_counts(count: int) -> None:
     """The exit status of git counts up to 127 conflicts, and tells them from a failure."""
     lines = b"%d %s\n" + FILLER + b"\n"

@@ -10,7 +10,7 @@ import itertools
 import os
 import re
 from collections import Counter, defaultdict
-from collections.abc import Iterator
+from contextlib import suppress
 from pathlib import Path
 from typing import NamedTuple
 
@@ -20,6 +20,7 @@ from hypothesis import strategies as st
 
 from ansible_vault_companions.files.envelopes import label_of
 from ansible_vault_companions.merging import texts
+from ansible_vault_companions.merging.alignment import aligned
 from ansible_vault_companions.program import Refused
 from ansible_vault_companions.secrets import labels
 from ansible_vault_companions.secrets.sources import Secret
@@ -100,7 +101,6 @@ class Layout(NamedTuple):
         return [each.replace(b"\n", self.end) for each in ended]
 
 
-SIMPLE = Layout("merge", b"\n", b"end: 1\n", (True, True, True))
 LAYOUTS = st.builds(
     Layout,
     st.sampled_from(STYLES),
@@ -141,23 +141,26 @@ def numberings(known: list[bytes], envelopes: list[bytes]) -> list[list[int]]:
     return ways[min(ways)]
 
 
-def numbered(merge: Merge) -> Iterator[list[list[int]]]:
-    """Yield the numbers of all values in each version, in every way. Only their envelopes tell equal values apart."""
+ENVELOPES = st.lists(st.sampled_from([b"a", b"b", b"c"]), max_size=5)
+
+
+@hypothesis.settings(max_examples=300, deadline=None, database=None)
+@hypothesis.given(ENVELOPES, ENVELOPES)
+def test_alignment(known: list[bytes], envelopes: list[bytes]) -> None:
+    assert aligned(known, envelopes) in numberings(known, envelopes)
+
+
+def numbered(merge: Merge) -> list[list[int]]:
+    """Return the number of each value among equal ones, in each version. Only their envelopes tell them apart."""
     known: dict[tuple[str, bytes], list[bytes]] = {}
-    ways = []
-    for version, values in enumerate(merge):
-        equal: dict[tuple[str, bytes], list[int]] = defaultdict(list)
-        for place, value in enumerate(values):
-            equal[value.key, value.known_by()].append(place)
-        for what, places in equal.items():
-            envelopes = [values[place].envelope() for place in places]
-            found = numberings(known.setdefault(what, envelopes), envelopes)
-            ways.append([(version, dict(zip(places, way))) for way in found])
-    for chosen in itertools.product(*ways):
-        numbers: list[dict[int, int]] = [{}, {}, {}]
-        for version, way in chosen:
-            numbers[version].update(way)
-        yield [[each[place] for place in sorted(each)] for each in numbers]
+    found = []
+    for values in merge:
+        equal: dict[tuple[str, bytes], list[bytes]] = defaultdict(list)
+        for value in values:
+            equal[value.key, value.known_by()].append(value.envelope())
+        numbers = {what: iter(aligned(known.setdefault(what, each), each)) for what, each in equal.items()}
+        found.append([next(numbers[value.key, value.known_by()]) for value in values])
+    return found
 
 
 @functools.cache
@@ -172,8 +175,9 @@ class Model(Tool):
     """Replaces the program by the model of the tests."""
 
     def __init__(self) -> None:
-        self.salts = itertools.cycle(SALTS)
-        self.made: set[bytes] = set()
+        self.salts = itertools.cycle(range(len(SALTS)))
+        # The new values, by their envelopes.
+        self.made: dict[bytes, Value] = {}
 
     def view(self, envelope: bytes, secret: Secret) -> bytes:
         text = decrypted(secret.path, envelope)
@@ -183,28 +187,20 @@ class Model(Tool):
 
     def opened(self, envelope: bytes) -> tuple[Secret, bytes]:
         for secret in labels.in_order([*map(secret_of, LABELS)], label_of(envelope)):
-            text = decrypted(secret.path, envelope)
-            if text is not None:
-                return secret, text
+            with suppress(Refused):
+                return secret, self.view(envelope, secret)
         raise Refused("no secret decrypts this vault")
 
     def encrypt(self, plaintext: bytes, secret: Secret, label: str) -> bytes:
-        shown = b"" if label == "default" else label.encode()
-        envelope = seal(PASSWORDS[secret.path], plaintext, shown, next(self.salts))
-        self.made.add(envelope)
-        return envelope
+        value = Value("", plaintext, "" if label == "default" else label, secret.path, next(self.salts), 0)
+        self.made[value.envelope()] = value
+        return value.envelope()
 
 
-class Wanted(NamedTuple):
-    """A possible merge: a plaintext, the number of conflicts, and the possible blocks for each value."""
-
-    text: bytes
-    conflicts: int
-    blocks: list[set[bytes]]
-
-
-def wanted(folder: Path, merge: Merge, layout: Layout, numbers: list[list[int]]) -> Wanted:
-    """Return the wanted merge. A value that at most one side has touched must keep every byte."""
+def wanted(folder: Path, merge: Merge, layout: Layout) -> tuple[bytes, int, list[set[bytes]]]:
+    """Return the merge of the plaintexts, the number of conflicts, and the possible blocks for each value. A value that
+    at most one side has touched must keep every byte."""
+    numbers = numbered(merge)
     text, conflicts = by_git(folder, merge.plain(layout, numbers))
     text = BELOW.sub(rb"\1", text)
     pairs = [zip(values, each) for values, each in zip(merge, numbers)]
@@ -214,7 +210,7 @@ def wanted(folder: Path, merge: Merge, layout: Layout, numbers: list[list[int]])
         before, ours, theirs = (each.get((found["head"], found["known"], int(found["number"]))) for each in at)
         sides = {theirs if before == ours else ours, ours if before == theirs else theirs} if ours and theirs else set()
         blocks.append(sides or {each for each in (ours, theirs) if each})
-    return Wanted(NUMBERED.sub(rb"\g<head>\g<known>", text), conflicts, blocks)
+    return NUMBERED.sub(rb"\g<head>\g<known>", text), conflicts, blocks
 
 
 @st.composite
@@ -285,33 +281,26 @@ def blocks_of(content: bytes) -> list[Found]:
     return found
 
 
-def in_plaintext(content: bytes, tool: Model, known: dict[bytes, Value]) -> bytes:
+def in_plaintext(content: bytes, known: dict[bytes, Value]) -> bytes:
     """Return a result with what each block is known by in place of the block."""
 
     def shown(found: re.Match[bytes]) -> bytes:
         [each] = blocks_of(found[0])
-        value = known.get(each.envelope)
-        if not value:
-            secret, text = tool.opened(each.envelope)
-            label = label_of(each.envelope) or ""
-            value = Value("", text, "" if label == "default" else label, secret.path, 0, 0)
         indentation = len(found[2]) - len(found[2].lstrip(b" "))
         end = found[0][len(found[0].rstrip(b"\r\n")) :]
-        return found[1] + value._replace(indentation=indentation).known_by() + end
+        return found[1] + known[each.envelope]._replace(indentation=indentation).known_by() + end
 
     return BLOCK.sub(shown, content)
 
 
-def check_new(merge: Merge, tool: Model, found: Found) -> None:
+def check_new(merge: Merge, made: Value, key: str) -> None:
     """Check that a text is under another password only if the other side has put the value under it, by its label."""
-    assert found.envelope in tool.made, "an envelope that no side has"
-    secret, text = tool.opened(found.envelope)
-    before, ours, theirs = ([value for value in values if value.key == found.key] for values in merge)
+    before, ours, theirs = ([value for value in values if value.key == key] for values in merge)
     for [mine], [other] in ((ours, theirs), (theirs, ours)):
-        is_of_side = (mine.text, mine.password) == (text, before[0].password)
-        is_rekeyed = (other.text, other.password) == (before[0].text, secret.path)
+        is_of_side = (mine.text, mine.password) == (made.text, before[0].password)
+        is_rekeyed = (other.text, other.password) == (before[0].text, made.password)
         all_three = (before[0], mine, other)
-        labels = {value.label for value in all_three} | {label_of(found.envelope) or ""} - {"default"}
+        labels = {value.label for value in (*all_three, made)}
         owners = {LABELS[value.password] for value in all_three}
         if is_of_side and is_rekeyed and len(labels) == len(owners) == 1 and not mine.is_mislabelled():
             return
@@ -340,7 +329,6 @@ def check_merge(folder: Path, merge: Merge, layout: Layout) -> list[str]:
     import yaml
 
     tool = Model()
-    known = {value.envelope(): value for values in merge for value in values}
     before = [value.envelope() for value in merge.base]
     foreign = [each for each in merge.ours + merge.theirs if each.is_mislabelled() and each.envelope() not in before]
     try:
@@ -353,21 +341,18 @@ def check_merge(folder: Path, merge: Merge, layout: Layout) -> list[str]:
     blocks = {value.block() for values in merge for value in values}
     new = [each for each in found if each.block not in blocks]
     for each in new:
-        check_new(merge, tool, each)
+        check_new(merge, tool.made[each.envelope], each.key)
     kinds = ["conflicts" if result.conflicts else "merged", *(["under a new secret"] if new else [])]
     if result.conflicts and could_take_back(merge):
         return kinds
-    ways = [*numbered(merge)]
-    possible = [wanted(folder, merge, layout, numbers) for numbers in ways]
-    made = (in_plaintext(result.content, tool, known), result.conflicts)
-    fitting = [each.blocks for each in possible if made == (each.text, each.conflicts)]
-    assert fitting, "the merge by git"
+    known = tool.made | {value.envelope(): value for values in merge for value in values}
+    text, conflicts, possible = wanted(folder, merge, layout)
+    assert (in_plaintext(result.content, known), result.conflicts) == (text, conflicts), "the merge by git"
     if not result.conflicts:
         yaml.load(result.content, Loader=yaml.BaseLoader)
-        placed = [None if each in new else each.block for each in found]
-        is_right = lambda places: all(block in (None, *place) for block, place in zip(placed, places, strict=True))
-        assert any(map(is_right, fitting)), "the value of the side that changed it"
-    return [*kinds, *(["equal items"] if any(map(any, ways[0])) else [])]
+        pairs = zip(found, possible, strict=True)
+        assert all(each in new or each.block in sides for each, sides in pairs), "the value of the side that changed it"
+    return [*kinds, *(["equal items"] if any(map(any, numbered(merge))) else [])]
 
 
 def test_of_values(request: pytest.FixtureRequest, tmp_path: Path, monkeypatch: pytest.MonkeyPatch) -> None:
