@@ -59,15 +59,6 @@ def test_without_driver(place: Place, style: str, versions: list[bytes], wanted:
     assert {*seen} >= {*b" ".join(wanted).split()}, "the editor shows it in plaintext"
 
 
-def test_markers_in_a_commit(place: Place) -> None:
-    """The check finds markers that somebody has committed, in a clone, too."""
-    under_git(place, "")
-    fork(place, *({"a.yml": content} for content in envelopes("", "", "")))
-    place.shell("git merge theirs; git commit -qam merged && git clone -q . ../clone")
-    done = place.run(CHECK, *place.by_file("old"), "a.yml", folder="../clone")
-    ended("the check", done, 1, f"a.yml: {TORN}; {SET_UP}\n")
-
-
 NAME = "deep/er/a.yml"
 ENDS = [("", b"\n"), ("*.yml text eol=crlf\n", b"\r\n"), ("*.yml -text\n", b"\r\n")]
 

@@ -122,10 +122,11 @@ CHANGES: dict[str, tuple[Files, Files, dict[str, str]]] = {
     "a renamed folder": ({"w/x": X, "w/a": VAULT}, {"z/x": X, "z/b": TEXT}, {"z/b": GONE.format("w/a")}),
     "a value": ({"a.yml": A + X, "b.yml": Y}, {"a.yml": X, "b.yml": Y + A_PLAIN}, {"b.yml": FROM_A}),
     "a file with a value": ({"a.yml": A}, {"c.yml": A_PLAIN}, {"c.yml": FROM_A}),
+    "below its keys": ({"a.yml": A}, {"c.yml": b"a: {password: {y: plain}}\n"}, {"c.yml": FROM_A}),
     "a value in quotes": ({"a.yml": QUOTED}, {"c.yml": A_PLAIN}, {"c.yml": FROM_A}),
     "beside a moved one": (MOVING, {"a.yml": X, "c.yml": PLAIN + b"---\n" + PLAIN}, {"c.yml": PASSWORD_OF_A}),
     # The others are harmless.
-    "a plaintext that moves": (MOVING, {"a.yml": X, "c.yml": PLAIN}, {}),
+    "a plaintext that moves": (MOVING, {"a.yml": X, "c.yml": b"password: 'plain'\n"}, {}),
     "a vault that goes": ({"a.yml": VAULT, "plain.yml": TEXT}, {"plain.yml": TEXT * 2}, {}),
     "a vault in another folder": ({"one/a.yml": VAULT}, {"two/a.yml": OTHER}, {}),
     "an empty file in another folder": ({"one/a.yml": VAULT}, {"two/a.yml": b""}, {}),

@@ -1,46 +1,34 @@
-"""ansible-vault-merge merges three vaults as `git merge-file` merges their plaintexts, in each conflict style, and with
-each kind of line end. For values in YAML, random_merges.py shows the same.
-"""
+"""ansible-vault-merge merges the lines of texts as `git merge-file` does, in each conflict style."""
+
+from pathlib import Path
 
 import pytest
 
 from ansible_vault_companions.merging.lines import merged_lines
 from ansible_vault_companions.program import Refused
-from companion_cases import MERGE, Place, decrypted, sealed, versions
-from companion_cases.repository import by_git, under_git
+from companion_cases.repository import by_git, repository
 from lib.needs import needs
-from lib.subtests import SubTests
 
 FILLER = b"f: 1\ng: 2\nh: 3\ni: 4\n"
 # Base, ours and theirs.
 TEXTS = {
-    "each side": (b"a: 1\n" + FILLER + b"b: 1\n", b"a: 2\n" + FILLER + b"b: 1\n", b"a: 1\n" + FILLER + b"b: 2\n"),
-    "two conflicts": (b"a: 1\n" + FILLER + b"b: 1\n", b"a: 2\n" + FILLER + b"b: 2\n", b"a: 3\n" + FILLER + b"b: 3\n"),
-    "an unfinished last line": (FILLER + b"b: 1", FILLER + b"b: 1\n", FILLER + b"b: 3"),
-    "one side is empty": (b"a: 1\n", b"", b"a: 2\n"),
+    "each side": [b"a: 1\n" + FILLER + b"b: 1\n", b"a: 2\n" + FILLER + b"b: 1\n", b"a: 1\n" + FILLER + b"b: 2\n"],
+    "two conflicts": [b"a: 1\n" + FILLER + b"b: 1\n", b"a: 2\n" + FILLER + b"b: 2\n", b"a: 3\n" + FILLER + b"b: 3\n"],
+    "an unfinished last line": [FILLER + b"b: 1", FILLER + b"b: 1\n", FILLER + b"b: 3"],
+    "one side is empty": [b"a: 1\r\n", b"", b"a: 2\r\n"],
     # These lines are outside of the conflict, or within it in the style diff3.
-    "what both have": (b"a: 1\n", b"x: 1\na: 2\ny: 1\n", b"x: 1\na: 3\ny: 1\n"),
+    "what both have": [b"a: 1\r\n", b"x: 1\r\na: 2\r\ny: 1\r\n", b"x: 1\r\na: 3\r\ny: 1\r\n"],
 }
 
 
-@pytest.mark.parametrize("end", (b"\n", b"\r\n"))
+@pytest.mark.parametrize("what", TEXTS)
 @pytest.mark.parametrize("style", ("merge", "diff3", "zdiff3"))
-def test_styles(place: Place, subtests: SubTests, style: str, end: bytes) -> None:
+def test_styles(tmp_path: Path, monkeypatch: pytest.MonkeyPatch, style: str, what: str) -> None:
     needs("git")
-    under_git(place, "")
-    place.run("git", "config", "merge.conflictStyle", style)
-    for what, contents in TEXTS.items():
-        plain = [each.replace(b"\n", end) for each in contents]
-        wanted, conflicts = by_git(place.tree, plain, place.environment)
-        name = f"{what}.yml"
-        with subtests.test(what):
-            merge = versions(place, name, *(sealed("old", each) for each in plain))
-            done = place.run(MERGE, *place.by_file("old"), *merge)
-            count = f"{conflicts} conflict{'s' if conflicts > 1 else ''}"
-            message = f"{MERGE}: {name}: {count}; resolve with ansible-vault-edit\n"
-            wanted_run = (1, "", message) if conflicts else (0, "", "")
-            assert (done.returncode, done.stdout, done.stderr) == wanted_run
-            assert decrypted("old", place.get(name)) == wanted
+    folder = repository(tmp_path / "styles", style)
+    monkeypatch.chdir(folder)
+    base, ours, theirs = TEXTS[what]
+    assert merged_lines(ours, base, theirs) == by_git(folder, TEXTS[what])
 
 
 @pytest.mark.parametrize("count", (0, 1, 127, 128, 256))

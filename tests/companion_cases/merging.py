@@ -1,5 +1,5 @@
 """ansible-vault-merge as git runs it: two branches change a vault, or values of YAML that are vaults. And all merges
-of vaults under a few secrets, without a process for each envelope.
+under a few secrets, without a process for each envelope.
 """
 
 import itertools
@@ -13,10 +13,10 @@ from ansible_vault_companions.merging.texts import merged
 from ansible_vault_companions.program import Refused
 from companion_cases import CHECK, EDIT, HOOK, MERGE, PASSWORDS, TEXT, Done, Place, block, decrypted, edit
 from companion_cases import ended, lines_of, sealed, silent, texts, versions
-from companion_cases.random_merges import LABELS, Model, Value
+from companion_cases.random_merges import LABELS, SIMPLE, Merge, Model, Value, blocks_of, check_new
 from companion_cases.repository import BASE, BOTH, NOT_MERGED, OURS, SALTS, THEIRS, add_and_commit, commit, fork
 from companion_cases.repository import repository, set_driver, under_git
-from lib.needs import needs
+from lib.needs import needs, needs_pyyaml
 from lib.subtests import SubTests
 from model.vaults import seal
 
@@ -44,7 +44,7 @@ FILES = {
     "vault.yml": [sealed("old", text, "prod") for text in (BASE, OURS, THEIRS)],
     "values.yml": [values(b"a", b"b"), values(b"A", b"b"), values(b"a", b"B")],
     "same.yml": [sealed("old", BASE), sealed("old", OURS), seal(PASSWORDS["old"], BASE, b"", SALTS[1])],
-    "torn.yml": [sealed("old", b"x: %s\n" % side) for side in SIDES],
+    "torn.yml": [sealed("old", b"x: %s\n1\n2\n3\n4\ny: %s\n" % (side, side)) for side in SIDES],
     "torn_values.yml": [values(side, b"b") for side in SIDES],
 }
 
@@ -52,14 +52,16 @@ FILES = {
 def test_branches(place: Place) -> None:
     """A single secret decrypts every label. A result that equals ours, byte for byte, counts as merged."""
     done = branches(place, *({name: each[number] for name, each in FILES.items()} for number in range(3)))
-    ended("two conflicts", done, 1, "torn.yml: 1 conflict", "torn_values.yml: 1 conflict")
+    conflicts = (f"{MERGE}: torn.yml: 2 conflicts; resolve with {EDIT}\n", f"{MERGE}: torn_values.yml: 1 conflict;")
+    ended("a merge", done, 1, *conflicts)
     unmerged = place.shell("git diff --name-only --diff-filter=U").stdout
     assert unmerged == "torn.yml\ntorn_values.yml\n", "the other files are merged"
     assert decrypted("old", place.get("vault.yml")) == BOTH, "both changes are in the vault"
     assert place.get("values.yml") == values(b"A", b"B"), "values keep the envelopes of their sides"
     assert place.get("same.yml") == FILES["same.yml"][1]
-    marked = decrypted("old", place.get("torn.yml"))
-    assert marked == b"<<<<<<< ours\nx: ours\n=======\nx: theirs\n>>>>>>> theirs\n", "the markers are within"
+    marked = decrypted("old", place.get("torn.yml")) or b""
+    markers = b"<<<<<<< ours\nx: ours\n=======\nx: theirs\n>>>>>>> theirs\n"
+    assert marked == b"%s1\n2\n3\n4\n%s" % (markers, markers.replace(b"x", b"y")), "the markers are within"
     assert place.get("torn_values.yml").startswith(b"<<<<<<< ours\na: !vault |\n"), "around values are markers"
     assert texts(place.get("torn_values.yml"), "old") == [b"ours", b"theirs", b"b"], "and they stay encrypted"
     checked = place.run(CHECK, *place.by_file("old"), ".")
@@ -70,7 +72,7 @@ def test_branches(place: Place) -> None:
     for name in unmerged.split():
         done = edit(place, TAKE_THEIRS, *place.by_file("old"), name)
         ended(f"{EDIT} {name}", done, 0, "it has git's conflict markers")
-    assert decrypted("old", place.get("torn.yml")) == b"x: theirs\n", "the vault"
+    assert decrypted("old", place.get("torn.yml")) == b"x: theirs\n1\n2\n3\n4\ny: theirs\n", "the vault"
     assert place.get("torn_values.yml") == FILES["torn_values.yml"][2], "the value keeps its envelope"
     silent("the commit", add_and_commit(place))
 
@@ -134,7 +136,7 @@ def test_those_that_fail(place: Place, why: str) -> None:
 
 
 def test_what_fails(place: Place, subtests: SubTests) -> None:
-    """A file is missing, or the tool or git fails."""
+    """A file is missing, or the tool fails."""
     words = [*place.by_file("old"), *versions(place, "a.yml", *OLD)]
     for number in range(2, 5):
         with subtests.test(f"{words[number]} is missing"):
@@ -142,8 +144,6 @@ def test_what_fails(place: Place, subtests: SubTests) -> None:
             ended("the merge", place.run(MERGE, *names), 1, "is missing")
     place.wrap_tool('[ "$1" != encrypt ] || exit 4')
     ended("the tool fails", place.run(MERGE, *words), 1, "ansible-vault ended with status 4")
-    place.wrap_tool("exit 255", "git")
-    ended("git fails", place.run(MERGE, *words), 1, "git merge-file cannot merge it")
     assert place.files() == {"a.yml": OLD[1]}, "ours stays"
 
 
@@ -222,3 +222,25 @@ def test_secrets_of_vaults(tmp_path: Path, monkeypatch: pytest.MonkeyPatch) -> N
             counts["with the base"] += 1
         counts["under a new secret"] += ours.password != theirs.password
     assert min(counts["refused"], counts["with the base"]) > 10 and counts["under a new secret"] == 36, counts
+
+
+def test_secrets_of_values() -> None:
+    """We change a text, and they encrypt it again. It gets their secret if all three versions have one label."""
+    needs("git")
+    needs_pyyaml()
+    made = 0
+    for their_text, vaults in itertools.product((b"text", b"their text"), itertools.product(VAULTS, repeat=3)):
+        rows = zip((b"text", b"our text", their_text), vaults, range(3))
+        merge, tool = Merge(*([Value("a", text, *vault, salt, 10)] for text, vault, salt in rows)), Model()
+        is_refused = merge.ours[0].is_mislabelled() or merge.theirs[0].is_mislabelled()
+        try:
+            content = merged(tool, tool.opened, *merge.documents(SIMPLE)).content
+        except Refused:
+            assert is_refused, vaults
+            continue
+        assert not is_refused, vaults
+        for found in blocks_of(content):
+            if found.envelope in tool.made:
+                check_new(merge, tool.made[found.envelope], found.key)
+                made += 1
+    assert made == 6, "those under another secret"

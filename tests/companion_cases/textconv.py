@@ -79,7 +79,6 @@ def test_awkward_names(place: Place) -> None:
 
 # Ways to make git put the differences below the message of a commit.
 VERBOSE = {
-    "commit -v": "git commit -v",
     "a rebase": "git commit -qm one && git -c commit.verbose=true -c sequence.editor='sed -i s/^pick/reword/' "
     "rebase -q -i HEAD~1",
     "another worktree": "git commit -qm one && git worktree add -q ../second HEAD~1 && cp *.yml ../second && "
