@@ -59,9 +59,6 @@ def test_other_hooks(place: Place) -> None:
     assert (hook.parent / "pre-merge-commit").is_symlink(), "the other is installed"
     hook.write_text(f"#!/bin/sh\n{line}\nexit 0\n")
     refused("the line works", again(place, "a.vault.yml", TEXT), "a.vault.yml")
-    done = place.run(HOOK, "--uninstall")
-    ended("it is undone", done, 0, f"{hook}: left alone, since --install did not make it", "pre-merge-commit: removed")
-    assert hook.read_text() == f"#!/bin/sh\n{line}\nexit 0\n", "it stays"
 
 
 def test_moved_programs(place: Place) -> None:
@@ -78,7 +75,8 @@ def test_moved_programs(place: Place) -> None:
     (hooks / "pre-commit").symlink_to("/nowhere/else")
     done = place.run(HOOK, "--install")
     ended("somebody else's link", done, 1, f"{hooks}/pre-commit points to /nowhere/else, which does not exist")
-    ended("it is left", place.run(HOOK, "--uninstall"), 0, "pre-commit: left alone")
+    left = f"{hooks}/pre-commit: left alone, since --install did not make it\n{hooks}/pre-merge-commit: removed\n"
+    ended("it is left", place.run(HOOK, "--uninstall"), 0, left)
     assert os.readlink(hooks / "pre-commit") == "/nowhere/else", "it stays"
 
 

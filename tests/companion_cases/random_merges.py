@@ -302,19 +302,15 @@ def check_new(merge: Merge, made: Value, key: str) -> None:
     raise AssertionError("a text under a password that it was not under")
 
 
-def _has_digits_of(value: Value, before: Value) -> bool:
-    return value._replace(key=before.key, label=before.label, indentation=before.indentation) == before
-
-
 def could_take_back(merge: Merge) -> bool:
     """Return whether one side has put a value under another secret, and the other side has its old digits under another
     label or key, or in a list. Without a conflict, only these digits would be left of the value."""
     for side, other in ((merge.ours, merge.theirs), (merge.theirs, merge.ours)):
+        digits = {(each.text, each.password, each.salt) for each in other}
         for value, before in itertools.product(side, merge.base):
             is_rekeyed = value.key == before.key and value.password != before.password
             is_there = [each.envelope() for each in other if each.key == before.key] == [before.envelope()]
-            has_digits = any(_has_digits_of(each, before) for each in other)
-            if is_rekeyed and has_digits and not is_there:
+            if is_rekeyed and not is_there and (before.text, before.password, before.salt) in digits:
                 return True
     return False
 
