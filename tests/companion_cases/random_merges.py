@@ -78,19 +78,19 @@ class Value(NamedTuple):
         return f"{label} {owner} {closed} {self.indentation} {self.text!r}".encode()
 
 
+def document(values: list[Value], shown: list[bytes]) -> bytes:
+    """Return YAML with these lines in place of the values. Without any, the file is empty."""
+    keyed = [text for value, text in zip(values, shown) if value.key]
+    items = [text for value, text in zip(values, shown) if not value.key]
+    return b"".join([b"start: 1\n", *keyed, b"list:\n", *items] if values else [])
+
+
 class Layout(NamedTuple):
-    """The style of conflicts, the ends of lines, what is below the list, and which versions end their last lines."""
+    """The style of conflicts, the ends of lines, and which versions end their last lines."""
 
     style: str
     end: bytes
-    tail: bytes
     are_ended: tuple[bool, bool, bool]
-
-    def document(self, values: list[Value], shown: list[bytes]) -> bytes:
-        """Return YAML with these lines in place of the values. Without any, the file is empty."""
-        keyed = [text for value, text in zip(values, shown) if value.key]
-        items = [text for value, text in zip(values, shown) if not value.key]
-        return b"".join([b"start: 1\n", *keyed, b"list:\n", *items, self.tail] if values else [])
 
     def written(self, contents: list[bytes]) -> list[bytes]:
         """Return the versions with these ends of lines."""
@@ -99,14 +99,9 @@ class Layout(NamedTuple):
         return [each.replace(b"\n", self.end) for each in ended]
 
 
-SIMPLE = Layout("merge", b"\n", b"end: 1\n", (True, True, True))
-LAYOUTS = st.builds(
-    Layout,
-    st.sampled_from(STYLES),
-    st.sampled_from(ENDS),
-    st.sampled_from([b"end: 1\n", b""]),
-    st.tuples(*[st.sampled_from([True, True, False])] * 3),
-)
+SIMPLE = Layout("merge", b"\n", (True, True, True))
+ARE_ENDED = st.tuples(*[st.sampled_from([True, True, False])] * 3)
+LAYOUTS = st.builds(Layout, st.sampled_from(STYLES), st.sampled_from(ENDS), ARE_ENDED)
 
 
 class Merge(NamedTuple):
@@ -115,7 +110,7 @@ class Merge(NamedTuple):
     theirs: list[Value]
 
     def documents(self, layout: Layout) -> list[bytes]:
-        return layout.written([layout.document(values, [value.block() for value in values]) for values in self])
+        return layout.written([document(values, [value.block() for value in values]) for values in self])
 
     def plain(self, layout: Layout, numbers: list[list[int]]) -> list[bytes]:
         """Return the versions with plaintexts, each with its number among equal ones, and with a line that separates it
@@ -123,7 +118,7 @@ class Merge(NamedTuple):
         contents = []
         for values, own in zip(self, numbers):
             rows = [(value.head(), value.known_by(), each, value.key.encode()) for value, each in zip(values, own)]
-            contents.append(layout.document(values, [b"%s%s %d\n# %s\n" % row for row in rows]))
+            contents.append(document(values, [b"%s%s %d\n# %s\n" % row for row in rows]))
         return layout.written(contents)
 
 
