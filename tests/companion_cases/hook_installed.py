@@ -19,7 +19,7 @@ MARKS = "diff=ansible-vault merge=ansible-vault"
 DIFF, DRIVER = SETTINGS = ["diff.ansible-vault.textconv", "merge.ansible-vault.driver"]
 
 
-def installs(what: str, done: Done, hooks: Path, told: str = "installed", which: str = THIS_ONE) -> None:
+def installs(what: str, done: Done, hooks: Path, told: str, which: str = THIS_ONE) -> None:
     """Check that the output says what was installed where, for which repositories, and what was not."""
     lines = [*(f"{hooks}/{name}: {told}" for name in NAMES), which]
     found = done.stdout.splitlines()
@@ -27,15 +27,30 @@ def installs(what: str, done: Done, hooks: Path, told: str = "installed", which:
     assert found[3].startswith(NO_SECRETS) and found[4] == UNMARKED, what
 
 
-def test_installed(place: Place) -> None:
-    """One installation is for all worktrees, from any of them."""
+# What is said of the repositories, and the file of git's setting for the directory of the hooks, if there is any.
+PATHS = {
+    THIS_ONE: "",
+    f"{THIS_ONE}: core.hooksPath is set by .git/config": ".git/config",
+    "git runs these hooks for every repository of this user: core.hooksPath is set by {}/global": "{}/global",
+    "git runs these hooks for every repository on this machine: core.hooksPath is set by {}/system": "{}/system",
+}
+
+
+@pytest.mark.parametrize("which, file", PATHS.items())
+def test_installed(place: Place, which: str, file: str) -> None:
+    """One installation is for all worktrees, from any of their directories."""
     under_git(place, ATTRIBUTES)
-    hooks = place.tree / ".git/hooks"
     add_and_commit(place)
-    place.shell("git worktree add -q ../second")
+    place.shell("git worktree add -q ../second && mkdir inner ../settings")
+    settings, hooks = f"{place.path}/settings", place.path / "hooks" if file else place.tree / ".git/hooks"
+    place.environment |= {"GIT_CONFIG_GLOBAL": f"{settings}/global", "GIT_CONFIG_SYSTEM": f"{settings}/system"}
+    if file:
+        # A relative path starts at the top directory of the repository.
+        given = "../hooks" if file == ".git/config" else str(hooks)
+        place.run("git", "config", "--file", file.format(settings), "core.hooksPath", given)
     for told in ("installed", "already installed"):
-        installs(told, place.run(HOOK, "--install", folder="../second"), hooks, told)
-    assert {os.path.realpath(hooks / name) for name in NAMES} == {os.path.realpath(place.tools / HOOK)}
+        installs(told, place.run(HOOK, "--install", folder="inner"), hooks, told, which.format(settings))
+    assert all((hooks / name).is_symlink() for name in NAMES)
     for folder in (".", "../second"):
         place.put(f"{folder}/a.vault.yml", TEXT)
         done = place.shell("git add -A && git commit -qm change", folder=folder)
@@ -78,32 +93,6 @@ def test_moved_programs(place: Place) -> None:
     left = f"{hooks}/pre-commit: left alone, since --install did not make it\n{hooks}/pre-merge-commit: removed\n"
     ended("it is left", place.run(HOOK, "--uninstall"), 0, left)
     assert os.readlink(hooks / "pre-commit") == "/nowhere/else", "it stays"
-
-
-# For which repositories a setting of git chooses the directory of the hooks, and the file of the setting.
-PATHS = {
-    "this repository and its worktrees": ".git/config",
-    "every repository of this user": "{settings}/global",
-    "every repository on this machine": "{settings}/system",
-}
-
-
-@pytest.mark.parametrize("whose", PATHS)
-def test_hooks_path(place: Place, whose: str) -> None:
-    under_git(place, ATTRIBUTES)
-    settings, hooks = place.path / "settings", place.path / "hooks"
-    settings.mkdir()
-    place.environment |= {"GIT_CONFIG_GLOBAL": f"{settings}/global", "GIT_CONFIG_SYSTEM": f"{settings}/system"}
-    file = PATHS[whose].format(settings=settings)
-    # A relative path starts at the top directory of the repository.
-    given = "../hooks" if file == ".git/config" else hooks
-    place.shell(f"git config --file {file} core.hooksPath {given} && mkdir inner")
-    which = f"git runs these hooks for {whose}: core.hooksPath is set by {file}"
-    installs(whose, place.run(HOOK, "--install", folder="inner"), hooks, which=which)
-    refused("they run", again(place, "inner/a.vault.yml", TEXT), "inner/a.vault.yml")
-    assert sorted(os.listdir(hooks)) == NAMES
-    assert place.run(HOOK, "--uninstall").returncode == 0
-    assert os.listdir(hooks) == [], "they are removed from there"
 
 
 def test_drivers(place: Place) -> None:
