@@ -52,14 +52,15 @@ FILES = {
 
 def test_branches(place: Place) -> None:
     """A single secret decrypts every label. A result that equals ours, byte for byte, counts as merged."""
-    done = branches(place, *({name: each[number] for name, each in FILES.items()} for number in range(3)))
+    base, ours, theirs = ({name: each[number] for name, each in FILES.items()} for number in range(3))
+    done = branches(place, base, ours, theirs)
     conflicts = (f"{MERGE}: torn.yml: 2 conflicts; resolve with {EDIT}\n", f"{MERGE}: torn_values.yml: 1 conflict;")
     ended("a merge", done, 1, *conflicts)
     unmerged = place.shell("git diff --name-only --diff-filter=U").stdout
     assert unmerged == "torn.yml\ntorn_values.yml\n", "the other files are merged"
     assert decrypted("old", place.get("vault.yml")) == BOTH, "both changes are in the vault"
     assert place.get("values.yml") == values(b"A", b"B"), "values keep the envelopes of their sides"
-    assert place.get("same.yml") == FILES["same.yml"][1]
+    assert place.get("same.yml") == ours["same.yml"]
     marked = decrypted("old", place.get("torn.yml")) or b""
     markers = b"<<<<<<< ours\nx: ours\n=======\nx: theirs\n>>>>>>> theirs\n"
     assert marked == b"%s1\n2\n3\n4\n%s" % (markers, markers.replace(b"x", b"y")), "the markers are within"
@@ -74,7 +75,7 @@ def test_branches(place: Place) -> None:
         done = edit(place, TAKE_THEIRS, *place.by_file("old"), name)
         ended(f"{EDIT} {name}", done, 0, "it has git's conflict markers")
     assert decrypted("old", place.get("torn.yml")) == b"x: theirs\n1\n2\n3\n4\ny: theirs\n", "the vault"
-    assert place.get("torn_values.yml") == FILES["torn_values.yml"][2], "the value keeps its envelope"
+    assert place.get("torn_values.yml") == theirs["torn_values.yml"], "the value keeps its envelope"
     silent("the commit", add_and_commit(place))
 
 
@@ -103,6 +104,7 @@ NO_SIDE = "git can merge its lines, but the result has a value"
 REFUSED: dict[str, Sequence[bytes]] = {
     "base: no secret decrypts this vault (no label; ": [sealed("dev2"), *OLD[1:]],
     "theirs: no secret decrypts this vault (no label; ": [*OLD[:2], sealed("dev2", THEIRS)],
+    "theirs: vault header line is malformed": [*OLD[:2], b"$ANSIBLE_VAULT;1.1\n"],
     "one side is a vault and the other is not": [*OLD[:2], THEIRS],
     "both sides changed its secret, and the new secrets differ": [sealed(name) for name in ("old", "new", "prod2")],
     "git merge-file cannot merge it; it may be binary": [sealed("old", b"\0%d" % number) for number in range(3)],
