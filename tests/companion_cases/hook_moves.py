@@ -82,7 +82,7 @@ def test_values(place: Place) -> None:
     whys["both.yml"] = whys["both.yml"].replace(" was ", " were ")
     before = {f"{what}.yml": content for what, (content, _, _) in LEAKS.items()}
     after = {f"{what}.yml": content for what, (_, content, _) in LEAKS.items()}
-    leaked("each is refused", after_change(place, before, after), whys)
+    leaked("each is refused", after_change(place, before, after), dict(sorted(whys.items())))
 
 
 def test_harmless_values(place: Place) -> None:
