@@ -74,6 +74,8 @@ def test_other_hooks(place: Place) -> None:
     assert (hook.parent / "pre-merge-commit").is_symlink(), "the other is installed"
     hook.write_text(f"#!/bin/sh\n{line}\nexit 0\n")
     refused("the line works", again(place, "a.vault.yml", TEXT), "a.vault.yml")
+    ended("it is left", place.run(HOOK, "--uninstall"), 0, f"{hook}: left alone, since --install did not make it\n")
+    assert hook.read_text() == f"#!/bin/sh\n{line}\nexit 0\n", "it stays"
 
 
 def test_moved_programs(place: Place) -> None:
