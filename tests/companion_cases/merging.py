@@ -14,9 +14,9 @@ from ansible_vault_companions.merging.texts import merged
 from ansible_vault_companions.program import Refused
 from companion_cases import CHECK, EDIT, HOOK, MERGE, PASSWORDS, TEXT, Done, Place, block, decrypted, edit
 from companion_cases import ended, lines_of, sealed, silent, texts, versions
-from companion_cases.random_merges import LABELS, SIMPLE, STYLES, Merge, Model, Value, blocks_of, check_new
+from companion_cases.random_merges import LABELS, SIMPLE, Merge, Model, Value, blocks_of, check_new
 from companion_cases.repository import BASE, BOTH, NOT_MERGED, OURS, SALTS, THEIRS, add_and_commit, commit, fork
-from companion_cases.repository import by_git, repository, set_driver, under_git
+from companion_cases.repository import repository, set_driver, under_git
 from lib.needs import needs, needs_pyyaml
 from lib.subtests import SubTests
 from model.vaults import seal
@@ -179,37 +179,15 @@ def test_not_merged(place: Place, secret: str, tool: str) -> None:
     assert decrypted("new", place.get("a.yml")) == BOTH, "both changes are there"
 
 
-FILLER = b"f: 1\ng: 2\nh: 3\ni: 4\n"
-# Base, ours and theirs.
-TEXTS = {
-    "each side": [b"a: 1\n" + FILLER + b"b: 1\n", b"a: 2\n" + FILLER + b"b: 1\n", b"a: 1\n" + FILLER + b"b: 2\n"],
-    "two conflicts": [b"a: 1\n" + FILLER + b"b: 1\n", b"a: 2\n" + FILLER + b"b: 2\n", b"a: 3\n" + FILLER + b"b: 3\n"],
-    "an unfinished last line": [FILLER + b"b: 1", FILLER + b"b: 1\n", FILLER + b"b: 3"],
-    "one side is empty": [b"a: 1\r\n", b"", b"a: 2\r\n"],
-    # These lines are outside of the conflict, or within it in the style diff3.
-    "what both have": [b"a: 1\r\n", b"x: 1\r\na: 2\r\ny: 1\r\n", b"x: 1\r\na: 3\r\ny: 1\r\n"],
-}
-
-
-@pytest.mark.parametrize("what", TEXTS)
-@pytest.mark.parametrize("style", STYLES)
-def test_styles(tmp_path: Path, monkeypatch: pytest.MonkeyPatch, style: str, what: str) -> None:
-    needs("git")
-    folder = repository(tmp_path / "styles", style)
-    monkeypatch.chdir(folder)
-    base, ours, theirs = TEXTS[what]
-    assert merged_lines(ours, base, theirs) == by_git(folder, TEXTS[what])
-
-
 @pytest.mark.parametrize("count", (0, 1, 127, 128, 256))
 def test_counts(count: int) -> None:
     """The exit status of git counts up to 127 conflicts, and tells them from a failure."""
-    lines = b"%d %s\n" + FILLER + b"\n"
+    lines = b"%d %s\n" + b"between\n" * 5
     sides = [b"".join(lines % (number, side) for number in range(count)) for side in SIDES]
     found = merged_lines(*sides)
     assert (found.conflicts, found.content.count(b"\n=======\n")) == (min(count, 127), count)
     with pytest.raises(Refused, match="it may be binary"):
-        merged_lines(*(each + b"\0" for each in sides))
+        merged_lines(*(b"\0" + each for each in sides))
 
 
 # Vaults by their labels and passwords.
