@@ -1,22 +1,18 @@
 """The check and the hook in every kind of clone, and after every operation of git in which the merge driver fails."""
 
 import os
-from pathlib import Path
 
 import pytest
 
+from ansible_vault_companions.git import repositories
 from companion_cases import CHECK, HOOK, TEXT, Place, ended, sealed
 from companion_cases.repository import NOT_MERGED, WHOLE, committed, refused, set_driver, under_git, unmarking
-from ansible_vault_companions.git import repositories
 
 pytestmark = pytest.mark.usefixtures("git")
 
 MARKS = "*.vault.yml diff=ansible-vault\n*.yml merge=ansible-vault\n"
 # The commands that make each kind of clone at `../clone`, from the repository.
 CLONES = {
-    "a repository": "git clone -q . ../clone",
-    "a worktree": "git worktree add -q --detach ../clone",
-    "a moved worktree": "git worktree add -q --detach ../moved && git worktree move ../moved ../clone",
     "a separate folder for git": "git clone -q --separate-git-dir=../kept . ../clone",
     "a submodule": "git init -q ../outer && cd ../outer && "
     "git -c protocol.file.allow=always submodule --quiet add {tree} inner && ln -s outer/inner ../clone",
@@ -24,31 +20,23 @@ CLONES = {
 }
 
 
-@pytest.fixture
-def clone(place: Place, request: pytest.FixtureRequest) -> Path:
+@pytest.mark.parametrize("line", CLONES.values(), ids=CLONES)
+def test_kinds(place: Place, line: str) -> None:
     under_git(place, MARKS)
     place.put("deep/a.vault.yml", sealed("old"))
     place.put("deep/b.vault.yml", TEXT)
-    place.shell("git add -A && git commit -qm one")
-    done = place.shell(CLONES[request.param].format(tree=place.tree))
+    done = place.shell(f"git add -A && git commit -qm one && {line.format(tree=place.tree)}")
     assert done.returncode == 0, done.stderr
-    return Path(os.path.realpath(place.path / "clone"))
-
-
-@pytest.mark.parametrize("clone", CLONES, indirect=True)
-def test_kinds(place: Place, clone: Path) -> None:
-    paths = [str(clone / name) for name in ("x.yml", "deep/b.vault.yml")]
-    wanted = place.shell("git rev-parse --show-toplevel", folder=str(clone / "deep")).stdout.strip()
-    assert list(repositories.by_repository(paths)) == [wanted], "as git sees it"
-    why = f"{CHECK}: ./deep/b.vault.yml: is not encrypted\n"
-    done = place.shell(f"{CHECK} {' '.join(place.by_file('old'))} .", folder=str(clone))
-    ended("the check finds plaintext that is marked", done, 1, why)
-    (clone / "deep/c.vault.yml").write_bytes(TEXT)
-    done = place.shell(f"git add -A && {HOOK}", folder=str(clone))
+    clone = os.path.realpath(place.path / "clone")
+    assert list(repositories.by_repository([f"{clone}/x.yml", f"{clone}/deep/b.vault.yml"])) == [clone]
+    done = place.run(CHECK, *place.by_file("old"), ".", folder=clone)
+    ended("the check finds plaintext that is marked", done, 1, f"{CHECK}: ./deep/b.vault.yml: is not encrypted\n")
+    place.put(f"{clone}/deep/c.vault.yml", TEXT)
+    done = place.shell(f"git add -A && {HOOK}", folder=clone)
     refused("and the hook", done, "deep/c.vault.yml", hint=unmarking("deep/c.vault.yml"))
-    (clone / "deep/a.vault.yml").write_bytes(TEXT)
-    (clone / ".gitattributes").write_bytes(b"")
-    ended("unmarked", place.shell(f"git add -A && {HOOK}", folder=str(clone)), 1, f"deep/a.vault.yml {WHOLE}")
+    place.put(f"{clone}/deep/a.vault.yml", TEXT)
+    place.put(f"{clone}/.gitattributes", b"")
+    ended("unmarked", place.shell(f"git add -A && {HOOK}", folder=clone), 1, f"deep/a.vault.yml {WHOLE}")
 
 
 # Makes changes that the driver cannot merge, since it does not know the secret. Each operation meets them.
@@ -61,38 +49,33 @@ seal unknown2 && git checkout -q ours
 """
 OPERATIONS = {
     "merge": "git merge theirs",
-    "merge --squash": "git merge --squash theirs",
-    "cherry-pick": "git cherry-pick theirs",
     "cherry-pick of two": "git cherry-pick theirs~1 theirs",
     "revert": "git revert --no-edit undone^2",
     "rebase": "git checkout -q theirs && git rebase -q ours",
-    "rebase --apply": "git checkout -q theirs && git rebase -q --apply ours",
     "am": "git format-patch -q -1 --output-directory .. theirs && git am -q -3 ../0001*",
     "stash": "git checkout -q base && cp ../unknown2.yml a.yml && git stash -q && git checkout -q ours; git stash pop",
 }
 
 
-@pytest.mark.parametrize("what", OPERATIONS)
-def test_failed_drivers(place: Place, what: str) -> None:
+@pytest.mark.parametrize("line", OPERATIONS.values(), ids=OPERATIONS)
+def test_failed_drivers(place: Place, line: str) -> None:
     """A file with only our side is refused after each operation, until the user resets it or commits on purpose."""
     under_git(place, MARKS)
     set_driver(place, *place.by_file("old"))
     for name in ("base", "undone", "ours", "unknown1", "unknown2"):
         secret = "new" if name.startswith("unknown") else "old"
-        (place.path / f"{name}.yml").write_bytes(sealed(secret, name.encode()))
-    done = place.shell(FORK)
-    assert done.returncode == 0, done
-    done = place.shell(OPERATIONS[what])
-    assert "a.yml: not merged, so ours stays as it was" in done.stderr, (what, done)
+        place.put(f"../{name}.yml", sealed(secret, name.encode()))
+    done = place.shell(f"{FORK}{line}")
+    assert "a.yml: not merged, so ours stays as it was" in done.stderr, done
     check = [CHECK, *place.by_file("old"), *place.by_file("new"), "a.yml"]
-    ended(f"{what}: the check", place.run(*check), 1, f"{CHECK}: a.yml: {NOT_MERGED}\n")
-    ended(f"{what}: the hook", place.shell(f"git add -A; {HOOK}"), 1, f"{HOOK}: a.yml {NOT_MERGED}\n")
-    ended(f"{what}: the check again", place.run(*check), 1, f"{CHECK}: a.yml: {NOT_MERGED}\n")
+    ended("the check", place.run(*check), 1, f"{CHECK}: a.yml: {NOT_MERGED}\n")
+    ended("the hook", place.shell(f"git add -A; {HOOK}"), 1, f"{HOOK}: a.yml {NOT_MERGED}\n")
+    ended("the check of what is staged", place.run(*check), 1, f"{CHECK}: a.yml: {NOT_MERGED}\n")
     place.shell("cp -r . ../given-up && cd ../given-up && git reset -q --hard")
     place.shell("git commit -qm meant --no-verify --allow-empty")
     for folder in (".", "../given-up"):
         done = place.shell(f"echo c: 1 > c.yml; git add -A; {HOOK} && {' '.join(check)}", folder=folder)
-        assert (done.returncode, done.stderr) == (0, ""), f"{what}: afterwards in {folder}"
+        assert (done.returncode, done.stderr) == (0, ""), f"afterwards in {folder}"
 
 
 def test_two_merge_bases(place: Place) -> None:
@@ -105,8 +88,7 @@ def test_two_merge_bases(place: Place) -> None:
     place.shell(f"git merge -q --no-edit {one} && git branch first && git checkout -q {one}")
     place.shell(f"git merge -q --no-edit {two} && git rm -q one.yml two.yml && git commit -qm removed")
     assert len(place.shell("git merge-base --all first HEAD").stdout.split()) == 2
-    committed(place, "one.yml", TEXT)
+    place.put("one.yml", TEXT)
     committed(place, "two.yml", TEXT)
-    done = place.run(HOOK, "--since", "first")
-    for name, base in (("one.yml", one), ("two.yml", two)):
-        ended(name, done, 1, f"{name} is not a vault, but was one in {base[:10]}\n")
+    leaks = [f"{name}.yml is not a vault, but was one in {base[:10]}\n" for name, base in (("one", one), ("two", two))]
+    ended("each is compared", place.run(HOOK, "--since", "first"), 1, *leaks)

@@ -12,33 +12,28 @@ ATTRIBUTES = "*.vault.yml diff=ansible-vault\n"
 
 
 def test_every_file(place: Place) -> None:
-    """A pipeline checks commits that no hook saw."""
+    """A pipeline checks commits that no hook saw. Only the commit counts, not the index or the files."""
     under_git(place, ATTRIBUTES)
-    committed(place, "a.vault.yml", sealed("old"))
-    committed(place, "vars.yml", block("old"))
-    committed(place, "deep/b.vault.yml", block("old"))
-    silent("all is well", place.run(HOOK, "--all"))
-    committed(place, "deep/c.vault.yml", TEXT)
-    committed(place, "other.yml", TEXT)
     (place.tree / "link.vault.yml").symlink_to("other.yml")
+    place.put("other.yml", TEXT)
+    place.put("deep/a.vault.yml", block("old"))
+    committed(place, "vars.yml", block("old"))
+    silent("all is well", place.run(HOOK, "--all"))
+    committed(place, "deep/a.vault.yml", TEXT)
     committed(place, "vars.yml", b"secret: plain\n")
-    names = ("deep/c.vault.yml", "vars.yml")
-    done = place.shell(f"{HOOK} --all", folder="deep")
-    lines = [f"{HOOK}: deep/c.vault.yml is not encrypted", f"{HOOK}: vars.yml {IN_PART.format('secret')}"]
-    lines.append(meant("vars.yml"))
-    assert (done.returncode, done.stderr.splitlines()) == (1, lines), "each is refused"
-    # Only the commit counts, not the index or the working tree.
+    names = ["deep/a.vault.yml", "vars.yml"]
     for name in names:
         place.put(name, sealed("old"))
-    place.shell("git add -A")
-    assert place.run(HOOK, "--all").stderr.splitlines() == lines, "what is staged does not count"
-    silent("it is staged still", place.run(HOOK))
-    assert place.shell("git diff --cached --name-only").stdout.split() == list(names), "and the index stays"
+    done = place.shell(f"git add -A && {HOOK} --all", folder="deep")
+    lines = [f"{HOOK}: deep/a.vault.yml is not encrypted", f"{HOOK}: vars.yml {IN_PART.format('secret')}"]
+    assert (done.returncode, done.stderr.splitlines()) == (1, [*lines, meant("vars.yml")]), "each is refused"
+    silent("what is staged", place.run(HOOK))
+    assert place.shell("git diff --cached --name-only").stdout.split() == names, "the index stays"
     place.shell("git commit -qm mended")
     silent("all is well again", place.run(HOOK, "--all"))
 
 
-def test_each_commit(place: Place, subtests: SubTests) -> None:
+def test_each_commit(place: Place) -> None:
     """A leak counts even if a later commit takes it back, since history keeps it."""
     under_git(place, ATTRIBUTES)
     first = committed(place, "vars.yml", sealed("old"))
@@ -51,13 +46,17 @@ def test_each_commit(place: Place, subtests: SubTests) -> None:
     marked = committed(place, "a.vault.yml", TEXT)
     done = place.run(HOOK, "--since", leak)
     refused("one that is marked", done, f"{marked[:10]}: a.vault.yml", hint=unmarking("a.vault.yml"))
-    for word in ("--since=nowhere", "--since=--all"):
-        with subtests.test(word):
-            done = place.run(HOOK, word)
-            ended("no commit", done, 1, f"{HOOK}: {word[8:]} is not a commit in this clone", "`git fetch`")
     place.shell("git checkout -q --orphan empty && git commit -qm one")
     done = place.run(HOOK, "--since", first)
     ended("a first commit", done, 1, "a.vault.yml is not encrypted")
+
+
+@pytest.mark.parametrize("name", ("nowhere", "--all"))
+def test_no_commit(place: Place, name: str) -> None:
+    under_git(place, "")
+    committed(place, "a.yml", TEXT)
+    done = place.run(HOOK, f"--since={name}")
+    ended("no commit", done, 1, f"{HOOK}: {name} is not a commit in this clone", "`git fetch`")
 
 
 def test_attributes_of_each_commit(place: Place) -> None:
@@ -84,8 +83,8 @@ def test_merge_of_several_branches(place: Place) -> None:
     place.shell("git merge -q --no-commit one two")
     place.put("one.yml", TEXT)
     place.put("two.yml", TEXT)
-    place.shell("git add -A")
-    ended("what is staged", place.run(HOOK), 1, f"{HOOK}: one.yml {WHOLE}\n", f"{HOOK}: two.yml {WHOLE}\n")
+    done = place.shell(f"git add -A && {HOOK}")
+    ended("what is staged", done, 1, f"{HOOK}: one.yml {WHOLE}\n", f"{HOOK}: two.yml {WHOLE}\n")
     merged = committed(place, "vars.yml", b"a: 1\n")[:10]
     done = place.run(HOOK, "--since", first)
     leaked("the commit", done, {f"{merged}: one.yml": WHOLE, f"{merged}: two.yml": WHOLE})
@@ -98,14 +97,13 @@ def test_shallow_clones(place: Place, subtests: SubTests) -> None:
     committed(place, "a.yml", TEXT)
     committed(place, "b.yml", TEXT)
     place.shell("git clone -q --depth 1 file://$PWD ../shallow")
-    for words in ("--all", "--since HEAD", "--since origin/HEAD", "--since nowhere"):
-        with subtests.test(words):
-            done = place.shell(f"cd ../shallow && {HOOK} {words}")
+    for words in (["--all"], ["--since", "HEAD"], ["--since", "nowhere"]):
+        with subtests.test(" ".join(words)):
+            done = place.run(HOOK, *words, folder="../shallow")
             ended("the hook", done, 1, "this clone is shallow", "`git fetch --unshallow`", "fetch-depth: 0")
     place.put("../shallow/b.vault.yml", TEXT)
-    done = place.shell(f"cd ../shallow && git add -A && {HOOK}")
-    refused("what is staged in it", done, "b.vault.yml")
-    done = place.shell(f"cd ../shallow && git fetch -q --unshallow && {HOOK} --all")
+    refused("what is staged", place.shell(f"git add -A && {HOOK}", folder="../shallow"), "b.vault.yml")
+    done = place.shell(f"git fetch -q --unshallow && {HOOK} --all", folder="../shallow")
     ended("no longer shallow", done, 1, "a.yml is not a vault, but was one in an earlier commit")
 
 
@@ -116,11 +114,9 @@ def test_partial_clones(place: Place, subtests: SubTests) -> None:
         committed(place, "a.yml", sealed("old", text))
     place.shell("git config uploadpack.allowFilter true")
     place.shell("git clone -q --filter=blob:none file://$PWD ../partial")
-    for words in ("--all", "--since HEAD"):
-        with subtests.test(words):
-            done = place.shell(f"cd ../partial && {HOOK} {words}")
-            ended("the hook", done, 1, "this is a partial clone", "clone again without --filter")
     place.put("../partial/a.yml", TEXT)
-    leaked("what is staged in it", place.shell(f"cd ../partial && git add -A && {HOOK}"), {"a.yml": WHOLE})
-    done = place.shell(f"cd ../partial && git reset -q --soft HEAD~1 && {HOOK}")
-    ended("a content that is missing", done, 1, "this is a partial clone", "clone again without --filter")
+    leaked("what is staged", place.shell(f"git add -A && {HOOK}", folder="../partial"), {"a.yml": WHOLE})
+    for line in (f"{HOOK} --all", f"{HOOK} --since HEAD", f"git reset -q --soft HEAD~1 && {HOOK}"):
+        with subtests.test(line):
+            done = place.shell(line, folder="../partial")
+            ended("contents are missing", done, 1, "this is a partial clone", "clone again without --filter")

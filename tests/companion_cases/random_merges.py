@@ -1,8 +1,7 @@
 """Random merges of YAML, without a process for each envelope.
 
-There are only a few texts, so many values are equal. A side may contain whatever somebody who knows one password can
-commit: other labels, copied envelopes, guessed texts. The result must be git's merge of the plaintexts, in each style
-of conflicts and with each kind of line end.
+There are only a few texts, so many values are equal. The result must be git's merge of the plaintexts, in each style of
+conflicts and with each kind of line end. `merging` and `attacked` show what becomes of other people's secrets.
 """
 
 import functools
@@ -10,7 +9,7 @@ import itertools
 import os
 import re
 from collections import Counter, defaultdict
-from collections.abc import Iterator
+from contextlib import suppress
 from pathlib import Path
 from typing import NamedTuple
 
@@ -20,6 +19,7 @@ from hypothesis import strategies as st
 
 from ansible_vault_companions.files.envelopes import label_of
 from ansible_vault_companions.merging import texts
+from ansible_vault_companions.merging.alignment import aligned
 from ansible_vault_companions.program import Refused
 from ansible_vault_companions.secrets import labels
 from ansible_vault_companions.secrets.sources import Secret
@@ -35,8 +35,7 @@ UNNAMED = "dev2"
 TEXTS = [b"x", b"y\n", b"two\nlines\n"]
 INDENTATIONS = [4, 10, 10]
 ITEM = ""
-HONEST = ["text", "encrypted anew", "rekeyed", "removed", "indented", "added"]
-HOSTILE = ["mislabelled", "relabelled", "copied", "guessed"]
+KINDS = ["text", "encrypted anew", "rekeyed", "removed", "indented", "added", "unlabelled"]
 BLOCK = re.compile(rb"(?m)^((?:\w+:|  -) )!vault \|\r?\n((?: +\S+(?:\r?\n|\Z))+)")
 # A value in a plaintext, with its number among equal ones.
 NUMBERED = re.compile(rb"(?m)^(?P<head>(?:\w+:|  -) )(?P<known>.*') (?P<number>\d+)(?=\r?$)")
@@ -45,8 +44,8 @@ BELOW = re.compile(rb"(?m)(?<=\d)\r?\n# \w*(\r?\n|\Z)|^# \w*(?:\r?\n|\Z)")
 STYLES, ENDS = ["merge", "diff3", "zdiff3"], [b"\n", b"\r\n"]
 EXAMPLES = 900
 # The least number of merges of each kind, of changes of each kind, and of conflicts in each layout.
-LEAST: dict[object, int] = {"merged": 100, "conflicts": 15, "refused": 8, "under a new secret": 4, "equal items": 60}
-LEAST |= dict.fromkeys(HONEST + HOSTILE, 8) | dict.fromkeys(itertools.product(STYLES, ENDS), 3)
+LEAST: dict[object, int] = {"merged": 100, "conflicts": 15, "under a new secret": 4, "equal items": 60}
+LEAST |= dict.fromkeys(KINDS, 8) | dict.fromkeys(itertools.product(STYLES, ENDS), 3)
 
 
 class Value(NamedTuple):
@@ -79,19 +78,19 @@ class Value(NamedTuple):
         return f"{label} {owner} {closed} {self.indentation} {self.text!r}".encode()
 
 
+def document(values: list[Value], shown: list[bytes]) -> bytes:
+    """Return YAML with these lines in place of the values. Without any, the file is empty."""
+    keyed = [text for value, text in zip(values, shown) if value.key]
+    items = [text for value, text in zip(values, shown) if not value.key]
+    return b"".join([b"start: 1\n", *keyed, b"list:\n", *items] if values else [])
+
+
 class Layout(NamedTuple):
-    """The style of conflicts, the ends of lines, what is below the list, and which versions end their last lines."""
+    """The style of conflicts, the ends of lines, and which versions end their last lines."""
 
     style: str
     end: bytes
-    tail: bytes
     are_ended: tuple[bool, bool, bool]
-
-    def document(self, values: list[Value], shown: list[bytes]) -> bytes:
-        """Return YAML with these lines in place of the values. Without any, the file is empty."""
-        keyed = [text for value, text in zip(values, shown) if value.key]
-        items = [text for value, text in zip(values, shown) if not value.key]
-        return b"".join([b"start: 1\n", *keyed, b"list:\n", *items, self.tail] if values else [])
 
     def written(self, contents: list[bytes]) -> list[bytes]:
         """Return the versions with these ends of lines."""
@@ -100,14 +99,9 @@ class Layout(NamedTuple):
         return [each.replace(b"\n", self.end) for each in ended]
 
 
-SIMPLE = Layout("merge", b"\n", b"end: 1\n", (True, True, True))
-LAYOUTS = st.builds(
-    Layout,
-    st.sampled_from(STYLES),
-    st.sampled_from(ENDS),
-    st.sampled_from([b"end: 1\n", b""]),
-    st.tuples(*[st.sampled_from([True, True, False])] * 3),
-)
+SIMPLE = Layout("merge", b"\n", (True, True, True))
+ARE_ENDED = st.tuples(*[st.sampled_from([True, True, False])] * 3)
+LAYOUTS = st.builds(Layout, st.sampled_from(STYLES), st.sampled_from(ENDS), ARE_ENDED)
 
 
 class Merge(NamedTuple):
@@ -116,7 +110,7 @@ class Merge(NamedTuple):
     theirs: list[Value]
 
     def documents(self, layout: Layout) -> list[bytes]:
-        return layout.written([layout.document(values, [value.block() for value in values]) for values in self])
+        return layout.written([document(values, [value.block() for value in values]) for values in self])
 
     def plain(self, layout: Layout, numbers: list[list[int]]) -> list[bytes]:
         """Return the versions with plaintexts, each with its number among equal ones, and with a line that separates it
@@ -124,7 +118,7 @@ class Merge(NamedTuple):
         contents = []
         for values, own in zip(self, numbers):
             rows = [(value.head(), value.known_by(), each, value.key.encode()) for value, each in zip(values, own)]
-            contents.append(layout.document(values, [b"%s%s %d\n# %s\n" % row for row in rows]))
+            contents.append(document(values, [b"%s%s %d\n# %s\n" % row for row in rows]))
         return layout.written(contents)
 
 
@@ -141,23 +135,26 @@ def numberings(known: list[bytes], envelopes: list[bytes]) -> list[list[int]]:
     return ways[min(ways)]
 
 
-def numbered(merge: Merge) -> Iterator[list[list[int]]]:
-    """Yield the numbers of all values in each version, in every way. Only their envelopes tell equal values apart."""
+ENVELOPES = st.lists(st.sampled_from([b"a", b"b", b"c"]), max_size=5)
+
+
+@hypothesis.settings(max_examples=300, deadline=None, database=None)
+@hypothesis.given(ENVELOPES, ENVELOPES)
+def test_alignment(known: list[bytes], envelopes: list[bytes]) -> None:
+    assert aligned(known, envelopes) in numberings(known, envelopes)
+
+
+def numbered(merge: Merge) -> list[list[int]]:
+    """Return the number of each value among equal ones, in each version. Only their envelopes tell them apart."""
     known: dict[tuple[str, bytes], list[bytes]] = {}
-    ways = []
-    for version, values in enumerate(merge):
-        equal: dict[tuple[str, bytes], list[int]] = defaultdict(list)
-        for place, value in enumerate(values):
-            equal[value.key, value.known_by()].append(place)
-        for what, places in equal.items():
-            envelopes = [values[place].envelope() for place in places]
-            found = numberings(known.setdefault(what, envelopes), envelopes)
-            ways.append([(version, dict(zip(places, way))) for way in found])
-    for chosen in itertools.product(*ways):
-        numbers: list[dict[int, int]] = [{}, {}, {}]
-        for version, way in chosen:
-            numbers[version].update(way)
-        yield [[each[place] for place in sorted(each)] for each in numbers]
+    found = []
+    for values in merge:
+        equal: dict[tuple[str, bytes], list[bytes]] = defaultdict(list)
+        for value in values:
+            equal[value.key, value.known_by()].append(value.envelope())
+        numbers = {what: iter(aligned(known.setdefault(what, each), each)) for what, each in equal.items()}
+        found.append([next(numbers[value.key, value.known_by()]) for value in values])
+    return found
 
 
 @functools.cache
@@ -172,8 +169,9 @@ class Model(Tool):
     """Replaces the program by the model of the tests."""
 
     def __init__(self) -> None:
-        self.salts = itertools.cycle(SALTS)
-        self.made: set[bytes] = set()
+        self.salts = itertools.cycle(range(len(SALTS)))
+        # The new values, by their envelopes.
+        self.made: dict[bytes, Value] = {}
 
     def view(self, envelope: bytes, secret: Secret) -> bytes:
         text = decrypted(secret.path, envelope)
@@ -183,28 +181,20 @@ class Model(Tool):
 
     def opened(self, envelope: bytes) -> tuple[Secret, bytes]:
         for secret in labels.in_order([*map(secret_of, LABELS)], label_of(envelope)):
-            text = decrypted(secret.path, envelope)
-            if text is not None:
-                return secret, text
+            with suppress(Refused):
+                return secret, self.view(envelope, secret)
         raise Refused("no secret decrypts this vault")
 
     def encrypt(self, plaintext: bytes, secret: Secret, label: str) -> bytes:
-        shown = b"" if label == "default" else label.encode()
-        envelope = seal(PASSWORDS[secret.path], plaintext, shown, next(self.salts))
-        self.made.add(envelope)
-        return envelope
+        value = Value("", plaintext, "" if label == "default" else label, secret.path, next(self.salts), 0)
+        self.made[value.envelope()] = value
+        return value.envelope()
 
 
-class Wanted(NamedTuple):
-    """A possible merge: a plaintext, the number of conflicts, and the possible blocks for each value."""
-
-    text: bytes
-    conflicts: int
-    blocks: list[set[bytes]]
-
-
-def wanted(folder: Path, merge: Merge, layout: Layout, numbers: list[list[int]]) -> Wanted:
-    """Return the wanted merge. A value that at most one side has touched must keep every byte."""
+def wanted(folder: Path, merge: Merge, layout: Layout) -> tuple[bytes, int, list[set[bytes]]]:
+    """Return the merge of the plaintexts, the number of conflicts, and the possible blocks for each value. A value that
+    at most one side has touched must keep every byte."""
+    numbers = numbered(merge)
     text, conflicts = by_git(folder, merge.plain(layout, numbers))
     text = BELOW.sub(rb"\1", text)
     pairs = [zip(values, each) for values, each in zip(merge, numbers)]
@@ -214,16 +204,16 @@ def wanted(folder: Path, merge: Merge, layout: Layout, numbers: list[list[int]])
         before, ours, theirs = (each.get((found["head"], found["known"], int(found["number"]))) for each in at)
         sides = {theirs if before == ours else ours, ours if before == theirs else theirs} if ours and theirs else set()
         blocks.append(sides or {each for each in (ours, theirs) if each})
-    return Wanted(NUMBERED.sub(rb"\g<head>\g<known>", text), conflicts, blocks)
+    return NUMBERED.sub(rb"\g<head>\g<known>", text), conflicts, blocks
 
 
 @st.composite
 def random_value(draw: st.DrawFn, key: str) -> Value:
     password = draw(st.sampled_from(["dev", "prod", "prod", "prod2", "old", "new", UNNAMED]))
     own = LABELS.get(password, "dev")
-    label = draw(st.sampled_from([own, own, own, "", "dev"]))
+    label = draw(st.sampled_from([own, own, own, ""])) if own != "default" else ""
     text, salt = draw(st.sampled_from(TEXTS)), draw(st.sampled_from(range(len(SALTS))))
-    return Value(key, text, "" if label == "default" else label, password, salt, draw(st.sampled_from(INDENTATIONS)))
+    return Value(key, text, label, password, salt, draw(st.sampled_from(INDENTATIONS)))
 
 
 def rekeyed(value: Value) -> Value:
@@ -232,7 +222,7 @@ def rekeyed(value: Value) -> Value:
     return value._replace(password=others[0] if others else value.password)
 
 
-def changed(kind: str, value: Value, other: Value, new: Value) -> list[Value]:
+def changed(kind: str, value: Value, new: Value) -> list[Value]:
     """Return what replaces a value."""
     anew = value._replace(salt=(value.salt + 1) % len(SALTS))
     added = new._replace(key=value.key and f"{value.key}{new.text[:1].decode()}", text=value.text)
@@ -244,10 +234,7 @@ def changed(kind: str, value: Value, other: Value, new: Value) -> list[Value]:
         "removed": [],
         "indented": [value._replace(indentation=new.indentation)],
         "added": [added, value],
-        "mislabelled": [anew._replace(password="dev", text=new.text)],
-        "relabelled": [value._replace(label=new.label)],
-        "copied": [other._replace(key=value.key)],
-        "guessed": [added._replace(label=value.label, password="dev"), value],
+        "unlabelled": [value._replace(label="")],
     }
     return ways[kind]
 
@@ -259,13 +246,12 @@ def random_merge(draw: st.DrawFn, counts: Counter[object]) -> Merge:
     if draw(st.booleans()):
         # Make the items of the list equal. Their envelopes may differ.
         base = [value if value.key else base[keys.index(ITEM)]._replace(salt=value.salt) for value in base]
-    sides: list[list[Value]] = []
-    for kinds in (HONEST, HONEST + HOSTILE * draw(st.sampled_from([0, 2]))):
-        chosen = [draw(st.sampled_from(["", "", "", "text", "rekeyed", *kinds])) for _ in base]
-        counts.update(chosen)
-        others = [(draw(st.sampled_from(base)), draw(random_value(ITEM))) for _ in base]
-        sides.append([each for row in zip(chosen, base, others) for each in changed(row[0], row[1], *row[2])])
-    return Merge(base if draw(st.integers(0, 9)) else [], *(sides if draw(st.booleans()) else reversed(sides)))
+    sides: list[list[Value]] = [[], []]
+    for side, value in itertools.product(sides, base):
+        kind = draw(st.sampled_from(["", "", "", "text", "rekeyed", *KINDS]))
+        side.extend(changed(kind, value, draw(random_value(ITEM))))
+        counts[kind] += 1
+    return Merge(base if draw(st.integers(0, 9)) else [], *sides)
 
 
 class Found(NamedTuple):
@@ -285,52 +271,41 @@ def blocks_of(content: bytes) -> list[Found]:
     return found
 
 
-def in_plaintext(content: bytes, tool: Model, known: dict[bytes, Value]) -> bytes:
+def in_plaintext(content: bytes, known: dict[bytes, Value]) -> bytes:
     """Return a result with what each block is known by in place of the block."""
 
     def shown(found: re.Match[bytes]) -> bytes:
         [each] = blocks_of(found[0])
-        value = known.get(each.envelope)
-        if not value:
-            secret, text = tool.opened(each.envelope)
-            label = label_of(each.envelope) or ""
-            value = Value("", text, "" if label == "default" else label, secret.path, 0, 0)
         indentation = len(found[2]) - len(found[2].lstrip(b" "))
         end = found[0][len(found[0].rstrip(b"\r\n")) :]
-        return found[1] + value._replace(indentation=indentation).known_by() + end
+        return found[1] + known[each.envelope]._replace(indentation=indentation).known_by() + end
 
     return BLOCK.sub(shown, content)
 
 
-def check_new(merge: Merge, tool: Model, found: Found) -> None:
+def check_new(merge: Merge, made: Value, key: str) -> None:
     """Check that a text is under another password only if the other side has put the value under it, by its label."""
-    assert found.envelope in tool.made, "an envelope that no side has"
-    secret, text = tool.opened(found.envelope)
-    before, ours, theirs = ([value for value in values if value.key == found.key] for values in merge)
+    before, ours, theirs = ([value for value in values if value.key == key] for values in merge)
     for [mine], [other] in ((ours, theirs), (theirs, ours)):
-        is_of_side = (mine.text, mine.password) == (text, before[0].password)
-        is_rekeyed = (other.text, other.password) == (before[0].text, secret.path)
+        is_of_side = (mine.text, mine.password) == (made.text, before[0].password)
+        is_rekeyed = (other.text, other.password) == (before[0].text, made.password)
         all_three = (before[0], mine, other)
-        labels = {value.label for value in all_three} | {label_of(found.envelope) or ""} - {"default"}
+        labels = {value.label for value in (*all_three, made)}
         owners = {LABELS[value.password] for value in all_three}
         if is_of_side and is_rekeyed and len(labels) == len(owners) == 1 and not mine.is_mislabelled():
             return
     raise AssertionError("a text under a password that it was not under")
 
 
-def _has_digits_of(value: Value, before: Value) -> bool:
-    return value._replace(key=before.key, label=before.label, indentation=before.indentation) == before
-
-
 def could_take_back(merge: Merge) -> bool:
     """Return whether one side has put a value under another secret, and the other side has its old digits under another
     label or key, or in a list. Without a conflict, only these digits would be left of the value."""
     for side, other in ((merge.ours, merge.theirs), (merge.theirs, merge.ours)):
+        digits = {(each.text, each.password, each.salt) for each in other}
         for value, before in itertools.product(side, merge.base):
             is_rekeyed = value.key == before.key and value.password != before.password
             is_there = [each.envelope() for each in other if each.key == before.key] == [before.envelope()]
-            has_digits = any(_has_digits_of(each, before) for each in other)
-            if is_rekeyed and has_digits and not is_there:
+            if is_rekeyed and not is_there and (before.text, before.password, before.salt) in digits:
                 return True
     return False
 
@@ -340,34 +315,23 @@ def check_merge(folder: Path, merge: Merge, layout: Layout) -> list[str]:
     import yaml
 
     tool = Model()
-    known = {value.envelope(): value for values in merge for value in values}
-    before = [value.envelope() for value in merge.base]
-    foreign = [each for each in merge.ours + merge.theirs if each.is_mislabelled() and each.envelope() not in before]
-    try:
-        result = texts.merged(tool, tool.opened, *merge.documents(layout))
-    except Refused as fault:
-        assert foreign and "its label is" in str(fault), fault
-        return ["refused"]
-    assert not foreign, "what another label's secret decrypts is refused"
+    result = texts.merged(tool, tool.opened, *merge.documents(layout))
     found = blocks_of(result.content)
     blocks = {value.block() for values in merge for value in values}
     new = [each for each in found if each.block not in blocks]
     for each in new:
-        check_new(merge, tool, each)
+        check_new(merge, tool.made[each.envelope], each.key)
     kinds = ["conflicts" if result.conflicts else "merged", *(["under a new secret"] if new else [])]
     if result.conflicts and could_take_back(merge):
         return kinds
-    ways = [*numbered(merge)]
-    possible = [wanted(folder, merge, layout, numbers) for numbers in ways]
-    made = (in_plaintext(result.content, tool, known), result.conflicts)
-    fitting = [each.blocks for each in possible if made == (each.text, each.conflicts)]
-    assert fitting, "the merge by git"
+    known = tool.made | {value.envelope(): value for values in merge for value in values}
+    text, conflicts, possible = wanted(folder, merge, layout)
+    assert (in_plaintext(result.content, known), result.conflicts) == (text, conflicts), "the merge by git"
     if not result.conflicts:
         yaml.load(result.content, Loader=yaml.BaseLoader)
-        placed = [None if each in new else each.block for each in found]
-        is_right = lambda places: all(block in (None, *place) for block, place in zip(placed, places, strict=True))
-        assert any(map(is_right, fitting)), "the value of the side that changed it"
-    return [*kinds, *(["equal items"] if any(map(any, ways[0])) else [])]
+        pairs = zip(found, possible, strict=True)
+        assert all(each in new or each.block in sides for each, sides in pairs), "the value of the side that changed it"
+    return [*kinds, *(["equal items"] if any(map(any, numbered(merge))) else [])]
 
 
 def test_of_values(request: pytest.FixtureRequest, tmp_path: Path, monkeypatch: pytest.MonkeyPatch) -> None:

@@ -1,8 +1,6 @@
 """Helpers for a tree under git."""
 
-import os
 import subprocess
-from collections.abc import Mapping
 from pathlib import Path
 
 from companion_cases import HOOK, MERGE, Done, Place
@@ -27,8 +25,8 @@ def under_git(place: Place, attributes: str) -> None:
     place.put(".gitattributes", attributes.encode())
 
 
-def commit(place: Place, *words: str, folder: str = ".") -> Done:
-    return place.shell(f"git commit -qm change {' '.join(words)}", folder=folder)
+def commit(place: Place, *words: str) -> Done:
+    return place.run("git", "commit", "-qm", "change", *words)
 
 
 def add_and_commit(place: Place) -> Done:
@@ -51,7 +49,7 @@ def set_driver(place: Place, *secrets: str) -> None:
 
 def refused(what: str, done: Done, *names: str, why: str = "is not encrypted", hint: str = "") -> None:
     """Check that each name is refused with this reason, and with the hint below it."""
-    lines = [line for name in names for line in (f"ansible-vault-hook: {name} {why}", hint) if line]
+    lines = [line for name in names for line in (f"{HOOK}: {name} {why}", hint) if line]
     assert (done.returncode, done.stderr.splitlines()) == (1, lines), what
 
 
@@ -68,8 +66,9 @@ def meant(name: str) -> str:
 def leaked(what: str, done: Done, whys: dict[str, str]) -> None:
     """Check that each file is refused for this reason, and that the hint says what to do if it is intended; without
     any, that nothing is refused."""
-    hints = {name: meant(name.rpartition(": ")[2]) for name in whys}
-    lines = [line for name, why in whys.items() for line in (f"{HOOK}: {name} {why}", hints[name])]
+    lines = []
+    for name, why in whys.items():
+        lines += [f"{HOOK}: {name} {why}", meant(name.rpartition(": ")[2])]
     assert (done.returncode, done.stderr.splitlines()) == (1 if whys else 0, lines), what
 
 
@@ -87,8 +86,7 @@ def again(place: Place, name: str, content: bytes) -> Done:
 def staged(place: Place, name: str, content: bytes) -> Done:
     """Stage this content, and run the hook without a commit."""
     place.put(name, content)
-    place.shell("git add -A")
-    return place.run(HOOK)
+    return place.shell(f"git add -A && {HOOK}")
 
 
 def committed(place: Place, name: str, content: bytes) -> str:
@@ -105,10 +103,10 @@ def repository(folder: Path, style: str) -> Path:
     return folder
 
 
-def by_git(folder: Path, contents: list[bytes], environment: Mapping[str, str] = os.environ) -> tuple[bytes, int]:
+def by_git(folder: Path, contents: list[bytes]) -> tuple[bytes, int]:
     """Merge base, ours and theirs with git. Return the result and the number of conflicts."""
     for name, content in zip(("base", "ours", "theirs"), contents):
         (folder / name).write_bytes(content)
     words = ["-L", "ours", "-L", "base", "-L", "theirs", "ours", "base", "theirs"]
-    done = subprocess.run(["git", "merge-file", "-p", *words], cwd=folder, env=environment, capture_output=True)
+    done = subprocess.run(["git", "merge-file", "-p", *words], cwd=folder, capture_output=True)
     return done.stdout, done.returncode
