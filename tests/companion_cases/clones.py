@@ -5,7 +5,7 @@ import os
 import pytest
 
 from ansible_vault_companions.git import repositories
-from companion_cases import CHECK, HOOK, TEXT, Place, ended, sealed
+from companion_cases import CHECK, HOOK, TEXT, Place, ended, sealed, silent
 from companion_cases.repository import NOT_MERGED, WHOLE, committed, refused, set_driver, under_git, unmarking
 
 pytestmark = pytest.mark.usefixtures("git")
@@ -37,6 +37,24 @@ def test_kinds(place: Place, line: str) -> None:
     place.put(f"{clone}/deep/a.vault.yml", TEXT)
     place.put(f"{clone}/.gitattributes", b"")
     ended("unmarked", place.shell(f"git add -A && {HOOK}", folder=clone), 1, f"deep/a.vault.yml {WHOLE}")
+
+
+def test_sparse(place: Place) -> None:
+    """Attributes count even in a directory that is not checked out."""
+    under_git(place, "")
+    place.put("deep/.gitattributes", MARKS.encode())
+    place.put("deep/a.vault.yml", TEXT)
+    place.put("other/x.yml", b"x: 1\n")
+    place.shell("git add -A && git commit -qm one && git sparse-checkout set other")
+    assert "deep" not in place.names()
+    refused("the hook", place.run(HOOK, "--all"), "deep/a.vault.yml")
+
+
+def test_note_without_an_end(place: Place) -> None:
+    """A note that a full disk cut off is ignored."""
+    under_git(place, "")
+    place.put(".git/ansible-vault-conflicts", b"1" * 40 + b" " + b"2" * 40 + b" 7")
+    silent("the hook", place.run(HOOK))
 
 
 # Makes changes that the driver cannot merge, since it does not know the secret. Each operation meets them.

@@ -57,6 +57,10 @@ def test_leftovers(place: Place) -> None:
     for name in (".ansible-vault-pass", ".ansible-vault-me.py", "ansible-vault-saved-x", ".ansible-vault-abcdefgh.py"):
         place.put(name, TEXT)
     silent("files with other names", add_and_commit(place))
+    place.put(".ansible-vault-saved-$(touch pwned)", TEXT)
+    removing = add_and_commit(place).stderr.splitlines()[1].split("`")[1::2]
+    place.shell(" && ".join(removing))
+    assert [name for name in place.names() if "saved-$" in name or "pwned" in name] == [], "names are quoted"
 
 
 def leftover(name: str) -> list[str]:
@@ -92,6 +96,7 @@ def test_where_it_runs(place: Place) -> None:
 
 DIGITS = sealed("old").partition(b"\n")[2]
 LINES = block("old").splitlines(keepends=True)
+TAGGED = "has plaintext with the tag `!vault` in line {}"
 # What a marked file may not contain, and why.
 CONTENTS = {
     "empty": (b"", "is not encrypted"),
@@ -104,6 +109,9 @@ CONTENTS = {
     "plaintext in a block": (b"".join([*LINES[:3], b" " * 10 + TEXT, *LINES[3:]]), "has a damaged block in line 2"),
     "plaintext below a block": (block("old") + b" " * 10 + TEXT, "has a damaged block in line 2"),
     "a block that ends early": (b"".join([*LINES[:3], b"b: 1\n"]), "has a damaged block in line 2"),
+    "plaintext with the tag": (block("old") + b"b: !vault text\n", TAGGED.format(len(LINES) + 1)),
+    "a literal with the tag": (b"b: !vault |\n  text\n" + block("old"), TAGGED.format(1)),
+    "a text like a header": (b"b: !vault $ANSIBLE_VAULT_PASSWORD=text\n" + block("old"), "has a damaged block in line 1"),
     "conflict markers": (block("old") + b"<<<<<<< HEAD\n=======\nb: 2\n>>>>>>> branch\n", "has git's conflict markers"),
 }
 
@@ -111,6 +119,7 @@ CONTENTS = {
 @pytest.mark.parametrize("content, why", CONTENTS.values(), ids=CONTENTS)
 def test_refused_content(place: Place, content: bytes, why: str) -> None:
     """A marked file needs the digits of an envelope, without conflict markers or plaintext between them."""
+    needs_pyyaml()
     under_git(place, ATTRIBUTES)
     refused("the hook", staged(place, "a.vault.yml", content), "a.vault.yml", why=why)
 
@@ -132,8 +141,9 @@ def test_plain_beside_vaults(place: Place) -> None:
     lines = [f"{HOOK}: group_vars/{name}/vars.yml is not encrypted" for name in ("all", "web")]
     wanted = [lines[0], unmarking("group_vars/all/vars.yml"), lines[1]]
     assert (done.returncode, done.stderr.splitlines()) == (1, wanted), "beside a vault"
-    place.put(".gitattributes", b"group_vars/** diff=ansible-vault\n/group_vars/*/vars.yml !diff !ansible-vault\n")
-    silent("what it says helps", add_and_commit(place))
+    unmarked = b"/group_vars/all/vars.yml !diff !ansible-vault\n/group_vars/web/vars.yml -ansible-vault\n"
+    place.put(".gitattributes", b"group_vars/** diff=ansible-vault\n" + unmarked)
+    silent("what it says helps, and what the manual page says", add_and_commit(place))
 
 
 def test_merges(place: Place) -> None:
@@ -150,8 +160,10 @@ def test_outside_of_git(place: Place, words: list[str]) -> None:
 
 
 # The keys of the hook that say how pre-commit runs it, and those that do not.
+ARGUMENTS = ["--"]
 RUN_AS = {
     "entry": f"companions/{HOOK}",
+    "args": ARGUMENTS,
     "language": "script",
     "always_run": True,
     "require_serial": True,
@@ -172,14 +184,14 @@ def by_framework(place: Place) -> Done:
     """Run it as pre-commit does, in the top directory, with the files of the commit."""
     listed = place.shell("git diff --staged --name-only --no-ext-diff -z --diff-filter=ACMRTUXB").stdout
     files = [name for name in listed.split("\0")[:-1] if not os.path.islink(place.tree / name)]
-    return place.run(str(COMPANIONS / HOOK), *files)
+    return place.run(str(COMPANIONS / HOOK), *ARGUMENTS, *files)
 
 
 def test_pre_commit(place: Place) -> None:
     under_git(place, ATTRIBUTES)
     place.put("a.yml", sealed("old"))
     place.put("b.yml", sealed("new"))
-    place.put("c d.yml", block("old"))
+    place.put("-c d.yml", block("old"))
     place.shell("git add -A")
     silent("vaults", by_framework(place))
     add_and_commit(place)

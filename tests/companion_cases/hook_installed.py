@@ -101,12 +101,13 @@ def test_drivers(place: Place) -> None:
     """With secrets, git diff and git merge work, and the companions expand `~`, whichever shell git runs. After
     --uninstall, everything is as before."""
     under_git(place, f"*.vault.yml {MARKS}\n")
-    (place.secrets / "d@ev").symlink_to(place.secret("dev"))
-    secrets = ["--vault-id", "dev@~/secrets/d@ev", "--vault-password-file", "~/secrets/old"]
+    (place.secrets / "d@%Oev").symlink_to(place.secret("dev"))
+    secrets = ["--vault-id", "dev@~/secrets/d@%Oev", "--vault-password-file", "~/secrets/old"]
     place.put("b.vault.yml", sealed("dev", label="dev"))
     fork(place, *({"a.vault.yml": sealed("old", text)} for text in (BASE, OURS, THEIRS)))
     before = place.get(".git/config")
-    values = [f"{TEXTCONV} {shlex.join(secrets)}", f"{MERGE} {shlex.join(secrets)} %O %A %B %P"]
+    words = shlex.join(secrets)
+    values = [f"{TEXTCONV} {words}", f"{MERGE} {words.replace('%', '%%')} %O %A %B %P"]
     for status in ("set to", "is already"):
         done = place.run(HOOK, "--install", *secrets)
         lines = [f"{setting}: {status} {value}" for setting, value in zip(SETTINGS, values)]
