@@ -11,8 +11,9 @@ import tomllib
 from collections import Counter
 from collections.abc import Callable
 from concurrent.futures import ThreadPoolExecutor
+from functools import partial
 from pathlib import Path
-from typing import Any, NamedTuple, TypeVar
+from typing import Any, TypeVar
 
 import pytest
 
@@ -45,34 +46,29 @@ LEAST_SHARE = 0.0005
 OTHERS = "others"
 
 
-class Run(NamedTuple):
-    command: list[str]
-    stdin: bytes
-    wanted: Done
-
-
 def repeated(line: bytes, length: int) -> bytes:
     return (line * (length // len(line) + 1))[:length]
 
 
-def run_of(cases: Cases, name: str) -> Run:
+def run_of(cases: Cases, name: str) -> tuple[list[str], bytes, Done]:
+    """Return the words of a run, its input, and how it must end."""
     if name == REFUSED:
         header = MAGIC + b";1.1;AES256\n"
         text = header + repeated(b"3" * 80 + b"\n", ENVELOPE_LIMIT + 1 - len(header))
         wanted = Done(Fault.TOO_LONG.status, b"", Fault.TOO_LONG.line)
-        return Run([cases.program, "view", *by_file(cases.file(b"right\n"))], text, wanted)
+        return ["view", *by_file(cases.file(b"right\n"))], text, wanted
     command, _, size = name.partition(", ")
     sample = sample_of(cases, command, repeated(b"secret: value\n", SIZES[size]))
-    return Run([cases.program, *sample.words], sample.stdin, Done(0, sample.output, b""))
+    return sample.words, sample.stdin, Done(0, sample.output, b"")
 
 
-def of_each(cases: Cases, count: Callable[[Run], tuple[Done, Found]]) -> dict[str, Found]:
+def of_each(cases: Cases, count: Callable[[list[str], bytes], tuple[Done, Found]]) -> dict[str, Found]:
     """Return the count of each run. Every run must end as expected."""
 
     def counted(name: str) -> Found:
-        run = run_of(cases, name)
-        done, found = count(run)
-        assert done == run.wanted, f"{name}: {done.status}, {done.message!r}, or another output"
+        words, stdin, wanted = run_of(cases, name)
+        done, found = count([cases.program, *words], stdin)
+        assert done == wanted, f"{name}: {done.status}, {done.message!r}, or another output"
         return found
 
     with ThreadPoolExecutor(WORKERS) as pool:
@@ -80,16 +76,11 @@ def of_each(cases: Cases, count: Callable[[Run], tuple[Done, Found]]) -> dict[st
 
 
 def instructions(cases: Cases) -> dict[str, Counter[str]]:
-    return of_each(cases, lambda run: count_instructions(run.command, run.stdin))
+    return of_each(cases, count_instructions)
 
 
 def allocations(cases: Cases) -> dict[str, Allocations]:
-    library = build_library(str(cases.folder), LIBRARY)
-    return of_each(cases, lambda run: count_allocations(library, run.command, run.stdin))
-
-
-def imports() -> dict[str, int]:
-    return {name: len(imported_modules(path)) for name, path in COMPANIONS.items()}
+    return of_each(cases, partial(count_allocations, build_library(str(cases.folder), LIBRARY)))
 
 
 def table() -> Table:
@@ -201,7 +192,7 @@ def text_of(program: str, cases: Cases) -> str:
         "\n# How many allocations of memory a run makes, and the most bytes at a time.\n[allocations]",
         *(f'"{name}" = {list(number_and_peak[name])}' for name in RUNS),
         "\n# How many modules a companion imports until it prints its help.\n[imports]",
-        *(f"{name} = {count}" for name, count in imports().items()),
+        *(f"{name} = {len(imported_modules(path))}" for name, path in COMPANIONS.items()),
     ]
     for name in RUNS:
         lines += [f'\n[instructions."{name}"]']

@@ -4,7 +4,6 @@ each envelope that it writes.
 Nothing else in a run costs as much: reading the other password files is far below one derivation.
 """
 
-import concurrent.futures
 from collections.abc import Callable
 from typing import NamedTuple
 
@@ -19,7 +18,6 @@ from model.vaults import parts, seal, serialized
 
 pytestmark = pytest.mark.valgrind
 
-WORKERS = 2
 # Ten thousand rounds, each of six compressions with 64 steps, take more instructions than this.
 LEAST_DERIVATION = 10_000 * 6 * 64 * 10
 # What everything else in a run may cost, in derivations.
@@ -61,8 +59,7 @@ def runs(cases: Cases) -> list[Run]:
 def test_derivations(cases: Cases) -> None:
     needs("valgrind")
     every = runs(cases)
-    with concurrent.futures.ThreadPoolExecutor(WORKERS) as pool:
-        counted = list(pool.map(lambda run: count_instructions([cases.program, *run.words], run.stdin), every))
+    counted = [count_instructions([cases.program, *run.words], run.stdin) for run in every]
     answers = {run.name: (done.status, done.output) for run, (done, _) in zip(every, counted)}
     assert answers == {run.name: (run.status, run.output) for run in every}
     # The first two runs give the cost of a start and of one derivation.

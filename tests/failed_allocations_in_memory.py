@@ -11,7 +11,6 @@ message.
 from collections import Counter
 from collections.abc import Callable
 from functools import partial
-from operator import attrgetter
 from typing import NamedTuple
 
 import pytest
@@ -28,7 +27,6 @@ pytestmark = pytest.mark.allocations
 PROGRAM = ROOT / "bin" / "vault_allocation_failures"
 # The content of the file of `--output` before a run.
 KEPT = b"kept\n"
-TO_KEPT = ["--output", "kept"]
 SALT = bytes(32)
 # The plaintext of Ansible's vault.
 TEXT = b"a" * 16
@@ -46,44 +44,41 @@ class Left(NamedTuple):
 
 
 class Run(NamedTuple):
+    """A run as it ends without a refusal, and the ways in which it must end at least once with a refused allocation."""
+
     words: list[str]
     stdin: bytes
     whole: Left
-    # The ways in which a run with a refused allocation must end at least once.
     ways: set[str]
 
-    @property
-    def name(self) -> str:
-        return " ".join(self.words)
 
-
-def commands() -> list[tuple[list[str], bytes, bytes, bytes, Fault]]:
-    """Return the words of each command, an input with its output, and an input with its refusal."""
-    vault = (FIXTURES / "format-1.1.vault").read_bytes()
-    one = ["--vault-password-file", "one"]
-    two = ["--vault-id", "a@two", "--vault-id", "b@one"]
-    sealing = [*one, "--salt-file", "salt"]
-    sealed, rekeyed = seal(b"one", TEXT, salt=SALT), seal(b"two", TEXT, b"prod", SALT)
-    block, no_vault, is_vault = yaml_block(sealed), Fault.NOT_VAULT, Fault.ALREADY_VAULT
-    return [
-        (["view", *two], seal(b"one", TEXT, b"b", SALT), TEXT, b"", no_vault),
-        (["decrypt", *one], vault, TEXT, b"", no_vault),
-        (["rekey", *sealing, "--new-vault-id", "prod@two"], vault, rekeyed, ENVELOPE, Fault.NO_SECRET_FITS),
-        (["encrypt", *sealing], TEXT, sealed, ENVELOPE, is_vault),
-        (["encrypt_string", *sealing], TEXT, block, ENVELOPE, is_vault),
-    ]
+def refused(words: list[str], stdin: bytes, fault: Fault) -> Run:
+    return Run(words, stdin, Left(fault.status, message=fault.line), {MEMORY, LINE})
 
 
 def runs_of(call: str) -> list[Run]:
-    runs = []
-    for words, stdin, output, refused, fault in commands():
-        words = [call, *words]
-        runs.append(Run(words, stdin, Left(0, output), {MEMORY, OUTPUT}))
+    """Return runs of each command: one with an output, one with a file, and one that is refused."""
+    vault = (FIXTURES / "format-1.1.vault").read_bytes()
+    one = ["--vault-password-file", "one"]
+    sealing = [*one, "--salt-file", "salt"]
+    sealed, rekeyed = seal(b"one", TEXT, salt=SALT), seal(b"two", TEXT, b"prod", SALT)
+    whole = [
+        (["view", "--vault-id", "a@two", "--vault-id", "b@one"], seal(b"one", TEXT, b"b", SALT), TEXT),
+        (["decrypt", *one], vault, TEXT),
+        (["rekey", *sealing, "--new-vault-id", "prod@two"], vault, rekeyed),
+        (["encrypt", *sealing], TEXT, sealed),
+        (["encrypt_string", *sealing], TEXT, yaml_block(sealed)),
+    ]
+    runs = [refused([call, "view"], b"", Fault.NOT_VAULT)]
+    for words, stdin, output in whole:
+        runs.append(Run([call, *words], stdin, Left(0, output), {MEMORY, OUTPUT}))
         if call == "drive" and "view" not in words:
-            runs.append(Run([*words, *TO_KEPT], stdin, Left(0, kept=output), {MEMORY, OUTPUT}))
-        runs.append(Run(words, refused, Left(fault.status, message=fault.line), {MEMORY, LINE}))
-    no_vault = Fault.NOT_VAULT
-    runs.append(Run([call, "view"], b"", Left(no_vault.status, message=no_vault.line), {MEMORY, LINE}))
+            runs.append(Run([call, *words, "--output", "kept"], stdin, Left(0, kept=output), {MEMORY, OUTPUT}))
+        if words[0] in ("view", "decrypt"):
+            runs.append(refused([call, *words], b"", Fault.NOT_VAULT))
+        else:
+            fault = Fault.NO_SECRET_FITS if words[0] == "rekey" else Fault.ALREADY_VAULT
+            runs.append(refused([call, *words], ENVELOPE, fault))
     return runs
 
 
@@ -100,22 +95,16 @@ def is_part(part: bytes, whole: bytes) -> bool:
     return len(part) < len(whole) and whole.startswith(part)
 
 
-def has_part(left: Left, whole: Left) -> bool:
-    """Return whether only part of the output was written, and nothing elsewhere."""
-    if whole.output:
-        return is_part(left.output, whole.output) and left.kept == KEPT
-    return is_part(left.kept, whole.kept) and left.output == b""
-
-
 def way_of(left: Left, whole: Left) -> str | None:
     """Return the way in which a run with a refused allocation ended, or None if it is none of them."""
     if left == whole:
         return WHOLE
     if left == Left(Fault.MEMORY.status, message=Fault.MEMORY.line):
         return MEMORY
-    failed = Fault.NOT_WRITTEN
-    if (left.status, left.message) == (failed.status, failed.line) and has_part(left, whole):
-        return OUTPUT
+    if (left.status, left.message) == (Fault.NOT_WRITTEN.status, Fault.NOT_WRITTEN.line):
+        # Only part of the output was written, and nothing elsewhere.
+        part, others = (left.output, left.kept == KEPT) if whole.output else (left.kept, left.output == b"")
+        return OUTPUT if others and is_part(part, whole.output or whole.kept) else None
     if left._replace(message=whole.message) == whole and is_part(left.message, whole.message):
         return LINE
     return None
@@ -139,17 +128,17 @@ def way_of_refused(printed: bytes, run: Run, ways: Counter[str | None]) -> str |
     return way
 
 
-@pytest.mark.parametrize("asked", [*runs_of("drive"), *runs_of("run")], ids=attrgetter("name"))
+@pytest.mark.parametrize("asked", [*runs_of("drive"), *runs_of("run")], ids=lambda run: " ".join(run.words))
 def test_refused(library: str, asked: Run, record_property: Callable[[str, object], None]) -> None:
     if not PROGRAM.exists():
         pytest.skip("without bin/vault_allocation_failures, which make builds")
-    refused, whole = refusing_each(library, partial(run, [str(PROGRAM), *asked.words], asked.stdin))
+    each_refused, whole = refusing_each(library, partial(run, [str(PROGRAM), *asked.words], asked.stdin))
     ways, differing = Counter[str | None](), dict[int, bytes]()
-    for number, done in enumerate(refused, 1):
+    for number, done in enumerate(each_refused, 1):
         way = way_of_refused(done.stdout, asked, ways)
         ways[way] += 1
         if way is None:
             differing[number] = done.stdout
-    record_property("allocations refused in memory", (len(refused), len(refused)))
+    record_property("allocations refused in memory", (len(each_refused), len(each_refused)))
     assert (differing, left_in(whole.stdout)) == ({}, (asked.whole, True)), "without an allocation, and with each"
     assert asked.ways <= set(ways), "each way is taken"

@@ -19,7 +19,7 @@ from lib.processes import run
 from lib.subtests import SubTests
 from model.vaults import seal, yaml_block
 
-SIZES = [0, 1, 15, 16, 17, 1 << 10, 1 << 20]
+SIZES = [0, 1, 15, 16, 17, 1 << 20]
 NAMED = {
     "umlauts": 'schlüssel: "größe"\n→\n'.encode(),
     "every byte": bytes(range(256)),
@@ -44,30 +44,25 @@ class Both:
     """The two tools, with one password, for a label or for none."""
 
     def __init__(self, cases: Cases, ansible: str, label: str) -> None:
-        self.cases = cases
-        self.ansible = ansible
-        self.label = label
-        self.password = cases.file(RIGHT + b"\n")
-        self.new = cases.file(NEW + b"\n")
+        self.cases, self.ansible, self.label = cases, ansible, label
+        self.password, self.new = cases.file(RIGHT + b"\n"), cases.file(NEW + b"\n")
         self.options = by_id(self.password, label) if label else by_file(self.password)
         self.choice = ["--encrypt-vault-id", label] if label else []
 
-    def in_folder(self, command: list[str], **variables: str) -> subprocess.CompletedProcess[bytes]:
-        """Run one of Ansible's tools where it finds no configuration file."""
+    def run(self, command: list[str], **variables: str) -> subprocess.CompletedProcess[bytes]:
+        """Run one of the tools where it finds no configuration file."""
         folder = self.cases.folder
-        environment = {**ENVIRONMENT, "HOME": str(folder), **variables}
-        return run(command, cwd=folder, env=environment)
+        return run(command, cwd=folder, env={**ENVIRONMENT, "HOME": str(folder), **variables})
 
-    def theirs(self, command: str, *words: str, **variables: str) -> bytes:
-        done = self.in_folder([self.ansible, command, *words], **variables)
-        if done.returncode != 0:
-            raise AssertionError(f"Ansible's {command} fails: {done.stderr.decode()}")
+    def theirs(self, *words: str, **variables: str) -> bytes:
+        done = self.run([self.ansible, *words], **variables)
+        assert done.returncode == 0, f"Ansible's {words[0]} fails: {done.stderr.decode()}"
         return done.stdout
 
-    def changed_by_them(self, command: str, options: list[str], contents: list[bytes]) -> list[bytes]:
+    def changed_by_them(self, words: list[str], contents: list[bytes], **variables: str) -> list[bytes]:
         """Change all the files in one run of Ansible's tool, and return their contents."""
         paths = [self.cases.file(content) for content in contents]
-        self.theirs(command, *options, *paths)
+        self.theirs(*words, *paths, **variables)
         return [Path(path).read_bytes() for path in paths]
 
     def sealed(self, text: bytes, salt: bytes) -> bytes:
@@ -76,14 +71,13 @@ class Both:
 
 @pytest.fixture(params=["", "dev"], ids=["no label", "label dev"])
 def both(cases: Cases, request: pytest.FixtureRequest) -> Both:
-    ansible = needs_ansible()
-    return Both(cases, ansible, request.param)
+    return Both(cases, needs_ansible(), request.param)
 
 
 def test_theirs_to_ours(both: Both, subtests: SubTests) -> None:
     """Our program decrypts their vaults, and with their salts, encrypts to the same bytes."""
-    vaults = both.changed_by_them("encrypt", [*both.options, *both.choice], list(TEXTS.values()))
-    for (name, text), vault in zip(TEXTS.items(), vaults):
+    vaults = both.changed_by_them(["encrypt", *both.options, *both.choice], list(TEXTS.values()))
+    for (name, text), vault in zip(TEXTS.items(), vaults, strict=True):
         with subtests.test(name):
             salt = salt_of(vault)
             assert both.sealed(text, salt) == vault, "the tests' own vault"
@@ -92,10 +86,8 @@ def test_theirs_to_ours(both: Both, subtests: SubTests) -> None:
 
 
 def test_ours_to_theirs(both: Both) -> None:
-    """Their tool decrypts our vaults."""
-    words = ["encrypt", *both.options]
-    vaults = [both.cases.run(words, text, out=None) for name, text in TEXTS.items()]
-    assert differing(both.changed_by_them("decrypt", both.options, vaults)) == []
+    vaults = [both.cases.run(["encrypt", *both.options], text, out=None) for text in TEXTS.values()]
+    assert differing(both.changed_by_them(["decrypt", *both.options], vaults)) == []
 
 
 def differing(texts: list[bytes]) -> list[str]:
@@ -121,15 +113,13 @@ def test_blocks(both: Both, subtests: SubTests, name: str) -> None:
 @pytest.mark.parametrize("new_label", ("", "prod"))
 def test_rekeyed(both: Both, subtests: SubTests, new_label: str) -> None:
     """Rekey here, decrypt and rekey back there, and decrypt here."""
-    options = ["--new-vault-id", f"{new_label}@{both.new}"]
     new = by_id(both.new, new_label) if new_label else by_file(both.new)
-    words = ["rekey", *both.options, *options]
-    given = [both.sealed(text, bytes(32)) for text in TEXTS.values()]
-    ours = [both.cases.run(words, vault, out=None) for name, vault in zip(TEXTS, given)]
-    assert differing(both.changed_by_them("decrypt", new, ours)) == [], "Ansible's tool decrypts them"
+    words = ["rekey", *both.options, "--new-vault-id", f"{new_label}@{both.new}"]
+    ours = [both.cases.run(words, both.sealed(text, bytes(32)), out=None) for text in TEXTS.values()]
+    assert differing(both.changed_by_them(["decrypt", *new], ours)) == []
     option, value = both.options
-    theirs = both.changed_by_them("rekey", [*new, option.replace("--", "--new-"), value], ours)
-    for (name, text), vault in zip(TEXTS.items(), theirs):
+    theirs = both.changed_by_them(["rekey", *new, option.replace("--", "--new-"), value], ours)
+    for (name, text), vault in zip(TEXTS.items(), theirs, strict=True):
         with subtests.test(name):
             both.cases.run(["view", *both.options], vault, out=text)
 
@@ -137,10 +127,8 @@ def test_rekeyed(both: Both, subtests: SubTests, new_label: str) -> None:
 def test_fixed_salt(both: Both) -> None:
     """Newer versions of Ansible's tool take a salt from the environment; older ones choose their own."""
     text, salt = TEXTS["17 bytes"], "a salt of the environment"
-    path = both.cases.file(text)
-    both.theirs("encrypt", *both.options, *both.choice, path, ANSIBLE_VAULT_ENCRYPT_SALT=salt)
-    vault = Path(path).read_bytes()
-    both.cases.run(["view", *both.options], vault, out=text)
+    words = ["encrypt", *both.options, *both.choice]
+    [vault] = both.changed_by_them(words, [text], ANSIBLE_VAULT_ENCRYPT_SALT=salt)
     if salt_of(vault) == salt.encode():
         both.cases.run(["encrypt", *both.options, "--salt", salt], text, out=vault)
 
@@ -158,19 +146,17 @@ REFUSED = {
     "the password file is missing": "view --vault-password-file missing vault",
     "the input file is missing": "view --vault-password-file right missing",
 }
-
-
 # Messages about a vault itself. Later releases of Ansible's tool name its file, and word one of them differently.
-OF_A_VAULT = {"the password is wrong", "the input is not a vault"}
-OF_A_VAULT |= {"the vault is cut off", "the vault is not hexadecimal"}
+OF_A_VAULT = {"the password is wrong", "the input is not a vault", "the vault is cut off"}
+OF_A_VAULT |= {"the vault is not hexadecimal"}
 SAID_LATER = {"the input is not a vault": "Input is not vault encrypted data..."}
 
 
 def refused_files() -> dict[str, bytes]:
     vault = seal(RIGHT, b"a: 1\n")
-    first_line = vault.partition(b"\n")[0]
     passwords = {"right": RIGHT, "wrong": NEW, "empty": b""}
-    return passwords | {"plain": b"a: 1\n", "vault": vault, "cut": vault[:200], "odd": first_line + b"\nxyz\n"}
+    odd = vault.partition(b"\n")[0] + b"\nxyz\n"
+    return passwords | {"plain": b"a: 1\n", "vault": vault, "cut": vault[:200], "odd": odd}
 
 
 def message_rows() -> dict[str, list[tuple[str, int]]]:
@@ -195,12 +181,12 @@ def said_by_ansible(what: str, text: str) -> str:
 @pytest.mark.parametrize("what", REFUSED)
 @pytest.mark.parametrize("tool", [0, 1], ids=["theirs", "ours"])
 def test_messages(cases: Cases, tool: int, what: str) -> None:
-    ansible = needs_ansible()
+    both = Both(cases, needs_ansible(), "")
     for name, content in refused_files().items():
         (cases.folder / name).write_bytes(content)
     text, status = message_rows()[what][tool]
     said = said_by_ansible(what, text) if tool == 0 else f"ERROR! {text}"
-    done = Both(cases, ansible, "").in_folder([(ansible, cases.program)[tool], *REFUSED[what].split()])
+    done = both.run([(both.ansible, cases.program)[tool], *REFUSED[what].split()])
     pattern = ".*".join(map(re.escape, said.split("...")))
     is_said = any(re.fullmatch(pattern, line) for line in done.stderr.decode().splitlines())
     assert (done.returncode, is_said) == (status, True), done.stderr

@@ -34,41 +34,33 @@ def is_small(case: Case, answered: Answer) -> bool:
     return few and all(len(part) <= BYTES for part in content)
 
 
-def long_inputs() -> list[Case]:
-    files: dict[str, bytes | None] = {"right": b"right\n"}
-    encrypt, view = ([command, "--vault-password-file", "right"] for command in ("encrypt", "view"))
-    return [
-        Case(encrypt, files, bytes(PLAINTEXT_LIMIT + 1)),
-        Case(view, files, serialized(bytes(32), bytes(32), bytes(CIPHERTEXT_LIMIT + 1))),
-    ]
-
-
 def name_of(case: Case, answered: Answer) -> str:
-    if answered.status == 0:
-        return f"{case.words[0]} succeeds"
-    return f"status {answered.status} {(answered.message or b'').decode().strip()}"
+    if answered.message is None:
+        return "no command line"
+    return answered.message.decode().strip() or f"{case.words[0]} succeeds"
 
 
-def wanted_names() -> set[str]:
-    """Return the names of each command's success, of each refusal, and of an invalid command line."""
-    faults = {f"status {fault.status} {fault.line.decode().strip()}" for fault in set(Fault) - WITHOUT_A_RUN}
-    return {f"{command} succeeds" for command in OPTIONS} | faults | {"status 2 "}
-
-
-WANTED = sorted(wanted_names())
+# The names of each command's success, of each refusal, and of an invalid command line.
+WANTED = {f"{command} succeeds" for command in OPTIONS} | {"no command line"}
+WANTED |= {fault.line.decode().strip() for fault in set(Fault) - WITHOUT_A_RUN}
 
 
 def one_of_each() -> dict[str, Case]:
-    """Return the first small request for each answer, and the long ones."""
-    found = {name_of(case, expected(case, bytes(SALT_LENGTH))): case for case in long_inputs()}
+    """Return the first small request for each answer, and long ones."""
+    by_file, right = ["--vault-password-file", "right"], {"right": b"right\n"}
+    ciphertext = serialized(bytes(32), bytes(32), bytes(CIPHERTEXT_LIMIT + 1))
+    found = {
+        Fault.TOO_LONG.line.decode().strip(): Case(["encrypt", *by_file], {**right}, bytes(PLAINTEXT_LIMIT + 1)),
+        Fault.CIPHER_TOO_LONG.line.decode().strip(): Case(["view", *by_file], {**right}, ciphertext),
+    }
     for number in range(REQUESTS):
-        if found.keys() >= set(WANTED):
-            break
         case = make(f"{SEED}-{number}")
         answered = expected(case, bytes(SALT_LENGTH))
         if is_small(case, answered):
             found.setdefault(name_of(case, answered), case)
-    return found
+        if found.keys() == WANTED:
+            return found
+    raise LookupError(f"no request is answered by {WANTED - found.keys()}")
 
 
 def memcheck(program: str, case: Case) -> list[str]:
@@ -86,7 +78,7 @@ def requests() -> dict[str, Case]:
     return one_of_each()
 
 
-@pytest.mark.parametrize("name", WANTED)
+@pytest.mark.parametrize("name", sorted(WANTED))
 def test_memcheck(program: str, requests: dict[str, Case], name: str) -> None:
     case = requests[name]
     assert memcheck(program, case) == [], shlex.join(case.words)
@@ -97,7 +89,3 @@ def test_errors_are_seen(tmp_path: Path) -> None:
     path = str(tmp_path / "reads_beside")
     subprocess.run(["cc", "-x", "c", "-O0", "-o", path, "-"], input=READS_BESIDE, check=True)
     assert any("Invalid read" in line for line in memcheck(path, Case([], {}, b"")))
-
-
-def test_each_answer_has_a_run(requests: dict[str, Case]) -> None:
-    assert sorted(requests) == WANTED

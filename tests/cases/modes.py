@@ -13,14 +13,10 @@ from lib.samples import Sample, each_to_output, sample_of, wanted_mode
 from lib.subtests import SubTests
 from model.faults import Fault
 
-OLD_MODES = (0o600, 0o640, 0o644, 0o666, 0o755)
-each_umask = pytest.mark.parametrize("umask", ("000", "022", "077"))
-
 
 def under(cases: Cases, umask: str, sample: Sample, path: str) -> subprocess.CompletedProcess[bytes]:
     script = f'umask {umask}; exec "$0" "$@"'
-    words = ["sh", "-c", script, cases.program, *sample.words, "--output", path]
-    return run(words, sample.stdin)
+    return run(["sh", "-c", script, cases.program, *sample.words, "--output", path], sample.stdin)
 
 
 def check_written(cases: Cases, umask: str, sample: Sample, path: str, wanted: str) -> None:
@@ -28,31 +24,23 @@ def check_written(cases: Cases, umask: str, sample: Sample, path: str, wanted: s
     assert (Path(path).read_bytes(), mode(path)) == (sample.output, wanted)
 
 
-@each_umask
+@pytest.mark.parametrize("umask", ("000", "077", "277"))
 @each_to_output
-def test_new_files(cases: Cases, subtests: SubTests, command: str, umask: str) -> None:
+def test_new_files(cases: Cases, command: str, umask: str) -> None:
+    """The umask restricts the mode, except for plaintext, whose mode is set explicitly."""
     sample = sample_of(cases, command)
     target, link = cases.path(), cases.path()
     os.symlink(target, link)
-    for name, path in (("by name", cases.path()), ("through a link", link)):
-        with subtests.test(name):
-            check_written(cases, umask, sample, path, oct(0o600))
+    for path in (cases.path(), link):
+        check_written(cases, umask, sample, path, oct(0o400 if umask == "277" and command != "decrypt" else 0o600))
 
 
-@each_to_output
-def test_masked_new_file(cases: Cases, command: str) -> None:
-    """The umask restricts the mode, except for plaintext, whose mode is set explicitly."""
-    sample = sample_of(cases, command)
-    wanted = oct(0o600 if sample.command == "decrypt" else 0o400)
-    check_written(cases, "277", sample, cases.path(), wanted)
-
-
-@each_umask
+@pytest.mark.parametrize("umask", ("000", "077"))
 @each_to_output
 def test_old_files(cases: Cases, subtests: SubTests, command: str, umask: str) -> None:
     """By name; through a link, which stays; and by one of two names, which both stay."""
     sample = sample_of(cases, command)
-    for old in OLD_MODES:
+    for old in (0o600, 0o644, 0o666, 0o755):
         with subtests.test(oct(old)):
             check_written(cases, umask, sample, cases.file(OLD, old), wanted_mode(sample, old))
     target, link, twin = cases.file(OLD, 0o644), cases.path(), cases.path()

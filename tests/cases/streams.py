@@ -1,13 +1,13 @@
-"""Streams in other states: pipes that give few bytes, do not block, or lose their reader; files that are too long;
-terminals. Full devices and closed streams are in `closed_streams.py`. `with_strace.py` shows that a run does not ask
-what a stream is.
+"""Streams in other states: pipes that give few bytes, do not block, or lose their reader; files that are too long.
+
+Full devices and closed streams are in `closed_streams.py`. `with_strace.py` shows that a run does not ask what a stream
+is, such as a terminal.
 """
 
 import contextlib
 import os
 import subprocess
 import tempfile
-import termios
 
 import pytest
 
@@ -18,11 +18,8 @@ from lib.processes import read_to_end, run, started
 from lib.samples import each_command, sample_of
 from model.faults import Fault
 from model.vaults import ENVELOPE_LIMIT, HEADER, PLAINTEXT_LIMIT
-from shells import all_shown
 
 LARGE = 1 << 20
-# Ends the input on a terminal, at the start of a line.
-END_OF_INPUT = b"\x04"
 
 
 @each_command
@@ -76,20 +73,3 @@ def test_non_blocking_output(cases: Cases, size: int, fault: Fault | None, comma
     content = read_to_end(reader)
     assert sample.output.startswith(content), "a prefix"
     assert (content == sample.output) == (fault is None), "the whole"
-
-
-@each_command
-def test_terminal(cases: Cases, command: str) -> None:
-    """The text and its end are typed. The terminal shows each line end as two bytes."""
-    sample = sample_of(cases, command)
-    controller, terminal = os.openpty()
-    settings = termios.tcgetattr(terminal)
-    settings[3] &= ~termios.ECHO
-    termios.tcsetattr(terminal, termios.TCSANOW, settings)
-    os.write(controller, sample.stdin + END_OF_INPUT)
-    streams = {"stdin": terminal, "stdout": terminal, "stderr": terminal}
-    with started([cases.program, *sample.words], **streams) as child:
-        os.close(terminal)
-        shown = all_shown(controller)
-        os.close(controller)
-        assert (child.wait(SECONDS), shown) == (0, sample.output.replace(b"\n", b"\r\n"))

@@ -3,11 +3,10 @@
 Each step of the specification is a function, and `answer` runs them in order. A step that refuses raises `Refused`.
 """
 
-import os
 import re
 import string
-from dataclasses import dataclass
-from typing import NamedTuple, Protocol
+from collections.abc import Mapping
+from typing import NamedTuple
 
 from model.faults import Fault, Refused
 from model.options import DEFAULT_LABEL, NotParsed, Request, is_label, parse, settle
@@ -20,6 +19,9 @@ SALT_LENGTH = 32
 TAG_LENGTH = 32
 SECRET_LIMIT = 4_096
 WHITESPACE = b"\t\n\x0b\x0c\r "
+
+# The contents of the files by path. A directory, with None, can be opened, but not read.
+Files = Mapping[str, bytes | None]
 
 
 class Secret(NamedTuple):
@@ -34,8 +36,7 @@ class Payload(NamedTuple):
     ciphertext: bytes
 
 
-@dataclass(frozen=True)
-class Answer:
+class Answer(NamedTuple):
     """The output (None if it is never begun), its path (None for standard output), the text on standard error (None if
     it is the parser's), and the status."""
 
@@ -45,68 +46,16 @@ class Answer:
     status: int
 
 
-USAGE_ERROR = Answer(None, None, None, 2)
+def opened(files: Files, path: str, fault: Fault) -> bytes | None:
+    if path not in files:
+        raise Refused(fault)
+    return files[path]
 
 
-class Readable(Protocol):
-    def read(self, size: int, /) -> bytes: ...
-
-
-class Store(Protocol):
-    """Files: `open` raises CannotOpen, and reading from what it returns raises OSError."""
-
-    def open(self, path: str) -> Readable: ...
-
-
-class CannotOpen(Exception):
-    pass
-
-
-class HostFiles:
-    """The files of the host."""
-
-    def open(self, path: str) -> Readable:
-        try:
-            descriptor = os.open(path, os.O_RDONLY)
-        except (OSError, ValueError):
-            raise CannotOpen from None
-        return Descriptor(descriptor)
-
-
-class Descriptor:
-    """A file of the host. A directory opens, too, but reading from it fails."""
-
-    def __init__(self, descriptor: int) -> None:
-        self.descriptor = descriptor
-
-    def read(self, size: int) -> bytes:
-        return os.read(self.descriptor, size)
-
-    def __del__(self) -> None:
-        if self.descriptor > 2:
-            os.close(self.descriptor)
-
-
-def prefix_of(source: Readable, size: int, unread: Fault) -> bytes:
-    """Read up to `size` bytes. Raise Refused with the fault `unread` if the source cannot be read."""
-    pieces = []
-    while size > 0:
-        try:
-            piece = source.read(min(size, 1 << 16))
-        except OSError:
-            raise Refused(unread) from None
-        if not piece:
-            break
-        pieces.append(piece)
-        size -= len(piece)
-    return b"".join(pieces)
-
-
-def opened(store: Store, path: str, fault: Fault) -> Readable:
-    try:
-        return store.open(path)
-    except CannotOpen:
-        raise Refused(fault) from None
+def read(content: bytes | None, fault: Fault) -> bytes:
+    if content is None:
+        raise Refused(fault)
+    return content
 
 
 def password(content: bytes) -> bytes:
@@ -164,7 +113,7 @@ def header_label(line: bytes) -> str:
     return label
 
 
-def read(envelope: bytes) -> Payload:
+def payload_in(envelope: bytes) -> Payload:
     if len(envelope) > ENVELOPE_LIMIT:
         raise Refused(Fault.TOO_LONG)
     if not envelope.startswith(MAGIC):
@@ -206,22 +155,11 @@ def decrypt_payload(secrets: list[Secret], required: bool, payload: Payload) -> 
     raise Refused(Fault.NO_SECRET_FITS)
 
 
-def encrypt_payload(secret: Secret, salt: bytes, plaintext: bytes) -> Payload:
-    return Payload(secret.label, *parts(secret.password, padded(plaintext), salt))
-
-
-def written(payload: Payload) -> bytes:
-    label = "" if payload.label == DEFAULT_LABEL else payload.label
-    return serialized(payload.salt, payload.tag, payload.ciphertext, label.encode())
-
-
-def refuse_vault(plaintext: bytes) -> None:
+def sealed(secret: Secret, salt: bytes, plaintext: bytes) -> bytes:
     if plaintext.startswith(MAGIC):
         raise Refused(Fault.ALREADY_VAULT)
-
-
-def input_limit(request: Request) -> int:
-    return PLAINTEXT_LIMIT if request.command in ("encrypt", "encrypt_string") else ENVELOPE_LIMIT
+    label = "" if secret.label == DEFAULT_LABEL else secret.label
+    return serialized(*parts(secret.password, padded(plaintext), salt), label.encode())
 
 
 def encrypted(request: Request, secret: Secret, salt: bytes, plaintext: bytes) -> bytes:
@@ -229,62 +167,48 @@ def encrypted(request: Request, secret: Secret, salt: bytes, plaintext: bytes) -
         raise Refused(Fault.TOO_LONG)
     if request.command == "encrypt_string" and not plaintext:
         raise Refused(Fault.EMPTY_STRING)
-    refuse_vault(plaintext)
-    envelope = written(encrypt_payload(secret, salt, plaintext))
-    if request.command == "encrypt":
-        return envelope
-    return yaml_block(envelope, (request.name or "").encode())
+    envelope = sealed(secret, salt, plaintext)
+    return envelope if request.command == "encrypt" else yaml_block(envelope, (request.name or "").encode())
 
 
-def rekeyed(new: Secret, salt: bytes, plaintext: bytes) -> bytes:
-    refuse_vault(plaintext)
-    return written(encrypt_payload(new, salt, plaintext))
-
-
-def result(request: Request, contents: list[bytes], salt: bytes, source: Readable | None) -> bytes:
-    """Return the output. The source is read only if the passwords, the choice and the salt are valid. It is None if
-    there is a STRING."""
+def result(request: Request, contents: list[bytes], salt: bytes, given: bytes | None) -> bytes:
+    """Return the output. The input is read only if the passwords, the choice and the salt are valid."""
     passwords = [password(content) for content in contents]
     held = [Secret(file.label, word) for file, word in zip(request.files, passwords)]
     secrets = held[: len(request.secrets)]
     secret = chosen(secrets, request.choice) if request.command.startswith("encrypt") else None
     sealing_salt = salt_of(request, salt) if request.salt_path or request.salt_text else b""
-    if request.string is not None:
-        given = request.string.encode()
-    else:
-        assert source is not None
-        given = prefix_of(source, input_limit(request) + 1, Fault.INPUT_NOT_READ)
+    content = read(given, Fault.INPUT_NOT_READ)
     if secret is not None:
-        return encrypted(request, secret, sealing_salt, given)
-    plaintext = decrypt_payload(secrets, request.label_required, read(given))
-    return rekeyed(held[-1], sealing_salt, plaintext) if request.new_secret else plaintext
+        return encrypted(request, secret, sealing_salt, content)
+    plaintext = decrypt_payload(secrets, request.label_required, payload_in(content))
+    return sealed(held[-1], sealing_salt, plaintext) if request.new_secret else plaintext
 
 
-def performed(request: Request, store: Store, stdin: Readable) -> bytes:
+def performed(request: Request, files: Files, stdin: bytes) -> bytes:
     """Open the files in their order, and return the output."""
     contents = []
     for file in request.files:
-        source = opened(store, file.path, Fault.SECRET_NOT_OPENED)
-        contents.append(prefix_of(source, SECRET_LIMIT + 1, Fault.SECRET_NOT_READ))
+        contents.append(read(opened(files, file.path, Fault.SECRET_NOT_OPENED), Fault.SECRET_NOT_READ))
     salt = b""
     if request.salt_path is not None:
-        source = opened(store, request.salt_path, Fault.SALT_NOT_OPENED)
-        salt = prefix_of(source, SALT_LENGTH, Fault.SALT_NOT_READ)
+        salt = read(opened(files, request.salt_path, Fault.SALT_NOT_OPENED), Fault.SALT_NOT_READ)
+    given: bytes | None = stdin if request.string is None else request.string.encode()
     if request.input is not None:
-        stdin = opened(store, request.input, Fault.INPUT_NOT_OPENED)
-    return result(request, contents, salt, stdin)
+        given = opened(files, request.input, Fault.INPUT_NOT_OPENED)
+    return result(request, contents, salt, given)
 
 
 def refusal(fault: Fault) -> Answer:
     return Answer(None, None, fault.line, fault.status)
 
 
-def answer(words: list[str], store: Store, stdin: Readable) -> Answer:
+def answer(words: list[str], files: Files, stdin: bytes) -> Answer:
     """Return the answer to the words after the program's name, provided that the output can be written."""
     try:
         request = settle(parse(words))
-        return Answer(performed(request, store, stdin), request.output, b"", 0)
+        return Answer(performed(request, files, stdin), request.output, b"", 0)
     except NotParsed:
-        return USAGE_ERROR
+        return Answer(None, None, None, 2)
     except Refused as refused:
         return refusal(refused.fault)

@@ -1,56 +1,34 @@
 """Run a request with the program, and compare the result with the model's."""
 
-import io
 import os
 import stat
 import subprocess
 import tempfile
 from pathlib import Path
-from typing import Iterable
 
 from lib.limits import SECONDS
 from lib.processes import run
-from model.answers import SALT_LENGTH, Answer, CannotOpen, HostFiles, Readable, answer, refusal
+from model.answers import SALT_LENGTH, SECRET_LIMIT, Answer, Files, answer, refusal
 from model.faults import Fault
 from model.options import SALT_FILE
 from model.random_requests import Case
 
 OWNER_ALONE = oct(0o600)
 FULL_DEVICE = "/dev/full"
+# Of the endless file, this is read at most.
+ZEROS = {"/dev/zero": bytes(SECRET_LIMIT + 1)}
 
 
-class CaseFiles(HostFiles):
-    """The files of a case and of the host, with `salt` as the content of /dev/urandom."""
-
-    def __init__(self, case: Case, salt: bytes) -> None:
-        self.files: dict[str, bytes | None] = {**case.files, SALT_FILE: salt}
-
-    def open(self, path: str) -> Readable:
-        if os.path.isabs(path) and path not in self.files:
-            return super().open(path)
-        if path not in self.files:
-            raise CannotOpen
-        content = self.files[path]
-        if content is None:
-            return Folder()
-        return io.BytesIO(content)
-
-    def can_be_written(self, answered: Answer) -> bool:
-        if answered.path == FULL_DEVICE:
-            return answered.output == b""
-        path = answered.path or ""
-        folder = os.path.dirname(path)
-        return path != "" and not self.is_folder(path) and (folder == "" or self.is_folder(folder))
-
-    def is_folder(self, path: str) -> bool:
-        return path in self.files and self.files[path] is None
+def is_folder(files: Files, path: str) -> bool:
+    return path in files and files[path] is None
 
 
-class Folder:
-    """A directory, which can be opened, but not read."""
-
-    def read(self, size: int) -> bytes:
-        raise IsADirectoryError
+def can_be_written(files: Files, answered: Answer) -> bool:
+    path = answered.path or ""
+    if path == FULL_DEVICE:
+        return answered.output == b""
+    folder = os.path.dirname(path)
+    return path != "" and not is_folder(files, path) and (folder == "" or is_folder(files, folder))
 
 
 def salt_in(output: bytes) -> bytes:
@@ -64,7 +42,7 @@ def salt_in(output: bytes) -> bytes:
         return bytes(SALT_LENGTH)
 
 
-def modes(folder: Path, paths: Iterable[str]) -> dict[str, str]:
+def modes(folder: Path, paths: dict[str, bytes]) -> dict[str, str]:
     return {path: oct(stat.S_IMODE((folder / path).stat().st_mode)) for path in paths}
 
 
@@ -74,9 +52,9 @@ def contents(folder: Path) -> dict[str, bytes]:
 
 
 def expected(case: Case, salt: bytes) -> Answer:
-    store = CaseFiles(case, salt)
-    answered = answer(case.words, store, io.BytesIO(case.stdin))
-    if answered.path is not None and not store.can_be_written(answered):
+    """Return the answer if /dev/urandom gives this salt."""
+    answered = answer(case.words, case.files | ZEROS | {SALT_FILE: salt}, case.stdin)
+    if answered.path is not None and not can_be_written(case.files, answered):
         return refusal(Fault.NOT_WRITTEN)
     return answered
 

@@ -1,7 +1,7 @@
 """Turn the words of a command line into a request, or raise the first fault."""
 
 from collections.abc import Iterator
-from dataclasses import dataclass, field
+from typing import NamedTuple
 
 from model.faults import Fault, Refused
 
@@ -29,29 +29,26 @@ class NotParsed(Exception):
     """The command line is invalid: the program prints a text on standard error, and its status is 2."""
 
 
-@dataclass
-class Matches:
+class Matches(NamedTuple):
     """A command, the values of each option, and the positional arguments."""
 
     command: str
-    values: dict[str, list[str]] = field(default_factory=dict)
-    positionals: list[str] = field(default_factory=list)
+    values: dict[str, list[str]]
+    positionals: list[str]
 
     def all(self, option: str) -> list[str]:
         return self.values.get(option, [])
 
     def one(self, option: str) -> str | None:
-        return self.all(option)[0] if self.all(option) else None
+        return next(iter(self.all(option)), None)
 
 
-@dataclass(frozen=True)
-class SecretFile:
+class SecretFile(NamedTuple):
     label: str
     path: str
 
 
-@dataclass(frozen=True)
-class Request:
+class Request(NamedTuple):
     """A valid request. A path that is None means a standard stream."""
 
     command: str
@@ -71,13 +68,6 @@ class Request:
         return self.secrets + ([self.new_secret] if self.new_secret else [])
 
 
-def add(matches: Matches, option: str, value: str) -> None:
-    values = matches.values.setdefault(option, [])
-    if values and option not in COMMON:
-        raise NotParsed(f"{option} is given twice")
-    values.append(value)
-
-
 def split_word(word: str) -> tuple[str, str | None]:
     """Split a word into an option and its value, which is None if the word contains none."""
     if not word.startswith("--"):
@@ -85,27 +75,6 @@ def split_word(word: str) -> tuple[str, str | None]:
         return {"-n": "--name"}.get(option, option), rest.removeprefix("=") if rest else None
     option, equals, value = word.partition("=")
     return option, value if equals else None
-
-
-def parse(words: list[str]) -> Matches:
-    """Parse the words after the program's name."""
-    if not words or words[0] not in OPTIONS:
-        raise NotParsed("no command")
-    matches = Matches(words[0])
-    rest = iter(words[1:])
-    for word in rest:
-        if word == "--":
-            matches.positionals += rest
-        elif not word.startswith("-") or word == "-":
-            matches.positionals.append(word)
-        else:
-            option, value = split_word(word)
-            if option not in COMMON | OPTIONS[matches.command]:
-                raise NotParsed(f"{option} is not known")
-            add(matches, option, given_value(option, value, rest))
-    if len(matches.positionals) > 1:
-        raise NotParsed("too many arguments")
-    return matches
 
 
 def given_value(option: str, value: str | None, rest: Iterator[str]) -> str:
@@ -118,6 +87,29 @@ def given_value(option: str, value: str | None, rest: Iterator[str]) -> str:
         if value is None or value.startswith("-") and value != "-":
             raise NotParsed(f"{option} needs a value")
     return value
+
+
+def parse(words: list[str]) -> Matches:
+    """Parse the words after the program's name."""
+    if not words or words[0] not in OPTIONS:
+        raise NotParsed("no command")
+    matches = Matches(words[0], {}, [])
+    rest = iter(words[1:])
+    for word in rest:
+        if word == "--":
+            matches.positionals.extend(rest)
+        elif not word.startswith("-") or word == "-":
+            matches.positionals.append(word)
+        else:
+            option, value = split_word(word)
+            if option not in COMMON | OPTIONS[matches.command]:
+                raise NotParsed(f"{option} is not known")
+            if option in matches.values and option not in COMMON:
+                raise NotParsed(f"{option} is given twice")
+            matches.values.setdefault(option, []).append(given_value(option, value, rest))
+    if len(matches.positionals) > 1:
+        raise NotParsed("too many arguments")
+    return matches
 
 
 def is_label(text: str) -> bool:

@@ -125,15 +125,6 @@ def wrong_digits(random: Random, pieces: Parts, label: bytes) -> bytes:
     return header + b"\n" + changed.hex().encode()
 
 
-def spliced(random: Random, one: bytes, other: bytes) -> bytes:
-    """Return the start of one envelope and the end of another, or one envelope with its lines in another order."""
-    first, second = one.splitlines(keepends=True), other.splitlines(keepends=True)
-    if random.random() < 0.5:
-        return b"".join(first[: random.randrange(1, len(first) + 1)] + second[random.randrange(len(second)) :])
-    first.insert(random.randrange(1, len(first) + 1), first.pop(random.randrange(len(first))))
-    return b"".join(first)
-
-
 def badly_padded(random: Random) -> bytes:
     whole = repeated(random, random.choice(SIZES))
     ends = [b"", b"\x00", b"\x11", b"\x02\x03\x03", b"\x01\x02", b"\x10" * 15, b"\x10" * 16, b"\x11" * 17]
@@ -144,7 +135,7 @@ def envelope(random: Random, password: bytes, label: bytes) -> bytes:
     """Return an envelope, usually one that can be decrypted. `label` is empty for format 1.1."""
     salt = random.choice(SALTS)
     pieces = parts(password, padded(repeated(random, random.choice(SIZES))), salt)
-    whole, other = serialized(*pieces, label), seal(password, b"another text" * 9, label, random.choice(SALTS))
+    whole = serialized(*pieces, label)
     kinds: dict[Callable[[], bytes], float] = {
         lambda: seal(password, plaintext(random), label, salt): 0.2,
         lambda: respelled(random, seal(password, plaintext(random), label, salt)): 0.3,
@@ -152,7 +143,6 @@ def envelope(random: Random, password: bytes, label: bytes) -> bytes:
         lambda: serialized(*random.choice(PARTS)(random, *pieces), label): 0.07,
         lambda: wrong_digits(random, pieces, label): 0.03,
         lambda: b";".join(random.choice(HEADERS)(random)) + b"\n" + whole.partition(b"\n")[2]: 0.1,
-        lambda: spliced(random, whole, other): 0.05,
         lambda: damaged(random, respelled(random, whole)): 0.13,
         lambda: not_at_all(random): 0.02,
     }

@@ -113,15 +113,17 @@ class Maker:
             self.add(file_option, path)
         return label, PASSWORDS.get(path, b"right").strip()
 
-    def add_secrets(self) -> None:
-        count = self.random.choice(SECRET_COUNTS)
-        self.held = [self.secret("--vault-id", "--vault-password-file") for _ in range(count)]
-
-    def add_choice(self) -> None:
+    def add_others(self) -> None:
+        """Add the choice of a secret, the flag and the names."""
         chance = 0.2 if len(self.held) == 1 else 0.85
         if self.has("--encrypt-vault-id") and self.likely(chance):
             labels = [label for label, _ in self.held] * 3 + LABELS
             self.add("--encrypt-vault-id", self.mostly(labels, BAD_LABELS, 0.98))
+        if self.has("--require-id-match") and self.likely(0.3):
+            self.add("--require-id-match")
+        for option in ("--name", "--stdin-name"):
+            if self.has(option) and self.likely(0.35):
+                self.add(option, self.mostly(NAMES, BAD_NAMES, 0.9))
 
     def add_new_secret(self) -> None:
         if self.command != "rekey":
@@ -143,16 +145,6 @@ class Maker:
             name, content = self.random.choice([*SALT_FILES.items()] * 3 + [*SHORT_SALTS.items()])
             good = self.likely(0.93)
             self.add("--salt-file", self.file(name, content) if good else self.random.choice([*NO_FILES, "/dev/zero"]))
-
-    def add_flag(self) -> None:
-        if self.has("--require-id-match") and self.likely(0.3):
-            self.add("--require-id-match")
-
-    def add_name(self) -> None:
-        if self.command == "encrypt_string":
-            for option in ("--name", "--stdin-name"):
-                if self.likely(0.35):
-                    self.add(option, self.mostly(NAMES, BAD_NAMES, 0.9))
 
     def add_output(self, input_path: str | None) -> None:
         named = [input_path] if input_path is not None and input_path != "-" else []
@@ -198,16 +190,9 @@ class Maker:
     def spoiled(self, groups: list[list[str]]) -> list[list[str]]:
         """Add words that make the command line invalid."""
         other = sorted({option for options in OPTIONS.values() for option in options} - OPTIONS[self.command])
-        twice = sorted(OPTIONS[self.command] - FLAGS)
-        wrong = [
-            ["--loud"],
-            ["x", "y"],
-            ["--vault-id"],
-            ["--vault-id", "--salt"],
-            ["-x"],
-            [self.random.choice(other), "x"],
-        ]
-        wrong += [[option, "x", option, "y"] for option in twice]
+        wrong = [["--loud"], ["x", "y"], ["--vault-id"], ["--vault-id", "--salt"], ["-x"]]
+        wrong += [[self.random.choice(other), "x"]]
+        wrong += [[option, "x", option, "y"] for option in sorted(OPTIONS[self.command] - FLAGS)]
         return groups + [self.random.choice(wrong)]
 
     def words(self, positional: str | None) -> list[str]:
@@ -224,10 +209,12 @@ class Maker:
         return [self.command, *sum(groups, []), *last]
 
     def case(self) -> Case:
-        self.add_secrets()
+        count = self.random.choice(SECRET_COUNTS)
+        self.held = [self.secret("--vault-id", "--vault-password-file") for _ in range(count)]
         positional, stdin = self.positional()
-        for add in (self.add_choice, self.add_new_secret, self.add_salt, self.add_flag, self.add_name):
-            add()
+        self.add_others()
+        self.add_new_secret()
+        self.add_salt()
         self.add_output(positional if self.command != "encrypt_string" else None)
         return Case(self.words(positional), self.files, stdin)
 
