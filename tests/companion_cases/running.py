@@ -12,33 +12,24 @@ from lib.subtests import SubTests
 # Command lines that the tool takes, too, if a secret is added; and their standard input.
 SAME = [
     (["view", "a.yml"], b""),
-    (["view"], sealed("old")),
     (["view", "-"], sealed("old")),
-    (["decrypt", "--output", "-", "a.yml"], b""),
-    (["decrypt", "--output=out.yml", "a.yml"], b""),
+    (["view", "--require-id-match", "a.yml"], b""),
+    (["view", "new.yml"], b""),
+    (["view", "--loud"], b""),
+    (["view", "--new-vault-id", "prod@../secrets/prod", "a.yml"], b""),
     (["decrypt"], sealed("old")),
+    (["decrypt", "--output=out.yml", "a.yml"], b""),
+    (["decrypt", "--output", "out.yml", "a.yml", "plain.yml"], b""),
     (["encrypt", "--salt", "salt", "--output", "-", "plain.yml"], b""),
-    (["encrypt", "--salt=salt"], TEXT),
-    (["encrypt", "--salt=salt", "-"], TEXT),
-    (["encrypt", "--output", "out.yml", "--salt", "salt", "plain.yml"], b""),
+    (["encrypt", "--encrypt-vault-id", "prod", "--output", "-", "plain.yml"], b""),
+    (["encrypt", "a.yml", "--output"], b""),
     (["encrypt_string", "--salt", "salt", "-n", "name", "word"], b""),
     (["encrypt_string", "--salt", "salt", "--stdin-name", "name"], TEXT),
     (["encrypt_string", "--salt=salt", "--name=name", "--", "--word"], b""),
+    (["encrypt_string", ""], b""),
     (["rekey", "--salt", "salt", "--new-vault-id", "prod@../secrets/prod", "--output", "-", "a.yml"], b""),
     (["rekey", "--salt", "salt", "--new-vault-password-file=../secrets/prod"], sealed("old")),
     (["rekey", "--new-vault-id=a@../secrets/prod", "--new-vault-password-file", "../secrets/new"], b""),
-    (["view", "--require-id-match", "a.yml"], b""),
-    (["view", "plain.yml"], b""),
-    (["view", "new.yml"], b""),
-    (["decrypt", "--output", "out.yml", "a.yml", "plain.yml"], b""),
-    (["view", "--output", "x", "a.yml"], b""),
-    (["view", "--loud"], b""),
-    (["view", "--new-vault-id", "prod@../secrets/prod", "a.yml"], b""),
-    (["encrypt", "a.yml", "--output"], b""),
-    (["encrypt", "--encrypt-vault-id", "prod", "--output", "-", "plain.yml"], b""),
-    (["encrypt_string", "-n", "a\nb", "word"], b""),
-    (["encrypt_string", ""], b""),
-    (["decrypt", "--output", "/dev/full", "a.yml"], b""),
 ]
 # The tool's status for an invalid command line.
 WRONG_COMMAND_LINE = 2
@@ -100,63 +91,51 @@ def test_help(place: Place, command: str) -> None:
 
 def test_command_lines(place: Place, subtests: SubTests) -> None:
     prepare(place)
-    before = place.files()
+    before, old = place.files(), place.by_file("old")
     ended("no word", place.run(WITH), 2, f"usage: {WITH}", "no command is given")
-    ended("no command", place.run(WITH, *place.by_file("old")), 2, "no command is given")
-    unreadable = {
-        "missing.yml": "missing.yml: No such file or directory",
-        "nowhere/a.yml": "nowhere/a.yml: No such file or directory",
-        "a\nline.yml": "'a\\nline.yml': No such file or directory",
-        ".": ".: Is a directory",
-    }
-    for name, part in unreadable.items():
+    ended("no command", place.run(WITH, *old), 2, "no command is given")
+    for name, part in {"a\nline.yml": "'a\\nline.yml': No such file or directory", ".": ".: Is a directory"}.items():
         for words in (["view"], ["decrypt", "--output", "out.yml"]):
             with subtests.test(f"{words} {name}"):
-                done = place.run(WITH, *words, *place.by_file("old"), name)
+                done = place.run(WITH, *words, *old, name)
                 assert (done.returncode, done.stdout, done.stderr) == (3, "", f"{WITH}: {part}\n")
-    salted = [*place.by_file("old"), "--salt", "salt"]
-    for words in (salted, [*place.by_file("old"), "--salt-file", place.secret("old")]):
-        done = place.run(WITH, "encrypt", *words, "plain.yml", "plain.yml")
-        ended("one salt for two", done, 2, "a fixed salt is for a single FILE or STRING")
+    done = place.run(WITH, "encrypt", *old, "--salt-file", place.secret("old"), "plain.yml", "plain.yml")
+    ended("one salt for two", done, 2, "a fixed salt is for a single FILE or STRING")
+    ambiguous = {"--vault": "--vault-id, --vault-password-file", "--sa": "--salt, --salt-file"}
+    for word, others in ambiguous.items():
+        done = place.run(WITH, "encrypt", word, "x", "plain.yml")
+        ended(word, done, 2, f"{WITH}: error: ambiguous option: {word} could match {others}")
+    ended("no option", place.run(WITH, "view", "--out", "x", "a.yml"), 2, "unexpected argument '--out'")
     assert place.files() == before, "all files stay"
 
 
 def test_in_place(place: Place) -> None:
-    """Several files are replaced, even with awkward names."""
-    names = [*AWKWARD, "folder/a.yml"]
-    for number, name in enumerate(names):
-        place.put(name, TEXT * number, 0o640 if number % 2 else 0o600)
+    """Several files are replaced, even with awkward names, and the file of a link. Only its owner may read what is
+    decrypted."""
+    texts = {name: name.encode() for name in [*AWKWARD, "folder/a.yml"]}
+    for name, text in texts.items():
+        place.put(name, text, 0o640)
         place.give(name)
+    (place.tree / "link.yml").symlink_to("folder/a.yml")
+    names = ["--", *AWKWARD, "link.yml"]
 
-    def about() -> list[tuple[str, int]]:
-        return [(place.mode(name), (place.tree / name).stat().st_uid) for name in names]
+    def check(what: str, header: bytes, password: str) -> None:
+        found = {name: described(place.get(name)) for name in texts}
+        assert found == {name: (header, (password, text)) for name, text in texts.items()}, what
+        assert {place.mode(name) for name in texts} == {"0o640"}, f"{what}: the mode stays"
 
-    before = about()
-    steps = [
-        ("encrypt", place.by_id("dev", "dev"), "dev", "dev"),
-        ("rekey", [*place.by_file("dev"), *place.by_id("prod", "prod", "new-")], "prod", "prod"),
-        ("rekey", ["--vault-pass-file", place.secret("prod"), *place.by_file("new", "new-")], "new", ""),
-    ]
-    for command, words, password, label in steps:
-        silent(command, place.run(WITH, command, *words, "--", *names))
-        texts = [decrypted(password, place.get(name)) for name in names]
-        assert texts == [TEXT * number for number in range(len(names))], f"{command}: all are under it"
-        header = f"$ANSIBLE_VAULT;1.2;AES256;{label}\n" if label else "$ANSIBLE_VAULT;1.1;AES256\n"
-        headers = {place.get(name).partition(b"\n")[0].decode() + "\n" for name in names}
-        assert (headers, about()) == ({header}, before), f"{command}: labels, modes and owners"
-    silent("decrypt", place.run(WITH, "decrypt", *place.by_file("new"), "--", *names))
-    assert [place.get(name) for name in names] == [TEXT * n for n in range(len(names))], "it is plaintext again"
-    owners = [uid for _, uid in before]
-    assert about() == [("0o600", uid) for uid in owners], "for its owner alone"
-    assert sorted(place.files()) == sorted(names), "no other file is left"
+    def owners() -> set[int]:
+        return {(place.tree / name).stat().st_uid for name in texts}
 
-
-def test_links(place: Place) -> None:
-    place.put("vaults/a.yml", TEXT, 0o644)
-    (place.tree / "link.yml").symlink_to("vaults/a.yml")
-    silent("by a link", place.run(WITH, "encrypt", *place.by_file("old"), "link.yml"))
-    assert os.readlink(place.tree / "link.yml") == "vaults/a.yml", "the link stays"
-    assert decrypted("old", place.get("vaults/a.yml")) == TEXT, "its file is encrypted"
+    before = owners()
+    silent("encrypt", place.run(WITH, "encrypt", *place.by_id("dev", "dev"), *names))
+    check("encrypted", b"$ANSIBLE_VAULT;1.2;AES256;dev", "dev")
+    silent("rekey", place.run(WITH, "rekey", *place.by_file("dev"), *place.by_file("new", "new-"), *names))
+    check("rekeyed", b"$ANSIBLE_VAULT;1.1;AES256", "new")
+    silent("decrypt", place.run(WITH, "decrypt", *place.by_file("new"), *names))
+    assert place.files() == texts | {"link.yml": texts["folder/a.yml"]}, "it is plaintext, and no other file is left"
+    assert {place.mode(name) for name in texts} == {"0o600"}, "for its owner alone"
+    assert (owners(), os.readlink(place.tree / "link.yml")) == (before, "folder/a.yml"), "owners and the link stay"
 
 
 def test_those_that_fail(place: Place) -> None:
@@ -165,11 +144,10 @@ def test_those_that_fail(place: Place) -> None:
     (place.tree / "folder").mkdir()
     before = place.files()
     words = [*place.by_file("old"), *place.by_file("dev", "new-")]
-    done = place.run(WITH, "rekey", *words, "new.yml", "missing.yml", "plain.yml", "folder", "a.yml")
+    done = place.run(WITH, "rekey", *words, "new.yml", "missing.yml", "folder", "a.yml")
     messages = [
         f"{WITH}: new.yml: no secret decrypts this vault",
         f"{WITH}: missing.yml: No such file or directory",
-        f"{WITH}: plain.yml: input is not vault encrypted data",
         f"{WITH}: folder: Is a directory",
     ]
     assert (done.returncode, done.stdout, done.stderr.splitlines()) == (1, "", messages), "the messages"
@@ -205,61 +183,55 @@ def test_highest_status(place: Place) -> None:
 
 
 def test_several_views(place: Place) -> None:
-    """Each text begins on a line of its own."""
-    prepare(place)
-    place.put("b.yml", sealed("old", b"no line end"))
-    place.put("-c.yml", sealed("old", b""))
-    done = place.run(WITH, "view", *place.by_file("old"), "--", "b.yml", "-c.yml", "a.yml", "b.yml")
-    text = f"no line end\n{TEXT.decode()}no line end"
-    assert (done.returncode, done.stdout, done.stderr) == (0, text, ""), "all"
+    """Each text begins on a line of its own. A script is run once."""
+    for name, text in {"a.yml": TEXT, "b.yml": b"no line end", "-c.yml": b""}.items():
+        place.put(name, sealed("old", text))
     place.script("echo run >> ../runs; cat ../secrets/old")
-    done = place.run(WITH, "view", "--vault-id", "../script", "a.yml", "a.yml")
-    assert (done.returncode, done.stdout) == (0, TEXT.decode() * 2), "a script"
-    assert (place.path / "runs").read_text() == "run\n", "is run once"
+    done = place.run(WITH, "view", "--vault-id", "../script", "--", "b.yml", "-c.yml", "a.yml", "b.yml")
+    text = f"no line end\n{TEXT.decode()}no line end"
+    assert (done.returncode, done.stdout, done.stderr) == (0, text, "")
+    assert (place.path / "runs").read_text() == "run\n"
 
 
 def test_several_edits(place: Place) -> None:
     prepare(place)
-    place.put("b.yml", sealed("old", b"b\n"))
     place.script("echo run >> ../runs; cat ../secrets/old")
-    editor = place.script('echo more >> "$1"', "editor")
-    names = ["a.yml", "new.yml", "b.yml", "c.yml"]
-    done = place.run(WITH, "edit", "--vault-id", "../script", *names, EDITOR=editor)
+    place.environment["EDITOR"] = place.script('echo more >> "$1"', "editor")
+    done = place.run(WITH, "edit", "--vault-id", "../script", "a.yml", "new.yml", "b.yml")
     ended("edit", done, 1, f"{EDIT}: new.yml: no secret decrypts this vault")
-    texts = [decrypted("old", place.get(name)) for name in names if name != "new.yml"]
-    assert texts == [TEXT + b"more\n", b"b\nmore\n", b"more\n"], "the others are edited"
+    texts = [decrypted("old", place.get(name)) for name in ("a.yml", "b.yml")]
+    assert texts == [TEXT + b"more\n", b"more\n"], "the others are edited"
     assert (place.path / "runs").read_text() == "run\n", "the script is run once"
-    done = place.run(WITH, "create", *place.by_file("old"), "x.yml", "y.yml", EDITOR=editor)
+    done = place.run(WITH, "create", *place.by_file("old"), "x.yml", "y.yml")
     ended("create", done, 2, "create takes one FILE")
 
 
+SALT_FOR_ONE = "a fixed salt is for a single FILE or STRING"
+# Strings to encrypt with options, and why they are refused.
+REFUSED_STRINGS = {
+    "a b -n x -n y -n z": (2, "there are more names than strings: x, y, z"),
+    "a ''": (1, "the string to encrypt is empty"),
+    "a b --salt salt": (2, SALT_FOR_ONE),
+    "a --stdin-name x --salt salt": (2, SALT_FOR_ONE),
+    "a --prompt --salt-file ../secrets/old": (2, SALT_FOR_ONE),
+    "a b --output nowhere/c.yml": (1, "No such file or directory"),
+}
+
+
 def test_several_strings(place: Place, subtests: SubTests) -> None:
-    """Strings are refused before anything is written."""
-    secret = place.by_id("dev", "dev")
-    encrypt = [WITH, "encrypt_string", *secret]
-    lines = {
-        ("a", "b", "-n", "x", "-n", "y", "-n", "z"): (2, "there are more names than strings: x, y, z"),
-        ("a", ""): (1, "the string to encrypt is empty"),
-        ("a", "b", "-n", "x\ny"): (1, "a variable name holds a control byte"),
-        ("a", "b", "--loud"): (2, "error: unexpected argument '--loud' found"),
-        ("a", "b", "--salt", "salt"): (2, "a fixed salt is for a single FILE or STRING"),
-        ("a", "--stdin-name", "x", "--salt", "salt"): (2, "a fixed salt is for a single FILE or STRING"),
-        ("a", "--prompt", "--salt-file", place.secret("old")): (2, "a fixed salt is for a single FILE or STRING"),
-        ("a", "b", "--encrypt-vault-id", "prod"): (1, "no secret has the label of --encrypt-vault-id"),
-        ("a", "b", "--output", "nowhere/c.yml"): (1, "No such file or directory"),
-    }
-    for words, (status, part) in lines.items():
-        before = place.names()
-        with subtests.test(f"{words}"):
-            done = place.run(*encrypt, *words)
+    """Strings are refused before anything is written, and are no arguments of the tool."""
+    encrypt = f"{WITH} encrypt_string {' '.join(place.by_id('dev', 'dev'))}"
+    for line, (status, part) in REFUSED_STRINGS.items():
+        with subtests.test(line):
+            done = place.shell(f"{encrypt} {line}")
             ended("it is refused", done, status, part)
-            assert (done.stdout, place.names()) == ("", before), "nothing is written"
-    done = place.shell(f"printf a | {' '.join(encrypt)} --salt salt --stdin-name x -")
+            assert (done.stdout, place.names()) == ("", []), "nothing is written"
+    done = place.shell(f"printf a | {encrypt} --salt salt --stdin-name x -")
     ended("a fixed salt for one", done, 0, "x: !vault |")
-    done = place.run(*encrypt, "a", "b", "--output", "-")
-    assert (done.stdout.count("!vault |"), place.names()) == (2, before), "`-` is standard output"
+    done = place.shell(f"{encrypt} a b --output -")
+    assert (done.stdout.count("!vault |"), place.names()) == (2, []), "`-` is standard output"
     place.wrap_tool('echo "$@" >> ../seen')
-    done = place.run(*encrypt, "a word", "another", "--name", "x", "--output", "blocks.yml")
+    done = place.shell(f"{encrypt} 'a word' another --name x --output blocks.yml")
     notes = [
         "# There are fewer names than strings: those after x have none.",
         "# Block 1 is the variable x, from the command line.",
@@ -268,20 +240,9 @@ def test_several_strings(place: Place, subtests: SubTests) -> None:
     assert (done.returncode, done.stdout, done.stderr.splitlines()) == (0, "", notes), "names"
     assert place.mode("blocks.yml") == "0o600", "the mode of the file"
     blocks = place.get("blocks.yml").split(b"!vault |\n")[1:]
-    texts = [described(each.removesuffix(b"x: "))[1] for each in blocks]
-    assert texts == [("dev", b"a word"), ("dev", b"another")], "the strings"
+    assert [described(each)[1] for each in blocks] == [("dev", b"a word"), ("dev", b"another")], "the strings"
     seen = (place.path / "seen").read_text()
     assert ("word" in seen, "encrypt_string" in seen) == (False, True), "strings are no arguments of the tool"
-
-
-def test_abbreviations(place: Place, subtests: SubTests) -> None:
-    prepare(place)
-    for word, others in {"--vault": "--vault-id, --vault-password-file", "--sa": "--salt, --salt-file"}.items():
-        with subtests.test(word):
-            done = place.run(WITH, "encrypt", word, "x", "plain.yml")
-            ended("it is refused", done, 2, f"{WITH}: error: ambiguous option: {word} could match {others}")
-    ended("no option", place.run(WITH, "view", "--out", "x", "a.yml"), 2, "unexpected argument '--out'")
-    assert place.get("plain.yml") == TEXT, "the file stays"
 
 
 def test_what_messages_advise(place: Place) -> None:
@@ -295,27 +256,23 @@ def test_what_messages_advise(place: Place) -> None:
 
 
 def test_editing(place: Place) -> None:
-    editor = place.script('echo more >> "$1"', "editor")
+    place.environment["EDITOR"] = place.script('echo more >> "$1"', "editor")
+    dev = place.by_id("dev", "dev")
     place.put("a.yml", sealed("dev"))
-    done = place.run(WITH, "create", *place.by_id("dev", "dev"), "a.yml", EDITOR=editor)
-    ended("create where one is", done, 1, "a.yml exists already; use `edit`")
+    ended("create where one is", place.run(WITH, "create", *dev, "a.yml"), 1, "a.yml exists already; use `edit`")
     assert place.get("a.yml") == sealed("dev"), "it stays"
-    choice = [*place.by_id("dev", "dev"), *place.by_id("prod", "prod"), "--encrypt-vault-id", "prod"]
-    silent("a choice", place.run(WITH, "create", *choice, "b.yml", EDITOR=editor))
-    assert decrypted("prod", place.get("b.yml")) == b"more\n", "is made"
-    newer = ["--skip-tty-check", *place.by_id("dev", "dev"), "c.yml"]
-    silent("a word of newer releases", place.run(WITH, "create", *newer, EDITOR=editor))
-    assert decrypted("dev", place.get("c.yml")) == b"more\n", "is made, too"
-    ended("which edit has not", place.run(WITH, "edit", *newer, EDITOR=editor), 2, "arguments: --skip-tty-check")
+    choice = [*dev, *place.by_id("prod", "prod"), "--encrypt-vault-id", "prod"]
+    silent("create", place.run(WITH, "create", "--skip-tty-check", *choice, "b.yml"))
+    assert decrypted("prod", place.get("b.yml")) == b"more\n", "is made, in spite of a word of newer releases"
+    done = place.run(WITH, "edit", "--skip-tty-check", *dev, "c.yml")
+    ended("which edit has not", done, 2, "arguments: --skip-tty-check")
     ended("its help", place.run(WITH, "edit", "--help"), 0, f"usage: {EDIT}")
 
 
 LINES = [
     "view {} long.yml | :; echo ${{PIPESTATUS[0]}}",
     "view {} a.yml >&-; echo $?",
-    "view {} a.yml > /dev/full; echo $?",
     "view {} <&-; echo $?",
-    "view {} >&- <&- 2>&-; echo $?",
     "view --vault-password-file <(cat ../secrets/old) a.yml; echo $?",
 ]
 
