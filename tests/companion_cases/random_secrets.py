@@ -26,7 +26,16 @@ LABELS = [DEFAULT, "dev", "prod", "stage"]
 # The names of password files that are not usable, and of scripts.
 UNUSABLE = ["none", "empty"]
 SCRIPTS = ["script-dev", "keys-client"]
-COMMANDS = ["view", "view", "decrypt", "decrypt -", "encrypt", "encrypt", "encrypt_string", "rekey"]
+# The commands, except rekey, with their arguments.
+COMMANDS = [
+    *[["view", "a.yml"]] * 2,
+    ["decrypt", "a.yml"],
+    ["decrypt", "--output", "-", "a.yml"],
+    ["encrypt", "plain.yml"],
+    ["encrypt", "plain.yml", "more.yml"],
+    ["encrypt", "--output", "new.yml", "plain.yml"],
+    ["encrypt_string", "a string", "--name", "name"],
+]
 # Where settings are: in variables, or in a file that is found in these ways.
 PLACES = ["variables", "folder", "home", "named", "named by a relative path", "variables and folder"]
 # The files of each tree, besides the vault a.yml.
@@ -80,36 +89,24 @@ class Settings(NamedTuple):
         return {name: value for name, value in values.items() if value}
 
 
-class Line(NamedTuple):
-    """A command line."""
+class Case(NamedTuple):
+    """A command line, settings and a vault."""
 
-    command: str
+    command: list[str]
     ids: list[Named]
     paths: list[Named]
-    new: list[str]
-    new_label: str
     # The argument of --encrypt-vault-id.
     label: str
-    arguments: list[str]
-
-    def words(self) -> list[str]:
-        options = [*(f"--vault-id={each.text()}" for each in self.ids)]
-        options += [f"--vault-password-file={each.path()}" for each in self.paths]
-        options += [f"--encrypt-vault-id={self.label}"] if self.label else []
-        return [self.command.split()[0], *options, *self.new, *self.arguments]
-
-
-class Case(NamedTuple):
-    """Everything that is chosen at random."""
-
-    line: Line
     place: str
     variables: Settings
     file: Settings
     vault: bytes
 
-    def with_settings(self, change: Callable[[Settings], Settings]) -> "Case":
-        return self._replace(variables=change(self.variables), file=change(self.file))
+    def words(self) -> list[str]:
+        options = [f"--vault-id={each.text()}" for each in self.ids]
+        options += [f"--vault-password-file={each.path()}" for each in self.paths]
+        options += [f"--encrypt-vault-id={self.label}"] if self.label else []
+        return [self.command[0], *options, *self.command[1:]]
 
 
 NOTHING = Settings([], [], "", "")
@@ -136,41 +133,21 @@ def random_settings(random: Random, secrets: Path) -> Settings:
     return Settings(identities, password_files, label, random.choice(["", "", "", "True", "False"]))
 
 
-def random_line(random: Random, secrets: Path) -> Line:
+def random_case(random: Random, secrets: Path) -> Case:
     command = random.choice(COMMANDS)
     ids = [random_secret(random, secrets, False, ["", *LABELS]) for _ in range(random.choice([0, 0, 1, 1, 2]))]
     paths = [random_secret(random, secrets, False, [DEFAULT]) for _ in range(random.choice([0, 0, 0, 1]))]
-    new: list[str] = []
-    new_label, label = "", ""
-    if command == "rekey" and random.random() < 0.8:
-        new_label = random.choice([DEFAULT, *LABELS])
-        by_path = f"--new-vault-password-file={secrets}/new"
-        new = [f"--new-vault-id={new_label}@{secrets}/new" if random.random() < 0.5 else by_path]
-        new_label = DEFAULT if new == [by_path] else new_label
-    if command in ("encrypt", "encrypt_string", "rekey") and random.random() < 0.4:
-        label = random.choice(LABELS)
-    arguments = {
-        "view": ["a.yml"],
-        "decrypt": ["a.yml"],
-        "decrypt -": ["--output", "-", "a.yml"],
-        "encrypt": random.choice([["plain.yml"], ["plain.yml", "more.yml"], ["--output", "new.yml", "plain.yml"]]),
-        "encrypt_string": ["a string", "--name", "name"],
-        "rekey": ["a.yml"],
-    }[command]
-    return Line(command, ids, paths, new, new_label, label, arguments)
-
-
-def random_case(random: Random, secrets: Path) -> Case:
-    line = random_line(random, secrets)
+    to_encrypt = random.choice(LABELS) if command[0].startswith("encrypt") and random.random() < 0.4 else ""
     place = random.choice(PLACES)
     variables = random_settings(random, secrets) if "variables" in place else NOTHING
     file = random_settings(random, secrets) if place != "variables" else NOTHING
-    named = [*file.identities, *variables.identities, *line.ids, *line.paths]
+    named = [*file.identities, *variables.identities, *ids, *paths]
     usable = [each.name for each in named if each.name in PASSWORDS]
     # Most vaults can be decrypted.
     password = random.choice(usable if usable and random.random() < 0.8 else list(PASSWORDS))
     label = random.choice([each.label for each in named if each.name == password] + LABELS)
-    return Case(line, place, variables, file, sealed(password, TEXT, "" if label == DEFAULT else label))
+    vault = sealed(password, TEXT, "" if label == DEFAULT else label)
+    return Case(command, ids, paths, to_encrypt, place, variables, file, vault)
 
 
 def with_settings(case: Case, home: Path, tree: Path) -> dict[str, str]:
@@ -196,41 +173,19 @@ def with_settings(case: Case, home: Path, tree: Path) -> dict[str, str]:
 
 def what_counts(case: Case) -> Case | None:
     """Return the case without what counts only for Ansible's tool, or None if the case is refused here."""
-    line = case.line
-    if not all(each.is_usable() for each in (*line.ids, *line.paths)):
+    if not all(each.is_usable() for each in (*case.ids, *case.paths)):
         return None
-    if (line.ids or line.paths) and case.place != "named by a relative path":
-        # Nothing in the current directory may name a secret.
-        case = case._replace(variables=case.variables.only(Named.is_elsewhere), file=without_folder(case))
-    if line.command != "rekey":
-        return case
-    case = heeding_label(case)
-    label = line.label or case.variables.encrypt or case.file.encrypt
-    if not line.new:
-        # Here, a question asks for it. Ansible's tool takes the password file of the settings.
-        return case if label else None
-    if line.label not in ("", line.new_label):
-        return None
-    # The new secret of the options takes precedence over the label of the settings.
-    case = case.with_settings(lambda settings: settings._replace(encrypt=""))
-    return case._replace(line=line._replace(label=""))
-
-
-def heeding_label(case: Case) -> Case:
-    """If several secrets are named, only those of its label are tried here. Ansible's tool does so by a setting."""
-    identities = case.variables.identities or case.file.identities
-    password_files = case.variables.password_files or case.file.password_files
-    are_several = len([*case.line.ids, *case.line.paths, *identities, *password_files]) > 1
-    is_heeded = are_several and case.vault.startswith(b"$ANSIBLE_VAULT;1.2;")
-    return case._replace(variables=case.variables._replace(match="True")) if is_heeded else case
-
-
-def without_folder(case: Case) -> Settings:
-    """Return the settings of the file. If it is in the current directory, only `match` counts. Otherwise, relative
-    paths are left out, except the password file's, which begins in the directory of the settings."""
-    if "folder" in case.place:
-        return NOTHING._replace(match=case.file.match)
-    return case.file.only(Named.is_elsewhere)._replace(password_files=case.file.password_files)
+    variables, file = case.variables, case.file
+    if (case.ids or case.paths) and case.place != "named by a relative path":
+        # Nothing in the current directory may name a secret. The path of a password file starts from the file.
+        variables, file = variables.only(Named.is_elsewhere), file.only(Named.is_elsewhere)
+        file = file._replace(password_files=case.file.password_files)
+        if "folder" in case.place:
+            file = NOTHING._replace(match=case.file.match)
+    if ansible_release() < (2, 14):
+        # These releases do not skip a missing secret beside others.
+        variables, file = variables.only(Named.is_usable), file.only(Named.is_usable)
+    return case._replace(variables=variables, file=file)
 
 
 # Whether a run succeeds, its output, and the files that have changed.
@@ -254,15 +209,12 @@ class Both:
         theirs, errors = None, ""
         counted = what_counts(case)
         if counted:
-            if ansible_release() < (2, 14):
-                # These releases do not skip a missing secret beside others.
-                counted = counted.with_settings(lambda settings: settings.only(Named.is_usable))
             variables = self.prepare(counted, self.other)
-            self.ansible.begin(counted.line.words(), self.other, self.place.environment | variables)
+            self.ansible.begin(counted.words(), self.other, self.place.environment | variables)
             status, output, errors = self.ansible.end()
             theirs = outcome_of(counted, self.other, status, output)
         variables = self.prepare(case, self.place.tree)
-        done = self.place.run_on(b"", "setsid", "--wait", WITH, *case.line.words(), **variables)
+        done = self.place.run_on(b"", "setsid", "--wait", WITH, *case.words(), **variables)
         ours = outcome_of(case, self.place.tree, done.returncode, done.stdout)
         return ours, theirs, f"{done.stderr.decode()}\n{errors}"
 
@@ -294,7 +246,7 @@ def test_command_lines(
         case = random_case(random, place.secrets)
         ours, theirs, messages = both.outcome(case)
         if ours != (wanted := theirs or (False, None, {})):
-            with subtests.test(f"{sum(counts.values())}: {case.line.words()} {case}"):
+            with subtests.test(f"{sum(counts.values())}: {case.words()} {case}"):
                 assert ours == wanted, messages
         kind = 2 if theirs is None else 0 if theirs[0] else 1
         counts[[*counts][kind]] += 1

@@ -60,23 +60,18 @@ def test_nothing(place: Place) -> None:
 def test_failures(place: Place) -> None:
     """Each failure is reported, the other files are still rotated, and the status is 1."""
     strays = {
-        "block.yml": (b"a: 1\nb: !vault |\n  $ANSIBLE_VAULT;1.1;AES256\nc: 2\n", "block.yml:3: vault"),
-        "cut.yml": (sealed("old")[:-5], "vault"),
-        "header.yml": (b"$ANSIBLE_VAULT;1.1\n61\n", "first line is malformed"),
-        "stray.yml": (sealed("dev"), "no secret decrypts this vault"),
+        "block.yml": b"a: 1\nb: !vault |\n  $ANSIBLE_VAULT;1.1;AES256\nc: 2\n",
+        "header.yml": b"$ANSIBLE_VAULT;1.1\n61\n",
+        "stray.yml": sealed("dev"),
     }
-    for name, (content, _) in strays.items():
+    for name, content in {"a.yml": sealed("old"), **strays, "z.yml": sealed("old")}.items():
         place.put(name, content)
-    before = place.files()
-    for name in ("a.yml", "z.yml"):
-        place.put(name, sealed("old"))
     done = place.run(ROTATE, *to_new(place), ".")
-    ended("all but two", done, 1, summary(2, failed=len(strays)))
-    lines = dict(zip(strays, done.stderr.splitlines(), strict=True))
-    assert [name for name, (_, part) in strays.items() if part not in lines[name]] == [], lines
+    whys = ["block.yml:3: vault ", "header.yml: its first line is malformed", "stray.yml: no secret decrypts"]
+    ended("all but two", done, 1, summary(2, failed=3), *(f"{ROTATE}: ./{why}" for why in whys))
     after = place.files()
     assert [decrypted("new", after.pop(name)) for name in ("a.yml", "z.yml")] == [TEXT] * 2, "the others are done"
-    assert after == before, "these stay, and nothing else is left"
+    assert after == strays, "these stay, and nothing else is left"
 
 
 def test_unreadable(place: Place) -> None:
@@ -128,41 +123,45 @@ def test_dry_run(place: Place) -> None:
     place.put("a.yml", sealed("old"))
     place.put("b.yml", block("old") + block("new", name="c"))
     place.put("within.yml", sealed("new", block("old")))
+    place.put("z.yml", sealed("dev"))
     before = place.files()
     dry = [ROTATE, "--dry-run", *to_new(place)]
-    parts = ["./a.yml: would be rotated", "./b.yml: 1 block would be rotated", "3 to be rotated, 2 under"]
-    parts.append("./within.yml: 1 block within a plaintext would be rotated")
-    ended("something is left", place.run(*dry, "."), 1, *parts)
+    lines = [
+        "./a.yml: would be rotated",
+        "./b.yml: 1 block would be rotated",
+        "./within.yml: 1 block within a plaintext would be rotated",
+        summary(3, 2, failed=1).replace("rotated", "to be rotated", 1),
+    ]
+    done = place.run(*dry, ".")
+    assert (done.returncode, done.stdout.splitlines()) == (1, lines), "something is left"
+    assert f"{ROTATE}: ./z.yml: no secret decrypts this vault" in done.stderr, "one cannot be decrypted"
     assert place.files() == before, "nothing is written"
-    place.put("c.yml", sealed("dev"))
-    ended("one cannot be decrypted", place.run(*dry, "c.yml"), 1, "c.yml: no secret decrypts this vault", "1 failed")
     place.run(ROTATE, *to_new(place), "a.yml", "b.yml")
     done = place.run(*dry, "a.yml", "b.yml")
-    ended("nothing is left", done, 0, "0 to be rotated, 3 under the new secret already")
+    ended("nothing is left", done, 0, summary(0, 3).replace("rotated", "to be rotated", 1))
 
 
 def test_documents(place: Place) -> None:
     """An envelope in a document is counted, but not rotated, if an old secret decrypts it. An example is ignored."""
     line = sealed("old").decode().replace("\n", "\\n")
-    prose = {
-        "README.md": (b"An example:\n\n" + block("old"), 4),
-        "a.RST": (block("new") + block("old", name="b"), 2 + len(block("new").splitlines())),
-        "b.adoc": (b"\n" + sealed("old"), 2),
-        "deep/c.html": (f'<pre>"{line}"</pre>'.encode(), 1),
+    left = {
+        "README.md:4": b"An example:\n\n" + block("old"),
+        f"a.RST:{len(block('new').splitlines()) + 2}": block("new") + block("old", name="b"),
+        "b.adoc:2": b"\n" + sealed("old"),
+        "c.html:1": f'<pre>"{line}"</pre>'.encode(),
     }
     others = {"c.md": block("dev"), "d.md": block("new"), "e.md": block("prod", label="prod")}
     others |= {"f.md": b"As $ANSIBLE_VAULT;1.1\n", "a.yml": sealed("old"), "vault.md": sealed("old")}
-    contents = {name: content for name, (content, _) in prose.items()}
-    for name, text in (contents | others).items():
-        place.put(name, text)
+    for where, content in (left | others).items():
+        place.put(where.partition(":")[0], content)
+    before = place.files()
     why = "it is in a document and was not rotated; to ignore documents, add --skip-documents"
-    left = [f"{ROTATE}: ./{name}:{number}: {why}" for name, (_, number) in prose.items()]
     for words, counts in (((), summary(2)), (("--dry-run",), summary(0, 2).replace("rotated", "to be rotated", 1))):
         done = place.run(ROTATE, *words, *to_new(place), ".")
-        assert (done.returncode, sorted(done.stderr.splitlines())) == (1, sorted(left)), "those that are left"
-        ended("the counts", done, 1, f"{counts}, {len(left)} left in documents\n")
-    assert {name: place.get(name) for name in contents} == contents, "they stay"
-    assert decrypted("new", place.get("vault.md")) == TEXT, "a document that is a vault is rotated"
+        assert (done.returncode, done.stderr.splitlines()) == (1, [f"{ROTATE}: ./{each}: {why}" for each in left])
+        assert done.stdout.endswith(f"{counts}, {len(left)} left in documents\n"), "the counts"
+    changed = {name for name, content in before.items() if place.get(name) != content}
+    assert changed == {"a.yml", "vault.md"}, "a document that is a vault is rotated"
     done = place.run(ROTATE, "--skip-documents", *to_new(place), ".")
     assert (done.returncode, done.stdout, done.stderr) == (0, f"{summary(0, 2)}\n", ""), "they are ignored"
 

@@ -9,32 +9,32 @@ from lib.needs import needs
 from lib.option_sets import OF_ANSIBLE, help_options, page_sets
 from lib.subtests import SubTests
 
-# Command lines that the tool takes, too, if a secret is added; and their standard input.
-SAME = [
-    (["view", "a.yml"], b""),
-    (["view", "-"], sealed("old")),
-    (["view", "--require-id-match", "a.yml"], b""),
-    (["view", "new.yml"], b""),
-    (["view", "--loud"], b""),
-    (["view", "--new-vault-id", "prod@../secrets/prod", "a.yml"], b""),
-    (["decrypt"], sealed("old")),
-    (["decrypt", "--output=out.yml", "a.yml"], b""),
-    (["decrypt", "--output", "out.yml", "a.yml", "plain.yml"], b""),
-    (["encrypt", "--salt", "salt", "--output", "-", "plain.yml"], b""),
-    (["encrypt", "--encrypt-vault-id", "prod", "--output", "-", "plain.yml"], b""),
-    (["encrypt", "a.yml", "--output"], b""),
-    (["encrypt_string", "--salt", "salt", "-n", "name", "word"], b""),
-    (["encrypt_string", "--salt", "salt", "--stdin-name", "name"], TEXT),
-    (["encrypt_string", "--salt=salt", "--name=name", "--", "--word"], b""),
-    (["encrypt_string", ""], b""),
-    (["rekey", "--salt", "salt", "--new-vault-id", "prod@../secrets/prod", "--output", "-", "a.yml"], b""),
-    (["rekey", "--salt", "salt", "--new-vault-password-file=../secrets/prod"], sealed("old")),
-    (["rekey", "--new-vault-id=a@../secrets/prod", "--new-vault-password-file", "../secrets/new"], b""),
-]
+# Command lines that the tool takes, too, if a secret is added.
+SAME = """
+    view a.yml
+    view - < a.yml
+    view --require-id-match a.yml
+    view new.yml
+    view --loud
+    view --new-vault-id prod@../secrets/prod a.yml
+    decrypt < a.yml
+    decrypt --output=out.yml a.yml
+    decrypt --output out.yml a.yml plain.yml
+    encrypt --salt salt --output - plain.yml
+    encrypt --encrypt-vault-id prod --output - plain.yml
+    encrypt a.yml --output
+    encrypt_string --salt salt -n name word
+    encrypt_string --salt salt --stdin-name name < plain.yml
+    encrypt_string --salt=salt --name=name -- --word
+    encrypt_string ''
+    rekey --salt salt --new-vault-id prod@../secrets/prod --output - a.yml
+    rekey --salt salt --new-vault-password-file=../secrets/prod < a.yml
+    rekey --new-vault-id=a@../secrets/prod --new-vault-password-file ../secrets/new
+    rekey --vault-id --help
+    strange --help
+"""
 # The tool's status for an invalid command line.
 WRONG_COMMAND_LINE = 2
-# Command lines without a secret.
-BARE = [["strange"], ["strange", "--help"], ["rekey", "--vault-id", "--help"]]
 
 
 def prepare(place: Place) -> None:
@@ -43,10 +43,10 @@ def prepare(place: Place) -> None:
     place.put("plain.yml", TEXT)
 
 
-def run(place: Place, words: list[str], data: bytes) -> tuple[int, bytes, bytes, dict[str, bytes]]:
+def run(place: Place, line: str) -> tuple[int, str, str, dict[str, bytes]]:
     """Return the status, the output, the message, and the files that are there afterwards."""
     prepare(place)
-    done = place.run_on(data, *words)
+    done = place.shell(line)
     files = place.files()
     for name in files:
         (place.tree / name).unlink()
@@ -54,21 +54,17 @@ def run(place: Place, words: list[str], data: bytes) -> tuple[int, bytes, bytes,
 
 
 @pytest.mark.parametrize("option", ["--vault-password-file={}", "--vault-id=default@{}"])
-@pytest.mark.parametrize("words, data", SAME, ids=lambda value: repr(value)[:60])
-def test_the_answers_of_the_tool(place: Place, words: list[str], data: bytes, option: str) -> None:
+@pytest.mark.parametrize("line", map(str.strip, SAME.strip().splitlines()))
+def test_the_answers_of_the_tool(place: Place, line: str, option: str) -> None:
     """Output, message, status and files are the same, wherever the secret is in the command line."""
-    option, (command, *others) = option.format(place.secret("old")), words
-    wanted = run(place, ["ansible-vault", command, option, *others], data)
-    pair = option.split("=")
-    lines = [[option, command, *others], [*pair, command, *others], [command, *pair, *others]]
-    if wanted[0] != WRONG_COMMAND_LINE and "--" not in others:
-        lines.append([command, *others, *pair])
-    assert [run(place, [WITH, *line], data) for line in lines] == [wanted] * len(lines), lines
-
-
-@pytest.mark.parametrize("words", BARE, ids=repr)
-def test_without_a_secret(place: Place, words: list[str]) -> None:
-    assert run(place, [WITH, *words], b"") == run(place, ["ansible-vault", *words], b"")
+    command, _, others = line.partition(" ")
+    word = option.format(place.secret("old"))
+    pair = word.replace("=", " ")
+    wanted = run(place, f"ansible-vault {command} {word} {others}")
+    lines = [f"{word} {command} {others}", f"{pair} {command} {others}", f"{command} {pair} {others}"]
+    if wanted[0] != WRONG_COMMAND_LINE and " -- " not in line:
+        lines.append(f"{line} {pair}")
+    assert [run(place, f"{WITH} {each}") for each in lines] == [wanted] * len(lines), lines
 
 
 ADDED = {"-J", "--ask-vault-password", "--ask-vault-pass", "--vault-pass-file"}
@@ -115,27 +111,16 @@ def test_in_place(place: Place) -> None:
     texts = {name: name.encode() for name in [*AWKWARD, "folder/a.yml"]}
     for name, text in texts.items():
         place.put(name, text, 0o640)
-        place.give(name)
     (place.tree / "link.yml").symlink_to("folder/a.yml")
-    names = ["--", *AWKWARD, "link.yml"]
-
-    def check(what: str, header: bytes, password: str) -> None:
-        found = {name: described(place.get(name)) for name in texts}
-        assert found == {name: (header, (password, text)) for name, text in texts.items()}, what
-        assert {place.mode(name) for name in texts} == {"0o640"}, f"{what}: the mode stays"
-
-    def owners() -> set[int]:
-        return {(place.tree / name).stat().st_uid for name in texts}
-
-    before = owners()
-    silent("encrypt", place.run(WITH, "encrypt", *place.by_id("dev", "dev"), *names))
-    check("encrypted", b"$ANSIBLE_VAULT;1.2;AES256;dev", "dev")
-    silent("rekey", place.run(WITH, "rekey", *place.by_file("dev"), *place.by_file("new", "new-"), *names))
-    check("rekeyed", b"$ANSIBLE_VAULT;1.1;AES256", "new")
-    silent("decrypt", place.run(WITH, "decrypt", *place.by_file("new"), *names))
+    words = [*place.by_id("dev", "dev"), "--", *AWKWARD, "link.yml"]
+    silent("encrypt", place.run(WITH, "encrypt", *words))
+    found = {name: described(place.get(name)) for name in texts}
+    assert found == {name: (b"$ANSIBLE_VAULT;1.2;AES256;dev", ("dev", text)) for name, text in texts.items()}
+    assert {place.mode(name) for name in texts} == {"0o640"}, "the modes stay"
+    silent("decrypt", place.run(WITH, "decrypt", *words))
     assert place.files() == texts | {"link.yml": texts["folder/a.yml"]}, "it is plaintext, and no other file is left"
     assert {place.mode(name) for name in texts} == {"0o600"}, "for its owner alone"
-    assert (owners(), os.readlink(place.tree / "link.yml")) == (before, "folder/a.yml"), "owners and the link stay"
+    assert os.readlink(place.tree / "link.yml") == "folder/a.yml", "the link stays"
 
 
 def test_those_that_fail(place: Place) -> None:
@@ -165,12 +150,17 @@ def test_those_that_fail(place: Place) -> None:
 
 
 def test_rekey_needs_a_new_secret(place: Place) -> None:
-    """The old secret is not taken for the new one, even if it has the label that was chosen."""
+    """The old secret is not taken for the new one, even if it has the label that was chosen. A new secret takes
+    precedence over the label of the settings."""
     prepare(place)
-    before = place.files()
-    done = place.run(WITH, "rekey", *place.by_id("prod", "old"), "--encrypt-vault-id", "prod", "a.yml")
-    ended("the old one alone", done, 1, "no new secret has the label that was chosen for encryption, prod")
+    before, new = place.files(), place.by_id("dev", "new", "new-")
+    rekey = [WITH, "rekey", *place.by_id("prod", "old"), "a.yml"]
+    why = "no new secret has the label that was chosen for encryption, prod"
+    ended("the old one alone", place.run(*rekey, "--encrypt-vault-id", "prod"), 1, why)
+    ended("another new one", place.run(*rekey, *new, "--encrypt-vault-id", "prod"), 1, why)
     assert place.files() == before
+    silent("by a setting", place.run(*rekey, *new, ANSIBLE_VAULT_ENCRYPT_IDENTITY="prod"))
+    assert decrypted("new", place.get("a.yml")) == TEXT
 
 
 def test_highest_status(place: Place) -> None:

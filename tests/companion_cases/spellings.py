@@ -7,16 +7,15 @@ from collections import Counter
 from random import Random
 from typing import Any
 
+import pytest
 from hypothesis import given, settings
 from hypothesis import strategies as st
 
 from ansible_vault_companions.files.envelopes import has_valid_header, mentions_envelope
 from ansible_vault_companions.git import leaks
 from ansible_vault_companions.yaml.hidden import envelopes
-from companion_cases import CHECK, ROTATE, Place, block, ended, sealed, silent, summary, to_new
-from companion_cases.repository import IN_PART, again, leaked, staged, with_hooks
+from companion_cases import CHECK, ROTATE, Place, block, ended, sealed, summary, to_new
 from lib.needs import needs_pyyaml
-from lib.subtests import SubTests
 
 DIGITS = "".join(sealed("old").decode().splitlines()[1:])
 MAGIC = "$ANSIBLE_VAULT"
@@ -119,7 +118,7 @@ def is_decrypted(text: str) -> bool:
     """Return whether Ansible decrypts a text, as its `parse_vaulttext_envelope` reads it."""
     header, *lines = text.encode().splitlines() or [b""]
     fields = [each.strip() for each in header.strip().split(b";")]
-    is_header = text.startswith("$ANSIBLE_VAULT") and len(fields) > 2 and fields[2] == b"AES256"
+    is_header = text.startswith(MAGIC) and len(fields) > 2 and fields[2] == b"AES256"
     return is_header and b"".join(lines).decode() == DIGITS
 
 
@@ -147,25 +146,15 @@ def test_spellings(place: Place) -> None:
     assert (done.returncode, unreported) == (1, []), "none is passed over"
 
 
-HEADERS = [f"{MAGIC} ;1.2;AES256;old", f"{MAGIC}_x; 1.1 ;AES256", f"{MAGIC};1.1;\tAES256;x"]
-
-
-def test_headers(place: Place, subtests: SubTests) -> None:
-    """A block with an unusual header is checked, rotated and watched like any other."""
-    with_hooks(place, "whole.yml ansible-vault\n")
-    for header in HEADERS:
-        with subtests.test(header):
-            usual = b"$ANSIBLE_VAULT;1.1;AES256"
-            value = block("old").replace(usual, header.encode())
-            place.put("whole.yml", sealed("old").replace(usual, header.encode()))
-            silent("the hook", again(place, "vars.yml", value))
-            done = staged(place, "vars.yml", b"secret: plain\n")
-            leaked("plaintext", done, {"vars.yml": IN_PART.format("secret")})
-            place.put("vars.yml", value)
-            ended("a wrong password", place.run(CHECK, *place.by_file("new"), "."), 1, "0 decrypted, 2 not")
-            label = (header.split(";")[3:] or ["default"])[0]
-            secrets = [*place.by_id(label, "old"), *place.by_id(label, "new", "new-")]
-            ended("rotate", place.run(ROTATE, *secrets, "."), 0, summary(2))
+@pytest.mark.parametrize("header", [f"{MAGIC} ;1.2;AES256;old", f"{MAGIC}_x; 1.1 ;AES256", f"{MAGIC};1.1;\tAES256;x"])
+def test_headers(place: Place, header: str) -> None:
+    """A vault or block with an unusual header is checked and rotated like any other."""
+    for name, content in {"whole.yml": sealed("old"), "vars.yml": block("old")}.items():
+        place.put(name, content.replace(b"$ANSIBLE_VAULT;1.1;AES256", header.encode()))
+    ended("a wrong password", place.run(CHECK, *place.by_file("new"), "."), 1, "0 decrypted, 2 not")
+    label = (header.split(";")[3:] or ["default"])[0]
+    secrets = [*place.by_id(label, "old"), *place.by_id(label, "new", "new-")]
+    ended("rotate", place.run(ROTATE, *secrets, "."), 0, summary(2))
 
 
 def test_valid_headers(place: Place) -> None:
