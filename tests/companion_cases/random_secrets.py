@@ -150,8 +150,13 @@ def random_case(random: Random, secrets: Path) -> Case:
     return Case(command, ids, paths, to_encrypt, place, variables, file, vault)
 
 
-def with_settings(case: Case, home: Path, tree: Path) -> dict[str, str]:
-    """Write the file of settings, and return the variables."""
+def prepare(case: Case, home: Path, tree: Path) -> dict[str, str]:
+    """Make a tree with the vault and the file of settings. Return the variables."""
+    shutil.rmtree(tree, ignore_errors=True)
+    tree.mkdir()
+    for name, content in {"a.yml": case.vault, **PLAIN}.items():
+        (tree / name).write_bytes(content)
+    (home / ".ansible.cfg").unlink(missing_ok=True)
     variables = {f"ANSIBLE_{name.upper()}": value for name, value in case.variables.values().items()}
     path = tree / "ansible.cfg"
     if case.place == "home":
@@ -192,41 +197,6 @@ def what_counts(case: Case) -> Case | None:
 Outcome = tuple[bool, Described | None, dict[str, Described]]
 
 
-class Both:
-    """Two equal trees, one for each tool."""
-
-    def __init__(self, place: Place, ansible: AnsibleRuns) -> None:
-        self.place = place
-        self.ansible = ansible
-        self.other = place.path / "other"
-        place.script("cat ~/secrets/dev", "secrets/script-dev")
-        place.script('cat ~/secrets/"$2"', "secrets/keys-client")
-        (place.secrets / "empty").write_bytes(b"\n")
-        (place.secrets / "wrong").write_bytes(b"no password\n")
-
-    def outcome(self, case: Case) -> tuple[Outcome, Outcome | None, str]:
-        """Return what our tool did, what theirs did if both must do the same, and the messages."""
-        theirs, errors = None, ""
-        counted = what_counts(case)
-        if counted:
-            variables = self.prepare(counted, self.other)
-            self.ansible.begin(counted.words(), self.other, self.place.environment | variables)
-            status, output, errors = self.ansible.end()
-            theirs = outcome_of(counted, self.other, status, output)
-        variables = self.prepare(case, self.place.tree)
-        done = self.place.run_on(b"", "setsid", "--wait", WITH, *case.words(), **variables)
-        ours = outcome_of(case, self.place.tree, done.returncode, done.stdout)
-        return ours, theirs, f"{done.stderr.decode()}\n{errors}"
-
-    def prepare(self, case: Case, tree: Path) -> dict[str, str]:
-        shutil.rmtree(tree, ignore_errors=True)
-        tree.mkdir()
-        (self.place.path / ".ansible.cfg").unlink(missing_ok=True)
-        for name, content in {"a.yml": case.vault, **PLAIN}.items():
-            (tree / name).write_bytes(content)
-        return with_settings(case, self.place.path, tree)
-
-
 def outcome_of(case: Case, tree: Path, status: int, output: bytes) -> Outcome:
     before = {"a.yml": case.vault, **PLAIN}
     files = {path.name: path.read_bytes() for path in tree.iterdir() if path.name != "ansible.cfg"}
@@ -234,17 +204,35 @@ def outcome_of(case: Case, tree: Path, status: int, output: bytes) -> Outcome:
     return status == 0, described(output) if status == 0 else None, changed
 
 
+def outcomes(place: Place, ansible: AnsibleRuns, case: Case) -> tuple[Outcome, Outcome | None, str]:
+    """Return what our tool did, what theirs did if both must do the same, and the messages."""
+    theirs, errors = None, ""
+    if counted := what_counts(case):
+        tree = place.path / "other"
+        variables = prepare(counted, place.path, tree)
+        ansible.begin(counted.words(), tree, place.environment | variables)
+        status, output, errors = ansible.end()
+        theirs = outcome_of(counted, tree, status, output)
+    variables = prepare(case, place.path, place.tree)
+    done = place.run_on(b"", "setsid", "--wait", WITH, *case.words(), **variables)
+    ours = outcome_of(case, place.tree, done.returncode, done.stdout)
+    return ours, theirs, f"{done.stderr.decode()}\n{errors}"
+
+
 def test_command_lines(
     place: Place, ansible_runs: AnsibleRuns, subtests: SubTests, pytestconfig: pytest.Config
 ) -> None:
     """Compare random command lines, and print how many there were."""
+    place.script("cat ~/secrets/dev", "secrets/script-dev")
+    place.script('cat ~/secrets/"$2"', "secrets/keys-client")
+    (place.secrets / "empty").write_bytes(b"\n")
+    (place.secrets / "wrong").write_bytes(b"no password\n")
     most = pytestconfig.getoption("--comparisons")
     random, counts = Random(SEED), {"succeed in both": 0, "refused by both": 0, "refused only here, as documented": 0}
     end = time.monotonic() + SHARE
-    both = Both(place, ansible_runs)
     while sum(counts.values()) < (most or LEAST) or not most and time.monotonic() < end:
         case = random_case(random, place.secrets)
-        ours, theirs, messages = both.outcome(case)
+        ours, theirs, messages = outcomes(place, ansible_runs, case)
         if ours != (wanted := theirs or (False, None, {})):
             with subtests.test(f"{sum(counts.values())}: {case.words()} {case}"):
                 assert ours == wanted, messages

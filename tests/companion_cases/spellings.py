@@ -88,8 +88,8 @@ def documents(draw: st.DrawFn) -> tuple[str, str]:
     return kind, directive + draw(st.sampled_from(PLACES)).format(value)
 
 
-def loaded(text: str) -> list[str]:
-    """Return the texts that Ansible's loader takes for envelopes: it first reads a file as JSON, then as YAML."""
+def loaded(kind: str, text: str) -> list[str]:
+    """Return the texts that Ansible's loader takes for envelopes."""
     import yaml
 
     found: list[str] = []
@@ -102,15 +102,15 @@ def loaded(text: str) -> list[str]:
     def note(pairs: list[tuple[str, Any]]) -> None:
         found.extend(value for key, value in pairs if key == "__ansible_vault")
 
-    try:
+    if kind == "JSON":
         json.loads(text, object_pairs_hook=note)
-    except ValueError:
-        for tag in ("!vault", "!vault-encrypted"):
-            Loader.add_constructor(tag, Loader.note)
-        try:
-            yaml.load(text, Loader)
-        except yaml.YAMLError:
-            return []
+        return found
+    for tag in ("!vault", "!vault-encrypted"):
+        Loader.add_constructor(tag, Loader.note)
+    try:
+        yaml.load(text, Loader)
+    except yaml.YAMLError:
+        return []
     return found
 
 
@@ -131,7 +131,7 @@ def test_spellings(place: Place) -> None:
     @given(drawn=documents())
     def spell(drawn: tuple[str, str]) -> None:
         kind, text = drawn
-        if any(map(is_decrypted, loaded(text))):
+        if any(map(is_decrypted, loaded(kind, text))):
             data = text.encode()
             assert mentions_envelope(data) and envelopes(data), text
             if kind != "JSON" and "secret" in text and "=:" not in text:

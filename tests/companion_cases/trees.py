@@ -11,7 +11,6 @@ from hypothesis import strategies as st
 from ansible_vault_companions.files import reading, searching
 from ansible_vault_companions.files.envelopes import MAGIC
 from companion_cases import AWKWARD, CHECK, ROTATE, TEXT, Place, block, decrypted, ended, sealed, summary, to_new
-from companion_cases.repository import under_git
 from lib.needs import needs
 
 
@@ -143,32 +142,24 @@ def test_named(place: Place) -> None:
     """A file is left out even if it is given as a PATH."""
     for name in FILES:
         place.put(name, sealed("old"))
-    names = found(place, "--exclude", "tests/*", "--exclude", "b.txt", *FILES)
+    names = found(place, "--exclude=tests/*", "--exclude=b.txt", *FILES)
     assert names == ["[x]/e.yml", "a.yml", "roles/tests/d.yml"]
 
 
 def test_tracked(place: Place) -> None:
-    """--tracked covers a repository within another one. A link counts as the file that it points to."""
+    """--tracked covers a repository within another one. A link counts as the file that it points to. Outside of a
+    repository, it is refused, since it would find nothing."""
     needs("git")
-    under_git(place, "")
-    place.put("it's ä.yml", sealed("old"))
-    place.put("deep/a.yml", sealed("old"))
-    place.put("inner/b.yml", sealed("old"))
+    for name in ("it's ä.yml", "deep/a.yml", "inner/b.yml"):
+        place.put(name, sealed("old"))
     (place.tree / "link.yml").symlink_to("untracked.yml")
-    place.shell("git -C inner init -q && git -C inner add -A && git add 'it'*.yml deep link.yml")
+    check = [CHECK, *place.by_file("old"), "--tracked"]
+    ended("in no repository", place.run(*check, "."), 1, f"{CHECK}: --tracked needs a git repository")
+    place.shell("git init -q && git -C inner init -q && git -C inner add -A && git add 'it'*.yml deep link.yml")
     for name in ("untracked.yml", "deep/untracked.yml", "inner/untracked.yml"):
         place.put(name, sealed("dev"))
-    check = [CHECK, *place.by_file("old"), "--tracked"]
     ended("check", place.run(*check, "."), 0, "3 decrypted, 0 not")
     ended("both options", place.run(*check, "--exclude", "inner", "deep", "."), 0, "2 decrypted, 0 not")
     ended("rotate", place.run(ROTATE, *to_new(place), "--tracked", "--exclude", "deep", "."), 0, summary(2))
     assert decrypted("new", place.get("inner/b.yml")) == TEXT
     assert (place.get("deep/a.yml"), place.get("untracked.yml")) == (sealed("old"), sealed("dev")), "they stay"
-
-
-def test_in_no_repository(place: Place) -> None:
-    """Outside of a repository, --tracked is refused, since it would find nothing."""
-    needs("git")
-    place.put("a.yml", sealed("old"))
-    done = place.run(CHECK, *place.by_file("old"), "--tracked", ".")
-    ended("check", done, 1, f"{CHECK}: --tracked needs a git repository")
