@@ -5,7 +5,6 @@ import pytest
 from ansible_vault_companions.files import finding
 from companion_cases import CHECK, TEXT, Place, block, ended, sealed
 from companion_cases.repository import under_git
-from lib.needs import needs_root
 
 ATTRIBUTES = """\
 *.vault.yml diff=ansible-vault
@@ -56,7 +55,8 @@ def test_marked_links(place: Place) -> None:
 
 @pytest.mark.usefixtures("git")
 def test_several_repositories(place: Place) -> None:
-    """Only a file's own repository marks it. A file outside of any repository is not marked."""
+    """Only a file's own repository marks it. A file outside of any repository is not marked. If git fails, so does the
+    check, but this does not count as a vault, and git's own message is shown."""
     place.put("outside.vault.yml", TEXT)
     for name in ("one", "two"):
         place.shell(f"git init -q {name}")
@@ -65,8 +65,8 @@ def test_several_repositories(place: Place) -> None:
     check = [CHECK, *place.by_file("old"), "."]
     assert place.run(*check).stderr == f"{CHECK}: ./one/a.vault.yml: is not encrypted\n", "one alone marks it"
     place.put("one/.git/config", b"[no config\n")
-    why = "cannot check which files have to be encrypted or merged: git check-attr failed"
-    ended("git fails", place.run(*check), 1, why)
+    why = f"{CHECK}: cannot check which files have to be encrypted or merged: git check-attr failed\n"
+    ended("git fails", place.run(*check), 1, why, "0 decrypted, 0 not\n", "bad config line 1 in file ")
 
 
 def test_some_labels(place: Place) -> None:
@@ -102,14 +102,3 @@ def test_names_of_variables() -> None:
     rows = block("old").partition(b"\n")[2]
     found = {line: [(each.name, each.line) for each in finding.envelopes(line + rows)] for line in lines}
     assert found == {line: [(name, line.count(b"\n") + 1)] for line, name in lines.items()}
-
-
-@pytest.mark.usefixtures("git")
-def test_the_repository_of_another_owner(place: Place) -> None:
-    """git refuses it and says what to do. The refusal does not count as a vault."""
-    needs_root()
-    under_git(place, ATTRIBUTES)
-    place.put("a.yml", sealed("old"))
-    done = place.as_nobody(CHECK, *place.by_file("old"), ".")
-    why = f"{CHECK}: cannot check which files have to be encrypted or merged: git check-attr failed\n"
-    ended("another owner", done, 1, "1 decrypted, 0 not\n", "safe.directory", why)

@@ -8,20 +8,20 @@ import pytest
 
 from companion_cases import NOBODY, ROTATE, TEXT, Place, block, decrypted, ended, sealed, summary, to_new
 from lib.needs import needs_root
-from lib.subtests import SubTests
 
 
 def test_by_label(place: Place) -> None:
-    """Envelopes whose label is not named keep every byte."""
+    """Envelopes whose label is not named keep every byte, and so do those that are under the new secret already."""
     place.put("all.yml", sealed("old"))
     place.put("dev.yml", sealed("dev", label="dev"))
     place.put("prod/vars.yml", sealed("prod", label="prod"))
     place.put("blocks.yml", block("dev", label="dev", name="a") + block("prod", label="prod", name="b"))
     place.put("strange.yml", sealed("dev2", label="strange"))
+    place.put("done.yml", sealed("prod2", label="prod"))
     before = place.files()
     old = [*place.by_file("old"), *place.by_id("dev", "dev"), *place.by_id("prod", "prod")]
     done = place.run(ROTATE, *old, *place.by_id("prod", "prod2", "new-"), ".")
-    counts = summary(2, 0, 4, " (default 1, dev 2, strange 1)")
+    counts = summary(2, 1, 4, " (default 1, dev 2, strange 1)")
     ended("prod alone", done, 0, "./prod/vars.yml: rotated\n", "./blocks.yml: 1 block rotated\n", counts)
     after = place.files()
     changed = {name for name in before if before[name] != after[name]}
@@ -29,21 +29,6 @@ def test_by_label(place: Place) -> None:
     assert decrypted("prod2", after["prod/vars.yml"]) == TEXT, "it is under the new secret"
     assert after["prod/vars.yml"].startswith(b"$ANSIBLE_VAULT;1.2;AES256;prod\n"), "and keeps its label"
     assert after["blocks.yml"].startswith(block("dev", label="dev", name="a")), "the block of dev stays"
-
-
-def test_again(place: Place, subtests: SubTests) -> None:
-    """An envelope that is under the new secret already stays as it is, whether or not the old secrets decrypt it."""
-    place.put("one.yml", sealed("new"))
-    place.put("two.yml", sealed("old"))
-    place.put("blocks.yml", block("new") + block("old", name="b"))
-    ended("half is done", place.run(ROTATE, *to_new(place), "."), 0, summary(2, 2))
-    assert place.get("one.yml") == sealed("new"), "what has it stays"
-    assert place.get("blocks.yml").startswith(block("new")), "and a block that has it"
-    before = place.files()
-    for words in (to_new(place), [*place.by_file("new"), *to_new(place)]):
-        with subtests.test(f"{words}"):
-            ended("all is done", place.run(ROTATE, *words, "."), 0, summary(0, 4))
-            assert place.files() == before, "all stays"
 
 
 def test_nothing(place: Place) -> None:

@@ -4,7 +4,7 @@ import os
 
 import pytest
 
-from companion_cases import AWKWARD, EDIT, TEXT, WITH, Place, decrypted, described, ended, sealed, silent
+from companion_cases import AWKWARD, EDIT, TEXT, WITH, Place, decrypted, described, ended, sealed, silent, texts
 from lib.needs import needs
 from lib.option_sets import OF_ANSIBLE, help_options, page_sets
 from lib.subtests import SubTests
@@ -17,6 +17,9 @@ SAME = """
     view new.yml
     view --loud
     view --new-vault-id prod@../secrets/prod a.yml
+    view --vault-password-file <(cat ../secrets/dev) a.yml
+    view a.yml >&-
+    view <&-
     decrypt < a.yml
     decrypt --output=out.yml a.yml
     decrypt --output out.yml a.yml plain.yml
@@ -46,7 +49,7 @@ def prepare(place: Place) -> None:
 def run(place: Place, line: str) -> tuple[int, str, str, dict[str, bytes]]:
     """Return the status, the output, the message, and the files that are there afterwards."""
     prepare(place)
-    done = place.shell(line)
+    done = place.shell(line, "bash")
     files = place.files()
     for name in files:
         (place.tree / name).unlink()
@@ -57,6 +60,7 @@ def run(place: Place, line: str) -> tuple[int, str, str, dict[str, bytes]]:
 @pytest.mark.parametrize("line", map(str.strip, SAME.strip().splitlines()))
 def test_the_answers_of_the_tool(place: Place, line: str, option: str) -> None:
     """Output, message, status and files are the same, wherever the secret is in the command line."""
+    needs("bash")
     command, _, others = line.partition(" ")
     word = option.format(place.secret("old"))
     pair = word.replace("=", " ")
@@ -108,18 +112,18 @@ def test_command_lines(place: Place, subtests: SubTests) -> None:
 def test_in_place(place: Place) -> None:
     """Several files are replaced, even with awkward names, and the file of a link. Only its owner may read what is
     decrypted."""
-    texts = {name: name.encode() for name in [*AWKWARD, "folder/a.yml"]}
-    for name, text in texts.items():
+    contents = {name: name.encode() for name in [*AWKWARD, "folder/a.yml"]}
+    for name, text in contents.items():
         place.put(name, text, 0o640)
     (place.tree / "link.yml").symlink_to("folder/a.yml")
     words = [*place.by_id("dev", "dev"), "--", *AWKWARD, "link.yml"]
     silent("encrypt", place.run(WITH, "encrypt", *words))
-    found = {name: described(place.get(name)) for name in texts}
-    assert found == {name: (b"$ANSIBLE_VAULT;1.2;AES256;dev", ("dev", text)) for name, text in texts.items()}
-    assert {place.mode(name) for name in texts} == {"0o640"}, "the modes stay"
+    found = {name: described(place.get(name)) for name in contents}
+    assert found == {name: (b"$ANSIBLE_VAULT;1.2;AES256;dev", ("dev", text)) for name, text in contents.items()}
+    assert {place.mode(name) for name in contents} == {"0o640"}, "the modes stay"
     silent("decrypt", place.run(WITH, "decrypt", *words))
-    assert place.files() == texts | {"link.yml": texts["folder/a.yml"]}, "it is plaintext, and no other file is left"
-    assert {place.mode(name) for name in texts} == {"0o600"}, "for its owner alone"
+    assert place.files() == contents | {"link.yml": contents["folder/a.yml"]}, "no other file is left"
+    assert {place.mode(name) for name in contents} == {"0o600"}, "for its owner alone"
     assert os.readlink(place.tree / "link.yml") == "folder/a.yml", "the link stays"
 
 
@@ -181,8 +185,8 @@ def test_several_edits(place: Place) -> None:
     place.environment["EDITOR"] = place.script('echo more >> "$1"', "editor")
     done = place.run(WITH, "edit", "--vault-id", "../script", "a.yml", "new.yml", "b.yml")
     ended("edit", done, 1, f"{EDIT}: new.yml: no secret decrypts this vault")
-    texts = [decrypted("old", place.get(name)) for name in ("a.yml", "b.yml")]
-    assert texts == [TEXT + b"more\n", b"more\n"], "the others are edited"
+    edited = [decrypted("old", place.get(name)) for name in ("a.yml", "b.yml")]
+    assert edited == [TEXT + b"more\n", b"more\n"], "the others are edited"
     assert (place.path / "runs").read_text() == "run\n", "the script is run once"
     done = place.run(WITH, "create", *place.by_file("old"), "x.yml", "y.yml")
     ended("create", done, 2, "create takes one FILE")
@@ -221,8 +225,7 @@ def test_several_strings(place: Place, subtests: SubTests) -> None:
     ]
     assert (done.returncode, done.stdout, done.stderr.splitlines()) == (0, "", notes), "names"
     assert place.mode("blocks.yml") == "0o600", "the mode of the file"
-    blocks = place.get("blocks.yml").split(b"!vault |\n")[1:]
-    assert [described(each)[1] for each in blocks] == [("dev", b"a word"), ("dev", b"another")], "the strings"
+    assert texts(place.get("blocks.yml"), "dev") == [b"a word", b"another"], "the strings"
     seen = (place.path / "seen").read_text()
     assert ("word" in seen, "encrypt_string" in seen) == (False, True), "strings are no arguments of the tool"
 
@@ -251,21 +254,10 @@ def test_editing(place: Place) -> None:
     ended("its help", place.run(WITH, "edit", "--help"), 0, f"usage: {EDIT}")
 
 
-LINES = [
-    "view {} long.yml | :; echo ${{PIPESTATUS[0]}}",
-    "view {} a.yml >&-; echo $?",
-    "view {} <&-; echo $?",
-    "view --vault-password-file <(cat ../secrets/old) a.yml; echo $?",
-]
-
-
-@pytest.mark.parametrize("line", LINES)
-def test_streams(place: Place, line: str) -> None:
-    """The tool replaces the companion's process and keeps its streams, so it ends in the same way."""
+def test_reader_that_goes(place: Place) -> None:
+    """The tool replaces the companion's process, so a signal ends it as it would without the companion."""
     needs("bash")
-    prepare(place)
     place.put("long.yml", sealed("old", TEXT * 20_000))
-    secret = f"--vault-password-file {place.secret('old')}"
-    ran = [place.shell(f"{tool} {line.format(secret)}", "bash") for tool in (WITH, "ansible-vault")]
-    done, wanted = ((each.returncode, each.stdout, each.stderr) for each in ran)
-    assert done == wanted
+    line = f"view --vault-password-file {place.secret('old')} long.yml | :; echo ${{PIPESTATUS[0]}}"
+    done, wanted = (place.shell(f"{tool} {line}", "bash") for tool in (WITH, "ansible-vault"))
+    assert (done.stdout, done.stderr) == (wanted.stdout, wanted.stderr)
