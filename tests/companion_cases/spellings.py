@@ -12,9 +12,10 @@ from hypothesis import given, settings
 from hypothesis import strategies as st
 
 from ansible_vault_companions.files.envelopes import has_valid_header, mentions_envelope
-from ansible_vault_companions.git import leaks
+from ansible_vault_companions.git import damage, leaks
 from ansible_vault_companions.yaml.hidden import envelopes
-from companion_cases import CHECK, ROTATE, Place, block, ended, sealed, summary, to_new
+from companion_cases import CHECK, ROTATE, Place, block, ended, sealed, silent, summary, to_new
+from companion_cases.repository import IN_PART, again, leaked, staged, with_hooks
 from lib.needs import needs_pyyaml
 
 DIGITS = "".join(sealed("old").decode().splitlines()[1:])
@@ -157,8 +158,19 @@ def test_headers(place: Place, header: str) -> None:
     ended("rotate", place.run(ROTATE, *secrets, "."), 0, summary(2))
 
 
+def test_moves(place: Place) -> None:
+    """The hook refuses plaintext in another file, even if the value began with an escape, but not the value itself."""
+    needs_pyyaml()
+    with_hooks(place)
+    value = b'secret: !vault "\\x24ANSIBLE_VAULT;1.1;AES256\\n%s"\n' % DIGITS.encode()
+    silent("the hook", again(place, "a.yml", b"x: 1\n" + value))
+    place.put("a.yml", b"x: 1\n")
+    leaked("plaintext", staged(place, "b.yml", b"secret: plain\n"), {"b.yml": IN_PART.format("secret of a.yml")})
+    silent("the value", again(place, "b.yml", value))
+
+
 def test_valid_headers(place: Place) -> None:
-    """The companions call a header valid if the program does."""
+    """The companions call a header valid if the program does, and a vault whole unless further fields follow."""
     counts: Counter[bool] = Counter()
     digits = sealed("old").partition(b"\n")[2]
     first = [*BEGINNINGS, MAGIC + "x" * 226, MAGIC + "x" * 225, f"{MAGIC}é"]
@@ -168,10 +180,12 @@ def test_valid_headers(place: Place) -> None:
     @settings(max_examples=300, deadline=None, database=None)
     @given(header=st.integers(2, 5).flatmap(lambda count: headers(*fields[:count])))
     def read(header: str) -> None:
-        data = header.encode()
-        done = place.run_on(data + b"\n" + digits, "ansible-vault", "view", *place.by_file("old"))
-        assert has_valid_header(data) == (done.returncode == 0), (header, done.stderr)
-        counts[done.returncode == 0] += 1
+        vault = header.encode() + b"\n" + digits
+        done = place.run_on(vault, "ansible-vault", "view", *place.by_file("old"))
+        is_valid = done.returncode == 0
+        assert has_valid_header(header.encode()) == is_valid, (header, done.stderr)
+        assert damage.is_whole(vault) == (is_valid and header.count(";") < 4), header
+        counts[is_valid] += 1
 
     read()
     assert min(counts[True], counts[False]) > 20, counts
