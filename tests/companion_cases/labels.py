@@ -5,7 +5,7 @@ from itertools import product
 
 import pytest
 
-from companion_cases import CHECK, ROTATE, TEXT, WITH, Place, decrypted, sealed
+from companion_cases import CHECK, ROTATE, TEXT, WITH, Place, block, decrypted, ended, sealed
 from lib.subtests import SubTests
 
 DEFAULT = "default"
@@ -89,6 +89,18 @@ def test_check(place: Place, options: list[Pair], by_settings: list[Pair]) -> No
     assert done.returncode == 1, "some are not decrypted"
     again = place.run(CHECK, *words, *steps, ".")
     assert again.stdout.endswith(f"{len(VAULTS) - unknown} decrypted, {unknown} not\n"), "as told, it is repaired"
+
+
+def test_within_a_plaintext(place: Place) -> None:
+    """A block within the plaintext of a vault is trusted only with its own label, too."""
+    inner = block("prod", label="dev")
+    place.put("a.yml", sealed("dev", inner, "dev"))
+    secrets = [*place.by_id("dev", "dev"), *place.by_id("prod", "prod")]
+    why = f"its label is dev, but prod@{place.secret('prod')}, a secret with the label prod, decrypts it"
+    ended("check", place.run(CHECK, *secrets, "."), 1, "./a.yml: in its plaintext, line 2: ", why)
+    done = place.run(ROTATE, *secrets, *place.by_id("dev", "dev2", "new-"), ".")
+    ended("rotate", done, 1, "./a.yml: in its plaintext, line 2: ", why)
+    assert decrypted("dev2", place.get("a.yml")) == inner, "it stays"
 
 
 # The ways to give ansible-vault-with a vault to rekey, and where its output is.

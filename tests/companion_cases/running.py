@@ -1,6 +1,7 @@
 """ansible-vault-with: the tool's own answers, and files in place."""
 
 import os
+import signal
 
 import pytest
 
@@ -200,7 +201,6 @@ REFUSED_STRINGS = {
     "a b --salt salt": (2, SALT_FOR_ONE),
     "a --stdin-name x --salt salt": (2, SALT_FOR_ONE),
     "a --prompt --salt-file ../secrets/old": (2, SALT_FOR_ONE),
-    "a b --encrypt-vault-id prod": (1, "no secret has the label of --encrypt-vault-id"),
     "a b --output nowhere/c.yml": (1, "No such file or directory"),
 }
 
@@ -255,10 +255,10 @@ def test_editing(place: Place) -> None:
     ended("its help", place.run(WITH, "edit", "--help"), 0, f"usage: {EDIT}")
 
 
-def test_reader_that_goes(place: Place) -> None:
-    """The tool replaces the companion's process, so a signal ends it as it would without the companion."""
+def test_signals(place: Place) -> None:
+    """The tool replaces the companion's process, and ignores no signal that Python ignores."""
     needs("bash")
     place.put("long.yml", sealed("old", TEXT * 20_000))
-    line = f"view --vault-password-file {place.secret('old')} long.yml | :; echo ${{PIPESTATUS[0]}}"
-    done, wanted = (place.shell(f"{tool} {line}", "bash") for tool in (WITH, "ansible-vault"))
-    assert (done.stdout, done.stderr) == (wanted.stdout, wanted.stderr)
+    line = f"{WITH} view --vault-password-file {place.secret('old')} long.yml"
+    done = place.shell(f"ulimit -f 16; {line} > ../out; echo $?", "bash")
+    assert done.stdout == f"{128 + signal.SIGXFSZ}\n", "a file that becomes too large ends it"
