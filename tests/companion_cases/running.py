@@ -201,6 +201,7 @@ REFUSED_STRINGS = {
     "a b --salt salt": (2, SALT_FOR_ONE),
     "a --stdin-name x --salt salt": (2, SALT_FOR_ONE),
     "a --prompt --salt-file ../secrets/old": (2, SALT_FOR_ONE),
+    "a b --encrypt-vault-id prod": (1, "no secret has the label of --encrypt-vault-id"),
     "a b --output nowhere/c.yml": (1, "No such file or directory"),
 }
 
