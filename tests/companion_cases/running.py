@@ -175,8 +175,8 @@ def test_several_views(place: Place) -> None:
         place.put(name, sealed("old", text))
     place.script("echo run >> ../runs; cat ../secrets/old")
     done = place.run(WITH, "view", "--vault-id", "../script", "--", "b.yml", "-c.yml", "a.yml", "b.yml")
-    text = f"no line end\n{TEXT.decode()}no line end"
-    assert (done.returncode, done.stdout, done.stderr) == (0, text, "")
+    wanted = f"no line end\n{TEXT.decode()}no line end"
+    assert (done.returncode, done.stdout, done.stderr) == (0, wanted, "")
     assert (place.path / "runs").read_text() == "run\n"
 
 
