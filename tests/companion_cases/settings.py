@@ -118,10 +118,13 @@ def test_matching_labels(place: Place) -> None:
     """With vault_id_match, whatever its value, a secret decrypts only envelopes with its label."""
     place.put("a.yml", sealed("dev", label="prod"))
     place.put("b.yml", sealed("dev", label="dev"))
-    words, wanted = [CHECK, *place.by_id("dev", "dev"), "."], ["a.yml: prod: no secret decrypts", "1 decrypted, 1 not"]
+    dev, wanted = place.by_id("dev", "dev"), ["a.yml: prod: no secret decrypts", "1 decrypted, 1 not"]
+    words = [CHECK, *dev, "."]
     ended("by a variable", place.run(*words, ANSIBLE_VAULT_ID_MATCH="False"), 1, *wanted)
     place.put("ansible.cfg", b"[defaults]\nvault_id_match = True\n")
     ended("by the file", place.run(*words), 1, *wanted)
+    done = place.run(WITH, "rekey", *dev, *place.by_file("new", "new-"), "a.yml")
+    ended("rekey", done, 1, "a.yml: no secret decrypts this vault")
     place.put("../own.cfg", b"[defaults]\n")
     ended("by another file", place.run(*words, ANSIBLE_CONFIG=str(place.path / "own.cfg")), 0, "2 decrypted")
 
