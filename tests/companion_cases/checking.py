@@ -1,23 +1,22 @@
 """ansible-vault-check; and every companion's help, version, invalid command lines and refused secrets."""
 
-from itertools import product
-
 import pytest
 
 from ansible_vault_companions import program
 from companion_cases import CHECK, COMPANIONS, EDIT, HOOK, MERGE, ROTATE, TEXT, TEXTCONV, WITH, Place, block, ended
 from companion_cases import sealed
 from lib.paths import version
-from lib.subtests import SubTests
 from model.vaults import seal
+
+ALL = sorted(each.name for each in COMPANIONS.glob("ansible-vault-*"))
 
 
 def test_labels_and_secrets(place: Place) -> None:
+    """Of two secrets with the same password, the one with the label of the envelope is tried first."""
     place.put("a.yml", sealed("old"))
     place.put("b.yml", sealed("prod", label="prod"))
-    place.put("c.yml", b"x: 1\n" + block("dev", label="dev") + block("prod", name="b"))
+    place.put("c.yml", b"x: 1\n" + block("dev", label="dev") + block("prod", name='"\x1b[2J"'))
     place.put("d.yml", sealed("old", label="default"))
-    # Two secrets have the same password. The tool first tries the one with the label of the vault.
     secrets = [*place.by_file("prod"), *place.by_id("dev", "dev"), *place.by_id("prod", "prod"), *place.by_file("old")]
     before = place.files()
     done = place.run(CHECK, *secrets, ".")
@@ -27,7 +26,7 @@ def test_labels_and_secrets(place: Place) -> None:
         f"./a.yml: default: decrypted by {old}",
         f"./b.yml: prod: decrypted by {prod}",
         f"./c.yml:3: secret: dev: decrypted by {dev}",
-        f"./c.yml:{line}: b: default: decrypted by {default}",
+        f"./c.yml:{line}: '\\x1b[2J': default: decrypted by {default}",
         f"./d.yml: default: decrypted by {old}",
         "5 decrypted, 0 not",
     ]
@@ -38,18 +37,12 @@ def test_labels_and_secrets(place: Place) -> None:
 def test_what_cannot_be_decrypted(place: Place) -> None:
     place.put("a.yml", sealed("old"))
     place.put("b.yml", block("dev", label="dev"))
-    done = place.run(CHECK, *place.by_file("old"), ".")
-    tried = f"(label dev; tried {place.secret('old')}): name its secret with --vault-id dev@FILE"
-    why = f"{CHECK}: ./b.yml:2: secret: dev: no secret decrypts this vault {tried}\n"
-    ended("a wrong password", done, 1, why, "1 decrypted, 1 not\n")
-    assert done.stderr == why, "is reported on standard error"
-    done = place.run(CHECK, *place.by_file("old"), "a.yml", "missing")
-    ended("what is not there", done, 1, f"{CHECK}: missing: No such file or directory", "1 decrypted, 1 not")
-    place.put("closed.yml", sealed("old"), 0o000)
-    done = place.as_nobody(CHECK, *place.by_file("old"), ".")
-    ended("what cannot be read", done, 1, "closed.yml: Permission")
     place.put("header.yml", b"$ANSIBLE_VAULT\x1b[31m;1.1\n")
-    ended("a header", place.run(CHECK, *place.by_file("old"), "header.yml"), 1, "header.yml: no label: vault")
+    done = place.run(CHECK, *place.by_file("old"), ".", "missing")
+    tried = f"(label dev; tried {place.secret('old')}): name its secret with --vault-id dev@FILE"
+    whys = [f"b.yml:2: secret: dev: no secret decrypts this vault {tried}\n", "header.yml: no label: vault header"]
+    ended("all but one", done, 1, *(f"{CHECK}: ./{why}" for why in whys), "missing: No such file or directory\n")
+    assert done.stdout == f"./a.yml: default: decrypted by {place.secret('old')}\n1 decrypted, 3 not\n"
 
 
 def test_slow_tool(place: Place) -> None:
@@ -59,23 +52,16 @@ def test_slow_tool(place: Place) -> None:
     ended("a long vault", place.run(CHECK, *place.by_file("old"), "a.yml"), 0, "1 decrypted, 0 not")
 
 
-def test_nothing(place: Place) -> None:
-    place.put("plain.yml", TEXT)
-    done = place.run(CHECK, *place.by_file("old"), ".")
-    assert (done.returncode, done.stdout, done.stderr) == (0, "0 decrypted, 0 not\n", ""), "nothing"
-
-
 OLD, NEW = "--vault-password-file ../secrets/old", "--new-vault-password-file ../secrets/new"
-# Invalid command lines.
 INVALID = {
-    CHECK: ["", ".", OLD, f"{OLD} --loud ."],
-    EDIT: ["", "a.yml", OLD, f"{OLD} --new-vault-id x@y a.yml", f"{OLD} --loud a.yml", f"{OLD} --vault-i x a.yml"],
+    CHECK: [OLD],
+    EDIT: [OLD, f"{OLD} --new-vault-id x@y a.yml", f"{OLD} --vault-i x a.yml"],
     HOOK: ["--all --install", "--since"],
     ROTATE: [
-        *("", f"{OLD} .", f"{NEW} .", f"{OLD} {NEW}", f"{OLD} {NEW} --new-vault-password-file ../secrets/dev ."),
-        *(f"{OLD} {NEW} {each} ." for each in ("--jobs 0", "--jobs many", "--dry")),
+        *(f"{OLD} .", f"{NEW} .", f"{OLD} {NEW}", f"{OLD} {NEW} --new-vault-password-file ../secrets/dev ."),
+        *(f"{OLD} {NEW} --jobs {number} ." for number in ("0", "many")),
     ],
-    TEXTCONV: ["", "a.yml", "--loud a.yml", "--vault-password-file a.yml"],
+    TEXTCONV: ["", "--vault-password-file a.yml"],
 }
 
 
@@ -100,7 +86,7 @@ def test_control_characters_in_messages(capsys: pytest.CaptureFixture[str]) -> N
     assert capsys.readouterr().err == "one\\x1b[2J\ntwo\\x9b\n"
 
 
-@pytest.mark.parametrize("name", [CHECK, EDIT, HOOK, MERGE, ROTATE, TEXTCONV, WITH])
+@pytest.mark.parametrize("name", ALL)
 def test_control_characters_in_options(place: Place, name: str) -> None:
     done = place.run(name, *place.by_file("old"), f"--{HOSTILE}")
     assert done.returncode == (1 if name == TEXTCONV else 2), "it is refused"
@@ -108,67 +94,55 @@ def test_control_characters_in_options(place: Place, name: str) -> None:
 
 
 LONG = b"p" * 4097
-# Secrets that are refused, and why.
-REFUSED = {
-    "--vault-password-file=../missing": "../missing: a password file cannot be opened",
-    "--vault-password-file=.": ".: a password file cannot be read",
-    "--vault-password-file=../long": "../long: a password file is longer than 4096 bytes",
-    "--vault-id=dev@../long": "dev@../long: a password file is longer than 4096 bytes",
-    "--vault-id=dev@../empty": "dev@../empty: a password is empty",
-    "--vault-id=a;b@../secrets/old": "a;b@../secrets/old: a vault id label is not allowed",
-}
-RUNS = {
-    CHECK: [CHECK, "a.yml"],
-    EDIT: [EDIT, "a.yml"],
-    MERGE: [MERGE, "../base.yml", "a.yml", "../theirs.yml", "a.yml"],
-    ROTATE: [ROTATE, *NEW.split(), "a.yml"],
-    f"{ROTATE} to a new one": [ROTATE, *OLD.split(), "a.yml"],
-    WITH: [WITH, "decrypt", "a.yml"],
-}
+# The contents of password files that are refused, and why. None stands for a missing file.
+REFUSED = [
+    (None, "a password file cannot be opened"),
+    (b" \n", "a password is empty"),
+    (LONG, "a password file is longer than 4096 bytes"),
+    (b"$ANSIBLE_VAULT", "a password file is itself a vault"),
+    (b"#!/bin/sh\nexit 1\n", "this script ended with status 1"),
+]
+RUNS = [
+    (CHECK, "--vault-id", "a.yml"),
+    (EDIT, "--vault-id", "a.yml"),
+    (MERGE, "--vault-id", "../base.yml a.yml ../theirs.yml a.yml"),
+    (ROTATE, "--vault-id", f"{NEW} a.yml"),
+    (ROTATE, "--new-vault-id", f"{OLD} a.yml"),
+    (WITH, "--vault-id", "decrypt a.yml"),
+]
 
 
-@pytest.mark.parametrize("name", RUNS)
-def test_control_characters_in_sources(place: Place, name: str) -> None:
-    for file in ("a.yml", "../base.yml", "../theirs.yml"):
-        place.put(file, sealed("old", file.encode()))
-    for content in (None, "", "#!/bin/sh\nexit 1\n", "$ANSIBLE_VAULT"):
-        if content is not None:
-            place.put(f"../{HOSTILE}", content.encode(), 0o755 if content.startswith("#!") else 0o644)
-        companion, *words = RUNS[name]
-        option = "--new-vault-id" if "new one" in name else "--vault-id"
-        done = place.run(companion, f"{option}=dev@../{HOSTILE}", *words)
-        assert done.returncode in (1, 3), "it is refused"
-        check_printable(done.stderr)
-
-
-@pytest.mark.parametrize("name", RUNS)
-def test_refused_secrets(place: Place, subtests: SubTests, name: str) -> None:
-    """If a password that is too long were truncated, it would decrypt the vault."""
-    place.put("a.yml", vault := seal(LONG[:-1], TEXT))
-    for file, content in {"base.yml": vault, "theirs.yml": sealed("old"), "long": LONG, "empty": b" \n"}.items():
-        place.put(f"../{file}", content)
-    for option, why in REFUSED.items():
-        with subtests.test(option):
-            word = option.replace("--", "--new-") if "new one" in name else option
-            companion, *words = RUNS[name]
-            done = place.run(companion, word, *words, EDITOR="touch ../started")
-            ended("it is refused", done, 3 if name == WITH and "cannot" in why else 1, why)
-            assert (place.get("a.yml"), place.names()) == (vault, ["a.yml"]), "all stays"
+@pytest.mark.parametrize("content, why", REFUSED, ids=[why for _, why in REFUSED])
+@pytest.mark.parametrize("name, option, line", RUNS)
+def test_refused_secrets(place: Place, name: str, option: str, line: str, content: bytes | None, why: str) -> None:
+    """All stays, and the name of the secret is shown in one line. A password that is too long is not truncated: it
+    would decrypt the vault."""
+    vault, secret = seal(LONG[:-1], TEXT), f"dev@../{HOSTILE}"
+    for file, before in {"a.yml": vault, "../base.yml": vault, "../theirs.yml": sealed("old")}.items():
+        place.put(file, before)
+    if content is not None:
+        place.put(f"../{HOSTILE}", content, 0o755 if content.startswith(b"#!") else 0o644)
+    done = place.run(name, f"{option}={secret}", *line.split(), EDITOR="touch ../started")
+    ended("it is refused", done, 3 if name == WITH and content is None else 1, f"{ascii(secret)}: {why}")
+    check_printable(done.stderr)
+    assert (place.get("a.yml"), place.names()) == (vault, ["a.yml"]), "all stays"
     assert not (place.path / "started").exists(), "no editor is started"
+
+
+def test_longest_password(place: Place) -> None:
+    place.put("a.yml", seal(LONG[:-1], TEXT))
     place.put("../long", LONG[:-1])
-    ended("4096 bytes", place.run(CHECK, "--vault-password-file=../long", "a.yml"), 0)
+    ended("4096 bytes", place.run(CHECK, "--vault-password-file=../long", "a.yml"), 0, "1 decrypted, 0 not")
 
 
-def test_help_of_each(place: Place, subtests: SubTests) -> None:
-    names = sorted(each.name for each in COMPANIONS.glob("ansible-vault-*"))
-    assert len(names) == 7, "there are seven"
-    for name, word in product(names, ("--help", "-h", "--version", "-V")):
-        with subtests.test(f"{name} {word}"):
-            done = place.run(name, word)
-            wide = [line for line in done.stdout.splitlines() if len(line) > 80]
-            assert (wide, done.stderr) == ([], ""), "it is no wider than a terminal"
-            if word in ("--version", "-V"):
-                assert (done.returncode, done.stdout) == (0, f"{name} {version()}\n")
-            else:
-                says = ["git runs no hook with --no-verify"] if name == HOOK else []
-                ended("help", done, 0, f"usage: {name}", *says, "Companions are tested, not proved. They leave ")
+@pytest.mark.parametrize("word", ("--help", "-h", "--version", "-V"))
+@pytest.mark.parametrize("name", ALL)
+def test_help_and_version(place: Place, name: str, word: str) -> None:
+    done = place.run(name, word)
+    if word in ("--version", "-V"):
+        assert (done.returncode, done.stdout, done.stderr) == (0, f"{name} {version()}\n", "")
+        return
+    says = ["git runs no hook with --no-verify"] if name == HOOK else []
+    ended("help", done, 0, f"usage: {name}", *says, "Companions are tested, not proved. They leave ")
+    wide = [line for line in done.stdout.splitlines() if len(line) > 80]
+    assert (wide, done.stderr) == ([], ""), "it is no wider than a terminal"

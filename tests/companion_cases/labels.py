@@ -1,181 +1,106 @@
 """Labels that anybody may have changed: rotate, check and the alias's rekey trust a secret only with its own label."""
 
 import re
-from collections import Counter
-from collections.abc import Callable
-from typing import NamedTuple
+from itertools import product
 
 import pytest
-from hypothesis import HealthCheck, example, given, seed, settings
-from hypothesis import strategies as any_of
 
-from companion_cases import CHECK, ROTATE, TEXT, WITH, Companions, Place, block, decrypted, envelope_of, sealed
+from companion_cases import CHECK, ROTATE, TEXT, WITH, Place, block, decrypted, ended, sealed
 from lib.subtests import SubTests
 
 DEFAULT = "default"
-# The label and the password of the vault around a block within a plaintext.
-AROUND = ("around", "prod2")
-FORMS = ("file", "block", "within")
+# A label, empty if none is given, and the name of a password.
+Pair = tuple[str, str]
+# Secrets of options, and those of settings, of which one may be missing.
+SECRETS: list[tuple[list[Pair], list[Pair]]] = [
+    ([("", "old")], []),
+    ([("dev", "dev")], []),
+    ([("dev", "dev"), ("prod", "prod")], []),
+    ([("dev", "dev"), ("", "prod")], []),
+    ([("dev", "dev"), ("dev", "prod")], []),
+    ([("dev", "dev"), ("prod", "dev")], []),
+    ([("", "old"), ("", "prod")], []),
+    ([("", "old"), (DEFAULT, "old")], []),
+    ([("dev", "dev")], [("prod", "prod")]),
+    ([("prod", "prod")], [("dev", "missing")]),
+    ([("", "old")], [("dev", "old")]),
+]
+# The label and the password of the vault in each file.
+VAULTS = {f"{pair[0]}-{pair[1]}.yml": pair for pair in product(["", DEFAULT, "dev", "prod"], ["old", "dev", "prod"])}
 # The new passwords of labels.
 NEW = {DEFAULT: "new", "dev": "dev2"}
-NEXT_STEP = re.compile(
-    r"its label is (\S+), but (\S+), a secret with the label (\S+), decrypts it; .* --vault-id (\S+)$"
-)
+NEXT_STEP = re.compile(r"its label is (\S+), but \S+, a secret with the label \S+, decrypts it; .* --vault-id (\S+)$")
 
 
-class Made(NamedTuple):
-    """An envelope. Its label is empty if its first line has none."""
-
-    label: str
-    password: str
-    form: str
-
-    def content(self, text: bytes) -> bytes:
-        if self.form == "file":
-            return sealed(self.password, text, self.label)
-        inner = b"a: 1\n" + block(self.password, text, self.label)
-        return inner if self.form == "block" else sealed(AROUND[1], inner, AROUND[0])
-
-    def texts(self, content: bytes, passwords: list[str]) -> list[bytes | None]:
-        """Decrypt the envelope with each password. None means that the password is wrong."""
-        inner = decrypted(AROUND[1], content) if self.form == "within" else content
-        assert inner is not None
-        envelope = inner if self.form == "file" else envelope_of(inner.removeprefix(b"a: 1\n"))
-        assert envelope is not None
-        return [decrypted(each, envelope) for each in passwords]
+def prepare(place: Place, options: list[Pair], by_settings: list[Pair]) -> list[str]:
+    """Write the vaults, set the settings, and return the options."""
+    # Only in [LABEL@]FILE does an @ end a label.
+    place.secrets = place.secrets.rename(place.path / "secrets@home")
+    for name, (label, password) in VAULTS.items():
+        place.put(name, sealed(password, name.encode(), label))
+    identities = [f"{label}@{place.secret(password)}" for label, password in by_settings]
+    place.environment["ANSIBLE_VAULT_IDENTITY_LIST"] = ",".join(identities)
+    words = [place.by_id(label, password) if label else place.by_file(password) for label, password in options]
+    return [word for pair in words for word in pair]
 
 
-class Named(NamedTuple):
-    """A secret. Its label is empty if none is given."""
-
-    label: str
-    password: str
-
-    def own_label(self) -> str:
-        return self.label or DEFAULT
-
-    def words(self, place: Place) -> list[str]:
-        return place.by_id(self.label, self.password) if self.label else place.by_file(self.password)
+def may_decrypt(secrets: list[Pair], label: str, password: str, rotates: bool = False) -> bool | None:
+    """Return whether one of these secrets may decrypt a vault, or None if none of them can."""
+    fitting = {own or DEFAULT for own, each in secrets if each == password}
+    if not fitting:
+        return None
+    is_for_all = not rotates or {own or DEFAULT for own, _ in secrets} == {DEFAULT}
+    is_only = is_for_all and len({each for _, each in secrets}) == 1
+    return not label or label in fitting or is_only
 
 
-class Case(NamedTuple):
-    made: list[Made]
-    by_options: list[Named]
-    by_settings: list[Named]
-
-    def named(self) -> list[Named]:
-        return [*self.by_settings, *self.by_options]
-
-    def prepare(self, place: Place) -> None:
-        # Only in [LABEL@]FILE does an @ end a label.
-        place.secrets = place.secrets.rename(place.path / "secrets@home")
-        for number, each in enumerate(self.made):
-            place.put(f"{number}.yml", each.content(b"text %d\n" % number))
-        identities = [f"{each.own_label()}@{place.secret(each.password)}" for each in self.by_settings]
-        place.environment["ANSIBLE_VAULT_IDENTITY_LIST"] = ",".join(identities)
-
-    def words(self, place: Place) -> list[str]:
-        return [word for each in self.by_options for word in each.words(place)]
-
-    def serves(self, made: Made, rotates: bool) -> bool | None:
-        """Return whether a secret may decrypt the envelope, or None if no secret can."""
-        fitting = [each.own_label() for each in self.named() if each.password == made.password]
-        if not fitting:
-            return None
-        is_for_all = not rotates or {each.own_label() for each in self.named()} == {DEFAULT}
-        is_only = is_for_all and len({each.password for each in self.named()}) == 1
-        return not made.label or made.label in fitting or is_only
-
-
-PASSWORDS = any_of.sampled_from(["old", "dev", "prod"])
-LABELS = any_of.sampled_from(["", DEFAULT, "dev", "prod"])
-ENVELOPES = any_of.builds(Made, LABELS, PASSWORDS, any_of.sampled_from(FORMS))
-SECRETS = any_of.builds(Named, LABELS, PASSWORDS)
-# A secret of the settings may be missing.
-OF_SETTINGS = any_of.builds(Named, LABELS, any_of.sampled_from(["old", "dev", "prod", "missing"]))
-CASES = any_of.builds(
-    lambda made, options, by_settings: Case(
-        made, options + [Named(*AROUND)] * any(each.form == "within" for each in made), by_settings
-    ),
-    any_of.lists(ENVELOPES, min_size=1, max_size=4),
-    any_of.lists(SECRETS, min_size=1, max_size=2),
-    any_of.lists(OF_SETTINGS, max_size=1),
-)
-# A changed label, with secrets of options and of settings; a copied block; a single secret.
-DEV, PROD = Named("dev", "dev"), Named("prod", "prod")
-CHANGED = [Made("dev", "prod", "file"), Made("dev", "prod", "block"), Made("dev", "dev", "file")]
-EXAMPLES = [Case(CHANGED, [DEV, PROD], []), Case(CHANGED, [DEV], [PROD]), Case(CHANGED[:1], [PROD], [])]
-EXAMPLES += [Case(CHANGED[:1], [Named("", "prod")], []), Case(CHANGED[:1], [DEV, Named("", "prod")], [])]
-EXAMPLES += [Case([Made("", "prod", "file")], [DEV, PROD], []), Case(CHANGED[:1], [PROD], [Named("dev", "missing")])]
-
-
-def with_cases(test: Callable[[Case], None], number: int) -> None:
-    """Run a test with these cases and with random ones."""
-    for each in EXAMPLES:
-        test = example(each)(test)
-    checks = [HealthCheck.too_slow, HealthCheck.data_too_large]
-    limits = settings(max_examples=25, deadline=None, database=None, suppress_health_check=checks)
-    limits(seed(number)(given(CASES)(test)))()
-
-
-def test_rotate(cases: Companions, pytestconfig: pytest.Config) -> None:
+@pytest.mark.parametrize("options, by_settings", SECRETS)
+def test_rotate(place: Place, options: list[Pair], by_settings: list[Pair]) -> None:
     """A text gets the new password of its label; otherwise, it stays, and its file is named."""
-    seen: Counter[bool | None] = Counter()
-
-    def rotate(case: Case) -> None:
-        place = cases.place()
-        case.prepare(place)
-        before = place.files()
-        new = [word for label, password in NEW.items() for word in place.by_id(label, password, "new-")]
-        done = place.run(ROTATE, *case.words(place), *new, ".")
-        after = place.files()
-        for number, each in enumerate(case.made):
-            name, label = f"{number}.yml", each.label or DEFAULT
-            serves = case.serves(each, rotates=True)
-            is_rotated = label in NEW and serves is True
-            passwords = [each.password, *NEW.values()]
-            text = b"text %d\n" % number
-            wanted = [None] + [text if is_rotated and NEW[label] == password else None for password in NEW.values()]
-            found = each.texts(after[name], passwords)
-            assert found == (wanted if is_rotated else [text, None, None]), (name, done.stderr)
-            assert is_rotated or before[name] == after[name], f"{name} stays"
-            assert (f"./{name}" in done.stderr) == (label in NEW and not is_rotated), (name, done.stderr)
-            seen[serves if label in NEW else None] += 1
-        failed = any(f"./{number}.yml" in done.stderr for number in range(len(case.made)))
-        unused = "no vault or block has the label" in done.stderr
-        assert done.returncode == (1 if failed or unused else 0), done.stderr
-
-    with_cases(rotate, pytestconfig.getoption("--seed"))
-    assert min(seen[True], seen[False], seen[None]) > 5, seen
+    words = prepare(place, options, by_settings)
+    new = [word for label, password in NEW.items() for word in place.by_id(label, password, "new-")]
+    done = place.run(ROTATE, *words, *new, ".")
+    for name, (label, password) in VAULTS.items():
+        wanted, after = NEW.get(label or DEFAULT), place.get(name)
+        is_rotated = wanted and may_decrypt([*options, *by_settings], label, password, rotates=True)
+        if wanted and is_rotated:
+            assert decrypted(wanted, after) == name.encode(), (name, done.stderr)
+        else:
+            assert after == sealed(password, name.encode(), label), (name, done.stderr)
+        assert (f"./{name}" in done.stderr) == bool(wanted and not is_rotated), (name, done.stderr)
+    assert done.returncode == 1, "some are not rotated"
 
 
-def test_check(cases: Companions, pytestconfig: pytest.Config) -> None:
+@pytest.mark.parametrize("options, by_settings", SECRETS)
+def test_check(place: Place, options: list[Pair], by_settings: list[Pair]) -> None:
     """It is a fault if a secret of another label decrypts an envelope. The advice in the message repairs it."""
-    seen: Counter[bool | None] = Counter()
+    words = prepare(place, options, by_settings)
+    done = place.run(CHECK, *words, ".")
+    steps: list[str] = []
+    unknown = 0
+    for name, (label, password) in VAULTS.items():
+        serves = may_decrypt([*options, *by_settings], label, password)
+        lines = [line for line in done.stderr.splitlines() if f"./{name}" in line]
+        assert bool(lines) == (serves is not True), (name, done.stderr)
+        told = [found for found in map(NEXT_STEP.search, lines) if found]
+        assert [found[1] for found in told] == [label] * (serves is False), (name, done.stderr)
+        steps += [f"--vault-id={found[2]}" for found in told]
+        unknown += serves is None
+    assert done.returncode == 1, "some are not decrypted"
+    again = place.run(CHECK, *words, *steps, ".")
+    assert again.stdout.endswith(f"{len(VAULTS) - unknown} decrypted, {unknown} not\n"), "as told, it is repaired"
 
-    def check(case: Case) -> None:
-        place = cases.place()
-        case.prepare(place)
-        before = place.files()
-        done = place.run(CHECK, *case.words(place), ".")
-        steps = []
-        for number, each in enumerate(case.made):
-            lines = [line for line in done.stderr.splitlines() if f"./{number}.yml" in line]
-            serves = case.serves(each, rotates=False)
-            assert bool(lines) == (serves is not True), (number, done.stderr)
-            told = [NEXT_STEP.search(line) for line in lines]
-            assert [found[1] for found in told if found] == [each.label] * (serves is False), done.stderr
-            steps += [word for found in told if found for word in ("--vault-id", found[4])]
-            seen[serves] += 1
-        assert done.returncode == (0 if all(case.serves(each, False) for each in case.made) else 1), done.stderr
-        again = place.run(CHECK, *case.words(place), *steps, ".")
-        count = len(case.made) + sum(each.form == "within" for each in case.made)
-        unknown = [case.serves(each, rotates=False) for each in case.made].count(None)
-        assert again.stdout.endswith(f"{count - unknown} decrypted, {unknown} not\n"), "as told, it is repaired"
-        assert place.files() == before, "all stays"
 
-    with_cases(check, pytestconfig.getoption("--seed"))
-    assert min(seen[True], seen[False], seen[None]) > 5, seen
+def test_within_a_plaintext(place: Place) -> None:
+    """A block within the plaintext of a vault is trusted only with its own label, too."""
+    inner = block("prod", label="dev")
+    place.put("a.yml", sealed("dev", inner, "dev"))
+    secrets = [*place.by_id("dev", "dev"), *place.by_id("prod", "prod")]
+    why = f"its label is dev, but prod@{place.secret('prod')}, a secret with the label prod, decrypts it"
+    ended("check", place.run(CHECK, *secrets, "."), 1, "./a.yml: in its plaintext, line 2: ", why)
+    done = place.run(ROTATE, *secrets, *place.by_id("dev", "dev2", "new-"), ".")
+    ended("rotate", done, 1, "./a.yml: in its plaintext, line 2: ", why)
+    assert decrypted("dev2", place.get("a.yml")) == inner, "it stays"
 
 
 # The ways to give ansible-vault-with a vault to rekey, and where its output is.

@@ -6,6 +6,7 @@ expected.
 
 import shutil
 import time
+from collections.abc import Callable
 from pathlib import Path
 from random import Random
 from typing import NamedTuple
@@ -20,21 +21,25 @@ from lib.subtests import SubTests
 SEED = 62
 # How long to compare command lines, in seconds, if their number is not given; the least number in all, and per kind.
 SHARE, LEAST, LEAST_OF_EACH = 20, 40, 3
-LABELS = ["default", "dev", "prod", "stage"]
-# The names of password files, of two that are not usable, and of scripts.
-FILES = [*PASSWORDS, *PASSWORDS]
+DEFAULT = "default"
+LABELS = [DEFAULT, "dev", "prod", "stage"]
+# The names of password files that are not usable, and of scripts.
 UNUSABLE = ["none", "empty"]
 SCRIPTS = ["script-dev", "keys-client"]
-COMMANDS = ["view", "view", "decrypt", "decrypt -", "encrypt", "encrypt", "encrypt_string", "rekey"]
+# The commands, except rekey, with their arguments.
+COMMANDS = [
+    *[["view", "a.yml"]] * 2,
+    ["decrypt", "a.yml"],
+    ["decrypt", "--output", "-", "a.yml"],
+    ["encrypt", "plain.yml"],
+    ["encrypt", "plain.yml", "more.yml"],
+    ["encrypt", "--output", "new.yml", "plain.yml"],
+    ["encrypt_string", "a string", "--name", "name"],
+]
 # Where settings are: in variables, or in a file that is found in these ways.
 PLACES = ["variables", "folder", "home", "named", "named by a relative path", "variables and folder"]
-ABBREVIATED = {
-    "--vault-id": "--vault-i",
-    "--vault-password-file": "--vault-password",
-    "--encrypt-vault-id": "--encrypt",
-    "--new-vault-id": "--new-vault-i",
-    "--output": "--out",
-}
+# The files of each tree, besides the vault a.yml.
+PLAIN = {"plain.yml": TEXT, "more.yml": TEXT}
 
 
 class Named(NamedTuple):
@@ -49,12 +54,9 @@ class Named(NamedTuple):
         """Return whether there is a password. The client has only some labels."""
         return self.name not in UNUSABLE and (self.name != "keys-client" or self.label in PASSWORDS)
 
-    def is_relative(self) -> bool:
-        return self.folder.startswith("..")
-
-    def for_old_releases(self) -> "Named":
-        """Return the secret for releases that do not expand variables in a path."""
-        return self._replace(folder=self.folder.replace("$HOME", "~"))
+    def is_elsewhere(self) -> bool:
+        """Return whether the path does not start from the current directory."""
+        return not self.folder.startswith("..")
 
     def text(self) -> str:
         return f"{self.label}@{self.path()}" if self.label else self.path()
@@ -67,137 +69,95 @@ class Settings(NamedTuple):
     """Ansible's settings."""
 
     identities: list[Named]
-    password_file: Named | None
+    # One, or none.
+    password_files: list[Named]
     encrypt: str
     match: str
 
-    def without_relative_paths(self) -> "Settings":
-        is_left = self.password_file and not self.password_file.is_relative()
-        kept = [each for each in self.identities if not each.is_relative()]
-        return self._replace(identities=kept, password_file=self.password_file if is_left else None)
-
-    def for_old_releases(self) -> "Settings":
-        """Return what counts for releases that do not skip a missing secret beside others."""
-        kept = [each.for_old_releases() for each in self.identities if each.is_usable()]
-        is_left = self.password_file and self.password_file._replace(label="default").is_usable()
-        return self._replace(identities=kept, password_file=self.password_file if is_left else None)
+    def only(self, keep: Callable[[Named], bool]) -> "Settings":
+        """Return these settings with some of the secrets."""
+        identities, password_files = ([*filter(keep, each)] for each in (self.identities, self.password_files))
+        return self._replace(identities=identities, password_files=password_files)
 
     def values(self) -> dict[str, str]:
-        return {
+        values = {
             "vault_identity_list": ", ".join(each.text() for each in self.identities),
-            "vault_password_file": self.password_file.path() if self.password_file else "",
+            "vault_password_file": "".join(each.path() for each in self.password_files),
             "vault_encrypt_identity": self.encrypt,
             "vault_id_match": self.match,
         }
-
-    def variables(self) -> dict[str, str]:
-        return {f"ANSIBLE_{name.upper()}": value for name, value in self.values().items() if value}
-
-    def file(self) -> bytes:
-        lines = [f"{name} = {value}\n" for name, value in self.values().items() if value]
-        return "".join(["[defaults]\n", *lines]).encode()
-
-
-class Line(NamedTuple):
-    """A command line."""
-
-    command: str
-    ids: list[Named]
-    paths: list[Named]
-    new: list[str]
-    new_label: str
-    # The argument of --encrypt-vault-id.
-    label: str
-    arguments: list[str]
-
-    def words(self, abbreviate: bool) -> list[str]:
-        pairs = [
-            *(("--vault-id", each.text()) for each in self.ids),
-            *(("--vault-password-file", each.path()) for each in self.paths),
-            *([("--encrypt-vault-id", self.label)] if self.label else []),
-        ]
-        options = [word for name, value in pairs for word in (ABBREVIATED[name] if abbreviate else name, value)]
-        return [self.command.split()[0], *options, *self.new, *self.arguments]
+        return {name: value for name, value in values.items() if value}
 
 
 class Case(NamedTuple):
-    """Everything that is chosen at random."""
+    """A command line, settings and a vault."""
 
-    line: Line
+    command: list[str]
+    ids: list[Named]
+    paths: list[Named]
+    # The argument of --encrypt-vault-id.
+    label: str
     place: str
     variables: Settings
     file: Settings
     vault: bytes
-    abbreviate: bool
 
-    def for_old_releases(self) -> "Case":
-        ids, paths = ([each.for_old_releases() for each in secrets] for secrets in (self.line.ids, self.line.paths))
-        variables, file = (settings.for_old_releases() for settings in (self.variables, self.file))
-        return self._replace(line=self.line._replace(ids=ids, paths=paths), variables=variables, file=file)
-
-
-NOTHING = Settings([], None, "", "")
+    def words(self) -> list[str]:
+        options = [f"--vault-id={each.text()}" for each in self.ids]
+        options += [f"--vault-password-file={each.path()}" for each in self.paths]
+        options += [f"--encrypt-vault-id={self.label}"] if self.label else []
+        return [self.command[0], *options, *self.command[1:]]
 
 
-def random_secret(random: Random, secrets: Path, is_setting: bool) -> Named:
+NOTHING = Settings([], [], "", "")
+
+
+def random_secret(random: Random, secrets: Path, is_setting: bool, labels: list[str]) -> Named:
     unusable = random.random() < (0.15 if is_setting else 0.04)
-    names = UNUSABLE if unusable else SCRIPTS if random.random() < 0.15 else FILES
-    folder = random.choice([str(secrets), "~/secrets", "$HOME/secrets", "../secrets"])
-    return Named(random.choice(["", *LABELS]), folder, random.choice(names))
+    names = UNUSABLE if unusable else SCRIPTS if random.random() < 0.15 else list(PASSWORDS)
+    # Older releases do not expand variables in the path of an identity.
+    by_variable = "$HOME/secrets" if ansible_release() >= (2, 14) else "~/secrets"
+    folder = random.choice([str(secrets), "~/secrets", by_variable, "../secrets"])
+    return Named(random.choice(labels), folder, random.choice(names))
 
 
 def random_settings(random: Random, secrets: Path) -> Settings:
-    identities = [random_secret(random, secrets, True) for _ in range(random.choice([0, 1, 2, 2, 3]))]
+    count = random.choice([0, 1, 2, 2, 3])
+    identities = [random_secret(random, secrets, True, ["", *LABELS]) for _ in range(count)]
     if random.random() < 0.08:
         # More secrets than the tool takes at once.
         wrong = [Named(random.choice(LABELS), str(secrets), "wrong") for _ in range(random.randint(15, 20))]
         identities = [*wrong, *identities]
-    password_file = random_secret(random, secrets, True) if random.random() < 0.3 else None
+    password_files = [random_secret(random, secrets, True, [DEFAULT])] if random.random() < 0.3 else []
     label = random.choice(LABELS) if random.random() < 0.35 else ""
-    return Settings(identities, password_file, label, random.choice(["", "", "", "True", "False"]))
-
-
-def random_line(random: Random, secrets: Path) -> Line:
-    command = random.choice(COMMANDS)
-    ids = [random_secret(random, secrets, False) for _ in range(random.choice([0, 0, 1, 1, 2]))]
-    paths = [random_secret(random, secrets, False) for _ in range(random.choice([0, 0, 0, 1]))]
-    new: list[str] = []
-    new_label, label = "", ""
-    if command == "rekey" and random.random() < 0.8:
-        new_label = random.choice(LABELS)
-        by_id = ["--new-vault-id", f"{new_label}@{secrets}/new"]
-        new = random.choice([by_id, ["--new-vault-password-file", f"{secrets}/new"]])
-        new_label = new_label if new == by_id else "default"
-    if command in ("encrypt", "encrypt_string", "rekey") and random.random() < 0.4:
-        label = random.choice(LABELS)
-    arguments = {
-        "view": ["a.yml"],
-        "decrypt": ["a.yml"],
-        "decrypt -": ["--output", "-", "a.yml"],
-        "encrypt": random.choice([["plain.yml"], ["plain.yml", "more.yml"], ["--output", "new.yml", "plain.yml"]]),
-        "encrypt_string": ["a string", "--name", "name"],
-        "rekey": ["a.yml"],
-    }[command]
-    return Line(command, ids, paths, new, new_label, label, arguments)
+    return Settings(identities, password_files, label, random.choice(["", "", "", "True", "False"]))
 
 
 def random_case(random: Random, secrets: Path) -> Case:
-    line = random_line(random, secrets)
+    command = random.choice(COMMANDS)
+    ids = [random_secret(random, secrets, False, ["", *LABELS]) for _ in range(random.choice([0, 0, 1, 1, 2]))]
+    paths = [random_secret(random, secrets, False, [DEFAULT]) for _ in range(random.choice([0, 0, 0, 1]))]
+    to_encrypt = random.choice(LABELS) if command[0].startswith("encrypt") and random.random() < 0.4 else ""
     place = random.choice(PLACES)
     variables = random_settings(random, secrets) if "variables" in place else NOTHING
     file = random_settings(random, secrets) if place != "variables" else NOTHING
-    named = [*file.identities, *variables.identities, *line.ids, *line.paths]
+    named = [*file.identities, *variables.identities, *ids, *paths]
     usable = [each.name for each in named if each.name in PASSWORDS]
     # Most vaults can be decrypted.
     password = random.choice(usable if usable and random.random() < 0.8 else list(PASSWORDS))
     label = random.choice([each.label for each in named if each.name == password] + LABELS)
-    vault = sealed(password, TEXT, "" if label == "default" else label)
-    return Case(line, place, variables, file, vault, random.random() < 0.3)
+    vault = sealed(password, TEXT, "" if label == DEFAULT else label)
+    return Case(command, ids, paths, to_encrypt, place, variables, file, vault)
 
 
-def with_settings(case: Case, home: Path, tree: Path) -> dict[str, str]:
-    """Write the file of settings, and return the variables."""
-    variables = case.variables.variables()
+def prepare(case: Case, home: Path, tree: Path) -> dict[str, str]:
+    """Make a tree with the vault and the file of settings. Return the variables."""
+    shutil.rmtree(tree, ignore_errors=True)
+    tree.mkdir()
+    for name, content in {"a.yml": case.vault, **PLAIN}.items():
+        (tree / name).write_bytes(content)
+    (home / ".ansible.cfg").unlink(missing_ok=True)
+    variables = {f"ANSIBLE_{name.upper()}": value for name, value in case.variables.values().items()}
     path = tree / "ansible.cfg"
     if case.place == "home":
         path = home / ".ansible.cfg"
@@ -208,120 +168,73 @@ def with_settings(case: Case, home: Path, tree: Path) -> dict[str, str]:
         variables["ANSIBLE_CONFIG"] = "ansible.cfg"
     if case.place != "variables":
         path.parent.mkdir(exist_ok=True)
-        file = case.file
-        if file.password_file and file.password_file.is_relative():
-            # The path is relative to the directory of the file.
-            folder = "secrets" if case.place == "home" else "../secrets"
-            file = file._replace(password_file=file.password_file._replace(folder=folder))
-        path.write_bytes(file.file())
+        # The path of a password file is relative to the directory of the file.
+        folder = "secrets" if case.place == "home" else "../secrets"
+        files = [each if each.is_elsewhere() else each._replace(folder=folder) for each in case.file.password_files]
+        values = case.file._replace(password_files=files).values()
+        path.write_text("".join(["[defaults]\n", *(f"{name} = {value}\n" for name, value in values.items())]))
     return variables
 
 
 def what_counts(case: Case) -> Case | None:
     """Return the case without what counts only for Ansible's tool, or None if the case is refused here."""
-    line = case.line
-    if not all(each.is_usable() for each in (*line.ids, *(path._replace(label="default") for path in line.paths))):
+    if not all(each.is_usable() for each in (*case.ids, *case.paths)):
         return None
-    if (line.ids or line.paths) and case.place != "named by a relative path":
-        # Nothing in the current directory may name a secret.
-        variables = case.variables.without_relative_paths()
-        case = case._replace(variables=variables, file=without_folder(case))
-    if line.command != "rekey":
-        return case
-    case = heeding_label(case)
-    label = line.label or case.variables.encrypt or case.file.encrypt
-    if not line.new:
-        # Here, a question asks for it. Ansible's tool takes the password file of the settings.
-        return case if label else None
-    if line.label not in ("", line.new_label):
-        return None
-    # The new secret of the options takes precedence over the label of the settings.
-    variables, file = (settings._replace(encrypt="") for settings in (case.variables, case.file))
-    return case._replace(line=line._replace(label=""), variables=variables, file=file)
-
-
-def heeding_label(case: Case) -> Case:
-    """If several secrets are named, only those of its label are tried here. Ansible's tool does so by a setting."""
-    identities = case.variables.identities or case.file.identities
-    password_files = [each for each in (case.variables.password_file or case.file.password_file,) if each]
-    named = [*case.line.ids, *case.line.paths, *identities, *password_files]
-    is_heeded = len(named) > 1 and case.vault.startswith(b"$ANSIBLE_VAULT;1.2;")
-    return case._replace(variables=case.variables._replace(match="True")) if is_heeded else case
-
-
-def without_folder(case: Case) -> Settings:
-    """Return the settings of the file. If it is in the current directory, only `match` counts. Otherwise, relative
-    paths are left out, except the password file's, which begins in the directory of the settings."""
-    if "folder" in case.place:
-        return NOTHING._replace(match=case.file.match)
-    return case.file.without_relative_paths()._replace(password_file=case.file.password_file)
+    variables, file = case.variables, case.file
+    if (case.ids or case.paths) and case.place != "named by a relative path":
+        # Nothing in the current directory may name a secret. The path of a password file starts from the file.
+        variables, file = variables.only(Named.is_elsewhere), file.only(Named.is_elsewhere)
+        file = file._replace(password_files=case.file.password_files)
+        if "folder" in case.place:
+            file = NOTHING._replace(match=case.file.match)
+    if ansible_release() < (2, 14):
+        # These releases do not skip a missing secret beside others.
+        variables, file = variables.only(Named.is_usable), file.only(Named.is_usable)
+    return case._replace(variables=variables, file=file)
 
 
 # Whether a run succeeds, its output, and the files that have changed.
 Outcome = tuple[bool, Described | None, dict[str, Described]]
 
 
-class Both:
-    """Two equal trees, one for each tool."""
-
-    def __init__(self, place: Place, ansible: AnsibleRuns) -> None:
-        self.place = place
-        self.ansible = ansible
-        self.other = place.path / "other"
-        place.script("cat ~/secrets/dev", "secrets/script-dev")
-        place.script('cat ~/secrets/"$2"', "secrets/keys-client")
-        (place.secrets / "empty").write_bytes(b"\n")
-        (place.secrets / "wrong").write_bytes(b"no password\n")
-
-    def outcome(self, case: Case) -> tuple[Outcome, Outcome | None, str]:
-        """Return what our tool did, what theirs did if both must do the same, and the messages."""
-        counted = what_counts(case)
-        if counted and ansible_release() < (2, 14):
-            counted = counted.for_old_releases()
-        if counted:
-            variables = self.prepare(counted, self.other)
-            self.ansible.begin(counted.line.words(case.abbreviate), self.other, self.place.environment | variables)
-            status, output, errors = self.ansible.end()
-            theirs = outcome_of(counted, self.other, status, output)
-        variables = self.prepare(case, self.place.tree)
-        done = self.place.run_on(b"", "setsid", "--wait", WITH, *case.line.words(case.abbreviate), **variables)
-        ours = outcome_of(case, self.place.tree, done.returncode, done.stdout)
-        if counted:
-            return ours, theirs, f"{done.stderr.decode()}\n{errors}"
-        return ours, None, done.stderr.decode()
-
-    def prepare(self, case: Case, tree: Path) -> dict[str, str]:
-        shutil.rmtree(tree, ignore_errors=True)
-        tree.mkdir()
-        (self.place.path / ".ansible.cfg").unlink(missing_ok=True)
-        (tree / "a.yml").write_bytes(case.vault)
-        (tree / "plain.yml").write_bytes(TEXT)
-        (tree / "more.yml").write_bytes(TEXT)
-        return with_settings(case, self.place.path, tree)
-
-
 def outcome_of(case: Case, tree: Path, status: int, output: bytes) -> Outcome:
-    before = {"a.yml": case.vault, "plain.yml": TEXT, "more.yml": TEXT}
+    before = {"a.yml": case.vault, **PLAIN}
     files = {path.name: path.read_bytes() for path in tree.iterdir() if path.name != "ansible.cfg"}
-    named = [each.name for each in (*case.line.ids, *case.file.identities, *case.variables.identities)]
-    likely = sorted(PASSWORDS, key=lambda name: (name != "new" or not case.line.new, name not in named))
-    changed = {name: described(data, likely) for name, data in files.items() if before.get(name) != data}
-    return status == 0, described(output, likely) if status == 0 else None, changed
+    changed = {name: described(data) for name, data in files.items() if before.get(name) != data}
+    return status == 0, described(output) if status == 0 else None, changed
+
+
+def outcomes(place: Place, ansible: AnsibleRuns, case: Case) -> tuple[Outcome, Outcome | None, str]:
+    """Return what our tool did, what theirs did if both must do the same, and the messages."""
+    theirs, errors = None, ""
+    if counted := what_counts(case):
+        tree = place.path / "other"
+        variables = prepare(counted, place.path, tree)
+        ansible.begin(counted.words(), tree, place.environment | variables)
+        status, output, errors = ansible.end()
+        theirs = outcome_of(counted, tree, status, output)
+    variables = prepare(case, place.path, place.tree)
+    done = place.run_on(b"", "setsid", "--wait", WITH, *case.words(), **variables)
+    ours = outcome_of(case, place.tree, done.returncode, done.stdout)
+    return ours, theirs, f"{done.stderr.decode()}\n{errors}"
 
 
 def test_command_lines(
     place: Place, ansible_runs: AnsibleRuns, subtests: SubTests, pytestconfig: pytest.Config
 ) -> None:
     """Compare random command lines, and print how many there were."""
+    place.script("cat ~/secrets/dev", "secrets/script-dev")
+    place.script('cat ~/secrets/"$2"', "secrets/keys-client")
+    (place.secrets / "empty").write_bytes(b"\n")
+    (place.secrets / "wrong").write_bytes(b"no password\n")
     most = pytestconfig.getoption("--comparisons")
     random, counts = Random(SEED), {"succeed in both": 0, "refused by both": 0, "refused only here, as documented": 0}
     end = time.monotonic() + SHARE
-    both = Both(place, ansible_runs)
     while sum(counts.values()) < (most or LEAST) or not most and time.monotonic() < end:
         case = random_case(random, place.secrets)
-        ours, theirs, messages = both.outcome(case)
+        ours, theirs, messages = outcomes(place, ansible_runs, case)
         if ours != (wanted := theirs or (False, None, {})):
-            with subtests.test(f"{sum(counts.values())}: {case.line.words(case.abbreviate)} {case}"):
+            with subtests.test(f"{sum(counts.values())}: {case.words()} {case}"):
                 assert ours == wanted, messages
         kind = 2 if theirs is None else 0 if theirs[0] else 1
         counts[[*counts][kind]] += 1

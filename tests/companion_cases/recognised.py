@@ -4,30 +4,29 @@ import os
 
 import pytest
 
-from companion_cases import CHECK, PASSWORDS, ROTATE, TEXT, WITH, Place, sealed, summary
+from companion_cases import CHECK, PASSWORDS, ROTATE, TEXT, WITH, Place, ended, sealed, summary
 
 
-@pytest.mark.parametrize("around", [b"%s", b"%s\n", b"%s\r\n", b"  %s\t\n\n"])
-def test_same_password_in_another_file(place: Place, around: bytes) -> None:
+def test_same_password_in_another_file(place: Place) -> None:
     """Ansible strips the white space around a password, so this file contains the same secret."""
     place.put("a.yml", sealed("dev", label="dev"))
     before = place.files()
-    (place.secrets / "again").write_bytes(around % PASSWORDS["dev"])
+    (place.secrets / "again").write_bytes(b" \t%s \r\n\n" % PASSWORDS["dev"])
     done = place.run(ROTATE, *place.by_id("dev", "dev"), *place.by_id("dev", "again", "new-"), ".")
     assert (done.returncode, done.stdout, done.stderr) == (0, f"{summary(0, 1)}\n", "")
     assert place.files() == before
 
 
-@pytest.mark.parametrize("mode", [0o700, 0o610, 0o601, 0o755])
+@pytest.mark.parametrize("mode", [0o700, 0o610, 0o601])
 def test_script_that_somebody_may_execute(place: Place, mode: int) -> None:
     """As with Ansible, a password file is a script if its owner, its group or others may execute it."""
     place.put("a.yml", sealed("dev"))
     os.chmod(place.script("cat ../secrets/dev"), mode)
     done = place.run(CHECK, "--vault-password-file", "../script", "a.yml")
     if mode & 0o100 or os.geteuid() == 0:
-        assert (done.returncode, done.stdout.splitlines()[-1]) == (0, "1 decrypted, 0 not")
+        ended("it is run", done, 0, "1 decrypted, 0 not")
     else:
-        assert (done.returncode, "this script cannot be run: Permission denied" in done.stderr) == (1, True)
+        ended("it is no password", done, 1, "this script cannot be run: Permission denied")
 
 
 @pytest.mark.parametrize("holder", ["first", "second", "third", "last"])
@@ -43,8 +42,7 @@ def test_chain_of_links(place: Place, holder: str) -> None:
     (place.path / holder / "ansible-vault").symlink_to(place.program)
     (place.tools / "ansible-vault").unlink()
     place.script('echo "ansible-vault [core 2.14.18]"', "tools/ansible-vault")
-    done = place.run(str(links[0]), *place.by_file("old"), ".")
-    assert (done.returncode, done.stdout.splitlines()[-1], done.stderr) == (0, "1 decrypted, 0 not", "")
+    ended("the check", place.run(str(links[0]), *place.by_file("old"), "."), 0, "1 decrypted, 0 not")
 
 
 def test_named_as_the_tool(place: Place) -> None:

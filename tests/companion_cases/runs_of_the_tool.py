@@ -4,87 +4,71 @@ tries, and one for each new envelope, however often an envelope is in the files.
 Each run of the program on some input derives one key, so the tests count these runs.
 """
 
-from companion_cases import CHECK, EDIT, MERGE, ROTATE, TEXT, TEXTCONV, Place, block, decrypted, ended, sealed
-from companion_cases import summary, to_new
+from companion_cases import CHECK, EDIT, MERGE, ROTATE, TEXTCONV, Place, block, ended, sealed, summary, to_new
 from lib.needs import needs, needs_pyyaml
 
 # Notes the command if there is any input to derive a key for. A run that only checks a secret has none.
 NOTED = 'cat > "$0.$$"; [ -s "$0.$$" ] && echo "$1" >> ../runs; exec < "$0.$$"; rm "$0.$$"'
+# The same value twice, and another one.
+VALUES = block("old", b"one", name="a") + block("old", b"one", name="b") + block("old", b"two", name="c")
 
 
-def derivations(place: Place, *words: str, status: int = 0, parts: tuple[str, ...] = (), **variables: str) -> list[int]:
+def derivations(place: Place, *words: str, status: int = 0, part: str = "", **variables: str) -> list[int]:
     """Return how often a run decrypts, and how often it encrypts."""
     place.wrap_tool(NOTED)
     runs = place.path / "runs"
     runs.write_text("")
-    ended(f"{words}", place.run(*words, **variables), status, *parts)
+    ended(f"{words}", place.run(*words, **variables), status, part)
     found = runs.read_text().split()
     return [found.count("view"), found.count("encrypt")]
 
 
-def three(place: Place) -> None:
-    """Write three envelopes, two vaults and a block, in seven places."""
-    for name in ("a.yml", "b.yml", "c.yml"):
-        place.put(name, sealed("old"))
-    place.put("d.yml", sealed("old", b"another"))
-    place.put("e.yml", block("old", b"one", name="a") + block("old", b"one", name="b"))
-    place.put("f.yml", b"- " + block("old", b"one", name="a"))
+def put_copies(place: Place) -> None:
+    """Write three envelopes in seven places: two are vaults, and the third is a block, also within one of them."""
+    place.put("a.yml", sealed("old", block("old", b"one")))
+    place.put("b.yml", place.get("a.yml"))
+    place.put("c.yml", block("old", b"one") + block("old", b"one", name="b"))
+    place.put("d.yml", sealed("old"))
 
 
 def test_check(place: Place) -> None:
-    three(place)
-    counts = "7 decrypted, 0 not"
-    assert derivations(place, CHECK, *place.by_file("old"), ".", parts=(counts,)) == [3, 0], "one secret"
-    both = [*place.by_file("new"), *place.by_file("old")]
-    assert derivations(place, CHECK, *both, ".", parts=(counts,)) == [6, 0], "the second of two secrets"
-    both = [*place.by_file("new"), *place.by_file("dev")]
-    refused = derivations(place, CHECK, *both, ".", status=1, parts=("0 decrypted, 7 not",))
-    assert refused == [6, 0], "none of two secrets"
+    put_copies(place)
+    for names, count in ((["old"], 3), (["new", "old"], 6)):
+        words = [CHECK, *(word for name in names for word in place.by_file(name)), "."]
+        assert derivations(place, *words, part="7 decrypted, 0 not") == [count, 0], names
 
 
 def test_rotate(place: Place) -> None:
-    three(place)
+    put_copies(place)
     to_be = summary(7).replace("rotated", "to be rotated")
-    assert derivations(place, ROTATE, "--dry-run", *to_new(place), ".", status=1, parts=(to_be,)) == [3, 0], "dry"
-    assert derivations(place, ROTATE, *to_new(place), ".", parts=(summary(7),)) == [3, 3], "rotated"
-    assert {decrypted("new", place.get(name)) for name in ("a.yml", "b.yml", "c.yml")} == {TEXT}, "each copy"
-    assert derivations(place, ROTATE, *to_new(place), ".", parts=(summary(0, 7),)) == [6, 0], "again, by both secrets"
-
-
-def test_rotate_within(place: Place) -> None:
-    """Two files contain the same vault, and its block is in a third file, too."""
-    for name in ("a.yml", "b.yml"):
-        place.put(name, sealed("old", block("old", b"one")))
-    place.put("c.yml", block("old", b"one"))
-    assert derivations(place, ROTATE, *to_new(place), ".", parts=(summary(5),)) == [2, 2]
+    assert derivations(place, ROTATE, "--dry-run", *to_new(place), ".", status=1, part=to_be) == [3, 0]
+    assert derivations(place, ROTATE, *to_new(place), ".", part=summary(7)) == [3, 3]
+    assert place.get("a.yml") == place.get("b.yml"), "a copy stays a copy"
 
 
 def test_equal_texts(place: Place) -> None:
     """Equal texts in different envelopes get different envelopes, so that nobody can see that they are equal."""
-    for name in ("a.yml", "b.yml"):
-        place.put(name, sealed("old", TEXT) if name == "a.yml" else sealed("old", TEXT, "default"))
-    assert derivations(place, ROTATE, *to_new(place), ".", parts=(summary(2),)) == [2, 2]
+    place.put("a.yml", sealed("old"))
+    place.put("b.yml", sealed("old", label="default"))
+    assert derivations(place, ROTATE, *to_new(place), ".", part=summary(2)) == [2, 2]
     assert place.get("a.yml").split()[1:] != place.get("b.yml").split()[1:]
 
 
 def test_shown(place: Place) -> None:
     needs_pyyaml()
-    content = block("old", b"one", name="a") + block("old", b"one", name="b") + block("old", b"two", name="c")
-    words = [TEXTCONV, *place.by_file("old"), "a.yml"]
     # With a tab, it is not YAML.
-    for text, count in ((content, 2), (content + b"d: 1\n\te: 2\n", 2), (sealed("old"), 1)):
+    for text in (VALUES, VALUES + b"d: 1\n\te: 2\n"):
         place.put("a.yml", text)
-        assert derivations(place, *words) == [count, 0], text
+        assert derivations(place, TEXTCONV, *place.by_file("old"), "a.yml") == [2, 0], text
 
 
 def test_edit(place: Place) -> None:
     needs_pyyaml()
-    place.put("a.yml", block("old", b"one", name="a") + block("old", b"one", name="b") + block("old", b"two", name="c"))
+    place.put("a.yml", VALUES)
     editor = place.script("sed -i s/two/three/ \"$1\"; echo 'd: !vault four' >> \"$1\"", "editor")
     words = [EDIT, *place.by_file("old"), "a.yml"]
     assert derivations(place, *words, EDITOR=editor) == [2, 2], "a value is changed, and one is new"
-    place.put("b.yml", sealed("old"))
-    words = [EDIT, *place.by_file("old"), "b.yml"]
+    place.put("a.yml", sealed("old"))
     assert derivations(place, *words, EDITOR=place.script('echo >> "$1"', "editor")) == [1, 1], "a vault"
 
 

@@ -7,22 +7,20 @@ from collections import Counter
 from random import Random
 from typing import Any
 
+import pytest
 from hypothesis import given, settings
 from hypothesis import strategies as st
 
 from ansible_vault_companions.files.envelopes import has_valid_header, mentions_envelope
-from ansible_vault_companions.git import leaks
+from ansible_vault_companions.git import damage, leaks
 from ansible_vault_companions.yaml.hidden import envelopes
-from companion_cases import CHECK, ROTATE, TEXT, Place, block, ended, sealed, silent, summary, to_new
+from companion_cases import CHECK, ROTATE, Place, block, ended, sealed, silent, summary, to_new
 from companion_cases.repository import IN_PART, again, leaked, staged, with_hooks
 from lib.needs import needs_pyyaml
-from lib.subtests import SubTests
 
-VAULT = sealed("old", TEXT).decode()
-DIGITS = "".join(VAULT.splitlines()[1:])
+DIGITS = "".join(sealed("old").decode().splitlines()[1:])
 MAGIC = "$ANSIBLE_VAULT"
 BEGINNINGS = [MAGIC, MAGIC, f"{MAGIC}_2", f"{MAGIC} {MAGIC}", f"{MAGIC} x"]
-ENDINGS = [[], [""], ["default"], ["prod"], ["prod", "more"]]
 BLANKS = ["", "", " ", "\t", "  "]
 # What precedes the document, and a spelling of the tag.
 TAGS = [
@@ -36,19 +34,17 @@ PLACES = ["secret: {}\n", "secret: &b {}\n", "- {}\n", "{{secret: {}}}\n", "[1, 
 PLACES += ["? {}\n: 1\n", "secret: &c\n  - {}\n  - 2\n", "x: $ANSIBLE_VAULT\nsecret: {}\ny: $ANSIBLE_VAULT_FILE\n"]
 OBJECTS = ['{{"secret": {{"__ansible_vault": {}}}}}\n', '[{{"__ansible_v\\u0061ult": {}}}]']
 OBJECTS += ['{{\n\t"secret":\t{{"__ansible_vault":\t{}}}, "x": "\\ud83d\\ude00"}}']
-LINES = [30, 31, 80, 1000]
 # At least so many texts of each kind must be envelopes.
 LEAST = dict.fromkeys(["|", ">", "plain", "'", '"', "JSON"], 10)
 
 
-@st.composite
-def envelope_lines(draw: st.DrawFn) -> list[str]:
-    """Draw the lines of the same envelope, with a header that Ansible's tool reads."""
-    fields = [draw(st.sampled_from(BEGINNINGS)), draw(st.sampled_from(["1.1", "1.2"])), "AES256"]
-    fields += draw(st.sampled_from(ENDINGS))
-    header = ";".join(each + draw(st.sampled_from(BLANKS)) for each in fields)
-    width = draw(st.sampled_from(LINES))
-    return [header, *(DIGITS[start : start + width] for start in range(0, len(DIGITS), width))]
+def headers(*pools: list[str]) -> st.SearchStrategy[str]:
+    """Draw the first line of an envelope, with a field of each pool."""
+    fields = (st.tuples(st.sampled_from(pool), st.sampled_from(BLANKS)).map("".join) for pool in pools)
+    return st.tuples(*fields).map(";".join)
+
+
+KNOWN = headers(BEGINNINGS, ["1.1", "1.2"], ["AES256", "AES256;", "AES256;default", "AES256\t;prod", "AES256;prod ;x"])
 
 
 def escaped(random: Random, text: str, rate: int, is_json: bool = False) -> str:
@@ -66,7 +62,8 @@ def escaped(random: Random, text: str, rate: int, is_json: bool = False) -> str:
 @st.composite
 def documents(draw: st.DrawFn) -> tuple[str, str]:
     """Draw the kind of a spelling, and a file with it."""
-    lines = draw(envelope_lines())
+    width = draw(st.sampled_from([30, 31, 80, 1000]))
+    lines = [draw(KNOWN), *(DIGITS[start : start + width] for start in range(0, len(DIGITS), width))]
     # With escapes, most texts are no envelopes.
     kind = draw(st.sampled_from([*LEAST, '"', '"']))
     rate = draw(st.sampled_from([1, 4, 40, 1000]))
@@ -92,8 +89,8 @@ def documents(draw: st.DrawFn) -> tuple[str, str]:
     return kind, directive + draw(st.sampled_from(PLACES)).format(value)
 
 
-def loaded(text: str) -> list[str]:
-    """Return the texts that Ansible's loader takes for envelopes: it first reads a file as JSON, then as YAML."""
+def loaded(kind: str, text: str) -> list[str]:
+    """Return the texts that Ansible's loader takes for envelopes."""
     import yaml
 
     found: list[str] = []
@@ -106,15 +103,15 @@ def loaded(text: str) -> list[str]:
     def note(pairs: list[tuple[str, Any]]) -> None:
         found.extend(value for key, value in pairs if key == "__ansible_vault")
 
-    try:
+    if kind == "JSON":
         json.loads(text, object_pairs_hook=note)
-    except ValueError:
-        for tag in ("!vault", "!vault-encrypted"):
-            Loader.add_constructor(tag, Loader.note)
-        try:
-            yaml.load(text, Loader)
-        except yaml.YAMLError:
-            return []
+        return found
+    for tag in ("!vault", "!vault-encrypted"):
+        Loader.add_constructor(tag, Loader.note)
+    try:
+        yaml.load(text, Loader)
+    except yaml.YAMLError:
+        return []
     return found
 
 
@@ -122,7 +119,7 @@ def is_decrypted(text: str) -> bool:
     """Return whether Ansible decrypts a text, as its `parse_vaulttext_envelope` reads it."""
     header, *lines = text.encode().splitlines() or [b""]
     fields = [each.strip() for each in header.strip().split(b";")]
-    is_header = text.startswith("$ANSIBLE_VAULT") and len(fields) > 2 and fields[2] == b"AES256"
+    is_header = text.startswith(MAGIC) and len(fields) > 2 and fields[2] == b"AES256"
     return is_header and b"".join(lines).decode() == DIGITS
 
 
@@ -135,7 +132,7 @@ def test_spellings(place: Place) -> None:
     @given(drawn=documents())
     def spell(drawn: tuple[str, str]) -> None:
         kind, text = drawn
-        if any(map(is_decrypted, loaded(text))):
+        if any(map(is_decrypted, loaded(kind, text))):
             data = text.encode()
             assert mentions_envelope(data) and envelopes(data), text
             if kind != "JSON" and "secret" in text and "=:" not in text:
@@ -150,74 +147,45 @@ def test_spellings(place: Place) -> None:
     assert (done.returncode, unreported) == (1, []), "none is passed over"
 
 
-HEADERS = [f"{MAGIC} ;1.2;AES256;old", f"{MAGIC}_x; 1.1 ;AES256", f"{MAGIC};1.2;AES256", f"{MAGIC};1.1;\tAES256;x"]
+@pytest.mark.parametrize("header", [f"{MAGIC} ;1.2;AES256;old", f"{MAGIC}_x; 1.1 ;AES256", f"{MAGIC};1.1;\tAES256;x"])
+def test_headers(place: Place, header: str) -> None:
+    """A vault or block with an unusual header is checked and rotated like any other."""
+    for name, content in {"whole.yml": sealed("old"), "vars.yml": block("old")}.items():
+        place.put(name, content.replace(b"$ANSIBLE_VAULT;1.1;AES256", header.encode()))
+    ended("a wrong password", place.run(CHECK, *place.by_file("new"), "."), 1, "0 decrypted, 2 not")
+    label = (header.split(";")[3:] or ["default"])[0]
+    secrets = [*place.by_id(label, "old"), *place.by_id(label, "new", "new-")]
+    ended("rotate", place.run(ROTATE, *secrets, "."), 0, summary(2))
 
 
-def test_headers(place: Place, subtests: SubTests) -> None:
-    """A block with an unusual header is checked, rotated and watched like any other."""
-    with_hooks(place, "marked.yml diff=ansible-vault\nwhole.yml ansible-vault\n")
-    for header in HEADERS:
-        with subtests.test(header):
-            vault = sealed("old").replace(b"$ANSIBLE_VAULT;1.1;AES256", header.encode())
-            value = block("old").replace(sealed("old").splitlines()[0], header.encode())
-            place.put("whole.yml", vault)
-            place.put("marked.yml", value)
-            silent("the hook", again(place, "vars.yml", value))
-            done = staged(place, "vars.yml", b"secret: plain\n")
-            leaked("plaintext", done, {"vars.yml": IN_PART.format("secret")})
-            place.put("vars.yml", value)
-            ended("a wrong password", place.run(CHECK, *place.by_file("new"), "."), 1, "0 decrypted, 3 not")
-            ended("the right one", place.run(CHECK, *place.by_file("old"), "."), 0, "3 decrypted, 0 not")
-            label = header.split(";")[3:] or ["default"]
-            secrets = [*place.by_id(label[0], "old"), *place.by_id(label[0], "new", "new-")]
-            ended("rotate", place.run(ROTATE, *secrets, "."), 0, summary(3))
-
-
-UNUSUAL = {
-    "an escape": b'secret: !vault "\\x24ANSIBLE_VAULT;1.1;AES256\\n%s"\n' % DIGITS.encode(),
-    "another tag": b"secret: !<!vault> # a\n  $ANSIBLE_VAULT;\n  1.1;\n  AES256\n\n  %s\n" % DIGITS.encode(),
-}
-
-
-def test_moves(place: Place, subtests: SubTests) -> None:
-    """The hook refuses plaintext in another file, whatever the form of the value was, but not the value itself."""
+def test_moves(place: Place) -> None:
+    """The hook refuses plaintext in another file, even if the value began with an escape, but not the value itself."""
     needs_pyyaml()
     with_hooks(place)
-    for number, (what, value) in enumerate(UNUSUAL.items()):
-        with subtests.test(what):
-            name, other = f"a{number}.yml", f"b{number}.yml"
-            silent("the hook", again(place, name, b"x: 1\n" + value))
-            place.put(name, b"x: 1\n")
-            done = staged(place, other, b"secret: plain\n")
-            leaked("plaintext", done, {other: IN_PART.format(f"secret of {name}")})
-            silent("the value", again(place, other, value))
-
-
-@st.composite
-def any_headers(draw: st.DrawFn) -> bytes:
-    """Draw the first line of a vault, in which each field may be wrong."""
-    pools = [
-        [*BEGINNINGS, MAGIC + "x" * 226, MAGIC + "x" * 225, f"{MAGIC}é"],
-        [*["1.1", "1.2"] * 3, "1.0", "1.3", ""],
-        [*["AES256"] * 4, "AES", "aes256"],
-        ["", "prod", "p r", "x" * 128, "x" * 129, "\x7f", "é", "a\tb"],
-        ["", "more"],
-    ]
-    fields = [draw(st.sampled_from(pool)) for pool in pools[: draw(st.integers(2, 5))]]
-    return ";".join(each + draw(st.sampled_from([*BLANKS, "\x0b"])) for each in fields).encode()
+    value = b'secret: !vault "\\x24ANSIBLE_VAULT;1.1;AES256\\n%s"\n' % DIGITS.encode()
+    silent("the hook", again(place, "a.yml", b"x: 1\n" + value))
+    place.put("a.yml", b"x: 1\n")
+    leaked("plaintext", staged(place, "b.yml", b"secret: plain\n"), {"b.yml": IN_PART.format("secret of a.yml")})
+    silent("the value", again(place, "b.yml", value))
 
 
 def test_valid_headers(place: Place) -> None:
-    """The companions call a header valid if the program does."""
+    """The companions call a header valid if the program does, and a vault whole unless further fields follow."""
     counts: Counter[bool] = Counter()
     digits = sealed("old").partition(b"\n")[2]
+    first = [*BEGINNINGS, MAGIC + "x" * 226, MAGIC + "x" * 225, f"{MAGIC}é"]
+    label = ["", "prod", "p r", "x" * 128, "x" * 129, "\x7f", "é", "a\tb", "\x0b"]
+    fields = [first, [*["1.1", "1.2"] * 3, "1.0", "1.3", ""], [*["AES256"] * 4, "AES", "aes256"], label, ["", "more"]]
 
     @settings(max_examples=300, deadline=None, database=None)
-    @given(header=any_headers())
-    def read(header: bytes) -> None:
-        done = place.run_on(header + b"\n" + digits, "ansible-vault", "view", *place.by_file("old"))
-        assert has_valid_header(header) == (done.returncode == 0), (header, done.stderr)
-        counts[done.returncode == 0] += 1
+    @given(header=st.integers(2, 5).flatmap(lambda count: headers(*fields[:count])))
+    def read(header: str) -> None:
+        vault = header.encode() + b"\n" + digits
+        done = place.run_on(vault, "ansible-vault", "view", *place.by_file("old"))
+        is_valid = done.returncode == 0
+        assert has_valid_header(header.encode()) == is_valid, (header, done.stderr)
+        assert damage.is_whole(vault) == (is_valid and header.count(";") < 4), header
+        counts[is_valid] += 1
 
     read()
     assert min(counts[True], counts[False]) > 20, counts
@@ -243,9 +211,10 @@ script:
 
 
 def test_mentions(place: Place) -> None:
-    """Text that only mentions a header is not reported."""
-    for name, text in {"a.sh": PROSE, "a": PROSE, "job.yml": JOB, "job.json": json.dumps(JOB)}.items():
+    """Text that only mentions a header is not reported, and a tree without any envelope is no fault."""
+    for name, text in {"a.sh": PROSE, "job.yml": JOB, "job.json": json.dumps(JOB)}.items():
         place.put(name, text.encode())
+    done = place.run(CHECK, *place.by_file("old"), ".")
+    assert (done.returncode, done.stdout, done.stderr) == (0, "0 decrypted, 0 not\n", "")
     place.put("vault.yml", sealed("old"))
-    ended("check", place.run(CHECK, *place.by_file("old"), "."), 0, "1 decrypted, 0 not")
     ended("rotate", place.run(ROTATE, *to_new(place), "."), 0, summary(1))
