@@ -91,6 +91,18 @@ def test_check(place: Place, options: list[Pair], by_settings: list[Pair]) -> No
     assert again.stdout.endswith(f"{len(VAULTS) - unknown} decrypted, {unknown} not\n"), "as told, it is repaired"
 
 
+def test_awkward_labels(place: Place) -> None:
+    """A message does not name a label with an @ in an option, and quotes one for the shell."""
+    place.put("a.yml", sealed("prod", label="$(x)"))
+    place.put("b.yml", sealed("prod", label="a@b"))
+    dev, prod = place.by_id("dev", "dev"), place.by_id("prod", "prod")
+    parts = ["name its secret with --vault-id '$(x)'@FILE", "its label a@b has an @, so no option can name it"]
+    ended("no secret", place.run(CHECK, *dev, "."), 1, *parts)
+    done = place.run(CHECK, *dev, *prod, ".")
+    ended("a false label", done, 1, f"name it with --vault-id '$(x)@{place.secret('prod')}'")
+    assert "a@b@" not in done.stderr
+
+
 def test_within_a_plaintext(place: Place) -> None:
     """A block within the plaintext of a vault is trusted only with its own label, too."""
     inner = block("prod", label="dev")

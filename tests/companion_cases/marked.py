@@ -5,6 +5,7 @@ import pytest
 from ansible_vault_companions.files import finding
 from companion_cases import CHECK, TEXT, Place, block, ended, sealed
 from companion_cases.repository import under_git
+from lib.needs import needs_pyyaml
 
 ATTRIBUTES = """\
 *.vault.yml diff=ansible-vault
@@ -12,12 +13,14 @@ secrets/** ansible-vault
 *.vault.md diff=ansible-vault
 both.vault.yml ansible-vault
 """
+TAGGED = f"has plaintext with the tag `!vault` in line {block('old').count(10) + 1}"
 MERGE = b"<<<<<<< HEAD\na: 1\n=======\na: 2\n>>>>>>> branch\n"
 
 
 @pytest.mark.usefixtures("git")
 def test_marked_files(place: Place) -> None:
     """A marked file that is not a vault is a failure, even if it contains no envelope."""
+    needs_pyyaml()
     under_git(place, ATTRIBUTES)
     place.put("ok.vault.yml", sealed("old"))
     place.put("ok.vault.md", block("old"))
@@ -31,6 +34,7 @@ def test_marked_files(place: Place) -> None:
         "c.vault.yml": (block("old") + MERGE, "has git's conflict markers"),
         "d.yml": (MERGE + block("old"), "has git's conflict markers"),
         "notes.vault.md": (TEXT, "is not encrypted"),
+        "tagged.vault.yml": (block("old") + b"b: !vault text\n", TAGGED),
         "secrets/deep/vars.yml": (block("old"), "is not encrypted"),
     }
     for name, (content, _) in faults.items():

@@ -39,6 +39,7 @@ SAME = """
 """
 # The tool's status for an invalid command line.
 WRONG_COMMAND_LINE = 2
+SALT_FOR_ONE = "--salt and --salt-file are for a single FILE or STRING"
 
 
 def prepare(place: Place) -> None:
@@ -100,8 +101,8 @@ def test_command_lines(place: Place, subtests: SubTests) -> None:
             with subtests.test(f"{words} {name}"):
                 done = place.run(WITH, *words, *old, name)
                 assert (done.returncode, done.stdout, done.stderr) == (3, "", f"{WITH}: {part}\n")
-    done = place.run(WITH, "encrypt", *old, "--salt-file", place.secret("old"), "plain.yml", "plain.yml")
-    ended("one salt for two", done, 2, "a fixed salt is for a single FILE or STRING")
+    done = place.run(WITH, "encrypt", *old, "--salt-file", "/dev/zero", "plain.yml", "plain.yml")
+    ended("one salt for two", done, 2, SALT_FOR_ONE)
     ambiguous = {"--vault": "--vault-id, --vault-password-file", "--sa": "--salt, --salt-file"}
     for word, others in ambiguous.items():
         done = place.run(WITH, "encrypt", word, "x", "plain.yml")
@@ -193,7 +194,6 @@ def test_several_edits(place: Place) -> None:
     ended("create", done, 2, "create takes one FILE")
 
 
-SALT_FOR_ONE = "a fixed salt is for a single FILE or STRING"
 # Strings to encrypt with options, and why they are refused.
 REFUSED_STRINGS = {
     "a b -n x -n y -n z": (2, "there are more names than strings: x, y, z"),

@@ -114,6 +114,19 @@ def test_beside_options(place: Place) -> None:
     assert decrypted("prod", place.get("a.yml")) == b"new\n", "by the variable's label"
 
 
+@pytest.mark.parametrize("path", ("$PWD/script", "${PWD}/script", "{{CWD}}/script"))
+def test_own_file(place: Place, path: str) -> None:
+    """Beside options, a path into the current directory does not even count in the user's own file."""
+    place.environment["PWD"] = str(place.tree)
+    place.put("a.yml", sealed("old"))
+    place.put("../.ansible.cfg", FILE.format(path).encode())
+    place.script("touch ../ran; cat ../secrets/prod", "tree/script")
+    ended("the check", place.run(CHECK, *place.by_file("old"), "a.yml"), 0)
+    assert not (place.path / "ran").exists()
+    ended("without options", place.run(CHECK, "a.yml"), 1)
+    assert (place.path / "ran").exists()
+
+
 def test_matching_labels(place: Place) -> None:
     """With vault_id_match, whatever its value, a secret decrypts only envelopes with its label."""
     place.put("a.yml", sealed("dev", label="prod"))
@@ -127,6 +140,10 @@ def test_matching_labels(place: Place) -> None:
     ended("rekey", done, 1, "a.yml: no secret decrypts this vault")
     place.put("../own.cfg", b"[defaults]\n")
     ended("by another file", place.run(*words, ANSIBLE_CONFIG=str(place.path / "own.cfg")), 0, "2 decrypted")
+    place.put("../.ansible.cfg", place.get("ansible.cfg"))
+    for value in (b"", b"''"):
+        place.put("ansible.cfg", b"[defaults]\nvault_id_match = %s\n" % value)
+        ended("the folder's file only restricts", place.run(*words), 1, *wanted)
 
 
 def test_many_secrets(place: Place) -> None:
@@ -142,6 +159,7 @@ def test_many_secrets(place: Place) -> None:
 MALFORMED = {
     b"no section\n": "ansible.cfg: File contains no section headers",
     b"[defaults]\n# \xff\n": "ansible.cfg: it is not UTF-8",
+    b"[defaults]\nvault_password_file = a\0b\n": "ansible.cfg: it has a NUL byte",
     b"#" * ((1 << 20) + 1): "ansible.cfg: it has more than 1,048,576 bytes",
     FILE.format("../secrets/none").encode(): "../secrets/none: a password file cannot be opened",
 }

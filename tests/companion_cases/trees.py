@@ -64,6 +64,13 @@ def test_links(place: Place) -> None:
     ended("a path that leads nowhere", done, 1, "tree/dangling.yml: No such file")
 
 
+def test_links_to_documents(place: Place) -> None:
+    """A link is a document only if its file is."""
+    place.put("vars.yml", block("old"))
+    (place.tree / "README.md").symlink_to("vars.yml")
+    ended("the rotation", place.run(ROTATE, *to_new(place), "."), 0, summary(1))
+
+
 def test_what_is_looked_at(place: Place) -> None:
     vaults = ["vault", ".hidden/vault.yml", "host_vars/www.example.org", "notes.md"]
     blocks = ["vars.yaml", "host_vars/db.example.org", "a.json", "b.YML", ".github/x.yml"]
