@@ -7,124 +7,96 @@ import signal
 import subprocess
 import time
 from collections import Counter
-from collections.abc import Callable
 
-from companion_cases import EDIT, ROTATE, Companions, Place, block, decrypted, sealed, texts, wait_until
-from companion_cases.signals import check_whole, runs_of, tree
+import pytest
+
+from companion_cases import EDIT, ROTATE, Companions, Place, block, sealed, texts
+from companion_cases.signals import check_whole, tree
 from lib.limits import SECONDS
 from lib.subtests import SubTests
 
 SEED = 1
 # The number of moments for each run.
 OF_EDITS, OF_OTHERS = 15, 8
-SAVES = 6
 # Saves several times, and notes each save after it.
-EDITOR = f"""
-for number in $(seq {SAVES}); do
+EDITOR = """
+for number in 1 2 3 4 5 6; do
     sed -i "s/saved [0-9]/saved $number/" "$1"
     echo $number > ../noted && mv ../noted ../saved
     sleep 0.05
 done
 """
-SAVED = re.compile(rb"saved (\d)")
-# How long the editor saves, and the most time between the first signal and the second, in seconds.
-SAVING, SECOND = 0.4, 0.5
+# The files to edit, whose texts have the number of the last save.
+FILES = {
+    "a vault": sealed("old", b"saved 0\n"),
+    "values": b"x: 1\n" + block("old", b"saved 0\n") + block("old", name="b"),
+}
+# The editor's own temporary files may be left, and are encrypted.
+KNOWN = re.compile(r"\.ansible-vault-saved-a\.yml-\w{8}(-sed\w+|-before)?")
 
 
-def signalled(
-    place: Place, words: list[str], chance: random.Random, seconds: float, begins: Callable[[], bool] = lambda: True
-) -> int:
-    """Signal a run within this time, which starts when `begins` is true, and return its exit status."""
-    process = place.start(*words, start_new_session=True)
+def begun(cases: Companions, name: str) -> tuple[Place, list[str]]:
+    """Return a place with files, and the command line of a run over them, or of an edit of one of FILES."""
+    place = cases.place()
+    if name not in FILES:
+        return place, tree(place)[name]
+    place.put("a.yml", FILES[name])
+    place.environment["EDITOR"] = place.script(EDITOR, "editor")
+    return place, [EDIT, *place.by_file("old"), "a.yml"]
+
+
+def time_of(place: Place, words: list[str]) -> float:
+    begin = time.monotonic()
+    assert place.run(*words).returncode == 0
+    return time.monotonic() - begin
+
+
+def signalled(place: Place, words: list[str], chance: random.Random, seconds: float) -> int:
+    """Signal a run once or twice, the first time within so many seconds, and return its exit status."""
     number = chance.choice([signal.SIGTERM, signal.SIGHUP])
     send = chance.choice([os.kill, os.killpg])
-    delays = [chance.uniform(0, seconds), *([chance.uniform(0, SECOND)] if chance.random() < 0.5 else [])]
-    wait_until(lambda: begins() or process.poll() is not None, "the first save")
-    for delay in delays:
+    delays = [chance.uniform(0, seconds), chance.uniform(0, 0.5)]
+    process = place.start(*words, start_new_session=True)
+    for delay in delays[: chance.randint(1, 2)]:
         try:
-            process.wait(delay)
-            break
+            return process.wait(delay)
         except subprocess.TimeoutExpired:
             send(process.pid, number)
     return process.wait(SECONDS)
 
 
-def time_of(place: Place, words: list[str]) -> float:
-    begun = time.monotonic()
-    place.run(*words)
-    return time.monotonic() - begun
+def last_save(content: bytes) -> int:
+    """Return the number of the last save in a vault or in values."""
+    saved = re.findall(rb"saved (\d)", b"".join(text or b"" for text in texts(content, "old")))
+    return max(map(int, saved), default=0)
 
 
-def to_edit(cases: Companions, is_vault: bool) -> tuple[Place, list[str]]:
-    """Return a place with a file, and the command line that edits it."""
-    place, text = cases.place(), b"saved 0\n"
-    place.environment["EDITOR"] = place.script(EDITOR, "editor")
-    place.put("a.yml", sealed("old", text) if is_vault else b"x: 1\n" + block("old", text) + block("old", name="b"))
-    return place, [EDIT, *place.by_file("old"), "a.yml"]
-
-
-def to_run(cases: Companions, name: str) -> tuple[Place, list[str]]:
-    """Return a place with files, and the command line of this run."""
-    place = cases.place()
-    tree(place)
-    return place, runs_of(place)[name]
-
-
-def read(content: bytes) -> bytes:
-    """Return the plaintext of a vault, or of the values in a file."""
-    if content.startswith(b"$ANSIBLE_VAULT"):
-        return decrypted("old", content) or b""
-    return b"".join(text or b"" for text in texts(content, "old"))
-
-
-def last_save(text: bytes) -> int:
-    return max((int(each) for each in SAVED.findall(text)), default=0)
-
-
-def check_edit(place: Place, status: int) -> str:
+def check_edit(place: Place) -> str:
     """Check what an edit left, and return in which of three ways it ended."""
-    noted = place.path / "saved"
-    wanted = int(noted.read_text()) if noted.exists() else 0
-    files = place.files()
-    vault = last_save(read(files["a.yml"]))
-    copies = [last_save(read(content)) for name, content in files.items() if name != "a.yml"]
-    assert max([vault, *copies]) >= wanted, ("the last save is kept", f"{vault} {copies} {wanted}")
-    assert not (vault and copies), ("in the vault or in a copy", f"{vault} {copies}")
+    noted, files = place.path / "saved", place.files()
     plain = [name for name, content in files.items() if b"saved" in content]
-    left = plain + place.left() + os.listdir(place.temporary)
-    assert left == [], "no plaintext is left"
-    assert status in (0, -signal.SIGTERM, -signal.SIGHUP), "the status"
-    known = re.compile(r"a\.yml|\.ansible-vault-saved-a\.yml-\w{8}(-sed\w+|-before)?")
-    assert [name for name in files if not known.fullmatch(name)] == [], "no other file is left"
+    assert plain + place.left() + os.listdir(place.temporary) == [], "no plaintext is left"
+    vault = last_save(files.pop("a.yml"))
+    copies = [last_save(content) for content in files.values()]
+    assert max(vault, *copies, 0) >= (int(noted.read_text()) if noted.exists() else 0), "the last save is kept"
+    assert not (vault and copies), ("in the vault or in a copy", vault, copies)
+    assert [name for name in files if not KNOWN.fullmatch(name)] == [], "no other file is left"
     return "replaced" if vault else "a copy" if copies else "nothing was saved"
 
 
-def test_edits(cases: Companions, subtests: SubTests) -> None:
-    chance = random.Random(SEED)
-    ends: Counter[str] = Counter()
-    for is_vault in (True, False):
-        seconds = time_of(*to_edit(cases, is_vault))
-        for number in range(OF_EDITS):
-            with subtests.test(f"{'a vault' if is_vault else 'values'}, moment {number}"):
-                place, words = to_edit(cases, is_vault)
-                if number % 2 == 1:
-                    status = signalled(place, words, chance, SAVING, (place.path / "saved").exists)
-                else:
-                    status = signalled(place, words, chance, seconds)
-                ends[check_edit(place, status)] += 1
-    assert ends["a copy"] > 0, "some were ended after a save"
-
-
-def test_others(cases: Companions, subtests: SubTests) -> None:
-    chance = random.Random(SEED)
-    ends: Counter[int] = Counter()
-    for name in (ROTATE, "merge", "rekey", "decrypt"):
-        seconds = time_of(*to_run(cases, name))
-        for number in range(OF_OTHERS):
-            with subtests.test(f"{name}, moment {number}"):
-                place, words = to_run(cases, name)
-                status = signalled(place, words, chance, seconds)
-                ends[status] += 1
-                assert status in (0, -signal.SIGTERM, -signal.SIGHUP), "the status"
-                check_whole("the end", place)
-    assert sum(ends.values()) - ends[0] > OF_OTHERS, "some were ended"
+@pytest.mark.parametrize("name", [*FILES, ROTATE, "merge", "rekey", "decrypt"])
+def test_moments(cases: Companions, subtests: SubTests, name: str) -> None:
+    chance, ends = random.Random(SEED), Counter[object]()
+    seconds = time_of(*begun(cases, name))
+    for number in range(OF_EDITS if name in FILES else OF_OTHERS):
+        with subtests.test(f"moment {number}"):
+            place, words = begun(cases, name)
+            status = signalled(place, words, chance, seconds)
+            assert status in (0, -signal.SIGTERM, -signal.SIGHUP), "the status"
+            ends["by a signal"] += status != 0
+            if name in FILES:
+                ends[check_edit(place)] += 1
+            else:
+                check_whole(place)
+    assert ends["by a signal"] > 1, "some were ended"
+    assert name not in FILES or ends["a copy"] > 0, "some of them after a save"
