@@ -12,14 +12,6 @@ from model.vaults import seal
 ASKED = "Vault password: "
 OF_DEV = "Vault password (dev): "
 NEW_OF_DEV, AGAIN_OF_DEV = "New vault password (dev): ", "Confirm new vault password (dev): "
-# Command lines without the file, and the questions that each asks. `guide` covers more.
-FORMS = {
-    "decrypt --ask-vault-password": [ASKED],
-    "encrypt --ask-vault-password": ["New Vault password: ", "Confirm New Vault password: "],
-    "decrypt --vault-id=prompt": ["Vault password (default): "],
-    "decrypt --vault-id=dev@prompt_ask_vault_pass": [ASKED],
-    "encrypt --vault-id=dev@prompt": [NEW_OF_DEV, AGAIN_OF_DEV],
-}
 
 
 def typed(password: str, *questions: str) -> list[tuple[str, bytes]]:
@@ -37,23 +29,19 @@ def check_asked(session: Session, *questions: str) -> None:
     assert session.echoes, "the terminal echoes again"
 
 
-@pytest.mark.parametrize("line, questions", FORMS.items())
-def test_forms(place: Place, line: str, questions: list[str]) -> None:
-    """The options of Ansible's tool lead to the same questions here."""
-    words, answers = [*line.split(), "a.yml"], typed("dev", *questions)
-    before = TEXT if line.startswith("encrypt") else sealed("dev")
-
-    def check(session: Session) -> None:
-        check_asked(session, *questions)
-        after = place.get("a.yml")
-        assert (decrypted("dev", after) if before == TEXT else after) == TEXT
-
-    place.put("a.yml", before)
+@pytest.mark.parametrize(
+    "source, question", (("prompt", "Vault password (default): "), ("dev@prompt_ask_vault_pass", ASKED))
+)
+def test_sources(place: Place, source: str, question: str) -> None:
+    """They lead to the same question as with Ansible's tool. `guide` covers other options."""
+    words, answers = ["view", "--vault-id", source, "a.yml"], typed("dev", question)
+    place.put("a.yml", sealed("dev"))
     session = ask(place, WITH, *words, answers=answers)
-    assert outcome(session) == (0, "", "")
-    check(session)
-    place.put("a.yml", before)
-    check(theirs_at_terminal(place, needs_ansible(), words, answers))
+    assert outcome(session) == (0, TEXT.decode(), "")
+    other = theirs_at_terminal(place, needs_ansible(), words, answers)
+    for each in (session, other):
+        check_asked(each, question)
+    assert other.stdout.strip() == TEXT.decode().strip()
 
 
 def test_how_often(place: Place) -> None:

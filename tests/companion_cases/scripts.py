@@ -62,32 +62,25 @@ def test_those_that_fail(place: Place, subtests: SubTests, text: str, part: str)
     assert (place.files(), (place.path / "edited").exists()) == ({"a.yml": sealed("dev")}, False), "nothing is changed"
 
 
-# Clients, and the status and the messages of a check with each.
-CLIENTS = {
-    "echo 'no key' >&2; echo of it >&2; exit 2": (1, "this script has no secret for this label: no key of it"),
-    "echo 'no net' >&2; exit 9": (1, "this script ended with status 9: no net"),
-    "exit 2": (1, "this script has no secret for this label"),
-    "printf '\\033[2J' >&2; exit 9": (1, "this script ended with status 9: '\\x1b[2J'"),
-    "echo hello >&2; cat ../secrets/dev": (0, ""),
+CLIENT = f"{CHECK}: dev@../keys-client: this script "
+# Scripts, and the status and the messages of a check with each.
+MESSAGES = {
+    ("keys-client", "echo no >&2; echo key >&2; exit 2"): (1, f"{CLIENT}has no secret for this label: no key\n"),
+    ("keys-client", "echo 'no net' >&2; exit 9"): (1, f"{CLIENT}ended with status 9: no net\n"),
+    ("keys-client", "exit 2"): (1, f"{CLIENT}has no secret for this label\n"),
+    ("keys-client", "printf '\\033[2J' >&2; exit 9"): (1, f"{CLIENT}ended with status 9: '\\x1b[2J'\n"),
+    ("keys-client", "echo hello >&2; cat ../secrets/dev"): (0, ""),
+    ("keys", "echo hello >&2; cat ../secrets/dev"): (0, "hello\n"),
 }
 
 
-@pytest.mark.parametrize("text", CLIENTS)
-def test_messages_of_clients(place: Place, text: str) -> None:
-    """A client's standard error is shown only if it fails."""
-    status, why = CLIENTS[text]
+@pytest.mark.parametrize("name, text", MESSAGES)
+def test_messages(place: Place, name: str, text: str) -> None:
+    """A client's standard error is shown only if it fails. The standard error of other scripts is always shown."""
     place.put("a.yml", sealed("dev"))
-    place.script(text, "keys-client")
-    done = place.run(CHECK, "--vault-id", "dev@../keys-client", "a.yml")
-    assert (done.returncode, done.stderr) == (status, why and f"{CHECK}: dev@../keys-client: {why}\n")
-
-
-def test_messages_of_others(place: Place) -> None:
-    """The standard error of a script that is no client is always shown."""
-    place.put("a.yml", sealed("dev"))
-    place.script("echo hello >&2; cat ../secrets/dev", "keys")
-    done = place.run(CHECK, "--vault-id", "dev@../keys", "a.yml")
-    assert (done.returncode, done.stderr) == (0, "hello\n")
+    place.script(text, name)
+    done = place.run(CHECK, "--vault-id", f"dev@../{name}", "a.yml")
+    assert (done.returncode, done.stderr) == MESSAGES[name, text]
 
 
 def test_what_cannot_be_run(place: Place) -> None:

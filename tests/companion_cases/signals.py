@@ -1,10 +1,9 @@
 """Signals at each step: nothing is lost, nothing is left, and the companion ends by the signal."""
 
-import fcntl
 import os
+import random
 import signal
 import subprocess
-import termios
 import time
 from contextlib import suppress
 from pathlib import Path
@@ -35,7 +34,7 @@ def tree(place: Place) -> dict[str, list[str]]:
     blocks = versions(place, "b.yml", two_blocks("old", CHANGED), two_blocks("old", TEXT), two_blocks("new", CHANGED))
     (place.tree / "a.yml").chmod(0o640)
     (place.tree / "b.yml").chmod(0o600)
-    place.environment["EDITOR"] = place.script(f"{CHANGE}; touch ../saved", "editor")
+    place.environment["EDITOR"] = place.script(f"{CHANGE}; touch ../saved; sleep 0.1", "editor")
     old, both = place.by_file("old"), [*place.by_file("old"), *place.by_file("new")]
     lines = [
         [EDIT, *old, "a.yml"],
@@ -61,12 +60,15 @@ def check_whole(place: Place) -> None:
     assert modes == ("0o640" if is_vault else "0o600", "0o600"), "modes stay"
 
 
-def check_edit(place: Place, errors: str | None, wanted: bytes = CHANGED) -> None:
+def check_edit(place: Place, errors: str, wanted: bytes = CHANGED) -> None:
     """Check that a saved text is in the vault, or encrypted in a copy that the message names."""
     copies = [*place.tree.glob(f"{COPY}????????")]
-    is_due = (place.path / "saved").exists() and decrypted("old", place.get("a.yml")) != wanted
-    assert [decrypted("old", each.read_bytes()) for each in copies] == [wanted] * is_due, "what was saved is kept"
-    assert errors is None or ENCRYPTED.findall(errors) == [*map(str, copies)], "the message says where"
+    kept = [decrypted("old", each.read_bytes()) for each in copies]
+    is_replaced = decrypted("old", place.get("a.yml")) == wanted
+    # The editor may be ended before it notes that it has saved.
+    is_unsaved = not kept and not (place.path / "saved").exists()
+    assert kept == [wanted] * (not is_replaced) or is_unsaved, ("what was saved is kept", kept)
+    assert ENCRYPTED.findall(errors) == [*map(str, copies)], "the message says where"
     assert {place.mode(each.name) for each in copies} <= {"0o600"}, "it is for its owner alone"
     for each in place.tree.glob(f"{COPY}*"):
         each.unlink()
@@ -135,6 +137,38 @@ def test_at_each_call(place: Place, name: str, call: str, before: str, after: st
     companion, *words = tree(place)[name]
     done = run_changed(place, companion, AT_CALL.format(call=call, before=before, after=after), words)
     check_end(name, place, done, -signal.SIGTERM)
+
+
+def run_signalled(place: Place, words: list[str], chance: random.Random, seconds: float) -> Done:
+    """Signal a run once or twice, the first time within so many seconds."""
+    number, send = chance.choice([signal.SIGTERM, signal.SIGHUP]), chance.choice([os.kill, os.killpg])
+    delays = [chance.uniform(0, seconds), chance.uniform(0, 0.5)]
+    pipe = subprocess.PIPE
+    with place.start(*words, stdout=pipe, stderr=pipe, start_new_session=True) as process:
+        for delay in delays[: chance.randint(1, 2)]:
+            with suppress(subprocess.TimeoutExpired):
+                process.wait(delay)
+            if process.returncode is None:
+                send(process.pid, number)
+        output, errors = process.communicate(timeout=SECONDS)
+    return Done(words, process.returncode, output, errors)
+
+
+@pytest.mark.parametrize("name", RUNS)
+def test_at_random_moments(cases: Companions, subtests: SubTests, name: str) -> None:
+    """The signals go to the companion or to its process group."""
+    chance, ended, place = random.Random(1), 0, cases.place()
+    words = tree(place)[name]
+    begun = time.monotonic()
+    assert place.run(*words).returncode == 0, "without a signal"
+    seconds = time.monotonic() - begun
+    for number in range(20 if name == EDIT else 8):
+        place = cases.place()
+        with subtests.test(f"moment {number}"):
+            done = run_signalled(place, tree(place)[name], chance, seconds)
+            check_end(name, place, done, 0, -signal.SIGTERM, -signal.SIGHUP)
+            ended += done.returncode != 0
+    assert ended > 1, "some were ended"
 
 
 def test_noted_signals(place: Place) -> None:
@@ -238,22 +272,6 @@ def test_signals_to_all(place: Place) -> None:
     done = place.run(*words)
     assert decrypted("old", place.get("a.yml")) == TEXT, "the vault stays"
     check_end(EDIT, place, done, -signal.SIGTERM, -signal.SIGHUP)
-
-
-def test_closed_terminals(place: Place) -> None:
-    """Nobody can read the message, but the name of the copy says to which vault it belongs."""
-    words = tree(place)[EDIT]
-    place.environment["EDITOR"] = place.script(f"{CHANGE}; touch ../saved; sleep {SECONDS}", "editor")
-    controller, terminal = os.openpty()
-    streams = dict.fromkeys(("stdin", "stdout", "stderr"), terminal)
-    takes_terminal = {"start_new_session": True, "preexec_fn": lambda: fcntl.ioctl(0, termios.TIOCSCTTY, 0)}
-    with place.start(*words, **streams, **takes_terminal) as process:
-        os.close(terminal)
-        wait_until((place.path / "saved").exists, "the editor")
-        os.close(controller)
-        assert process.wait(SECONDS) == -signal.SIGHUP, "it ends by the signal"
-    assert decrypted("old", place.get("a.yml")) == TEXT, "the vault stays"
-    check_edit(place, None)
 
 
 # The seconds between two signals, and how many the companion takes at least and at most.
