@@ -47,25 +47,21 @@ def of_target(every_scenario: list[Scenario], command: str, target: Target) -> l
     return [each for each in every_scenario if each.is_of(command, target)]
 
 
-@pytest.fixture
-def share(pytestconfig: pytest.Config) -> int:
-    return int(pytestconfig.getoption("--share"))
-
-
-@pytest.fixture
-def seed(pytestconfig: pytest.Config) -> int:
-    return int(pytestconfig.getoption("--seed"))
+def chosen(config: pytest.Config) -> tuple[int, int]:
+    return int(config.getoption("--seed")), int(config.getoption("--share"))
 
 
 @each_target
-def test_refused_calls(program: str, of_target: list[Scenario], seed: int, share: int, record_property: Record) -> None:
+def test_refused_calls(
+    program: str, of_target: list[Scenario], pytestconfig: pytest.Config, record_property: Record
+) -> None:
     needs("strace")
-    record_property("refused calls", refused_calls(program, of_target, seed, share))
+    record_property("refused calls", refused_calls(program, of_target, *chosen(pytestconfig)))
 
 
-def test_calls_of_refused_runs(module_cases: Cases, seed: int, share: int, record_property: Record) -> None:
+def test_calls_of_refused_runs(module_cases: Cases, pytestconfig: pytest.Config, record_property: Record) -> None:
     needs("strace")
-    found = refused_calls(module_cases.program, refused_scenarios(module_cases), seed, share)
+    found = refused_calls(module_cases.program, refused_scenarios(module_cases), *chosen(pytestconfig))
     record_property("refused calls", found)
 
 
@@ -114,14 +110,14 @@ def long_scenarios(module_cases: Cases) -> list[Scenario]:
 
 @pytest.mark.parametrize("command, target", [each for each in TO_FILES if each[0] != "encrypt_string"])
 def test_signals(
-    program: str,
     long_scenarios: list[Scenario],
     command: str,
     target: Target,
-    seed: int,
-    share: int,
+    program: str,
+    pytestconfig: pytest.Config,
     record_property: Record,
 ) -> None:
     [scenario] = [each for each in long_scenarios if each.is_of(command, target)]
+    seed, share = chosen(pytestconfig)
     made = signals(program, scenario, seed, max(MOMENTS // share, FEWEST))
     record_property("signals", (made, MOMENTS * len(SIGNALS)))

@@ -61,24 +61,20 @@ def test_how_often(place: Place) -> None:
 
 
 def test_by_settings(place: Place) -> None:
-    place.put("ansible.cfg", b"[defaults]\nvault_identity_list = dev@prompt, old@../secrets/old\n")
-    place.put("a.yml", sealed("dev", label="dev"))
-    session = ask(place, WITH, "view", "a.yml", answers=typed("dev", OF_DEV))
-    assert outcome(session) == (0, TEXT.decode(), "")
-    check_asked(session, OF_DEV)
-
-
-def test_asked_by_settings(place: Place) -> None:
     """The setting ask_vault_pass works like the option, after all other secrets."""
-    place.put("a.yml", sealed("dev"))
-    place.put("ansible.cfg", b"[defaults]\nask_vault_pass = yes\nvault_password_file = ../secrets/old\n")
-    session = ask(place, WITH, "view", "a.yml", answers=typed("dev", ASKED))
+    settings = "vault_identity_list = dev@prompt\nask_vault_pass = yes\nvault_password_file = ../secrets/old\n"
+    place.put("ansible.cfg", f"[defaults]\n{settings}".encode())
+    place.put("a.yml", sealed("new"))
+    answers = [*typed("dev", OF_DEV), *typed("new", ASKED)]
+    session = ask(place, WITH, "view", "a.yml", answers=answers)
     assert outcome(session) == (0, TEXT.decode(), "")
-    check_asked(session, ASKED)
-    done = ours(place, "view", "a.yml", ANSIBLE_ASK_VAULT_PASS="no")
-    ended("nothing is asked", done, 1, "no secret decrypts this vault")
-    other = theirs_at_terminal(place, needs_ansible(), ["view", "a.yml"], typed("dev", ASKED))
-    assert (other.shown, other.stdout.strip()) == (session.shown, TEXT.decode().strip()), "Ansible's tool asks, too"
+    check_asked(session, OF_DEV, ASKED)
+    session = ask(place, WITH, "view", "a.yml", answers=answers[:1], ANSIBLE_ASK_VAULT_PASS="no")
+    assert session.returncode == 1, "nothing else is asked"
+    check_asked(session, OF_DEV)
+    other = theirs_at_terminal(place, needs_ansible(), ["view", "a.yml"], answers)
+    assert other.stdout.strip() == TEXT.decode().strip(), "Ansible's tool asks, too"
+    check_asked(other, OF_DEV, ASKED)
 
 
 def test_a_file_called_prompt(place: Place) -> None:

@@ -1,7 +1,6 @@
 """Each command with an input of some size, from FILE or STRING and standard input, to each target."""
 
 from itertools import product
-from typing import NamedTuple
 
 from fault_injection import OUTPUT, Scenario, Target
 from lib.cases import TEXT, Cases, by_file, by_id
@@ -19,26 +18,21 @@ TARGETS = [*TO_FILES, *((command, Target.STREAM) for command in OPTIONS)]
 TO = {Target.NEW: ["--output", OUTPUT], Target.OLD: ["--output", OUTPUT], Target.STREAM: ["--output", "-"]}
 
 
-class Request(NamedTuple):
-    """A command with its options, its input and its whole output."""
-
-    words: list[str]
-    input: bytes
-    whole: bytes
+# A command with its options, its input and its whole output.
+Request = tuple[list[str], bytes, bytes]
 
 
 def requests(cases: Cases, text: bytes, salt: bytes) -> list[Request]:
     """Return a request for each command. A salt of 32 bytes comes from a file, and a shorter one is a text."""
-    right, new = cases.file(b"right\n"), cases.file(b"new")
+    right, new = by_file(cases.file(b"right\n")), cases.file(b"new")
     salted = ["--salt-file", cases.file(salt)] if len(salt) == len(SALT) else ["--salt", salt.decode()]
-    vault = seal(b"right", text, salt=salt)
-    rekeyed = seal(b"new", text, b"prod", salt)
+    vault, rekeyed = seal(b"right", text, salt=salt), seal(b"new", text, b"prod", salt)
     return [
-        Request(["encrypt", *by_file(right), *salted], text, vault),
-        Request(["decrypt", *by_file(right)], vault, text),
-        Request(["view", *by_id(right, "dev")], vault, text),
-        Request(["rekey", *by_file(right), "--new-vault-id", f"prod@{new}", *salted], vault, rekeyed),
-        Request(["encrypt_string", *by_file(right), *salted], text, yaml_block(vault)),
+        (["encrypt", *right, *salted], text, vault),
+        (["decrypt", *right], vault, text),
+        (["view", *by_id(right[1], "dev")], vault, text),
+        (["rekey", *right, "--new-vault-id", f"prod@{new}", *salted], vault, rekeyed),
+        (["encrypt_string", *right, *salted], text, yaml_block(vault)),
     ]
 
 
