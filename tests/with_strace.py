@@ -22,10 +22,6 @@ from watched.runs import LIMITS, RUNS, SIZES, write_files
 OF_FILES = {"openat", "read", "write", "close", "statx", "fchmod", "ftruncate", "fsync"}
 OF_MEMORY = {"brk", "mmap", "munmap", "mremap"}
 OTHERS = {"rt_sigaction", "getrandom", "fcntl", "exit_group"}
-# How the program asks whether each stream is open.
-DUPLICATING = [(stream, "F_DUPFD_CLOEXEC") for stream in (STDIN, STDOUT, STDERR)]
-# What the loader reads, apart from libraries.
-LISTS = ["/etc/ld.so.cache", "/etc/ld.so.preload"]
 READING, CREATING = {"O_RDONLY"}, {"O_WRONLY", "O_CREAT"}
 # Flags that change nothing here: no terminal becomes the program's own, no other program is started, and directories
 # give no bytes.
@@ -33,9 +29,9 @@ HARMLESS = {"O_NOCTTY", "O_CLOEXEC", "O_LARGEFILE", "O_DIRECTORY"}
 OWNER_ALONE = "0600"
 
 
-def check_loading(watched: Watched, read: list[str]) -> None:
+def check_loading(program: str, watched: Watched) -> None:
     """Check the loader's calls, which the other checks skip."""
-    allowed = {os.path.normpath(path) for path in read}
+    allowed = {"/etc/ld.so.cache", "/etc/ld.so.preload", *map(os.path.normpath, libraries(program))}
     opens = [opened_by(call) for call in watched.traced.loading if call.name == "openat"]
     others = [each for each in opens if os.path.normpath(each.path) not in allowed or each.flags - HARMLESS != READING]
     assert others == [], "what else the loader opens"
@@ -112,7 +108,7 @@ def check_others(watched: Watched) -> None:
     signals = {call.args.partition(",")[0] for call in own if call.name == "rt_sigaction"}
     assert signals - {"SIGPIPE"} == set(), "other signals"
     asked = [(call.fd, call.args.split(", ")[1]) for call in own if call.name == "fcntl"]
-    assert asked == DUPLICATING, "whether the streams are open"
+    assert asked == [(stream, "F_DUPFD_CLOEXEC") for stream in (0, 1, 2)], "whether the streams are open"
     mapped = [call.args for call in own if call.name == "mmap" and "MAP_ANONYMOUS" not in call.args]
     assert mapped == [], "files that are mapped"
     of_open_files = re.compile(r'(\d{2,}|[3-9]), (""|NULL)')
@@ -126,7 +122,7 @@ def test_calls(cases: Cases, run: Run) -> None:
     write_files(cases.folder)
     watched = watch(cases.program, run, cases.folder)
     assert watched.traced.status == (run.fault.status if run.fault else run.status)
-    check_loading(watched, [*LISTS, *libraries(cases.program)])
+    check_loading(cases.program, watched)
     check_opens(run, watched)
     check_reads(run, watched)
     check_writes(run, watched)

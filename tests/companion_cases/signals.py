@@ -55,7 +55,8 @@ def check_whole(place: Place) -> None:
     assert found & {TEXT, CHANGED}, ("the vault is whole", vault)
     pairs = zip(texts(blocks, "old"), texts(blocks, "new"))
     assert [TEXT in pair for pair in pairs] == [True, True], ("the blocks are whole", blocks)
-    assert (place.names(), place.left()) == (["a.yml", "b.yml"], []), "nothing is left"
+    left = place.left() + os.listdir(place.temporary)
+    assert (place.names(), left) == (["a.yml", "b.yml"], []), "nothing is left"
     modes = (place.mode("a.yml"), place.mode("b.yml"))
     assert modes == ("0o640" if is_vault else "0o600", "0o600"), "modes stay"
 
@@ -156,7 +157,7 @@ def run_signalled(place: Place, words: list[str], chance: random.Random, seconds
 
 @pytest.mark.parametrize("name", RUNS)
 def test_at_random_moments(cases: Companions, subtests: SubTests, name: str) -> None:
-    """The signals go to the companion or to its process group."""
+    """The signals go to the companion or to its whole process group, such as the editor."""
     chance, ended, place = random.Random(1), 0, cases.place()
     words = tree(place)[name]
     begun = time.monotonic()
@@ -168,7 +169,7 @@ def test_at_random_moments(cases: Companions, subtests: SubTests, name: str) -> 
             done = run_signalled(place, tree(place)[name], chance, seconds)
             check_end(name, place, done, 0, -signal.SIGTERM, -signal.SIGHUP)
             ended += done.returncode != 0
-    assert ended > 1, "some were ended"
+    assert ended > 0, "some were ended"
 
 
 def test_noted_signals(place: Place) -> None:
@@ -274,13 +275,9 @@ def test_signals_to_all(place: Place) -> None:
     check_end(EDIT, place, done, -signal.SIGTERM, -signal.SIGHUP)
 
 
-# The seconds between two signals, and how many the companion takes at least and at most.
-PAUSES = {"another signal": (0.1, 0, 4), "one signal": (SECONDS, 4, 60)}
-
-
-@pytest.mark.parametrize("pause, least, most", PAUSES.values(), ids=PAUSES)
+@pytest.mark.parametrize("pause, least, most", ((0.1, 0, 4), (SECONDS, 4, 60)))
 def test_stubborn_programs(place: Place, pause: float, least: float, most: float) -> None:
-    """A program that does not end by a signal is killed at the next signal, or after a while."""
+    """A program that does not end by a signal is killed at the next signal, after a pause, or after some seconds."""
     words, started = tree(place)[EDIT], place.path / "started"
     stubborn = f"{CHANGE}; touch ../saved; trap '' TERM; echo $$ > ../started; exec sleep {2 * SECONDS}"
     place.environment["EDITOR"] = place.script(stubborn, "editor")

@@ -41,10 +41,11 @@ TRIED_AGAIN = ("openat", "fchmod", "ftruncate", "fsync")
 # The directory that takes the numbers of closed streams.
 STAND_IN = "/"
 STDERR = 2
+# The faults of the files that options name, and of FILE or standard input.
 SECRET = Fault.SECRET_NOT_OPENED, Fault.SECRET_NOT_READ
-SALT = Fault.SALT_NOT_OPENED, Fault.SALT_NOT_READ
+ROLES = dict.fromkeys(("--vault-password-file", "--vault-id", "--new-vault-id"), SECRET)
+ROLES["--salt-file"] = Fault.SALT_NOT_OPENED, Fault.SALT_NOT_READ
 INPUT = Fault.INPUT_NOT_OPENED, Fault.INPUT_NOT_READ
-ROLES = {"--vault-password-file": SECRET, "--vault-id": SECRET, "--new-vault-id": SECRET, "--salt-file": SALT}
 
 
 class Refusal(NamedTuple):
@@ -60,10 +61,6 @@ class Refusal(NamedTuple):
     written: int | None
     mode: int
     message_length: int
-
-    @property
-    def kind(self) -> tuple[str, Target, str, str]:
-        return self.scenario.words[0], self.scenario.target, self.call.name, self.error
 
     def __str__(self) -> str:
         name = self.call.name
@@ -154,9 +151,10 @@ def refused_calls(program: str, scenarios: list[Scenario], seed: int, share: int
     every = [refusal for scenario in scenarios for refusal in refusals(program, scenario)]
     random, kinds, made, differing = Random(seed), set(), 0, []
     for refusal in random.sample(every, len(every)):
-        if refusal.kind in kinds and random.randrange(share) > 0:
+        kind = refusal.scenario.words[0], refusal.scenario.target, refusal.call.name, refusal.error
+        if kind in kinds and random.randrange(share) > 0:
             continue
-        kinds.add(refusal.kind)
+        kinds.add(kind)
         made += 1
         left, was_injected = run_refused(program, refusal)
         if left not in wanted(refusal):
