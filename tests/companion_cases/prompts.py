@@ -5,7 +5,7 @@ import pytest
 from companion_cases import CHECK, EDIT, PASSWORDS, ROTATE, TEXT, TEXTCONV, WITH, Done, Place, block, decrypted
 from companion_cases import described, ended, sealed
 from companion_cases.both import ours, theirs_at_terminal
-from companion_cases.terminal import READING, Session, ask
+from companion_cases.terminal import READING, READY, SHELL, Session, ask
 from lib.needs import needs, needs_ansible
 from model.vaults import seal
 
@@ -175,6 +175,9 @@ def test_keys(place: Place, words: list[str], key: bytes, status: int) -> None:
 def test_suspended(place: Place) -> None:
     """Ctrl-Z has no effect on a question for a password: after `fg`, a shell would let the terminal show it."""
     place.put("a.yml", sealed("dev"))
-    session = ask(place, WITH, "view", "-J", "a.yml", answers=[(ASKED, b"\x1a" + PASSWORDS["dev"] + b"\n")])
-    assert outcome(session) == (0, TEXT.decode(), "")
-    check_asked(session, ASKED)
+    line, key = f"{WITH} view -J a.yml > ../shown\n".encode(), b"\x1a"
+    answers = [(READY, line), (ASKED, key + PASSWORDS["dev"] + b"\n"), (READY, b"exit\n")]
+    session = ask(place, *SHELL, answers=answers)
+    assert "Stopped" not in session.shown, session.shown
+    assert (place.path / "shown").read_bytes() == TEXT, session.shown
+    assert PASSWORDS["dev"].decode() not in session.shown, session.shown

@@ -13,7 +13,7 @@ import pytest
 from companion_cases import ABOVE_EDITOR, CHANGE, CHANGED, EDIT, ENCRYPTED, MERGE, PASSWORDS, ROTATE, TEXT, WITH
 from companion_cases import Companions, Done, Place, block, decrypted, edit, run_changed, sealed, silent, texts, to_new
 from companion_cases import versions, wait_until
-from companion_cases.terminal import ask
+from companion_cases.terminal import READY, SHELL, ask
 from lib.limits import SECONDS
 from lib.subtests import SubTests
 from model.vaults import seal, yaml_block
@@ -198,15 +198,14 @@ def test_stopped_editors(place: Place) -> None:
     line = " ".join(tree(place)[EDIT])
     place.environment["EDITOR"] = place.script('printf "type: "; read text; printf %s "$text" > "$1"', "editor")
     answers = [
-        ("ready> ", f"{line}\n".encode()),
+        (READY, f"{line}\n".encode()),
         ("type: ", b"\x1a"),
         # bash may lose what is typed while it takes the terminal back.
-        ("ready> ", b"      fg\n"),
+        (READY, b"      fg\n"),
         ("a.yml\r\n", b"typed\n"),
-        ("ready> ", b"exit\n"),
+        (READY, b"exit\n"),
     ]
-    shell = "PS1='ready> ' exec bash --norc --noediting -i < /dev/tty > /dev/tty 2>&1"
-    session = ask(place, "sh", "-c", shell, answers=answers)
+    session = ask(place, *SHELL, answers=answers)
     assert "Stopped" in session.shown, session.shown
     assert decrypted("old", place.get("a.yml")) == b"typed", session.shown
 

@@ -13,6 +13,9 @@ from lib.limits import SECONDS
 
 # Precedes the words of a program that reads the terminal.
 READING = ["sh", "-c", 'exec "$@" < /dev/tty', "sh"]
+# An interactive shell at the terminal, with job control, which prints this when it is ready.
+READY = "ready> "
+SHELL = ["sh", "-c", f"PS1='{READY}' exec bash --norc --noediting -i < /dev/tty > /dev/tty 2>&1"]
 # The session leader. When it exits, the terminal is hung up, so it first writes the terminal's modes to $MODES.
 LEADER = 'trap : INT QUIT; "$@"; status=$?; stty -a < /dev/tty > "$MODES"; exit $status'
 
@@ -45,11 +48,11 @@ def ask(place: Place, *words: str, answers: list[tuple[str, bytes]], **variables
             for question, answer in answers:
                 shown += _shown_until(controller, question.encode())
                 os.write(controller, answer)
-        except AssertionError:
+            output, errors = program.communicate(timeout=SECONDS)
+        except BaseException:
             # The program would wait for an answer forever.
             os.killpg(program.pid, signal.SIGKILL)
             raise
-        output, errors = program.communicate(timeout=SECONDS)
     shown += b"".join(iter(lambda: _chunk(controller), b""))
     os.close(controller)
     echoes = "echo" in modes.read_text().split()
