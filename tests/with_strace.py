@@ -31,7 +31,7 @@ OWNER_ALONE = "0600"
 
 def check_loading(program: str, watched: Watched) -> None:
     """Check the loader's calls, which the other checks skip."""
-    allowed = {"/etc/ld.so.cache", "/etc/ld.so.preload", *map(os.path.normpath, libraries(program))}
+    allowed = {"/etc/ld.so.cache", "/etc/ld.so.preload", *(os.path.normpath(path) for path in libraries(program))}
     opens = [opened_by(call) for call in watched.traced.loading if call.name == "openat"]
     others = [each for each in opens if os.path.normpath(each.path) not in allowed or each.flags - HARMLESS != READING]
     assert others == [], "what else the loader opens"
@@ -48,13 +48,13 @@ def check_opens(run: Run, watched: Watched) -> None:
 
 
 def check_reads(run: Run, watched: Watched) -> None:
-    wanted: Counter[str | int] = Counter({path: SIZES.get(path, 0) for path in run.read.split()})
+    wanted, stdin = Counter({path: SIZES.get(path, 0) for path in run.read.split()}), str(STDIN)
     if run.stdin is not None:
-        wanted[STDIN] = len(run.stdin)
+        wanted[stdin] = len(run.stdin)
     given = {source: sum(max(got, 0) for _, got in reads) for source, reads in watched.reads.items()}
     assert +Counter(given) == +wanted, "what is read"
-    assert (STDIN in watched.reads) == (run.stdin is not None), "standard input is asked"
-    limits: dict[str | int, int] = {**LIMITS, STDIN: LIMITS["vault"]}
+    assert (stdin in watched.reads) == (run.stdin is not None), "standard input is asked"
+    limits = LIMITS | {stdin: LIMITS["vault"]}
     others = {source: reads for source, reads in watched.reads.items() if not to_end(reads, limits.get(source, 0))}
     assert others == {}, "what is not asked to its end or its limit, or past it"
 

@@ -98,9 +98,8 @@ def test_standard_input(place: Place) -> None:
     session = ask(place, *words, answers=[("Which? ", PASSWORDS["dev"] + b"\n")])
     assert (session.returncode, session.stdout, session.stderr) == (0, TEXT.decode(), ""), "a terminal"
     place.script("cat > ../swallowed; cat ../secrets/dev", "asking")
-    words = [WITH, "encrypt", "--vault-id", "@../asking", "--output", "b.yml"]
-    done = place.run_on(TEXT, *words)
-    assert (done.returncode, decrypted("dev", place.get("b.yml"))) == (0, TEXT), "all of it is encrypted"
+    encrypted = place.run_on(TEXT, WITH, "encrypt", "--vault-id", "@../asking", "--output", "b.yml")
+    assert (encrypted.returncode, decrypted("dev", place.get("b.yml"))) == (0, TEXT), "all of it is encrypted"
     done = place.shell(f"echo data | {{ {CHECK} --vault-id @../asking a.yml && wc -c; }}")
     ended("check", done, 0, "1 decrypted, 0 not\n5\n")
     assert (place.path / "swallowed").read_bytes() == b"", "it reads nothing"

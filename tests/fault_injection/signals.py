@@ -5,9 +5,9 @@ import signal
 import subprocess
 import tempfile
 import time
-from functools import partial
 from pathlib import Path
 from random import Random
+from typing import Any
 
 from fault_injection import OUTPUT, SCRATCH, Left, Scenario, files_in
 from lib.cases import TEXT, Cases, by_file
@@ -15,8 +15,11 @@ from lib.limits import SECONDS
 from model.vaults import seal
 
 SIGNALS = signal.SIGTERM, signal.SIGINT, signal.SIGHUP
-# Starts a run with pipes for its output and its message.
-start = partial(subprocess.Popen[bytes], stdout=subprocess.PIPE, stderr=subprocess.PIPE)
+
+
+def start(words: list[str], **options: Any) -> subprocess.Popen[bytes]:
+    """Start a run with pipes for its output and its message."""
+    return subprocess.Popen(words, stdout=subprocess.PIPE, stderr=subprocess.PIPE, **options)
 
 
 def signal_while_blocked(cases: Cases, number: signal.Signals) -> None:

@@ -56,8 +56,8 @@ class Watched:
     def __init__(self, traced: Traced) -> None:
         self.traced = traced
         opened: list[Opened] = []
-        # How many bytes each read asked for and got, in order, by path or stream.
-        self.reads: dict[int | str, list[tuple[int, int]]] = {}
+        # How many bytes each read asked for and got, in order, by path or number of a stream.
+        self.reads: dict[str, list[tuple[int, int]]] = {}
         # The calls that create a file or write, in order.
         self.writes: list[Call] = []
         paths: dict[int, str] = {}
@@ -69,7 +69,7 @@ class Watched:
                 paths.pop(call.fd, None)
             if call.name == "read":
                 asked = int(call.args.rsplit(", ", 1)[1])
-                self.reads.setdefault(paths.get(call.fd, call.fd), []).append((asked, call.result))
+                self.reads.setdefault(paths.get(call.fd, str(call.fd)), []).append((asked, call.result))
             if call.name in ("write", "fchmod", "ftruncate", "fsync") or "O_CREAT" in call.args:
                 self.writes.append(call)
         # The files that were opened first, to take the numbers of closed streams, and all others.
