@@ -29,7 +29,7 @@ class Run(NamedTuple):
     closed: tuple[int, ...] = ()
 
     def __str__(self) -> str:
-        return f"{self.line} {self.closings()}"
+        return f"{self.line} {self.closings()}".strip()
 
     def words(self) -> list[str]:
         return [f"--vault-password-file={word[1:]}" if word[0] == "@" else word for word in self.line.split()]
