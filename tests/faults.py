@@ -7,17 +7,18 @@ command, target, call and error.
 
 import signal
 from collections.abc import Callable
+from functools import partial
 
 import pytest
 
-from lib.cases import Cases
-from fault_injection import Scenario, Target
+from fault_injection import Scenario, Target, run
 from fault_injection.refused_calls import refused_calls
-from fault_injection.scenarios import TARGETS, TO_FILES, long_scenarios, refused_scenarios, small_and_large
-from fault_injection.short_transfers import short_transfers
+from fault_injection.scenarios import KIB, SALT_TEXT, TARGETS, TO_FILES, refused_scenarios, scenarios
 from fault_injection.signals import SIGNALS, signal_while_blocked, signals
-from fault_injection.size_limit import size_limit
+from lib.cases import Cases
 from lib.needs import needs
+from lib.preloaded import build_library, run_with
+from model.vaults import PLAINTEXT_LIMIT, SALT
 
 pytestmark = pytest.mark.faults
 
@@ -25,9 +26,9 @@ pytestmark = pytest.mark.faults
 MOMENTS, FEWEST = 20, 2
 
 each_target = pytest.mark.parametrize("command, target", TARGETS)
-
-
+each_file = pytest.mark.parametrize("command, target", TO_FILES)
 Record = Callable[[str, object], None]
+
 
 @pytest.fixture(scope="module")
 def module_cases(program: str, tmp_path_factory: pytest.TempPathFactory) -> Cases:
@@ -37,45 +38,63 @@ def module_cases(program: str, tmp_path_factory: pytest.TempPathFactory) -> Case
 
 @pytest.fixture(scope="module")
 def every_scenario(module_cases: Cases) -> list[Scenario]:
-    return small_and_large(module_cases)
+    """Return small and large ones. The small ones have their salt from a file."""
+    return [*scenarios(module_cases, KIB, SALT), *scenarios(module_cases, 200 * KIB, SALT_TEXT)]
 
 
 @pytest.fixture
-def scenarios(every_scenario: list[Scenario], command: str, target: Target) -> list[Scenario]:
+def of_target(every_scenario: list[Scenario], command: str, target: Target) -> list[Scenario]:
     return [each for each in every_scenario if each.is_of(command, target)]
 
 
-@pytest.fixture
-def share(pytestconfig: pytest.Config) -> int:
-    return int(pytestconfig.getoption("--share"))
-
-
-@pytest.fixture
-def seed(pytestconfig: pytest.Config) -> int:
-    return int(pytestconfig.getoption("--seed"))
+def chosen(config: pytest.Config) -> tuple[int, int]:
+    return int(config.getoption("--seed")), int(config.getoption("--share"))
 
 
 @each_target
-def test_refused_calls(program: str, scenarios: list[Scenario], seed: int, share: int, record_property: Record) -> None:
+def test_refused_calls(
+    program: str, of_target: list[Scenario], pytestconfig: pytest.Config, record_property: Record
+) -> None:
     needs("strace")
-    record_property("refused calls", refused_calls(program, scenarios, seed, share))
+    record_property("refused calls", refused_calls(program, of_target, *chosen(pytestconfig)))
 
 
-def test_calls_of_refused_runs(module_cases: Cases, seed: int, share: int, record_property: Record) -> None:
+def test_calls_of_refused_runs(module_cases: Cases, pytestconfig: pytest.Config, record_property: Record) -> None:
     needs("strace")
-    found = refused_calls(module_cases.program, refused_scenarios(module_cases), seed, share)
+    found = refused_calls(module_cases.program, refused_scenarios(module_cases), *chosen(pytestconfig))
     record_property("refused calls", found)
 
 
-@each_target
-def test_short_transfers(program: str, scenarios: list[Scenario]) -> None:
+@pytest.fixture(scope="module")
+def library(tmp_path_factory: pytest.TempPathFactory) -> str:
     needs("cc")
-    short_transfers(program, scenarios)
+    return build_library(str(tmp_path_factory.mktemp("library")), "short_transfers")
 
 
-@pytest.mark.parametrize("command, target", TO_FILES)
-def test_size_limit(program: str, scenarios: list[Scenario]) -> None:
-    size_limit(program, scenarios)
+@each_target
+def test_short_transfers(program: str, of_target: list[Scenario], library: str) -> None:
+    """Reads and writes that transfer fewer bytes than requested change no answer."""
+    differing = []
+    for scenario in of_target:
+        for most in (1, 100) if len(scenario.whole) < 100 * KIB else (10, 10_000):
+            left, cut = run_with(library, {"MOST_BYTES": str(most)}, partial(run, scenario, [program]))
+            # The first letters of the calls that were cut short.
+            if (left, {*cut}) != (scenario.fault_free(), {*b"rw"}):
+                differing.append(f"{scenario.name}, at most {most} bytes a call: {left}, calls cut short: {cut!r}")
+    assert differing == []
+
+
+@each_file
+def test_size_limit(program: str, of_target: list[Scenario]) -> None:
+    """A limit of file size ends a run with SIGXFSZ, which has its default action here; the output is a prefix. If the
+    signal is ignored, the write fails: see `closed_streams.py`."""
+    differing = []
+    for scenario in of_target:
+        for size in (0, len(scenario.whole) // 2, len(scenario.whole) - 1):
+            left = run(scenario, ["prlimit", f"--fsize={size}", "--core=0", program])
+            if left != scenario.written(-signal.SIGXFSZ, b"", size, scenario.last_mode()):
+                differing.append(f"{scenario.name}, a file takes {size} bytes: {left}")
+    assert differing == []
 
 
 @pytest.mark.parametrize("number", SIGNALS)
@@ -84,20 +103,21 @@ def test_signal_while_blocked(module_cases: Cases, number: signal.Signals) -> No
 
 
 @pytest.fixture(scope="module")
-def every_long_scenario(module_cases: Cases) -> list[Scenario]:
-    return long_scenarios(module_cases)
+def long_scenarios(module_cases: Cases) -> list[Scenario]:
+    """Return runs with the longest plaintext from FILE."""
+    return [each for each in scenarios(module_cases, PLAINTEXT_LIMIT, SALT_TEXT) if "FILE" in each.name]
 
 
 @pytest.mark.parametrize("command, target", [each for each in TO_FILES if each[0] != "encrypt_string"])
 def test_signals(
-    program: str,
-    every_long_scenario: list[Scenario],
+    long_scenarios: list[Scenario],
     command: str,
     target: Target,
-    seed: int,
-    share: int,
+    program: str,
+    pytestconfig: pytest.Config,
     record_property: Record,
 ) -> None:
-    [scenario] = [each for each in every_long_scenario if each.is_of(command, target)]
+    [scenario] = [each for each in long_scenarios if each.is_of(command, target)]
+    seed, share = chosen(pytestconfig)
     made = signals(program, scenario, seed, max(MOMENTS // share, FEWEST))
     record_property("signals", (made, MOMENTS * len(SIGNALS)))

@@ -8,7 +8,7 @@ reading. The runs are in `watched`.
 
 import os
 import re
-from collections.abc import Callable
+from collections import Counter
 from itertools import groupby
 
 import pytest
@@ -16,18 +16,12 @@ import pytest
 from lib.cases import Cases
 from lib.needs import needs
 from lib.package_root import libraries
-from lib.subtests import SubTests
-from model.vaults import ENVELOPE_LIMIT
-from watched import STDERR, STDIN, STDOUT, Run, Watched, opened_by, watch
-from watched.runs import GROUPS, Files
+from watched import STAND_IN, STDERR, STDIN, STDOUT, Run, Watched, opened_by, watch
+from watched.runs import LIMITS, RUNS, SIZES, write_files
 
 OF_FILES = {"openat", "read", "write", "close", "statx", "fchmod", "ftruncate", "fsync"}
 OF_MEMORY = {"brk", "mmap", "munmap", "mremap"}
 OTHERS = {"rt_sigaction", "getrandom", "fcntl", "exit_group"}
-# How the program asks whether each stream is open.
-DUPLICATING = ["F_DUPFD_CLOEXEC"] * 3
-# What the loader reads, apart from libraries.
-LISTS = {"/etc/ld.so.cache", "/etc/ld.so.preload"}
 READING, CREATING = {"O_RDONLY"}, {"O_WRONLY", "O_CREAT"}
 # Flags that change nothing here: no terminal becomes the program's own, no other program is started, and directories
 # give no bytes.
@@ -35,38 +29,33 @@ HARMLESS = {"O_NOCTTY", "O_CLOEXEC", "O_LARGEFILE", "O_DIRECTORY"}
 OWNER_ALONE = "0600"
 
 
-def check_loading(watched: Watched, allowed: set[str]) -> None:
+def check_loading(program: str, watched: Watched) -> None:
     """Check the loader's calls, which the other checks skip."""
+    allowed = {"/etc/ld.so.cache", "/etc/ld.so.preload", *(os.path.normpath(path) for path in libraries(program))}
     opens = [opened_by(call) for call in watched.traced.loading if call.name == "openat"]
-    others = [opened.path for opened in opens if os.path.normpath(opened.path) not in allowed]
-    assert others == [], "the loader opens"
-    assert [opened.path for opened in opens if opened.flags - HARMLESS != READING] == [], "the loader writes"
+    others = [each for each in opens if os.path.normpath(each.path) not in allowed or each.flags - HARMLESS != READING]
+    assert others == [], "what else the loader opens"
     assert watched.traced.own != [], "the program makes calls of its own"
 
 
 def check_opens(run: Run, watched: Watched) -> None:
-    files, created = watched.files(), [run.created] if run.created else []
-    assert [opened.path for opened in files] == [*run.read, *created], "what is opened"
-    others = []
-    for opened in watched.opened:
-        how = (CREATING, OWNER_ALONE) if opened.path == run.created else (READING, "")
-        others += [opened] if (opened.flags - HARMLESS, opened.mode) != how else []
-    assert others == [], "what is opened otherwise"
-    taken = [opened.fd for opened in watched.stand_ins()]
-    assert taken == list(run.closed), "closed streams are replaced"
-    low = [opened.path for opened in files if 0 <= opened.fd <= STDERR]
-    assert low == [], "no file takes the number of a stream"
+    created = [(run.created, CREATING, OWNER_ALONE)] if run.created else []
+    opened = [(each.path, each.flags - HARMLESS, each.mode) for each in watched.files]
+    assert opened == [*((path, READING, "") for path in run.read.split()), *created], "what is opened"
+    assert [each.path for each in watched.files if 0 <= each.fd <= STDERR] == [], "no file takes a stream's number"
+    taken = [(each.path, each.fd, each.flags - HARMLESS) for each in watched.stand_ins]
+    assert taken == [(STAND_IN, stream, READING) for stream in run.closed], "closed streams are replaced"
 
 
-def check_reads(run: Run, watched: Watched, limits: dict[str, int]) -> None:
-    wanted: dict[str | int, int] = {path: size for path, size in run.read.items() if size}
+def check_reads(run: Run, watched: Watched) -> None:
+    wanted, stdin = Counter({path: SIZES.get(path, 0) for path in run.read.split()}), str(STDIN)
     if run.stdin is not None:
-        wanted[STDIN] = len(run.stdin)
+        wanted[stdin] = len(run.stdin)
     given = {source: sum(max(got, 0) for _, got in reads) for source, reads in watched.reads.items()}
-    assert {source: size for source, size in given.items() if size} == wanted, "what is read"
-    assert (STDIN in watched.reads) == (run.stdin is not None), "standard input is asked"
-    limit_of: Callable[[str | int], int] = lambda source: limits.get(str(source), ENVELOPE_LIMIT + 1)
-    others = {source: reads for source, reads in watched.reads.items() if not to_end(reads, limit_of(source))}
+    assert +Counter(given) == +wanted, "what is read"
+    assert (stdin in watched.reads) == (run.stdin is not None), "standard input is asked"
+    limits = LIMITS | {stdin: LIMITS["vault"]}
+    others = {source: reads for source, reads in watched.reads.items() if not to_end(reads, limits.get(source, 0))}
     assert others == {}, "what is not asked to its end or its limit, or past it"
 
 
@@ -82,43 +71,35 @@ def to_end(reads: list[tuple[int, int]], limit: int) -> bool:
 
 def check_writes(run: Run, watched: Watched) -> None:
     """After all reading, a file is opened, made private, only then emptied, written, and finally synced."""
-    calls = watched.writes
-    names = [name for name, _ in groupby(call.name for call in calls)]
-    if not run.created:
-        assert set(names) <= {"write"}, "no file is written"
-        return check_lengths(run, watched, STDOUT)
-    private = run.words[0] == "decrypt"
-    restricting, writing = ["fchmod"] if private else [], ["write"] if run.written else []
-    wanted = ["openat", *restricting, "ftruncate", *writing, "fsync"]
-    assert names == wanted, "how the file is written"
-    lengths = [call.args.partition(", ")[2] for call in calls if call.name == "ftruncate"]
-    assert lengths == ["0"], "the length to which it is cut"
-    modes = [call.args.partition(", ")[2] for call in calls if call.name == "fchmod"]
-    assert modes == ([OWNER_ALONE] if private else []), "its mode"
-    number = next((call.result for call in calls if call.name == "openat"), None)
-    assert {call.fd for call in calls if call.name != "openat"} == {number}, "nothing else is written"
-    own = watched.traced.own
-    read_after = [call.name for call in own[own.index(calls[0]) :] if call.name == "read"] if calls else None
-    assert read_after == [], "what is read once it is there"
-    check_lengths(run, watched, number)
+    own, calls, target = watched.traced.own, watched.writes, STDOUT
+    if run.created:
+        first, *others = calls
+        target = first.result
+        names = [name for name, _ in groupby(call.name for call in others)]
+        private, writing = ["fchmod"] * run.line.startswith("decrypt"), ["write"] * bool(run.written)
+        assert [first.name, *names] == ["openat", *private, "ftruncate", *writing, "fsync"], "how the file is written"
+        assert {call.fd for call in others} == {target}, "nothing else is written"
+        values = [call.args.partition(", ")[2] for call in others if call.name in ("fchmod", "ftruncate")]
+        assert values == [OWNER_ALONE] * len(private) + ["0"], "its mode, and the length to which it is cut"
+        assert "read" not in {call.name for call in own[own.index(first) :]}, "what is read once it is there"
+    else:
+        assert {call.name for call in calls} <= {"write"}, "no file is written"
+    check_lengths(run, watched, target)
 
 
-def check_lengths(run: Run, watched: Watched, target: int | None) -> None:
+def check_lengths(run: Run, watched: Watched, target: int) -> None:
     """Check how many bytes go where."""
     traced = watched.traced
-    lengths = {number: 0 for number in (target, STDOUT, STDERR)}
+    lengths, wanted = Counter[int](), Counter({target: run.written or 0})
     for call in watched.writes:
         if call.name == "write":
-            lengths[call.fd] = lengths.get(call.fd, 0) + max(call.result, 0)
-    wanted = {number: 0 for number in (target, STDOUT, STDERR)}
+            lengths[call.fd] += max(call.result, 0)
     if run.written is None:
         wanted[STDERR if run.status else STDOUT] = len((traced.message if run.status else traced.output) or b"")
-    else:
-        wanted[target] = run.written
-    if run.fault and STDERR not in run.closed:
+    if run.fault:
         wanted[STDERR] = len(run.fault.line)
         assert traced.message == run.fault.line, "message"
-    assert lengths == wanted, "how many bytes go where"
+    assert +lengths == +wanted, "how many bytes go where"
 
 
 def check_others(watched: Watched) -> None:
@@ -127,7 +108,7 @@ def check_others(watched: Watched) -> None:
     signals = {call.args.partition(",")[0] for call in own if call.name == "rt_sigaction"}
     assert signals - {"SIGPIPE"} == set(), "other signals"
     asked = [(call.fd, call.args.split(", ")[1]) for call in own if call.name == "fcntl"]
-    assert asked == list(enumerate(DUPLICATING)), "whether the streams are open"
+    assert asked == [(stream, "F_DUPFD_CLOEXEC") for stream in (0, 1, 2)], "whether the streams are open"
     mapped = [call.args for call in own if call.name == "mmap" and "MAP_ANONYMOUS" not in call.args]
     assert mapped == [], "files that are mapped"
     of_open_files = re.compile(r'(\d{2,}|[3-9]), (""|NULL)')
@@ -135,17 +116,14 @@ def check_others(watched: Watched) -> None:
     assert others == [], "paths or streams that are looked at"
 
 
-@pytest.mark.parametrize("group", GROUPS, ids=[group.__name__ for group in GROUPS])
-def test_calls(cases: Cases, subtests: SubTests, group: Callable[[Files], list[Run]]) -> None:
+@pytest.mark.parametrize("run", RUNS, ids=str)
+def test_calls(cases: Cases, run: Run) -> None:
     needs("strace")
-    files = Files(cases)
-    allowed = LISTS | {os.path.normpath(path) for path in libraries(cases.program)}
-    for run in group(files):
-        with subtests.test(run.name):
-            watched = watch(cases.program, run, cases.folder)
-            assert watched.traced.status == run.ending
-            check_loading(watched, allowed)
-            check_opens(run, watched)
-            check_reads(run, watched, files.limits)
-            check_writes(run, watched)
-            check_others(watched)
+    write_files(cases.folder)
+    watched = watch(cases.program, run, cases.folder)
+    assert watched.traced.status == (run.fault.status if run.fault else run.status)
+    check_loading(cases.program, watched)
+    check_opens(run, watched)
+    check_reads(run, watched)
+    check_writes(run, watched)
+    check_others(watched)

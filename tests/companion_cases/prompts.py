@@ -2,249 +2,182 @@
 
 import pytest
 
-from companion_cases import CHECK, EDIT, PASSWORDS, ROTATE, TEXT, TEXTCONV, WITH, Place, block, decrypted, ended
-from companion_cases import sealed
+from companion_cases import CHECK, EDIT, PASSWORDS, ROTATE, TEXT, TEXTCONV, WITH, Done, Place, block, decrypted
+from companion_cases import described, ended, sealed
 from companion_cases.both import ours, theirs_at_terminal
-from companion_cases.terminal import READING, Session, ask
+from companion_cases.terminal import READING, READY, SHELL, Session, ask
 from lib.needs import needs, needs_ansible
-from lib.subtests import SubTests
 from model.vaults import seal
 
 ASKED = "Vault password: "
-NEW, AGAIN = "New Vault password: ", "Confirm New Vault password: "
 OF_DEV = "Vault password (dev): "
 NEW_OF_DEV, AGAIN_OF_DEV = "New vault password (dev): ", "Confirm new vault password (dev): "
-# Options after a command, and the prompts for decrypting and for encrypting.
-FORMS: dict[str, tuple[list[str], list[str]]] = {
-    "--ask-vault-password": ([ASKED], [NEW, AGAIN]),
-    "--ask-vault-pass": ([ASKED], [NEW, AGAIN]),
-    "-J": ([ASKED], [NEW, AGAIN]),
-    "": ([ASKED], [NEW, AGAIN]),
-    "--vault-id=dev@prompt": ([OF_DEV], [NEW_OF_DEV, AGAIN_OF_DEV]),
-    "--vault-id=prompt": (["Vault password (default): "], []),
-    "--vault-id=dev@prompt_ask_vault_pass": ([ASKED], []),
-}
-ROWS = [(word, *row) for word, asked in FORMS.items() for row in zip(("decrypt", "encrypt"), asked) if row[1]]
 
 
 def typed(password: str, *questions: str) -> list[tuple[str, bytes]]:
-    return [(question, PASSWORDS[password] + b"\n") for question in questions]
+    """Return an answer to each question. White space around a password does not count."""
+    return [(question, b" %s \n" % PASSWORDS[password]) for question in questions]
 
 
-def check_session(what: str, session: Session, *questions: str) -> None:
-    """Check that each question was asked, in this order, and no answer was shown."""
-    assert session.shown == "".join(f"{question}\n" for question in questions), f"{what}: what is shown"
-    assert session.echoes is True, f"{what}: the terminal echoes again"
+def outcome(done: Done | Session) -> tuple[int, str, str]:
+    return done.returncode, done.stdout, done.stderr
 
 
-@pytest.mark.parametrize("word, command, questions", ROWS)
-def test_forms(place: Place, word: str, command: str, questions: list[str]) -> None:
-    """The options of Ansible's tool lead to the same questions here."""
-    words, answers = [command, *filter(None, [word]), "a.yml"], typed("dev", *questions)
-    before = TEXT if command == "encrypt" else sealed("dev")
+def check_asked(session: Session, *questions: str) -> None:
+    """Check that these questions were asked, and no answer was shown."""
+    assert session.shown == "".join(f"{question}\n" for question in questions), "what is shown"
+    assert session.echoes, "the terminal echoes again"
 
-    def check(session: Session) -> None:
-        check_session(command, session, *questions)
-        after = place.get("a.yml")
-        assert (decrypted("dev", after) if command == "encrypt" else after) == TEXT
-        place.put("a.yml", before)
 
-    place.put("a.yml", before)
+@pytest.mark.parametrize(
+    "source, question", (("prompt", "Vault password (default): "), ("dev@prompt_ask_vault_pass", ASKED))
+)
+def test_sources(place: Place, source: str, question: str) -> None:
+    """They lead to the same question as with Ansible's tool. `guide` covers other options."""
+    words, answers = ["view", "--vault-id", source, "a.yml"], typed("dev", question)
+    place.put("a.yml", sealed("dev"))
     session = ask(place, WITH, *words, answers=answers)
-    assert (session.returncode, session.stdout, session.stderr) == (0, "", "")
-    check(session)
-    check(theirs_at_terminal(place, needs_ansible(), known(words), answers))
+    assert outcome(session) == (0, TEXT.decode(), "")
+    other = theirs_at_terminal(place, needs_ansible(), words, answers)
+    for each in (session, other):
+        check_asked(each, question)
+    assert other.stdout.strip() == TEXT.decode().strip()
 
 
-def known(words: list[str]) -> list[str]:
-    """Return the words that every version of Ansible's tool knows. -J came with ansible-core 2.15."""
-    return ["--ask-vault-password" if word == "-J" else word for word in words]
-
-
-def test_every_companion(place: Place) -> None:
+def test_how_often(place: Place) -> None:
     """A companion asks once to decrypt, and twice to encrypt."""
-    word = ["--vault-id", "dev@prompt"]
-    editor = place.script('echo more >> "$1"', "editor")
-    session = ask(place, EDIT, *word, "a.yml", answers=typed("dev", NEW_OF_DEV, AGAIN_OF_DEV), EDITOR=editor)
-    check_session("edit of a new one", session, NEW_OF_DEV, AGAIN_OF_DEV)
+    word, editor = ["--vault-id", "dev@prompt"], place.script('echo more >> "$1"', "editor")
+    place.put("a.yml", sealed("dev", label="dev"))
     session = ask(place, EDIT, *word, "a.yml", answers=typed("dev", OF_DEV), EDITOR=editor)
-    check_session("edit", session, OF_DEV)
-    assert decrypted("dev", place.get("a.yml")) == b"more\nmore\n", "what was edited"
-    session = ask(place, TEXTCONV, *word, "a.yml", answers=typed("dev", OF_DEV))
-    assert (session.returncode, session.stdout) == (0, "more\nmore\n"), "textconv"
-    session = ask(place, CHECK, *word, ".", answers=typed("dev", OF_DEV))
-    output = "./a.yml: dev: decrypted by dev@prompt\n1 decrypted, 0 not\n"
-    assert (session.returncode, session.stdout) == (0, output), "check"
+    check_asked(session, OF_DEV)
+    answers = typed("dev", NEW_OF_DEV, AGAIN_OF_DEV)
+    session = ask(place, EDIT, *word, "a.yml", "new.yml", answers=answers, EDITOR=editor)
+    check_asked(session, NEW_OF_DEV, AGAIN_OF_DEV)
     answers = [*typed("dev", OF_DEV), *typed("dev2", NEW_OF_DEV, AGAIN_OF_DEV)]
     session = ask(place, ROTATE, *word, "--new-vault-id", "dev@prompt", ".", answers=answers)
-    check_session("rotate", session, OF_DEV, NEW_OF_DEV, AGAIN_OF_DEV)
-    assert decrypted("dev2", place.get("a.yml")) == b"more\nmore\n", "what was rotated"
-    answers = typed("dev2", NEW_OF_DEV, AGAIN_OF_DEV)
-    session = ask(place, EDIT, *word, "a.yml", "b.yml", answers=answers, EDITOR=editor)
-    check_session("edit of two, one of which is new", session, NEW_OF_DEV, AGAIN_OF_DEV)
+    check_asked(session, OF_DEV, NEW_OF_DEV, AGAIN_OF_DEV)
+    found = [decrypted("dev2", place.get(name)) for name in ("a.yml", "new.yml")]
+    assert found == [TEXT + b"more\nmore\n", b"more\n"]
 
 
 def test_by_settings(place: Place) -> None:
-    place.put("ansible.cfg", b"[defaults]\nvault_identity_list = dev@prompt, old@../secrets/old\n")
-    place.put("a.yml", sealed("dev", label="dev"))
-    session = ask(place, WITH, "view", "a.yml", answers=typed("dev", OF_DEV))
-    assert (session.returncode, session.stdout, session.stderr) == (0, TEXT.decode(), ""), "view"
-    check_session("view", session, OF_DEV)
-    # A password file may have this name, and nothing is asked then.
-    place.put("prompt", PASSWORDS["dev"])
-    place.put("b.yml", sealed("dev"))
-    done = place.run("setsid", "--wait", CHECK, "b.yml", ANSIBLE_VAULT_PASSWORD_FILE="prompt")
-    found = done.returncode, done.stdout.splitlines()[-1:]
-    assert found == (0, ["1 decrypted, 0 not"]), "a file called prompt"
-    done = ours(place, "view", "--vault-password-file", "prompt", "a.yml")
-    assert (done.returncode, done.stdout) == (0, TEXT.decode()), "by an option"
-
-
-def test_asked_by_settings(place: Place, subtests: SubTests) -> None:
     """The setting ask_vault_pass works like the option, after all other secrets."""
+    settings = "vault_identity_list = dev@prompt\nask_vault_pass = yes\nvault_password_file = ../secrets/old\n"
+    place.put("ansible.cfg", f"[defaults]\n{settings}".encode())
+    place.put("a.yml", sealed("new"))
+    answers = [*typed("dev", OF_DEV), *typed("new", ASKED)]
+    session = ask(place, WITH, "view", "a.yml", answers=answers)
+    assert outcome(session) == (0, TEXT.decode(), "")
+    check_asked(session, OF_DEV, ASKED)
+    session = ask(place, WITH, "view", "a.yml", answers=answers[:1], ANSIBLE_ASK_VAULT_PASS="no")
+    assert session.returncode == 1, "nothing else is asked"
+    check_asked(session, OF_DEV)
+    other = theirs_at_terminal(place, needs_ansible(), ["view", "a.yml"], answers)
+    assert other.stdout.strip() == TEXT.decode().strip(), "Ansible's tool asks, too"
+    check_asked(other, OF_DEV, ASKED)
+
+
+def test_a_file_called_prompt(place: Place) -> None:
+    place.put("prompt", PASSWORDS["dev"])
     place.put("a.yml", sealed("dev"))
-    place.put("ansible.cfg", b"[defaults]\nask_vault_pass = yes\nvault_password_file = ../secrets/old\n")
-    session = ask(place, WITH, "view", "a.yml", answers=typed("dev", ASKED))
-    assert (session.returncode, session.stdout, session.stderr) == (0, TEXT.decode(), ""), "view"
-    check_session("view", session, ASKED)
-    for value in ("no", "false", ""):
-        with subtests.test(f"the value {value!r}"):
-            done = ours(place, "view", "a.yml", ANSIBLE_ASK_VAULT_PASS=value)
-            ended("nothing is asked", done, 1, "no secret decrypts this vault")
-    other = theirs_at_terminal(place, needs_ansible(), ["view", "a.yml"], typed("dev", ASKED))
-    wanted = session.shown, TEXT.decode().strip()
-    assert (other.shown, other.stdout.strip()) == wanted, "Ansible's tool asks, too"
+    done = ours(place, "view", "--vault-password-file", "prompt", "a.yml")
+    assert outcome(done) == (0, TEXT.decode(), ""), "nothing is asked"
 
 
-def test_what_is_typed(place: Place, subtests: SubTests) -> None:
-    """An invalid password is refused with the name of the secret, and nothing is changed."""
-    refused = {
-        "others": ([(NEW_OF_DEV, b"word\n"), (AGAIN_OF_DEV, b"world\n")], "the two passwords differ; try again"),
-        "nothing": ([(NEW_OF_DEV, b"\n")], "you typed an empty password; try again"),
-        "white space": ([(NEW_OF_DEV, b" \t\n")], "you typed an empty password; try again"),
-        "an end": ([(NEW_OF_DEV, b"\x04")], "you typed nothing; try again"),
-    }
-    words = [WITH, "encrypt", "--vault-id", "dev@prompt", "a.yml"]
-    for what, (answers, part) in refused.items():
-        place.put("a.yml", TEXT)
-        before = place.names()
-        with subtests.test(what):
-            session = ask(place, *words, answers=answers)
-            expected = (1, "", f"{WITH}: dev@prompt: {part}\n")
-            assert (session.returncode, session.stdout, session.stderr) == expected
-            assert session.echoes is True, "the terminal echoes again"
-            assert (place.get("a.yml"), place.names()) == (TEXT, before), "nothing is changed"
+# What is typed for a new password, and why it is refused.
+REFUSED = {
+    "the two passwords differ": [(NEW_OF_DEV, b"word\n"), (AGAIN_OF_DEV, b"world\n")],
+    "you typed an empty password": [(NEW_OF_DEV, b" \t\n")],
+    "you typed nothing": [(NEW_OF_DEV, b"\x04")],
+}
+
+
+@pytest.mark.parametrize("why, answers", REFUSED.items())
+def test_refused_passwords(place: Place, why: str, answers: list[tuple[str, bytes]]) -> None:
     place.put("a.yml", TEXT)
-    around = b"  " + PASSWORDS["dev"] + b" \n"
-    session = ask(place, *words, answers=[(NEW_OF_DEV, around), (AGAIN_OF_DEV, PASSWORDS["dev"] + b"\n")])
-    assert (session.returncode, decrypted("dev", place.get("a.yml"))) == (0, TEXT), "white space around it"
+    session = ask(place, WITH, "encrypt", "--vault-id", "dev@prompt", "a.yml", answers=answers)
+    assert outcome(session) == (1, "", f"{WITH}: dev@prompt: {why}; try again\n")
+    assert (session.echoes, place.files()) == (True, {"a.yml": TEXT}), "the terminal echoes, and nothing is changed"
 
 
-LATIN = "de_DE.ISO-8859-1"
-
-
-@pytest.mark.parametrize("locale", ["C", "C.UTF-8", LATIN])
-def test_locales(place: Place, locale: str) -> None:
+def test_locales(place: Place) -> None:
     """The same keys at a terminal make the same password, whatever the locale is."""
-    word = "größe"
-    if locale == LATIN:
-        needs("localedef")
-        language, _, charset = locale.partition(".")
-        made = place.run("localedef", "-i", language, "-f", charset, str(place.path / locale))
-        if "No such file" in made.stderr:
-            pytest.skip("without Debian's package locales")
-    place.put("a.yml", seal(word.encode(), TEXT, b""))
-    variables = {"LC_ALL": locale, "LOCPATH": str(place.path)} if locale == LATIN else {"LC_ALL": locale}
-    words = [WITH, "view", "-J", "a.yml"]
-    session = ask(place, *words, answers=[(ASKED, f"{word}\n".encode())], **variables)
-    assert (session.returncode, session.stdout, session.stderr) == (0, TEXT.decode(), "")
-    session = ask(place, *words, answers=[(ASKED, f"{word}\n".encode("latin-1"))], **variables)
-    wanted = (1, "", f"{WITH}: --ask-vault-password: what you typed is not valid UTF-8; set the terminal to UTF-8\n")
-    assert (session.returncode, session.stdout, session.stderr) == wanted
+    needs("localedef")
+    made = place.run("localedef", "-i", "de_DE", "-f", "ISO-8859-1", str(place.path / "latin"))
+    if "No such file" in made.stderr:
+        pytest.skip("without Debian's package locales")
+    place.put("a.yml", seal("größe".encode(), TEXT, b""))
+    words, variables = [WITH, "view", "-J", "a.yml"], {"LC_ALL": "latin", "LOCPATH": str(place.path)}
+    session = ask(place, *words, answers=[(ASKED, "größe\n".encode())], **variables)
+    assert outcome(session) == (0, TEXT.decode(), "")
+    session = ask(place, *words, answers=[(ASKED, "größe\n".encode("latin-1"))], **variables)
+    why = "--ask-vault-password: what you typed is not valid UTF-8; set the terminal to UTF-8"
+    assert outcome(session) == (1, "", f"{WITH}: {why}\n")
 
 
-def test_no_terminal(place: Place, subtests: SubTests) -> None:
+def test_no_terminal(place: Place) -> None:
     place.put("a.yml", sealed("dev"))
-    away = ["setsid", "--wait"]
-    why = "there is no terminal to ask for the password; name a password file"
-    for words in ([WITH, "view"], [CHECK], [EDIT]):
-        for option, given in (("--vault-id=dev@prompt", "dev@prompt"), ("-J", "--ask-vault-password")):
-            with subtests.test(f"{words[0]} {option}"):
-                done = place.run(*away, *words, option, "a.yml")
-                expected = (1, "", f"{words[0]}: {given}: {why}\n")
-                assert (done.returncode, done.stdout, done.stderr) == expected
+    away, why = ["setsid", "--wait"], "there is no terminal to ask for the password; name a password file"
+    done = place.run(*away, CHECK, "--vault-id=dev@prompt", "a.yml")
+    assert outcome(done) == (1, "", f"{CHECK}: dev@prompt: {why}\n")
+    done = ours(place, "view", "-J", "a.yml")
+    assert outcome(done) == (1, "", f"{WITH}: --ask-vault-password: {why}\n")
     done = place.run(*away, TEXTCONV, "--vault-id", "prompt", *place.by_file("dev"), "a.yml")
-    expected = (0, TEXT.decode(), f"{TEXTCONV}: prompt: {why}\n")
-    assert (done.returncode, done.stdout, done.stderr) == expected, "textconv uses the other secret"
-    done = ours(place, "view", "a.yml")
-    ended("no secret", done, 1, f"{WITH}: no secret is given: name one with --vault-id", "ansible.cfg")
-    done = place.run(*away, WITH, "rekey", *place.by_file("dev"), "a.yml")
-    ended("no new secret", done, 1, f"{WITH}: no new secret is given: name one with --new-vault-id")
+    assert outcome(done) == (0, TEXT.decode(), f"{TEXTCONV}: prompt: {why}\n"), "it uses the other secret"
+    why = f"{WITH}: no secret is given: name one with --vault-id"
+    ended("no secret", ours(place, "view", "a.yml"), 1, why, "ansible.cfg")
+    why = f"{WITH}: no new secret is given: name one with --new-vault-id"
+    ended("no new secret", ours(place, "rekey", *place.by_file("dev"), "a.yml"), 1, why)
 
 
-def test_standard_input(place: Place, subtests: SubTests) -> None:
-    """A message says so if standard input is read from a terminal, and not if it is a file or a pipe."""
-    reading = "Reading standard input. End it with Ctrl-D"
+READ = {"encrypt": "$ANSIBLE_VAULT;1.2;AES256;dev", "encrypt_string -": "!vault |"}
+
+
+@pytest.mark.parametrize("line, written", READ.items())
+def test_input_from_a_terminal(place: Place, line: str, written: str) -> None:
+    """A message says that it is read."""
+    words = ["sh", "-c", f"exec {WITH} {line} --vault-id dev@../secrets/dev < /dev/tty 2> /dev/tty"]
+    session = ask(place, *words, answers=[("if the last line is not empty.\r\n", b"x\n\x04")])
+    assert session.returncode == 0, session
+    assert session.shown.startswith(f"{WITH}: Reading standard input. End it with Ctrl-D"), "what is said"
+    assert session.stdout.startswith(written), "what is written"
+
+
+@pytest.mark.parametrize("line", ("view a.yml < /dev/tty", "view < a.yml"))
+def test_input_from_a_file(place: Place, line: str) -> None:
     place.put("a.yml", sealed("dev"))
-    lines = {
-        "encrypt_string --stdin-name word": "word: !vault |",
-        "encrypt_string -": "!vault |",
-        "encrypt": "$ANSIBLE_VAULT;1.2;AES256;dev",
-    }
-    for line, written in lines.items():
-        with subtests.test(line):
-            words = ["sh", "-c", f"exec {WITH} {line} --vault-id dev@../secrets/dev < /dev/tty 2> /dev/tty"]
-            session = ask(place, *words, answers=[("if the last line is not empty.\r\n", b"x\n\x04")])
-            assert session.returncode == 0, session
-            assert session.shown.startswith(f"{WITH}: {reading}"), "what is said"
-            assert session.stdout.startswith(written), "what is written"
-    for line in ("view a.yml", "encrypt_string word", "view < a.yml"):
-        with subtests.test(line):
-            session = ask(place, "sh", "-c", f"{WITH} --vault-id dev@../secrets/dev {line}", answers=[])
-            assert (session.returncode, session.stderr, session.shown) == (0, "", ""), "nothing is said"
+    session = ask(place, "sh", "-c", f"{WITH} --vault-id dev@../secrets/dev {line}", answers=[])
+    assert (*outcome(session), session.shown) == (0, TEXT.decode(), "", ""), "nothing is said"
 
 
 def test_labels(place: Place) -> None:
     """If several secrets could encrypt a new value, a question at the terminal asks for its label."""
     question = "Label to encrypt new with (dev, prod): "
     editor = place.script('printf "new: !vault word\\n" >> "$1"', "editor")
-    secrets = [*place.by_id("dev", "dev"), *place.by_id("prod", "prod")]
-    before = block("dev", b"one", "dev", "a")
-    words = [*READING, EDIT, *secrets, "vars.yml"]
-    place.put("vars.yml", before)
-    answers = [(question, b"stage\n"), (question, b" prod \n")]
-    session = ask(place, *words, answers=answers, EDITOR=editor)
-    assert (session.returncode, session.stderr) == (0, ""), "the status"
-    after = place.get("vars.yml")
-    assert after.startswith(before), "the other value stays"
-    envelope = b"".join(line.strip() + b"\n" for line in after.removeprefix(before).splitlines()[1:])
-    assert envelope.partition(b"\n")[0] == b"$ANSIBLE_VAULT;1.2;AES256;prod", "under its label"
-    assert decrypted("prod", envelope) == b"word", "it is encrypted"
-    place.put("vars.yml", before)
-    again = "Open the editor again? (yes, no): "
-    session = ask(place, *words, answers=[(question, b"\x04"), (again, b"\x04")], EDITOR=editor)
-    assert session.returncode == 1, "no label: the status"
-    assert "what you saved is encrypted in" in session.stderr, "no label: it is kept"
-    assert place.get("vars.yml") == before, "no label: the file stays"
+    place.put("vars.yml", before := block("dev", b"one", "dev", "a"))
+    words = [*READING, EDIT, *place.by_id("dev", "dev"), *place.by_id("prod", "prod"), "vars.yml"]
+    session = ask(place, *words, answers=[(question, b"stage\n"), (question, b" prod \n")], EDITOR=editor)
+    assert (session.returncode, session.stderr) == (0, "")
+    added = described(place.get("vars.yml").removeprefix(before))
+    assert added == (b"$ANSIBLE_VAULT;1.2;AES256;prod", ("prod", b"word"))
 
 
-@pytest.mark.parametrize("words", ([WITH, "view", "-J", "a.yml"], [CHECK, "-J", "."], [EDIT, "-J", "a.yml"]))
-@pytest.mark.parametrize("key, status", ((b"\x03", 130), (b"\x1c", 131)))
-def test_keys(place: Place, key: bytes, status: int, words: list[str]) -> None:
+@pytest.mark.parametrize("words, key, status", (([EDIT], b"\x03", 130), ([WITH, "view"], b"\x1c", 131)))
+def test_keys(place: Place, words: list[str], key: bytes, status: int) -> None:
     """The keys for an interrupt and for quitting end the question, and the terminal is as it was."""
-    needs("stty")
     place.put("a.yml", sealed("dev"))
-    session = ask(place, *words, answers=[(ASKED, key)])
+    session = ask(place, *words, "-J", "a.yml", answers=[(ASKED, key)])
     # The shell at the terminal prints `Quit` for SIGQUIT.
-    output = session.stdout + session.stderr.removesuffix("Quit\n")
-    assert (session.returncode, output) == (status, ""), f"{words} {key!r}"
-    assert session.echoes is True, f"{words} {key!r}: the terminal echoes"
+    assert outcome(session) == (status, "", "Quit\n" if status == 131 else "")
+    assert session.echoes, "the terminal echoes"
 
 
 def test_suspended(place: Place) -> None:
     """Ctrl-Z has no effect on a question for a password: after `fg`, a shell would let the terminal show it."""
-    needs("stty")
     place.put("a.yml", sealed("dev"))
-    session = ask(place, WITH, "view", "-J", "a.yml", answers=[(ASKED, b"\x1a" + PASSWORDS["dev"] + b"\n")])
-    assert (session.returncode, session.stdout, session.echoes) == (0, TEXT.decode(), True), session
+    line, key = f"{WITH} view -J a.yml > ../shown\n".encode(), b"\x1a"
+    answers = [(READY, line), (ASKED, key + PASSWORDS["dev"] + b"\n"), (READY, b"exit\n")]
+    session = ask(place, *SHELL, answers=answers)
+    assert "Stopped" not in session.shown, session.shown
+    assert (place.path / "shown").read_bytes() == TEXT, session.shown
     assert PASSWORDS["dev"].decode() not in session.shown, session.shown

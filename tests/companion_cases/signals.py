@@ -1,63 +1,26 @@
 """Signals at each step: nothing is lost, nothing is left, and the companion ends by the signal."""
 
-import fcntl
 import os
-import re
+import random
 import signal
 import subprocess
-import termios
 import time
-from collections.abc import Callable
 from contextlib import suppress
 from pathlib import Path
 
 import pytest
 
-from companion_cases import ABOVE_EDITOR, CHANGE, CHANGED, CHECK, EDIT, MERGE, PASSWORDS, ROTATE, TEXT, TEXTCONV, WITH
-from companion_cases import Companions, Place, block, decrypted, edit, ended, run_changed, sealed, summary, to_new
+from companion_cases import ABOVE_EDITOR, CHANGE, CHANGED, EDIT, ENCRYPTED, MERGE, PASSWORDS, ROTATE, TEXT, WITH
+from companion_cases import Companions, Done, Place, block, decrypted, edit, run_changed, sealed, silent, texts, to_new
 from companion_cases import versions, wait_until
-from companion_cases.terminal import ask
+from companion_cases.terminal import READY, SHELL, ask
 from lib.limits import SECONDS
 from lib.subtests import SubTests
 from model.vaults import seal, yaml_block
 
-# The start of the name of a saved copy, and the message that names the copy.
+# The start of the name of a saved copy.
 COPY = ".ansible-vault-saved-a.yml-"
-TOLD = re.compile(
-    r"a\.yml: signal (\d+) ended the edit;(?: what the editor left .*-before;)? what you saved is encrypted in (.+)\n"
-)
-# Signals the companion before the program's run with this number, which then dies by the signal or continues.
-AT_RUN = """
-count=1; mkdir -p ../counted; until mkdir ../counted/$count 2>/dev/null; do count=$((count + 1)); done
-[ $count -ne {number} ] || {{ {trap}kill -{signal} $PPID; sleep 0.1; }}
-"""
-# Functions of the standard library that create, change, replace or remove files.
-CALLS = ["os.replace", "os.unlink", "os.fsync", "os.fchmod", "tempfile.mkstemp", "tempfile.mkdtemp", "shutil.rmtree"]
-# The companion signals itself before or after a call.
-AT_CALL = """
-import importlib
-module, name = {call!r}.split(".")
-module = importlib.import_module(module)
-call = getattr(module, name)
-def signalling(*words, **options):
-    if {when!r} == "before":
-        os.kill(os.getpid(), {number})
-    done = call(*words, **options)
-    if {when!r} == "after":
-        os.kill(os.getpid(), {number})
-    return done
-setattr(module, name, signalling)
-"""
-# A signal comes after a program has started, but before the companion knows that it runs.
-AT_START = """
-import subprocess
-class Late(subprocess.Popen):
-    def __init__(self, words, **options):
-        super().__init__(words, **options)
-        if words[0] == "sh":
-            os.kill(os.getpid(), signal.SIGTERM)
-subprocess.Popen = Late
-"""
+RUNS = (EDIT, ROTATE, "merge", "merge of blocks", "rekey", "decrypt")
 
 
 def two_blocks(password: str, text: bytes) -> bytes:
@@ -65,192 +28,207 @@ def two_blocks(password: str, text: bytes) -> bytes:
     return b"x: 1\n" + block(password, text) + yaml_block(seal(PASSWORDS[password], text, b"", bytes(32)), b"c")
 
 
-def tree(place: Place) -> None:
-    """Write a vault, a file of blocks, and versions of both. Merging these puts ours under the new secret."""
-    vault, blocks = sealed("old"), two_blocks("old", TEXT)
-    versions(place, "a.yml", sealed("old", CHANGED), vault, sealed("new", CHANGED))
-    versions(place, "b.yml", two_blocks("old", CHANGED), blocks, two_blocks("new", CHANGED))
-    place.put("a.yml", vault, 0o640)
-    place.put("b.yml", blocks, 0o600)
-    place.environment["EDITOR"] = place.script(f"{CHANGE}; touch ../saved", "editor")
-
-
-def merge_of(place: Place, name: str) -> list[str]:
-    secrets = [*place.by_file("old"), *place.by_file("new")]
-    return [MERGE, *secrets, f"../versions/base-{name}", name, f"../versions/theirs-{name}", name]
-
-
-RUNS = (EDIT, ROTATE, CHECK, TEXTCONV, "merge", "merge of blocks", "rekey", "decrypt")
-
-
-def runs_of(place: Place) -> dict[str, list[str]]:
-    old = place.by_file("old")
+def tree(place: Place) -> dict[str, list[str]]:
+    """Write a vault and a file of blocks, and return each run over them. A merge puts ours under the new secret."""
+    vaults = versions(place, "a.yml", sealed("old", CHANGED), sealed("old"), sealed("new", CHANGED))
+    blocks = versions(place, "b.yml", two_blocks("old", CHANGED), two_blocks("old", TEXT), two_blocks("new", CHANGED))
+    (place.tree / "a.yml").chmod(0o640)
+    (place.tree / "b.yml").chmod(0o600)
+    place.environment["EDITOR"] = place.script(f"{CHANGE}; touch ../saved; sleep 0.1", "editor")
+    old, both = place.by_file("old"), [*place.by_file("old"), *place.by_file("new")]
     lines = [
         [EDIT, *old, "a.yml"],
         [ROTATE, *to_new(place), "--jobs", "1", "."],
-        [CHECK, *old, "."],
-        [TEXTCONV, *old, "b.yml"],
-        merge_of(place, "a.yml"),
-        merge_of(place, "b.yml"),
+        [MERGE, *both, *vaults],
+        [MERGE, *both, *blocks],
         [WITH, "rekey", *to_new(place), "a.yml"],
         [WITH, "decrypt", *old, "a.yml"],
     ]
     return dict(zip(RUNS, lines, strict=True))
 
 
-def check_whole(what: str, place: Place) -> None:
+def check_whole(place: Place) -> None:
     """Check that each vault is the old or the new one, or plaintext for its owner only, and that no file is left."""
-    vault = place.get("a.yml")
+    vault, blocks = place.get("a.yml"), place.get("b.yml")
     is_vault = vault.startswith(b"$ANSIBLE_VAULT")
-    texts = {decrypted("old", vault), decrypted("new", vault)} if is_vault else {vault}
-    assert texts & {TEXT, CHANGED} != set(), (f"{what}: the vault is whole", vault)
-    blocks = place.get("b.yml").split(b": !vault |\n")[1:]
-    envelopes = [b"".join(line.strip() + b"\n" for line in each.splitlines()[:6]) for each in blocks]
-    whole = [TEXT in (decrypted("old", each), decrypted("new", each)) for each in envelopes]
-    assert whole == [True, True], f"{what}: the blocks are whole"
-    assert (place.names(), place.left()) == (["a.yml", "b.yml"], []), f"{what}: nothing is left"
-    modes = [place.mode(name) for name in ("a.yml", "b.yml")]
-    assert modes == ["0o640" if is_vault else "0o600", "0o600"], f"{what}: modes stay"
+    found = {decrypted("old", vault), decrypted("new", vault)} if is_vault else {vault}
+    assert found & {TEXT, CHANGED}, ("the vault is whole", vault)
+    pairs = zip(texts(blocks, "old"), texts(blocks, "new"))
+    assert [TEXT in pair for pair in pairs] == [True, True], ("the blocks are whole", blocks)
+    left = place.left() + os.listdir(place.temporary)
+    assert (place.names(), left) == (["a.yml", "b.yml"], []), "nothing is left"
+    modes = (place.mode("a.yml"), place.mode("b.yml"))
+    assert modes == ("0o640" if is_vault else "0o600", "0o600"), "modes stay"
 
 
-def check_saved(what: str, place: Place, errors: str | None, wanted: bytes = CHANGED) -> None:
-    """Check that a saved text is in the vault, or encrypted in a copy that the message names. Remove that copy."""
-    for before in place.tree.glob(f"{COPY}*-before"):
-        before.unlink()
-    copies = [place.tree / name for name in place.names() if name.startswith(COPY)]
-    is_saved = (place.path / "saved").exists()
-    texts = [decrypted("old", each.read_bytes()) for each in copies]
+def check_edit(place: Place, errors: str, wanted: bytes = CHANGED) -> None:
+    """Check that a saved text is in the vault, or encrypted in a copy that the message names."""
+    copies = [*place.tree.glob(f"{COPY}????????")]
+    kept = [decrypted("old", each.read_bytes()) for each in copies]
     is_replaced = decrypted("old", place.get("a.yml")) == wanted
-    assert texts == ([wanted] if is_saved and not is_replaced else []), f"{what}: what was saved"
-    for copy in copies:
-        told = TOLD.search(errors) if errors is not None else None
-        assert errors is None or told and told[2] == str(copy), f"{what}: the message says where"
-        assert oct(copy.stat().st_mode & 0o777) == "0o600", f"{what}: it is for its owner alone"
-        copy.unlink()
+    # The editor may be ended before it notes that it has saved.
+    is_unsaved = not kept and not (place.path / "saved").exists()
+    assert kept == [wanted] * (not is_replaced) or is_unsaved, ("what was saved is kept", kept)
+    assert ENCRYPTED.findall(errors) == [*map(str, copies)], "the message says where"
+    assert {place.mode(each.name) for each in copies} <= {"0o600"}, "it is for its owner alone"
+    for each in place.tree.glob(f"{COPY}*"):
+        each.unlink()
+    check_whole(place)
 
 
-@pytest.mark.parametrize("companion", RUNS)
-def test_at_each_run(cases: Companions, subtests: SubTests, companion: str) -> None:
+def check_end(name: str, place: Place, done: Done, *statuses: int) -> None:
+    assert done.returncode in statuses, done.stderr
+    assert "Traceback" not in done.stderr, "no word of Python"
+    if name == EDIT:
+        check_edit(place, done.stderr)
+    else:
+        check_whole(place)
+
+
+def has_ended(noted: Path) -> bool:
+    """Return whether the process whose ID is noted in this file has ended. A zombie has no command line."""
+    line = Path("/proc", noted.read_text().strip(), "cmdline")
+    return not line.exists() or line.read_bytes() == b""
+
+
+# Signals the companion before a run of a program, which then dies by the signal or continues.
+AT_RUN = """
+count=1; mkdir -p ../counted; until mkdir ../counted/$count 2>/dev/null; do count=$((count + 1)); done
+[ $count -ne {number} ] || {{ {trap}kill -{signal} $PPID; sleep 0.1; }}
+"""
+
+
+@pytest.mark.parametrize("name", RUNS)
+def test_at_each_run(cases: Companions, subtests: SubTests, name: str) -> None:
     """A signal comes before each run of the program or of git, which dies by the signal or continues in spite of it."""
     for number in range(1, 20):
+        trap, sent = ("", "TERM") if number % 2 else ("trap '' INT; ", "INT")
         place = cases.place()
-        tree(place)
-        words = runs_of(place)[companion]
-        trap, name = ("", "TERM") if number % 2 else ("trap '' INT; ", "INT")
-        text = AT_RUN.format(number=number, trap=trap, signal=name)
-        for program in ("ansible-vault", "git") if words[0] == MERGE else ("ansible-vault",):
-            place.wrap_tool(text, program)
+        words = tree(place)[name]
+        for program in ("ansible-vault", "git"):
+            place.wrap_tool(AT_RUN.format(number=number, trap=trap, signal=sent), program)
         done = place.run(*words)
-        what = f"run {number}"
-        with subtests.test(what):
-            assert done.returncode in (0, -signal.Signals[f"SIG{name}"]), "the status"
-            assert "Traceback" not in done.stderr, "no word of Python"
-            if companion == EDIT:
-                check_saved(what, place, done.stderr)
-            check_whole(what, place)
+        with subtests.test(f"run {number}"):
+            check_end(name, place, done, 0, -signal.Signals[f"SIG{sent}"])
         if done.returncode == 0:
             break
     assert 3 < number < 19, "there were such runs"
 
 
-RUNS_AND_CALLS = [(EDIT, call) for call in CALLS]
-RUNS_AND_CALLS += [(name, call) for name in (ROTATE, "merge", "rekey", "decrypt") for call in CALLS[:5]]
+# The companion signals itself before or after a call.
+AT_CALL = """
+import shutil, tempfile
+call = {call}
+def signalling(*words, **options):
+    {before}
+    done = call(*words, **options)
+    {after}
+    return done
+{call} = signalling
+"""
+ITSELF = "os.kill(os.getpid(), signal.SIGTERM)"
+CALLS = [(name, call) for name in RUNS for call in ("tempfile.mkstemp", "os.replace")]
+CALLS += [(EDIT, call) for call in ("tempfile.mkdtemp", "os.unlink", "shutil.rmtree")]
 
 
-def test_at_each_call(cases: Companions, subtests: SubTests) -> None:
-    """A signal comes before or after each of CALLS."""
-    for number, (companion, call) in enumerate(RUNS_AND_CALLS):
-        when, name = [("before", "SIGHUP"), ("after", "SIGTERM")][number % 2]
+@pytest.mark.parametrize("before, after", ((ITSELF, "pass"), ("pass", ITSELF)), ids=("before", "after"))
+@pytest.mark.parametrize("name, call", CALLS)
+def test_at_each_call(place: Place, name: str, call: str, before: str, after: str) -> None:
+    """A signal comes before or after a call that creates, replaces or removes a file."""
+    companion, *words = tree(place)[name]
+    done = run_changed(place, companion, AT_CALL.format(call=call, before=before, after=after), words)
+    check_end(name, place, done, -signal.SIGTERM)
+
+
+def run_signalled(place: Place, words: list[str], chance: random.Random, seconds: float) -> Done:
+    """Signal a run once or twice, the first time within so many seconds."""
+    number, send = chance.choice([signal.SIGTERM, signal.SIGHUP]), chance.choice([os.kill, os.killpg])
+    delays = [chance.uniform(0, seconds), chance.uniform(0, 0.5)]
+    pipe = subprocess.PIPE
+    with place.start(*words, stdout=pipe, stderr=pipe, start_new_session=True) as process:
+        for delay in delays[: chance.randint(1, 2)]:
+            with suppress(subprocess.TimeoutExpired):
+                process.wait(delay)
+            if process.returncode is None:
+                send(process.pid, number)
+        output, errors = process.communicate(timeout=SECONDS)
+    return Done(words, process.returncode, output, errors)
+
+
+@pytest.mark.parametrize("name", RUNS)
+def test_at_random_moments(cases: Companions, subtests: SubTests, name: str) -> None:
+    """The signals go to the companion or to its whole process group, such as the editor."""
+    chance, ended, place = random.Random(1), 0, cases.place()
+    words = tree(place)[name]
+    begun = time.monotonic()
+    assert place.run(*words).returncode == 0, "without a signal"
+    seconds = time.monotonic() - begun
+    for number in range(20 if name == EDIT else 8):
         place = cases.place()
-        tree(place)
-        tool, *words = runs_of(place)[companion]
-        change = AT_CALL.format(call=call, when=when, number=int(signal.Signals[name]))
-        what = f"{companion}, {when} {call}"
-        with subtests.test(what):
-            done = run_changed(place, tool, change, words)
-            reached = companion == EDIT or call != "os.unlink"
-            assert done.returncode == (-signal.Signals[name] if reached else 0), "the status"
-            if companion == EDIT:
-                check_saved(what, place, done.stderr)
-            check_whole(what, place)
+        with subtests.test(f"moment {number}"):
+            done = run_signalled(place, tree(place)[name], chance, seconds)
+            check_end(name, place, done, 0, -signal.SIGTERM, -signal.SIGHUP)
+            ended += done.returncode != 0
+    assert ended > 0, "some were ended"
 
 
-def test_interrupted_then_finished(place: Place) -> None:
-    wanted = {f"{number}.yml": TEXT + b"number: %d\n" % number for number in range(12)}
-    for name, text in wanted.items():
-        place.put(name, sealed("old", text))
-    place.wrap_tool(AT_RUN.format(number=14, trap="", signal="INT"))
-    done = place.run(ROTATE, *to_new(place), "--jobs", "1", ".")
-    assert done.returncode == -signal.SIGINT, "interrupted"
-    half = [decrypted("new", content) == wanted[name] for name, content in place.files().items()]
-    assert True in half and False in half, "some are done and some are not"
-    place.wrap_tool(":")
-    done = place.run(ROTATE, *to_new(place), ".")
-    ended("run again", done, 0, summary(half.count(False), half.count(True)))
-    assert {name: decrypted("new", each) for name, each in place.files().items()} == wanted, "all are done"
-
-
-LEFT_TO_EDITORS = ("INT", "QUIT")
-
-
-@pytest.mark.parametrize("name", (*LEFT_TO_EDITORS, "TERM", "HUP", "USR1", "ABRT", "PWR", "RTMIN", "RTMAX"))
-def test_while_the_editor_runs(place: Place, name: str) -> None:
-    """The signals of a terminal's keys are left to the editor. Other signals end it, and what it saved is kept."""
+def test_noted_signals(place: Place) -> None:
+    """Every signal that would end a program is caught, and no other one."""
+    end_nothing = ["CHLD", "CONT", "URG", "WINCH", "TSTP", "TTIN", "TTOU"]
+    # Some cannot be caught, a fault of Python itself would raise others again at once, and Python ignores the last two.
+    others = ["KILL", "STOP", "SEGV", "BUS", "FPE", "ILL", "PIPE", "XFSZ"]
+    wanted = signal.valid_signals() - {getattr(signal, f"SIG{name}") for name in end_nothing + others}
     tree(place)
-    # An editor that the companion has to end waits for input that never comes.
-    os.mkfifo(place.path / "never")
-    number, is_left = signal.Signals[f"SIG{name}"], name in LEFT_TO_EDITORS
-    waits = "" if is_left else ": < ../never; "
-    text = f"{CHANGE}; touch ../saved; kill -{int(number)} {ABOVE_EDITOR}; {waits}touch ../survived"
-    done = edit(place, text, *place.by_file("old"), "a.yml")
-    assert done.returncode == (0 if is_left else -number), "the status"
-    assert (place.path / "survived").exists() == is_left, "the editor ends"
-    assert decrypted("old", place.get("a.yml")) == (CHANGED if is_left else TEXT), "the vault"
-    told = TOLD.search(done.stderr)
-    assert (told and int(told[1])) == (None if is_left else number), "the message"
-    check_saved(name, place, done.stderr)
-    check_whole(name, place)
+    edit(place, f"grep SigCgt /proc/{ABOVE_EDITOR}/status > ../noted", *place.by_file("old"), "a.yml")
+    mask = int((place.path / "noted").read_text().split()[1], 16)
+    assert {number for number in signal.valid_signals() if mask >> (number - 1) & 1} == wanted
 
 
-# An interactive shell at the terminal, with job control.
-SHELL = "PS1='ready> ' exec bash --norc --noediting -i < /dev/tty > /dev/tty 2>&1"
+@pytest.mark.parametrize("name", ("INT", "QUIT"))
+def test_keys(place: Place, name: str) -> None:
+    """The signals of a terminal's keys are left to the editor."""
+    tree(place)
+    silent("the edit", edit(place, f"kill -{name} {ABOVE_EDITOR}; {CHANGE}", *place.by_file("old"), "a.yml"))
+    assert decrypted("old", place.get("a.yml")) == CHANGED
+    check_whole(place)
 
 
 def test_stopped_editors(place: Place) -> None:
     """Ctrl-Z stops the editor and the companion as one job, and `fg` continues both, with the terminal."""
-    tree(place)
+    line = " ".join(tree(place)[EDIT])
     place.environment["EDITOR"] = place.script('printf "type: "; read text; printf %s "$text" > "$1"', "editor")
-    line = " ".join([EDIT, *place.by_file("old"), "a.yml"])
     answers = [
-        ("ready> ", f"{line}\n".encode()),
+        (READY, f"{line}\n".encode()),
         ("type: ", b"\x1a"),
         # bash may lose what is typed while it takes the terminal back.
-        ("ready> ", b"      fg\n"),
+        (READY, b"      fg\n"),
         ("a.yml\r\n", b"typed\n"),
-        ("ready> ", b"exit\n"),
+        (READY, b"exit\n"),
     ]
-    session = ask(place, "sh", "-c", SHELL, answers=answers)
+    session = ask(place, *SHELL, answers=answers)
     assert "Stopped" in session.shown, session.shown
     assert decrypted("old", place.get("a.yml")) == b"typed", session.shown
 
 
-LAST = "trap 'sleep 0.3; printf last > \"$1\"; touch ../saved; exit' TERM"
-READY = "until [ -e ../ready ]; do sleep 0.02; done"
-WRITERS = {"itself": LAST, "a child": f"({LAST}; sleep {SECONDS} & touch ../ready; wait) & {READY}; trap exit TERM"}
+# A child of the editor writes when it is asked to end, as another one does twice.
+LAST_WORDS = f"""
+above={ABOVE_EDITOR}
+printf first > "$1"
+(trap 'sleep 0.3; printf last > "$1"; touch ../saved; exit' TERM; sleep {SECONDS} & touch ../ready; wait) &
+until [ -e ../ready ]; do sleep 0.02; done
+(trap '' TERM; kill -TERM $above; sleep 0.1; kill -TERM $above) &
+wait
+"""
 
 
-@pytest.mark.parametrize("who", WRITERS)
-def test_last_words(place: Place, who: str) -> None:
+def test_last_words(place: Place) -> None:
     """The companion waits for what an editor writes when it is asked to end, even if it is asked twice: a closed
     terminal and its shell both send a signal."""
     tree(place)
-    os.mkfifo(place.path / "never")
-    twice = f"kill -TERM {ABOVE_EDITOR}; sleep 0.1; kill -TERM {ABOVE_EDITOR}"
-    text = f'printf first > "$1"; {WRITERS[who]}; {twice}; : < ../never'
-    done = edit(place, text, *place.by_file("old"), "a.yml")
+    done = edit(place, LAST_WORDS, *place.by_file("old"), "a.yml")
     assert done.returncode == -signal.SIGTERM, "the status"
-    check_saved(who, place, done.stderr, b"last")
-    check_whole(who, place)
+    assert "a.yml: signal 15 ended the edit; " in done.stderr, "the reason"
+    check_edit(place, done.stderr, b"last")
 
 
 # Runs a program from a thread, and signals the companion.
@@ -269,113 +247,67 @@ def test_children_of_threads(place: Place) -> None:
     tree(place)
     (place.path / "thread.py").write_text(OF_THREAD)
     done = edit(place, f"exec python3 ../thread.py {ABOVE_EDITOR}", *place.by_file("old"), "a.yml")
-    assert done.returncode == -signal.SIGTERM, "the status"
-    state = Path("/proc", (place.path / "child").read_text().strip(), "stat")
-    assert not state.exists() or state.read_text().rpartition(")")[2].split()[0] == "Z", "the child ends, too"
-    check_whole("a thread", place)
+    assert (done.returncode, has_ended(place.path / "child")) == (-signal.SIGTERM, True), "the child ends, too"
+    check_whole(place)
 
 
-def begun_edit(place: Place) -> subprocess.Popen[str]:
-    """Start an edit in a session of its own, with a pipe for its messages."""
-    return place.start(EDIT, *place.by_file("old"), "a.yml", stderr=subprocess.PIPE, start_new_session=True)
-
-
-@pytest.mark.parametrize("send", (os.kill, os.killpg))
-def test_half_a_save(place: Place, send: Callable[[int, int], None]) -> None:
+def test_half_a_save(place: Place) -> None:
     """If the editor is ended while it saves, the previous save is kept, too."""
-    words = "text = open(sys.argv[1], 'w'); text.write('{}'); text.flush(); "
-    first = f'import sys, time; {words.format("the first of two")}'
-    second = f"time.sleep(3); {words.format('half')}open('../saved', 'w'); time.sleep({SECONDS})"
     tree(place)
-    place.environment["EDITOR"] = place.script(f"{first}\n{second}", "editor", "/usr/bin/env python3")
-    with begun_edit(place) as process:
-        wait_until((place.path / "saved").exists, "the second save")
-        send(process.pid, signal.SIGTERM)
-        errors = process.communicate(timeout=SECONDS)[1]
-    assert process.returncode == -signal.SIGTERM, "the status"
+    first = f'above={ABOVE_EDITOR}; printf "the first of two" > "$1"; sleep 3'
+    second = f'printf half > "$1"; : > ../saved; kill -TERM $above; sleep {SECONDS}'
+    done = edit(place, f"{first}; {second}", *place.by_file("old"), "a.yml")
+    assert done.returncode == -signal.SIGTERM, "the status"
     [before] = place.tree.glob(f"{COPY}*-before")
     assert decrypted("old", before.read_bytes()) == b"the first of two", "the save before"
-    assert str(before) in errors, "it is named"
-    check_saved(send.__name__, place, errors, b"half")
-    check_whole(send.__name__, place)
+    assert str(before) in done.stderr, "it is named"
+    check_edit(place, done.stderr, b"half")
 
 
-@pytest.mark.parametrize("when", ("while the editor runs", "after it"))
-def test_signals_to_all(place: Place, when: str) -> None:
+def test_signals_to_all(place: Place) -> None:
     """Signals to the companion and to the program that encrypts do not stop them from keeping the text."""
-    again = "kill -HUP $PPID; kill -TERM $PPID; kill -TERM $$; kill -HUP $$; kill -INT $$"
-    tree(place)
-    place.wrap_tool(f'[ "$1" != encrypt ] || {{ {again}; }}')
-    first = f"kill -TERM {ABOVE_EDITOR}; sleep {SECONDS}" if when == "while the editor runs" else ":"
-    done = edit(place, f"{CHANGE}; touch ../saved; {first}", *place.by_file("old"), "a.yml")
-    assert done.returncode in (-signal.SIGTERM, -signal.SIGHUP), "the status"
+    words = tree(place)[EDIT]
+    signals = "kill -HUP $PPID; kill -TERM $PPID; kill -TERM $$; kill -HUP $$; kill -INT $$"
+    place.wrap_tool(f'[ "$1" != encrypt ] || {{ {signals}; }}')
+    done = place.run(*words)
     assert decrypted("old", place.get("a.yml")) == TEXT, "the vault stays"
-    check_saved(when, place, done.stderr)
-    check_whole(when, place)
+    check_end(EDIT, place, done, -signal.SIGTERM, -signal.SIGHUP)
 
 
-LEADERS = {"the companion leads the session": (), "a shell does": ("sh", "-c", '"$@"; exit', "sh")}
-
-
-@pytest.mark.parametrize("what, leader", LEADERS.items())
-def test_closed_terminals(place: Place, what: str, leader: tuple[str, ...]) -> None:
-    """Nobody can read the message, but the name of the copy says to which vault it belongs."""
-    tree(place)
-    os.mkfifo(place.path / "never")
-    editor = f"{CHANGE}; echo {ABOVE_EDITOR} > ../companion; touch ../saved; : < ../never"
-    place.environment["EDITOR"] = place.script(editor, "editor")
-    controller, terminal = os.openpty()
-    streams = dict.fromkeys(("stdin", "stdout", "stderr"), terminal)
-    takes_terminal = {"start_new_session": True, "preexec_fn": lambda: fcntl.ioctl(0, termios.TIOCSCTTY, 0)}
-    with place.start(*leader, EDIT, *place.by_file("old"), "a.yml", **streams, **takes_terminal) as process:
-        os.close(terminal)
-        wait_until((place.path / "saved").exists, "the editor")
-        companion = (place.path / "companion").read_text().strip()
-        os.close(controller)
-        process.wait(SECONDS)
-    wait_until(lambda: not os.path.exists(f"/proc/{companion}"), "the end")
-    assert process.returncode == -signal.SIGHUP, "it ends by the signal"
-    assert decrypted("old", place.get("a.yml")) == TEXT, "the vault stays"
-    check_saved(what, place, None)
-    check_whole(what, place)
-
-
-@pytest.mark.parametrize("what, pause", (("another signal", 0.1), ("one signal", SECONDS)))
-def test_stubborn_programs(place: Place, what: str, pause: float) -> None:
-    """A program that does not end by a signal is killed at the next signal, or after a while."""
-    tree(place)
+@pytest.mark.parametrize("pause, least, most", ((0.1, 0, 4), (SECONDS, 4, 60)))
+def test_stubborn_programs(place: Place, pause: float, least: float, most: float) -> None:
+    """A program that does not end by a signal is killed at the next signal, after a pause, or after some seconds."""
+    words, started = tree(place)[EDIT], place.path / "started"
     stubborn = f"{CHANGE}; touch ../saved; trap '' TERM; echo $$ > ../started; exec sleep {2 * SECONDS}"
     place.environment["EDITOR"] = place.script(stubborn, "editor")
-    process = begun_edit(place)
-    started = place.path / "started"
+    process = place.start(*words, stderr=subprocess.PIPE)
     wait_until(lambda: started.exists() and started.read_text(), "the editor")
     begun = time.monotonic()
     while process.poll() is None and time.monotonic() < begun + SECONDS:
         process.terminate()
         with suppress(subprocess.TimeoutExpired):
             process.wait(pause)
-    seconds = time.monotonic() - begun
-    assert seconds < 4 if pause < 1 else 4 < seconds < 60, "how long it takes"
-    assert process.wait(SECONDS) == -signal.SIGTERM
-    editor = Path("/proc", started.read_text().strip(), "cmdline")
-    assert (editor.read_text() if editor.exists() else "") == "", "the editor is gone"
-    check_saved(what, place, process.communicate()[1])
-    check_whole(what, place)
+    assert least < time.monotonic() - begun < most, "how long it takes"
+    assert (process.returncode, has_ended(started)) == (-signal.SIGTERM, True), "both end"
+    check_edit(place, process.communicate()[1])
+
+
+# A signal comes after the editor has started, but before the companion knows that it runs.
+AT_START = """
+import subprocess
+class Late(subprocess.Popen):
+    def __init__(self, words, **options):
+        super().__init__(words, **options)
+        if words[0] == "sh":
+            os.kill(os.getpid(), signal.SIGTERM)
+subprocess.Popen = Late
+"""
 
 
 def test_signals_at_the_start(place: Place) -> None:
-    """A signal reaches a program even if it comes before the companion knows that the program runs."""
-    tree(place)
+    companion, *words = tree(place)[EDIT]
     place.environment["EDITOR"] = place.script("sleep 5; touch ../survived", "editor")
-    done = run_changed(place, EDIT, AT_START, [*place.by_file("old"), "a.yml"])
+    done = run_changed(place, companion, AT_START, words)
     assert done.returncode == -signal.SIGTERM, "the status"
     assert not (place.path / "survived").exists(), "the editor is ended"
-    check_whole("at the start", place)
-
-
-@pytest.mark.parametrize("name", ("CHLD", "CONT", "URG", "WINCH"))
-def test_ends_no_program(place: Place, name: str) -> None:
-    """A signal that ends no program by default, such as that of a resized terminal, does not end an edit."""
-    place.put("a.yml", sealed("old"))
-    done = edit(place, f"kill -{name} {ABOVE_EDITOR}; {CHANGE}", *place.by_file("old"), "a.yml")
-    assert (done.returncode, done.stderr, decrypted("old", place.get("a.yml"))) == (0, "", CHANGED)
+    check_whole(place)

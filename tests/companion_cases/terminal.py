@@ -6,21 +6,21 @@ import select
 import signal
 import subprocess
 import termios
-import time
-from dataclasses import dataclass
+from typing import Any, NamedTuple
 
 from companion_cases import Place
 from lib.limits import SECONDS
 
-CHUNK_SIZE = 4096
 # Precedes the words of a program that reads the terminal.
 READING = ["sh", "-c", 'exec "$@" < /dev/tty', "sh"]
+# An interactive shell at the terminal, with job control, which prints this when it is ready.
+READY = "ready> "
+SHELL = ["sh", "-c", f"PS1='{READY}' exec bash --norc --noediting -i < /dev/tty > /dev/tty 2>&1"]
 # The session leader. When it exits, the terminal is hung up, so it first writes the terminal's modes to $MODES.
 LEADER = 'trap : INT QUIT; "$@"; status=$?; stty -a < /dev/tty > "$MODES"; exit $status'
 
 
-@dataclass
-class Session:
+class Session(NamedTuple):
     """The result of a run, with the status as a shell reports it."""
 
     returncode: int
@@ -36,35 +36,34 @@ def ask(place: Place, *words: str, answers: list[tuple[str, bytes]], **variables
     """Run a program, wait for each question, and type the answer. The standard streams are not the terminal."""
     controller, terminal = os.openpty()
     modes = place.path / "modes"
-    options = {
+    options: dict[str, Any] = {
         **{"stdout": subprocess.PIPE, "stderr": subprocess.PIPE, "pass_fds": [terminal], "start_new_session": True},
         "env": place.environment | variables | {"MODES": str(modes)},
         "preexec_fn": lambda: fcntl.ioctl(terminal, termios.TIOCSCTTY, 0),
     }
+    shown = b""
     with place.start("sh", "-c", LEADER, "sh", *words, **options) as program:
         os.close(terminal)
-        shown = b""
         try:
             for question, answer in answers:
-                shown = _shown_until(controller, shown, question.encode())
+                shown += _shown_until(controller, question.encode())
                 os.write(controller, answer)
-        except AssertionError:
+            output, errors = program.communicate(timeout=SECONDS)
+        except BaseException:
             # The program would wait for an answer forever.
             os.killpg(program.pid, signal.SIGKILL)
             raise
-        output, errors = program.communicate(timeout=SECONDS)
-    shown += _rest(controller)
+    shown += b"".join(iter(lambda: _chunk(controller), b""))
     os.close(controller)
     echoes = "echo" in modes.read_text().split()
     return Session(program.returncode, output, errors, shown.decode().replace("\r", ""), echoes)
 
 
-def _shown_until(controller: int, shown: bytes, question: bytes) -> bytes:
-    """Wait until the output after `shown` ends with the question, and return all output."""
-    end, place = time.monotonic() + SECONDS, len(shown)
-    while not shown[place:].endswith(question):
-        ready = select.select([controller], [], [], max(0, end - time.monotonic()))[0]
-        chunk = _chunk(controller) if ready else b""
+def _shown_until(controller: int, question: bytes) -> bytes:
+    """Wait until what is shown ends with the question, and return it."""
+    shown = b""
+    while not shown.endswith(question):
+        chunk = _chunk(controller) if select.select([controller], [], [], SECONDS)[0] else b""
         if not chunk:
             raise AssertionError(f"{question!r} is not asked: {shown!r}")
         shown += chunk
@@ -74,13 +73,6 @@ def _shown_until(controller: int, shown: bytes, question: bytes) -> bytes:
 def _chunk(controller: int) -> bytes:
     """Return what is shown next, or nothing after the last program at the terminal has ended."""
     try:
-        return os.read(controller, CHUNK_SIZE)
+        return os.read(controller, 4096)
     except OSError:
         return b""
-
-
-def _rest(controller: int) -> bytes:
-    shown = b""
-    while chunk := _chunk(controller):
-        shown += chunk
-    return shown

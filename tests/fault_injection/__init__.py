@@ -86,10 +86,7 @@ class Scenario(NamedTuple):
 
 
 def files_in(folder: str) -> dict[str, tuple[bytes, int]]:
-    found = {}
-    for path in Path(folder).iterdir():
-        found[path.name] = path.read_bytes(), stat.S_IMODE(path.stat().st_mode)
-    return found
+    return {path.name: (path.read_bytes(), stat.S_IMODE(path.stat().st_mode)) for path in Path(folder).iterdir()}
 
 
 def run(scenario: Scenario, command: list[str], **options: Any) -> Left:

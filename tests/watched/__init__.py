@@ -1,6 +1,7 @@
 """Runs whose system calls are watched, and these calls, sorted."""
 
 import tempfile
+from itertools import takewhile
 from pathlib import Path
 from typing import NamedTuple
 
@@ -13,14 +14,13 @@ STAND_IN = "/"
 
 
 class Run(NamedTuple):
-    """What a run must do: the paths that it opens for reading, each once and in this order, with the number of bytes
-    that it gets from each; the path that it creates last; how many bytes of output it writes, or None for a text of the
-    parser's; what it gets from standard input, or None if it must not ask; how it ends; and the streams that are closed
-    before it starts."""
+    """What a run must do: the paths that it opens for reading, each once and in this order; the path that it creates
+    last; how many bytes of output it writes, or None for a text of the parser's; what it gets from standard input, or
+    None if it must not ask; how it ends; and the streams that are closed before it starts."""
 
-    name: str
-    words: list[str]
-    read: dict[str, int]
+    # In a command line, @ before a word makes it a password file.
+    line: str
+    read: str = ""
     created: str | None = None
     written: int | None = 0
     stdin: bytes | None = None
@@ -28,9 +28,14 @@ class Run(NamedTuple):
     status: int = 0
     closed: tuple[int, ...] = ()
 
-    @property
-    def ending(self) -> int:
-        return self.fault.status if self.fault else self.status
+    def __str__(self) -> str:
+        return f"{self.line} {self.closings()}".strip()
+
+    def words(self) -> list[str]:
+        return [f"--vault-password-file={word[1:]}" if word[0] == "@" else word for word in self.line.split()]
+
+    def closings(self) -> str:
+        return " ".join(f"{number}>&-" for number in self.closed)
 
 
 class Opened(NamedTuple):
@@ -50,45 +55,29 @@ class Watched:
 
     def __init__(self, traced: Traced) -> None:
         self.traced = traced
-        self.opened: list[Opened] = []
-        # How many bytes each read asked for and got, in order, by path or stream.
-        self.reads: dict[int | str, list[tuple[int, int]]] = {}
+        opened: list[Opened] = []
+        # How many bytes each read asked for and got, in order, by path or number of a stream.
+        self.reads: dict[str, list[tuple[int, int]]] = {}
         # The calls that create a file or write, in order.
         self.writes: list[Call] = []
-        self.paths: dict[int, str] = {}
+        paths: dict[int, str] = {}
         for call in traced.own:
-            self.sort(call)
-
-    def sort(self, call: Call) -> None:
-        if call.name == "openat":
-            self.opened.append(opened_by(call))
-            self.paths[call.result] = call.path
-        if call.name == "close":
-            self.paths.pop(call.fd, None)
-        if call.name == "read":
-            asked = int(call.args.rsplit(", ", 1)[1])
-            source = self.paths.get(call.fd, call.fd)
-            self.reads.setdefault(source, []).append((asked, call.result))
-        if call.name in ("write", "fchmod", "ftruncate", "fsync") or "O_CREAT" in call.args:
-            self.writes.append(call)
-
-    def stand_ins(self) -> list[Opened]:
-        """Return the files that were opened first, to take the numbers of closed streams."""
-        count = 0
-        while count < len(self.opened) and self.opened[count].path == STAND_IN:
-            count += 1
-        return self.opened[:count]
-
-    def files(self) -> list[Opened]:
-        """Return all other opened files."""
-        return self.opened[len(self.stand_ins()) :]
+            if call.name == "openat":
+                opened.append(opened_by(call))
+                paths[call.result] = call.path
+            if call.name == "close":
+                paths.pop(call.fd, None)
+            if call.name == "read":
+                asked = int(call.args.rsplit(", ", 1)[1])
+                self.reads.setdefault(paths.get(call.fd, str(call.fd)), []).append((asked, call.result))
+            if call.name in ("write", "fchmod", "ftruncate", "fsync") or "O_CREAT" in call.args:
+                self.writes.append(call)
+        # The files that were opened first, to take the numbers of closed streams, and all others.
+        self.stand_ins = [*takewhile(lambda each: each.path == STAND_IN, opened)]
+        self.files = opened[len(self.stand_ins) :]
 
 
 def watch(program: str, run: Run, folder: Path) -> Watched:
-    words, programs = [program, *run.words], 1
-    if run.closed:
-        closing = " ".join(f"{number}>&-" for number in run.closed)
-        words, programs = ["sh", "-c", f'exec "$0" "$@" {closing}', *words], 2
-    with tempfile.NamedTemporaryFile(dir=folder) as log:
-        stdin = b"not asked for" if run.stdin is None else run.stdin
-        return Watched(trace(words, Path(log.name), programs, stdin))
+    words = ["sh", "-c", f'cd "$0" && exec "$@" {run.closings()}', str(folder), program, *run.words()]
+    with tempfile.NamedTemporaryFile() as log:
+        return Watched(trace(words, Path(log.name), 2, b"not asked for" if run.stdin is None else run.stdin))
