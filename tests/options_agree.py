@@ -252,4 +252,4 @@ def test_commands() -> None:
         unknown += [(name, *words) for option in options if option not in options_of(name, words)]
         tried += len(options)
     assert unknown == []
-    assert tried > 50
+    assert tried > 30
