@@ -49,7 +49,7 @@ def code_texts() -> dict[str, list[str]]:
 
 def code_faults() -> dict[int, tuple[list[str], int]]:
     """Return the texts and the status of each fault number in the code."""
-    statuses = {}
+    statuses: dict[str, int] = {}
     for faults, status in re.findall(r"^ +(Fault::.*|_) => Status::(\w+),$", STATUSES, re.MULTILINE):
         statuses |= dict.fromkeys(re.findall(r"Fault::(\w+)", faults) or ["others"], CODES[status])
     texts, numbers = code_texts(), re.findall(r"Fault::(\w+)(?:\(_\))? => (\d+),", FAULTS)
@@ -140,7 +140,7 @@ def test_options() -> None:
     named = set(re.findall(r"(?<![\w\\-])--[a-z][\w-]+", re.sub(r"\bFl -", " --", TEXT)))
     of_companions = (each for name in COMPANIONS for each in companion_options(name))
     ours = described_options().union(*OF_ANSIBLE.values(), *of_companions)
-    assert len(named & ours) > 30
+    assert len(named & ours) > 20
     assert named - ours - {*OTHER_OPTIONS} == set()
 
 
@@ -202,7 +202,8 @@ def least_glibc(program: str) -> str:
     needs("nm")
     listed = subprocess.run(["nm", "--dynamic", "--with-symbol-versions", program], capture_output=True, text=True)
     versions = re.findall(r"@GLIBC_(\d+)\.(\d+)", listed.stdout)
-    return ".".join(max(versions, key=lambda each: (int(each[0]), int(each[1]))))
+    major, minor = max((int(major), int(minor)) for major, minor in versions)
+    return f"{major}.{minor}"
 
 
 def tried_releases() -> set[str]:

@@ -57,7 +57,7 @@ def test_model() -> None:
 def test_help(program: str) -> None:
     """The page's synopsis has the commands of the program's help, with their options."""
     synopsis = page_sets()
-    assert [None, *help_commands(help_text(program, None))] == [*synopsis]
+    assert [*help_commands(help_text(program, None)), None] == [*synopsis]
     assert {command: help_options(help_text(program, command)) for command in synopsis} == synopsis
 
 
@@ -74,7 +74,8 @@ def test_companion(name: str) -> None:
     page, in_help = companion_page(name), companion_options(name)
     assert [*page] == [title for title in SECTIONS if title in page or title not in FURTHER]
     described = spellings(page["OPTIONS"]) + referred(page["OPTIONS"])
-    assert sorted(map(sorted, described)) == sorted(map(sorted, in_help)), "it describes the options, or says where"
+    found, wanted = (sorted(sorted(each) for each in options) for options in (described, in_help))
+    assert found == wanted, "it describes the options of its help, or says where"
     named = options_in(page["SYNOPSIS"])
     assert [each for each in described if not each & named] == [], "the synopsis names each option"
     assert named - set().union(*described) == set(), "and no other"
