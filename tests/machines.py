@@ -15,10 +15,12 @@ from lib.scripts import write_script
 
 MACHINE = str(ROOT / "tools" / "machine")
 MACHINES = Path("/var/tmp/ansible-vault-machines")
-HARMLESS = ["bash", "cat", "dirname", "mkdir", "mv", "rm", "tail"]
-# What a stand-in does besides: debootstrap makes a directory.
-ACTS = {"unshare": '[ "$2" != debootstrap ] || mkdir "$5"'}
 ENVIRONMENT = "env -i HOME=/root TERM=dumb PATH=/usr/local/bin:/usr/bin:/usr/sbin:/bin:/sbin"
+# A stand-in logs how it is called, and fails if FAILING names it. In place of debootstrap, one makes a directory.
+STAND_IN = """\
+echo "{name} $*" >> '{log}'
+[ "{name} $2" != "unshare debootstrap" ] || mkdir "$5"
+[ {name} != '{failing}' ]"""
 
 
 @pytest.fixture
@@ -34,9 +36,8 @@ def ran(folder: Path, *words: str, failing: str = "") -> tuple[int, list[str]]:
     needs_root()
     tools, log = folder / "tools", folder / "log"
     for name in ("debootstrap", "env", "mount", "pivot_root", "umount", "unshare"):
-        text = f"echo \"{name} $*\" >> '{log}'\n{ACTS.get(name, '')}\n[ {name} != '{failing}' ]"
-        write_script(tools / name, text)
-    for name in HARMLESS:
+        write_script(tools / name, STAND_IN.format(name=name, log=log, failing=failing))
+    for name in ("bash", "cat", "dirname", "mkdir", "mv", "rm", "tail"):
         (tools / name).unlink(missing_ok=True)
         (tools / name).symlink_to(shutil.which(name) or "")
     log.write_text("")
@@ -47,27 +48,33 @@ def ran(folder: Path, *words: str, failing: str = "") -> tuple[int, list[str]]:
 def test_make(tmp_path: Path, kept: Path) -> None:
     """A machine is made once, and again if its packages change; one that could not be made is not there."""
     name, new = kept.name, f"{kept}.new"
-    inside = f"unshare --mount {MACHINE} unshared enter {new} -- env DEBIAN_FRONTEND=noninteractive"
-    made = [f"unshare --mount debootstrap --variant=minbase sid {new}"]
-    made += [f"{inside} apt-get install --yes --no-install-recommends git make"]
-    failed = ran(tmp_path, "make", name, "sid", "git", "make", failing="unshare")
-    assert (failed, kept.exists()) == ((1, made[:1]), False)
-    found = [ran(tmp_path, "make", name, "sid", "git", *each) for each in (["make"], ["make"], ["man"])]
-    assert (*found, kept.is_dir()) == ((0, made), (0, []), (0, [*made[:1], made[1][:-4] + "man"]), True)
+    made = f"unshare --mount debootstrap --variant=minbase sid {new}"
+    install = f"unshare --mount {MACHINE} unshared enter {new} -- env DEBIAN_FRONTEND=noninteractive "
+    install += "apt-get install --yes --no-install-recommends git"
+    assert ran(tmp_path, "make", name, "sid", "git", failing="unshare") == (1, [made])
+    assert not kept.exists()
+    assert ran(tmp_path, "make", name, "sid", "git") == (0, [made, install])
+    assert ran(tmp_path, "make", name, "sid", "git") == (0, [])
+    assert ran(tmp_path, "make", name, "sid", "git", "man") == (0, [made, f"{install} man"])
+    assert kept.is_dir()
 
 
 def test_run(tmp_path: Path) -> None:
     """Everything is mounted before the command runs, paths read-only unless `rw:` precedes them; a failure ends it."""
     words = [str(tmp_path), "/one", "rw:/two", "--", "a", "command"]
     assert ran(tmp_path, "enter", *words) == (0, [f"unshare --mount {MACHINE} unshared enter {' '.join(words)}"])
-    kinds = ["proc proc", "devpts -o newinstance,ptmxmode=666 devpts", "tmpfs -o mode=1777 tmpfs"]
-    mounts = [f"mount -t {kind} {tmp_path}/{path}" for kind, path in zip(kinds, ("proc", "dev/pts", "dev/shm"))]
-    bound = [f"mount --bind {path} {tmp_path}{path}" for path in ("/etc/resolv.conf", "/one", "/two")]
-    mounts = [f"mount --bind {tmp_path} {tmp_path}", *mounts, *bound]
-    mounts.insert(-1, f"mount -o remount,bind,ro {tmp_path}/one")
+    mounts = [
+        f"mount --bind {tmp_path} {tmp_path}",
+        f"mount -t proc proc {tmp_path}/proc",
+        f"mount -t devpts -o newinstance,ptmxmode=666 devpts {tmp_path}/dev/pts",
+        f"mount -t tmpfs -o mode=1777 tmpfs {tmp_path}/dev/shm",
+        f"mount --bind /etc/resolv.conf {tmp_path}/etc/resolv.conf",
+        f"mount --bind /one {tmp_path}/one",
+        f"mount -o remount,bind,ro {tmp_path}/one",
+        f"mount --bind /two {tmp_path}/two",
+    ]
     assert ran(tmp_path, "unshared", "beside", *words[:-2], "env") == (0, [*mounts, "env "])
     commands = [*mounts, "pivot_root . mnt", "umount --lazy /mnt", f"{ENVIRONMENT} a command"]
     assert ran(tmp_path, "unshared", "enter", *words) == (0, commands)
-    for tool in ("mount", "pivot_root", "umount"):
-        last = [line.startswith(tool) for line in commands].index(True) + 1
-        assert ran(tmp_path, "unshared", "enter", *words, failing=tool) == (1, commands[:last])
+    assert ran(tmp_path, "unshared", "enter", *words, failing="mount") == (1, commands[:1])
+    assert ran(tmp_path, "unshared", "enter", *words, failing="umount") == (1, commands[:-1])
