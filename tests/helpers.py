@@ -3,7 +3,6 @@
 import re
 import runpy
 import subprocess
-from collections import Counter
 from collections.abc import Callable
 from dataclasses import replace
 from hashlib import shake_128
@@ -131,22 +130,19 @@ def test_oracle(layers: list[tuple[str, str]], is_yaml: bool) -> None:
     assert oracle.visible(content) == ({b"text-0001"} if is_seen else set())
 
 
-a_value = st.sampled_from([None, ("a", "x"), ("a", "y"), ("b", "x")])
-
-
-@given(a_value, a_value, a_value)
-def test_merged_values(base: oracle.Value | None, other: oracle.Value | None, found: oracle.Value | None) -> None:
-    sides = [(base, other), (other, base)]
-    assert [oracle.is_merged(base, *each, found) for each in sides] == [found == other] * 2, "only one side changes"
-    both = oracle.is_merged(("a", "x"), ("b", "x"), ("a", "y"), found or ("b", "y"))
-    assert both == (found is None), "each side changes a part"
+def test_merged_values() -> None:
+    base, tagged, changed = ("a", "x"), ("b", "x"), ("a", "y")
+    for sides in ([base, changed], [changed, base]):
+        found = [oracle.is_merged(base, *sides, each) for each in (changed, base, tagged, None)]
+        assert found == [True, False, False, False], "only one side changes"
+    found = [oracle.is_merged(base, tagged, changed, each) for each in (("b", "y"), tagged, changed)]
+    assert found == [True, False, False], "each side changes a part"
 
 
 def test_values() -> None:
     needs_pyyaml()
     assert {*(oracle.values(b"a: 1\n---\nl:\n- {b: 2}\n- 3\n") or ())} == {("a",), ("l", "0", "b"), ("l", "1")}
     assert oracle.values(oracle.make("dev", b"a: 1\nb: 2\n", "", 0)) == {("a",): ("", "a: 1"), ("b",): ("", "b: 2")}
-    assert oracle.values(b"a: [") is None
 
 
 def test_dead_links(tmp_path: Path) -> None:
@@ -174,10 +170,8 @@ def test_kinds_of_requests(monkeypatch: pytest.MonkeyPatch) -> None:
     cases = [make(str(number)) for number in range(3_000)]
     wanted = {fault.line for fault in {*Fault} - NOT_MET} | {b"", None}
     assert wanted - {expected(case, SALT).message for case in cases} == set(), "faults, a success, the parser's text"
-    commands = Counter(case.words[0] for case in cases if case.stdin.startswith(vaults.MAGIC))
-    assert min(commands[each] for each in ("decrypt", "view", "rekey")) > 200, "vaults as input"
-    assert {*random_envelopes.SIZES, *random_envelopes.LARGE_SIZES} <= sizes, "sizes"
-    assert len(sizes & {*random_envelopes.LIMIT_SIZES}) > 1, "sizes near the limit"
+    assert {*random_envelopes.SIZES, *random_envelopes.LARGE_SIZES} <= sizes
+    assert len(sizes & {*random_envelopes.LIMIT_SIZES}) > 1
     texts = [text for case in cases for text in (*case.words, *case.files)]
     said = {part for text in texts for part in (text, text[2:], *re.split("[=@]", text))}
     tables = [table for name, table in vars(random_requests).items() if name.isupper() and not isinstance(table, str)]

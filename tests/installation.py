@@ -10,14 +10,12 @@ from functools import partial
 
 import pytest
 
-from lib.installed import NAMES, PREFIX_FILES, SHARED, check_program, files_below, printed, run_make
+from lib.installed import PREFIX_FILES, SHARED, check_program, files_below, printed, run_make
 from lib.links import dead_links
-from lib.needs import needs
 from lib.scripts import searched_first, write_script
 
 LOCAL_FILES = PREFIX_FILES | {"lib/ansible-vault/installed.sha256"}
 PROGRAM, LINK, MANUAL = "bin/ansible-vault", "bin/ansible-vault-edit", "share/man/man1/ansible-vault-edit.1"
-BASH_COMPLETION = pathlib.Path("/usr/share/bash-completion/bash_completion")
 
 Make = Callable[..., subprocess.CompletedProcess[str]]
 
@@ -31,46 +29,6 @@ def place(tmp_path: pathlib.Path) -> pathlib.Path:
 def make(program: str, place: pathlib.Path) -> Make:
     """Return a function that runs make for the prefix `place`, unless its words name another."""
     return partial(run_make, program, "DESTDIR=", f"PREFIX={place}")
-
-
-@pytest.fixture(scope="module")
-def prefix(program: str, tmp_path_factory: pytest.TempPathFactory) -> pathlib.Path:
-    folder = tmp_path_factory.mktemp("installed")
-    assert run_make(program, "install", f"DESTDIR={folder}", "PREFIX=/opt/vault").returncode == 0
-    return folder / "opt" / "vault"
-
-
-def test_found_by_man(prefix: pathlib.Path) -> None:
-    needs("man")
-    pages = prefix / "share" / "man"
-    found = {name: printed("man", "-M", str(pages), "-w", name).strip() for name in NAMES}
-    assert found == {name: str(pages / "man1" / f"{name}.1") for name in NAMES}
-
-
-def test_found_by_fish(prefix: pathlib.Path) -> None:
-    """A companion's completion is a link to the program's. fish looks for none of a missing command."""
-    needs("fish")
-    ask, path = 'complete -C "ansible-vault-rotate --dry"', searched_first(prefix / "bin")["PATH"]
-    assert "--dry-run" in printed("fish", "-c", ask, XDG_DATA_DIRS=str(prefix / "share"), PATH=path)
-
-
-# Prints where zsh searches, and the commands that it completes with the installed files.
-ZSH = "print -l $fpath; fpath=($0 $fpath); autoload -Uz compinit; compinit -u -D; print -l $_comps[(I)ansible-vault*]"
-
-
-def test_found_by_zsh(prefix: pathlib.Path) -> None:
-    """zsh searches directories below /usr and /usr/local. It does not find what is installed below another prefix."""
-    needs("zsh")
-    shown = printed("zsh", "-f", "-c", ZSH, str(prefix / "share/zsh/site-functions")).split()
-    folders = {"/usr/local/share/zsh/site-functions", "/usr/share/zsh/vendor-completions"}
-    assert folders | NAMES <= {*shown}, "zsh looks where its completion is put, which is for each command"
-
-
-def test_found_by_bash_completion(prefix: pathlib.Path) -> None:
-    if not BASH_COMPLETION.exists():
-        pytest.skip("without bash-completion")
-    ask = f"source {BASH_COMPLETION} && _completion_loader ansible-vault-rotate; complete -p ansible-vault-rotate"
-    assert "_ansible_vault_companion" in printed("bash", "-c", ask, XDG_DATA_DIRS=str(prefix / "share"))
 
 
 def check_files(prefix: pathlib.Path) -> None:
@@ -147,22 +105,17 @@ def test_replaced(make: Make, place: pathlib.Path) -> None:
     assert program.read_text() == "theirs"
 
 
-def test_folders(make: Make, place: pathlib.Path) -> None:
-    """A directory at a path is not replaced, and nothing is put into it."""
-    (place / PROGRAM).mkdir(parents=True)
+def test_folders(tmp_path: pathlib.Path, make: Make, place: pathlib.Path) -> None:
+    """A directory at a path is not replaced, and nothing is put into it. A link to one is replaced."""
+    path, folder = place / PROGRAM, tmp_path / "folder"
+    path.mkdir(parents=True)
     done = make("install", "REPLACE=yes")
-    assert done.returncode != 0 and f"{place / PROGRAM} is a folder: remove it, " in done.stderr
+    assert done.returncode != 0 and f"{path} is a folder: remove it, " in done.stderr
     assert files_below(place) == set()
-
-
-def test_link_to_a_folder(tmp_path: pathlib.Path, make: Make, place: pathlib.Path) -> None:
-    folder, path = tmp_path / "folder", place / PROGRAM
-    folder.mkdir()
-    path.parent.mkdir(parents=True)
+    path.rename(folder)
     path.symlink_to(folder)
-    done = make("install", "REPLACE=yes")
-    assert (done.returncode, path.is_symlink()) == (0, False), "a link to a folder is replaced"
-    assert files_below(folder) == set(), "and the folder stays"
+    assert make("install", "REPLACE=yes").returncode == 0
+    assert (path.is_symlink(), files_below(folder)) == (False, set())
 
 
 # In place of a tool: the call with this number fails, or kills the script that runs the tool.

@@ -1,6 +1,6 @@
 """The table of options in the code agrees with the manual page, the model and the program's own help; and the help of
-each companion agrees with its page, word for word. `completions.py` compares what the shells offer. `mandoc` and
-`groff` check the pages.
+each companion agrees with its page, word for word. `completions.py` compares what the shells offer. `groff` checks the
+pages, and tools/lint also has mandoc check them.
 """
 
 import inspect
@@ -24,17 +24,7 @@ from lib.paths import COMPANIONS, PAGE, ROOT, version
 from lib.processes import run_text
 from model.options import COMMON, FLAGS, OPTIONS
 
-# The tools that check a page and render it.
-CHECKERS = {
-    "mandoc": ["mandoc", "-W", "all", "-T", "utf8"],
-    "groff": ["groff", "-ww", "-mdoc", "-T", "utf8", "-P", "-c"],
-}
 COLUMNS = 80
-# Expected warnings. The pages that a page refers to are not installed where the tests run, and its footer names the
-# program instead of the operating system.
-EXPECTED = re.compile(
-    "referenced manual not found|outdated mandoc.db|above the output for STYLE|operating system explicitly specified"
-)
 PAGES = sorted(PAGE.parent.glob("*.1"))
 # The sections of a companion's page, in order, and the optional ones.
 SECTIONS = ["NAME", "SYNOPSIS", "DESCRIPTION", "OPTIONS", "ENVIRONMENT", "FILES", "EXIT STATUS", "EXAMPLES", "SEE ALSO"]
@@ -202,13 +192,11 @@ def test_references() -> None:
 
 
 @pytest.mark.parametrize("page", PAGES, ids=attrgetter("stem"))
-@pytest.mark.parametrize("tool", CHECKERS)
-def test_page_as_it_is_shown(tool: str, page: Path) -> None:
-    needs(tool)
-    done = run_text([*CHECKERS[tool], str(page)])
-    assert [line for line in done.stderr.splitlines() if not EXPECTED.search(line)] == [], "the tool finds nothing"
+def test_page_as_it_is_shown(page: Path) -> None:
+    needs("groff")
+    done = run_text(["groff", "-ww", "-mdoc", "-T", "utf8", "-P", "-c", str(page)])
     lines = re.sub(".\b", "", done.stdout).strip().split("\n")
-    assert [line for line in lines if len(line) > COLUMNS] == [], "the page is no wider than a terminal"
+    assert (done.stderr, [line for line in lines if len(line) > COLUMNS]) == ("", []), "it fits into a terminal"
     assert lines[-1].startswith(f"ansible-vault {version()} "), "its footer has the program and the version"
 
 

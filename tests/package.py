@@ -190,8 +190,7 @@ def test_maintainer_script(tmp_path: pathlib.Path, script: str, call: str, befor
 class Beside:
     """The package and Ansible's, in a root of their own."""
 
-    def __init__(self, package: pathlib.Path, folder: pathlib.Path, program: str):
-        self.package = package
+    def __init__(self, folder: pathlib.Path, program: str):
         self.folder = folder
         self.root = Root(str(folder / "root"), program)
         for name in ("libc6", "python3"):
@@ -201,7 +200,7 @@ class Beside:
         done = self.root.dpkg(option, str(package))
         assert done.returncode == 0, done.stdout + done.stderr
 
-    def install_theirs(self, version: str = "2.14", mark: str = "") -> None:
+    def install_theirs(self, version: str, mark: str = "") -> None:
         """Install Ansible's package, with a mark at the end of each file."""
         files = {path: content + mark for path, content in THEIRS.items()}
         self.dpkg("-i", stand_in(self.folder, "ansible-core", version, files))
@@ -218,58 +217,39 @@ class Beside:
         """Everything is theirs, as if our package had never been installed."""
         found = {path: self.root.read(path) for path in THEIRS}
         assert found == {path: text + mark for path, text in THEIRS.items()}
-        self.check_nothing_left()
-
-    def check_nothing_left(self) -> None:
         assert self.root.diverted() == "", "nothing stands aside"
-        left = {path for path in files_below(self.root.path / "usr") if "ansible" in path}
-        assert {f"usr/{path}" for path in left} - THEIRS.keys() == set()
+        left = {f"usr/{path}" for path in files_below(self.root.path / "usr") if "ansible" in path}
+        assert left == THEIRS.keys()
 
 
-@pytest.fixture
-def beside(package: pathlib.Path, tmp_path: pathlib.Path, program: str) -> Beside:
+def test_beside_theirs(package: pathlib.Path, tmp_path: pathlib.Path, program: str) -> None:
     needs_root()
-    return Beside(package, tmp_path, program)
-
-
-def test_behind_theirs(beside: Beside) -> None:
-    beside.install_theirs()
-    beside.dpkg("-i", beside.package)
+    beside = Beside(tmp_path, program)
+    beside.install_theirs("2.14")
+    beside.dpkg("-i", package)
     beside.check_both()
-    beside.dpkg("-i", later(beside.package, beside.folder, VERSION + "+later"))
+    beside.dpkg("-i", later(package, tmp_path, VERSION + "+later"))
     beside.check_both()
     beside.install_theirs("2.15", "# later\n")
     beside.check_both("# later\n")
     beside.dpkg("-r", "ansible-vault")
     beside.check_theirs("# later\n")
-    beside.dpkg("-i", beside.package)
-    beside.check_both("# later\n")
+    beside.dpkg("-i", package)
+    beside.dpkg("-P", "ansible-core")
+    beside.install_theirs("2.14")
+    beside.check_both()
     beside.dpkg("-P", "ansible-vault")
-    beside.check_theirs("# later\n")
+    beside.check_theirs()
     assert beside.root.dpkg("-s", "ansible-vault").returncode == 1, "it is unknown to dpkg"
 
 
-def test_failed_unpacking(beside: Beside) -> None:
-    """A package has one of our files: ours cannot be unpacked, and leaves everything as it was."""
-    beside.install_theirs()
-    taken = "usr/share/doc/ansible-vault/README.md"
-    beside.dpkg("-i", stand_in(beside.folder, "in-the-way", "1", {taken: "taken\n"}))
-    done = beside.root.dpkg("-i", str(beside.package))
-    assert done.returncode != 0 and f"trying to overwrite '/{taken}'" in done.stderr
-    assert beside.root.read(taken) == "taken\n"
+def test_failed_unpacking(package: pathlib.Path, tmp_path: pathlib.Path, program: str) -> None:
+    """Another package has one of our files: ours cannot be unpacked, and leaves everything as it was."""
+    needs_root()
+    beside = Beside(tmp_path, program)
+    beside.install_theirs("2.14")
+    taken = {"usr/share/doc/ansible-vault/README.md": "taken\n"}
+    beside.dpkg("-i", stand_in(tmp_path, "in-the-way", "1", taken))
+    assert "trying to overwrite" in beside.root.dpkg("-i", str(package)).stderr
     beside.dpkg("-P", "in-the-way")
     beside.check_theirs()
-    beside.dpkg("-i", beside.package)
-    beside.check_both()
-
-
-def test_before_theirs(beside: Beside) -> None:
-    beside.dpkg("-i", beside.package)
-    beside.install_theirs()
-    beside.check_both()
-    beside.dpkg("-P", "ansible-core")
-    output = beside.root.run("/usr/bin/ansible-vault", "--version")
-    assert output == f"ansible-vault {VERSION}\n", "our program stays"
-    beside.dpkg("-P", "ansible-vault")
-    beside.check_nothing_left()
-    assert files_below(beside.root.path / "usr/bin") == {"dpkg-divert", "sh"}
