@@ -157,14 +157,6 @@ def test_variables() -> None:
     assert named - of_make - OF_PROGRAMS == set()
 
 
-def test_figures_in_words() -> None:
-    """The seconds that an editor has after a signal, and the end of temporary names."""
-    edit, hook = (" ".join(PAGE.with_name(f"ansible-vault-{each}.1").read_text().split()) for each in ("edit", "hook"))
-    words = [*re.findall(r"(\w+) seconds later", edit), *re.findall(r"and (\w+) more characters", hook)]
-    numbers = {"five": 5, "eight": 8}
-    assert [numbers.get(word) for word in words] == [GRACE_PERIOD, int(RANDOM[-2])]
-
-
 def ported_crates() -> dict[str, str]:
     """Return the version of each crate that security.md says is compiled in."""
     [listed] = re.findall(r"and its ports of (.*); check", (ROOT / "docs" / "security.md").read_text())
@@ -189,6 +181,7 @@ OTHER_FIGURES = """0600 09 100 12 120 127 140 197 20480 2104 24 250 40 400 4,097
     1.0 1.1 1.2 2.0 2.26 2.39 3.2 5.2 6.3 6.5""".split()
 ELSEWHERE = {"DECISIONS.md", "speed.md", "verification.md", "verification-reference.md"}
 PYTHON = ".".join(map(str, OLDEST))
+IN_WORDS = {5: "five", 8: "eight"}
 
 
 def figures(text: str) -> set[tuple[str, str]]:
@@ -214,11 +207,17 @@ def tried_releases() -> set[str]:
     return {*releases, *(each.rpartition(".")[0] for each in releases)}
 
 
-def test_figures_by_their_words(program: str) -> None:
-    """They are not exchanged for others that are known, too."""
-    wanted = {r"glibc ([\d.]+\d)": least_glibc(program), r"Python ([\d.]+\d)": PYTHON, r"([\d,]+) rounds of": "10,000"}
-    text = "".join(document.read_text() for document in DOCUMENTS if document.name != "speed.md")
-    assert {words: {*re.findall(words, text)} for words in wanted} == {words: {wanted[words]} for words in wanted}
+def test_figures_in_words(program: str) -> None:
+    """Figures that are words, or that could be exchanged for others: those before and after these words."""
+    wanted = {
+        r"glibc ([\d.]+\d)": least_glibc(program),
+        r"Python ([\d.]+\d)": PYTHON,
+        r"([\d,]+) rounds of PBKDF2": "10,000",
+        r"(\w+) seconds later": IN_WORDS[int(GRACE_PERIOD)],
+        r"and (\w+) more characters": IN_WORDS[int(RANDOM[-2])],
+    }
+    found = {words: {*re.findall(words, " ".join(TEXT.split()))} for words in wanted}
+    assert found == {words: {figure} for words, figure in wanted.items()}
 
 
 def test_figures(program: str) -> None:

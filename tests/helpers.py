@@ -132,9 +132,9 @@ def test_oracle(layers: list[tuple[str, str]], is_yaml: bool) -> None:
 
 def test_merged_values() -> None:
     base, tagged, changed = ("a", "x"), ("b", "x"), ("a", "y")
-    for sides in ([base, changed], [changed, base]):
-        found = [oracle.is_merged(base, *sides, each) for each in (changed, base, tagged, None)]
-        assert found == [True, False, False, False], "only one side changes"
+    for ours, theirs, new in ((base, changed, changed), (changed, base, changed), (base, None, None)):
+        found = [oracle.is_merged(base, ours, theirs, each) for each in (new, base, tagged)]
+        assert found == [True, False, False], "only one side changes"
     found = [oracle.is_merged(base, tagged, changed, each) for each in (("b", "y"), tagged, changed)]
     assert found == [True, False, False], "each side changes a part"
 
