@@ -173,23 +173,6 @@ def test_ported_crates() -> None:
     assert [name for name, number in ported_crates().items() if f"{name} {number}" not in pages] == []
 
 
-# Figures that are not in the code: measured ones, with their units, and those of standards, of other programs and of
-# examples. The pages named here are generated, or say when they were measured.
-UNITS = {"GB", "KiB", "MB", "MiB", "min", "ms", "s"}
-MEASURED = {"11 min", "25 min", "50 min", "40 s", "90 s", "36 KiB", "64 KiB", "20 MiB"}
-OTHER_FIGURES = """0600 09 100 12 120 127 140 197 20480 2104 24 250 40 400 4,097 5432 5652 600,000 8018 99 2009 2011
-    1.0 1.1 1.2 2.0 2.26 2.39 3.2 5.2 6.3 6.5""".split()
-ELSEWHERE = {"DECISIONS.md", "speed.md", "verification.md", "verification-reference.md"}
-PYTHON = ".".join(map(str, OLDEST))
-IN_WORDS = {5: "five", 8: "eight"}
-
-
-def figures(text: str) -> set[tuple[str, str]]:
-    """Return the numbers with at least two digits, and the word after each, except in examples, code and links."""
-    prose = re.sub(r"^(?: {4}|\.[DO]).*$|`[^`\n]*`|\]\([^)]*\)", "", text, flags=re.MULTILINE).replace("\n", " ")
-    return set(re.findall(r"(?<![\w.#+-])(\d[\d,.]*\d)(?![\w-])(?: (\w+))?", prose))
-
-
 def least_glibc(program: str) -> str:
     """Return the newest version of the C library that the program takes a symbol from."""
     needs("nm")
@@ -199,19 +182,15 @@ def least_glibc(program: str) -> str:
     return f"{major}.{minor}"
 
 
-def tried_releases() -> set[str]:
-    """Return the releases of Ansible that a page says were tried, each with and without its last number."""
-    page = (ROOT / "docs" / "coming-from-ansible.md").read_text()
-    releases = dict(re.findall(r"(\d+\.\d+\.\d+)(?:b\d)? \((\w+)\)", page))
-    assert [*releases.values()] == [*runpy.run_path(str(ROOT / "tools" / "releases"))["RELEASES"]]
-    return {*releases, *(each.rpartition(".")[0] for each in releases)}
+IN_WORDS = {5: "five", 8: "eight"}
 
 
 def test_figures_in_words(program: str) -> None:
-    """Figures that are words, or that could be exchanged for others: those before and after these words."""
+    """The figures before and after these words."""
     wanted = {
+        r"\*\*Status:\*\* ([\d.]+\d)": version(),
         r"glibc ([\d.]+\d)": least_glibc(program),
-        r"Python ([\d.]+\d)": PYTHON,
+        r"Python ([\d.]+\d)": ".".join(map(str, OLDEST)),
         r"([\d,]+) rounds of PBKDF2": "10,000",
         r"(\w+) seconds later": IN_WORDS[int(GRACE_PERIOD)],
         r"and (\w+) more characters": IN_WORDS[int(RANDOM[-2])],
@@ -220,16 +199,24 @@ def test_figures_in_words(program: str) -> None:
     assert found == {words: {figure} for words, figure in wanted.items()}
 
 
-def test_figures(program: str) -> None:
-    """Each figure is one of the code, of the releases that were tried, or of those above."""
-    code = "\n".join(path.read_text() for path in CRATES.glob("*/src/**/*.rt"))
-    constants = {int(each.replace("_", "")) for each in re.findall(r"\bconst \w+: \w+ = ([\d_]+);", code)}
-    in_code = constants.union(code_limits().values(), code_faults())
-    known = {*OTHER_FIGURES, *map(str, in_code), *(f"{each:,}" for each in in_code)}
-    known |= {version(), PYTHON, least_glibc(program), *ported_crates().values(), *tried_releases()}
-    found = set().union(*(figures(each.read_text()) for each in DOCUMENTS if each.name not in ELSEWHERE))
-    unknown = {f"{number} {word}" for number, word in found if word in UNITS or number not in known}
-    assert unknown == MEASURED | {f"{code_limits()['PLAINTEXT_LIMIT'] >> 20} MiB"}
+# Sizes that are no limits of the code.
+OTHER_SIZES = {"14 bytes", "80 bytes", "4095 bytes", "4097 bytes", "20 MiB"}
+
+
+def test_sizes() -> None:
+    """All other sizes are limits of the code. docs/speed.md has measured ones."""
+    words = [word for document in DOCUMENTS if document.name != "speed.md" for word in document.read_text().split()]
+    named = {*re.findall(r"(?<![\w.])\d+ (?:bytes|secrets|MiB)\b", " ".join(words).replace(",", ""))}
+    limits = code_limits()
+    known = {f"{limits['SECRET_COUNT_LIMIT']} secrets", f"{limits['PLAINTEXT_LIMIT'] >> 20} MiB"}
+    assert named - known - {f"{each} bytes" for each in limits.values()} == OTHER_SIZES
+
+
+def test_releases() -> None:
+    """docs/coming-from-ansible.md has the releases of Debian whose Ansible was tried."""
+    page = (ROOT / "docs" / "coming-from-ansible.md").read_text()
+    named = re.findall(r"\d+\.\d+\.\d+(?:b\d)? \((\w+)\)", page)
+    assert [*dict.fromkeys(named)] == [*runpy.run_path(str(ROOT / "tools" / "releases"))["RELEASES"]]
 
 
 # Paths that the documents give as examples.

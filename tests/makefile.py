@@ -149,8 +149,6 @@ def test_variables(rules: Rules, goal: str) -> None:
 
 
 def test_benchmarks(rules: Rules) -> None:
-    """`make bench` runs each, and with QUICK=yes each is quick."""
-    scripts = {path.name for path in (ROOT / "bench").glob("*.py") if "options(__doc__" in path.read_text()}
-    for quick in ("no", "yes"):
-        lines = re.findall(r"^bench/(\S+)(.*)$", rules.make("-n", "bench", f"QUICK={quick}").stdout, re.MULTILINE)
-        assert {name: line.endswith(" --quick") for name, line in lines} == dict.fromkeys(scripts, quick == "yes")
+    """With QUICK=yes each is quick."""
+    lines = re.findall(r"^bench/.*$", rules.make("-n", "bench", "QUICK=yes").stdout, re.MULTILINE)
+    assert len(lines) > 4 and [line for line in lines if not line.endswith(" --quick")] == []

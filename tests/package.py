@@ -2,7 +2,6 @@
 a stand-in for Ansible's package.
 """
 
-import fcntl
 import os
 import pathlib
 import re
@@ -27,20 +26,12 @@ PACKAGE_FILES = FILES | {
 
 
 @pytest.fixture(scope="module")
-def package(program: str, tmp_path_factory: pytest.TempPathFactory) -> pathlib.Path:
-    """Build the package once, for all processes that run these tests."""
+def package(program: str) -> pathlib.Path:
     needs("dpkg-deb", "dh")
-    folder = tmp_path_factory.getbasetemp()
-    folder = folder.parent if "PYTEST_XDIST_WORKER" in os.environ else folder
+    done = run_make(program, "package")
+    assert done.returncode == 0, done.stderr
     architecture = printed("dpkg", "--print-architecture").strip()
-    package = folder / f"ansible-vault_{VERSION}_{architecture}.deb"
-    with open(folder / "package.lock", "w") as lock:
-        fcntl.flock(lock, fcntl.LOCK_EX)
-        if not package.exists():
-            done = run_make(program, "package")
-            assert done.returncode == 0, done.stderr
-            shutil.copy(ROOT / "bin" / package.name, package)
-    return package
+    return ROOT / "bin" / f"ansible-vault_{VERSION}_{architecture}.deb"
 
 
 def test_contents(package: pathlib.Path, tmp_path: pathlib.Path) -> None:
