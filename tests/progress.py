@@ -28,21 +28,19 @@ def with_tools(folder: Path) -> dict[str, str]:
     return {name: value for name, value in searched_first(folder).items() if name not in OURS}
 
 
-@pytest.mark.parametrize("status, count", [(0, "12 passed, 0 failed\n"), (1, "11 passed, 1 failed\n"), (2, "")])
-def test_progress(tmp_path: Path, status: int, count: str) -> None:
+# How a command ends, its status, which is negative for a signal, and its last line.
+ENDS = [("exit 0", 0, "12 passed, 0 failed\n"), ("exit 2", 2, "11 passed, 1 failed\n"), ("kill -9 $$", -9, "")]
+
+
+@pytest.mark.parametrize("end, status, count", ENDS)
+def test_progress(tmp_path: Path, end: str, status: int, count: str) -> None:
     """The log is kept, and printed if the command fails. Its counts appear once on a line of their own, at the end."""
     log = tmp_path / "log"
-    done = run_text([PROGRESS, str(log), "sh", "-c", f"printf '{GATE}{count}'; exit {status}"])
-    assert (done.returncode, done.stderr, log.read_text()) == (status, "", GATE + count)
+    done = run_text([PROGRESS, str(log), "sh", "-c", f"printf '{GATE}{count}'; {end}"])
+    assert (done.returncode, done.stderr, log.read_text()) == (status % 256, "", GATE + count)
     assert ("    its own lines\n" in done.stdout) == bool(status)
     assert done.stdout.endswith(f"    0 min  {'FAILED' if status else 'done'}; the whole log is {log}\n{count}")
     assert done.stdout.splitlines().count(count.strip()) == bool(count)
-
-
-def test_killed_command(tmp_path: Path) -> None:
-    """A command that a signal kills has failed, as when memory runs out."""
-    done = run_text([PROGRESS, str(tmp_path / "log"), "sh", "-c", "kill -9 $$"])
-    assert done.returncode != 0 and "FAILED" in done.stdout
 
 
 def test_progress_each_minute(tmp_path: Path, capsys: pytest.CaptureFixture[str]) -> None:
