@@ -11,41 +11,37 @@ import pytest
 
 from lib.paths import ROOT
 
-SKIP = "import pytest; pytest.skip('why')"
 ROOT_ONLY = "import os; os.geteuid = lambda: {user}; import pytest; import lib.needs; pytest.skip(lib.needs.TAKES_ROOT)"
 MOUNTS_ONLY = """import conftest, pytest, lib.needs
     conftest.is_confined = lambda: {}; pytest.skip(lib.needs.TAKES_MOUNTS)"""
 NO_TOOL = "import subprocess; subprocess.run(['no-such-tool'])"
-READING = f"pass\n{NO_TOOL}"
-NO_FILE = "open('no-such-file')"
 THREAD = "import threading; thread = threading.Thread(target=lambda: 1 / 0); thread.start(); thread.join()"
-LEFT_OUT = f"""def test_left_out():
-    {NO_TOOL}"""
+LEFT_OUT = f"pass\ndef test_left_out():\n    {NO_TOOL}"
 ENDLESS = """import time
     for row in range(3):
         with subtests.test(): time.sleep(600 if row else 0); assert row"""
-LOW = "import conftest; conftest.FLOORS['fuzz'] = -1"
 ENOUGH = """for row in range(1000):
         with subtests.test(): record_property("random requests", (row < 200, 1))"""
-EVERYTHING = ["--require-all"]
+LOW = "import conftest; conftest.FLOORS['fuzz'] = -1"
+ALL = ["--require-all"]
 # The body of a test, pytest's options, its exit status, and the line of counts.
 SAMPLES = {
     "it passes": ("pass", [], 0, "1 passed, 0 failed, 0 skipped"),
     "a thread fails": (THREAD, [], 1, "0 passed, 1 failed, 0 skipped"),
     "it returns something": ("return 1 == 2", [], 1, "0 passed, 1 failed, 0 skipped"),
     "rows that fail and do not end": (ENDLESS, ["--timeout=1"], 1, "1 passed, 3 failed, 0 skipped"),
-    "a skip, and all is required": (SKIP, EVERYTHING, 1, "0 passed, 1 failed, 0 skipped"),
-    "only root can do it": (ROOT_ONLY.format(user=1), EVERYTHING, 0, "0 passed, 0 failed, 1 skipped"),
-    "root cannot do it": (ROOT_ONLY.format(user=0), EVERYTHING, 1, "0 passed, 1 failed, 0 skipped"),
-    "it may not mount": (MOUNTS_ONLY.format(True), EVERYTHING, 0, "0 passed, 0 failed, 1 skipped"),
-    "it could mount": (MOUNTS_ONLY.format(False), EVERYTHING, 1, "0 passed, 1 failed, 0 skipped"),
+    "a skip, and all is required": ("import pytest; pytest.skip('why')", ALL, 1, "0 passed, 1 failed, 0 skipped"),
+    "only root can do it": (ROOT_ONLY.format(user=1), ALL, 0, "0 passed, 0 failed, 1 skipped"),
+    "root cannot do it": (ROOT_ONLY.format(user=0), ALL, 1, "0 passed, 1 failed, 0 skipped"),
+    "it may not mount": (MOUNTS_ONLY.format(True), ALL, 0, "0 passed, 0 failed, 1 skipped"),
+    "it could mount": (MOUNTS_ONLY.format(False), ALL, 1, "0 passed, 1 failed, 0 skipped"),
     "a tool is missing": (NO_TOOL, [], 0, "0 passed, 0 failed, 1 skipped"),
-    "a tool is missing, and all is required": (NO_TOOL, EVERYTHING, 1, "0 passed, 1 failed, 0 skipped"),
-    "it is missing while a file is read": (READING, EVERYTHING, 2, "0 passed, 1 failed, 0 skipped"),
-    "two processes lack it": (READING, ["--numprocesses=2"], 5, "0 passed, 0 failed, 1 skipped"),
-    "a file is missing": (NO_FILE, [], 1, "0 passed, 1 failed, 0 skipped"),
+    "a tool is missing, and all is required": (NO_TOOL, ALL, 1, "0 passed, 1 failed, 0 skipped"),
+    "it is missing while a file is read": (f"pass\n{NO_TOOL}", ALL, 2, "0 passed, 1 failed, 0 skipped"),
+    "two processes lack it": (f"pass\n{NO_TOOL}", ["--numprocesses=2"], 5, "0 passed, 0 failed, 1 skipped"),
+    "a file is missing": ("open('no-such-file')", [], 1, "0 passed, 1 failed, 0 skipped"),
     "too few in two processes": ("pass", ["--floors", "--numprocesses=2"], 1, "1 passed, 11 failed, 0 skipped"),
-    "too few, and something is left out": (f"pass\n{LEFT_OUT}", ["--floors"], 0, "1 passed, 0 failed, 1 skipped"),
+    "too few, and something is left out": (LEFT_OUT, ["--floors"], 0, "1 passed, 0 failed, 1 skipped"),
     "too few, and only root can do it": (ROOT_ONLY.format(user=1), ["--floors"], 1, "0 passed, 11 failed, 1 skipped"),
     "a floor that is too low": (LOW, ["--floors"], 1, "1 passed, 11 failed, 0 skipped"),
     "enough of two kinds": (ENOUGH, ["--floors"], 1, "1 passed, 9 failed, 0 skipped"),
