@@ -12,7 +12,7 @@ import pytest
 from hypothesis import given, settings
 from hypothesis import strategies as st
 
-from companion_cases import AWKWARD, COMPANIONS, PASSWORDS, Done, Place, ended, oracle, silent
+from companion_cases import AWKWARD, COMPANIONS, PASSWORDS, Done, Place, ended, oracle, silent, wait_until
 from companion_cases.oracle import DEV, LABEL_OF, NAMES
 from fault_injection import OLD, OLD_MODE, OUTPUT, Left, Scenario, Target, run
 from lib.ansible import ansible_vault
@@ -108,6 +108,12 @@ def test_what_a_place_has(tmp_path: Path) -> None:
     place.put("../runtime/a/.b", b"")
     assert (place.files(), {*place.names()}) == (files, files.keys() | {"a", "a/.b", "d.git"})
     assert place.left() == [f"{place.runtime}/a", f"{place.runtime}/a/.b"]
+
+
+def test_waits() -> None:
+    answers = [True, False, False]
+    wait_until(answers.pop, "the last answer")
+    assert answers == []
 
 
 # A password, and the label of an envelope that it encrypts.

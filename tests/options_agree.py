@@ -61,11 +61,11 @@ def referred(text: str) -> list[set[str]]:
 
 @pytest.mark.parametrize("name", COMPANIONS)
 def test_companion(name: str) -> None:
-    """The page of a companion agrees with its help."""
+    """The page of a companion describes the options of its help, or says where they are described."""
     page, in_help = companion_page(name), companion_options(name)
     assert [*page] == [title for title in SECTIONS if title in page or title not in FURTHER]
     described = spellings(page["OPTIONS"]) + referred(page["OPTIONS"])
-    assert Counter(map(frozenset, described)) == Counter(map(frozenset, in_help)), "it has the options, or says where"
+    assert Counter(frozenset(each) for each in described) == Counter(frozenset(each) for each in in_help)
     named = options_in(page["SYNOPSIS"])
     assert [each for each in described if not each & named] == [], "the synopsis names each option"
     assert named - set().union(*described) == set(), "and no other"
