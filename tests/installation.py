@@ -10,12 +10,14 @@ from functools import partial
 
 import pytest
 
-from lib.installed import PREFIX_FILES, SHARED, check_program, files_below, printed, run_make
+from lib.installed import NAMES, PREFIX_FILES, SHARED, check_program, files_below, printed, run_make
 from lib.links import dead_links
+from lib.needs import needs
 from lib.scripts import searched_first, write_script
 
 LOCAL_FILES = PREFIX_FILES | {"lib/ansible-vault/installed.sha256"}
 PROGRAM, LINK, MANUAL = "bin/ansible-vault", "bin/ansible-vault-edit", "share/man/man1/ansible-vault-edit.1"
+BASH_COMPLETION = pathlib.Path("/usr/share/bash-completion/bash_completion")
 
 Make = Callable[..., subprocess.CompletedProcess[str]]
 
@@ -64,6 +66,22 @@ def test_modes(make: Make, place: pathlib.Path) -> None:
     programs = {place / PROGRAM, *(place / "lib/ansible-vault").glob("ansible-vault-*")}
     run = {path for path in modes if path.is_dir() or path.resolve() in programs}
     assert modes == {path: 0o755 if path in run else 0o644 for path in modes}
+
+
+def test_found_by_man(make: Make, place: pathlib.Path) -> None:
+    needs("man")
+    make("install")
+    found = {name: printed("man", "-M", str(place / "share/man"), "-w", name).strip() for name in NAMES}
+    assert found == {name: str(place / f"share/man/man1/{name}.1") for name in NAMES}
+
+
+def test_found_by_bash_completion(make: Make, place: pathlib.Path) -> None:
+    """That of a companion is a link to the program's."""
+    if not BASH_COMPLETION.exists():
+        pytest.skip("without bash-completion")
+    make("install")
+    ask = f"source {BASH_COMPLETION} && _completion_loader ansible-vault-rotate; complete -p ansible-vault-rotate"
+    assert "_ansible_vault_companion" in printed("bash", "-c", ask, XDG_DATA_DIRS=str(place / "share"))
 
 
 def theirs(path: pathlib.Path) -> pathlib.Path:

@@ -141,9 +141,9 @@ def test_ci_with_all_installed(tmp_path: Path) -> None:
 
 # The packages of the programs that tests ask for, if they have other names, or every system has them.
 PACKAGES = dict.fromkeys(["awk", "bash", "dpkg-deb", "rt", "stty"], "") | dict.fromkeys(["cc", "nm"], "build-essential")
-PACKAGES |= {"dh": "debhelper", "localedef": "locales", "man": "man-db", "setfacl": "acl"}
+PACKAGES |= {"dh": "debhelper", "groff": "groff-base", "localedef": "locales", "man": "man-db", "setfacl": "acl"}
 # Those of the modules and of the other programs that they use.
-OTHERS = "ansible-core bash-completion graphviz groff-base python3-coverage python3-hypothesis python3-matplotlib "
+OTHERS = "ansible-core bash-completion fish graphviz python3-coverage python3-hypothesis python3-matplotlib "
 OTHERS += "python3-pytest python3-pytest-subtests python3-pytest-timeout python3-pytest-xdist python3-yaml"
 
 
