@@ -5,10 +5,7 @@ on each crate's first page, which a test also runs.
 import re
 import runpy
 import subprocess
-from operator import attrgetter
 from pathlib import Path
-
-import pytest
 
 from ansible_vault_companions import OLDEST
 from ansible_vault_companions.files import reading
@@ -25,18 +22,20 @@ FORMATS = (ROOT / "docs" / "formats.md").read_text()
 CRATES = ROOT / "crates"
 FAULTS = (CRATES / "vault_fault" / "src" / "fault.rt").read_text()
 STATUSES = (CRATES / "vault_cli" / "src" / "runs" / "status.rt").read_text()
+CODES = {name: int(code) for name, code in re.findall(r"Status::(\w+) => (\d),", STATUSES)}
+DOCUMENTS = [README, ROOT / "CONTRIBUTING.md", *sorted((ROOT / "docs").glob("*.md")), *sorted(PAGE.parent.glob("*.1"))]
+TEXT = "".join(document.read_text() for document in DOCUMENTS)
 
-# The constants whose values appear in each row.
+# The constants whose values appear in each row of the table of limits, here without commas.
 LIMITS = {
-    "plaintext that is encrypted (L)": {"PLAINTEXT_LIMIT"},
-    "ciphertext, read or written (L + 16)": {"CIPHERTEXT_LIMIT"},
-    "an envelope as it is read (6 L + 8,192)": {"ENVELOPE_LIMIT"},
-    "a header line, without its line end": {"HEADER_LIMIT"},
-    "a salt that is read": {"SALT_LIMIT"},
-    "a salt that is written": {"SEALING_SALT_LENGTH", "SALT_TEXT_LIMIT"},
-    "a label": {"LABEL_LIMIT"},
-    "a password file": {"PASSWORD_FILE_LIMIT"},
-    "secrets": {"SECRET_COUNT_LIMIT"},
+    "plaintext that is encrypted (L)": ["PLAINTEXT_LIMIT"],
+    "ciphertext read or written (L + 16)": ["CIPHERTEXT_LIMIT"],
+    "an envelope as it is read (6 L + 8192)": ["ENVELOPE_LIMIT"],
+    "a header line without its line end": ["HEADER_LIMIT"],
+    "a salt that is read": ["SALT_LIMIT"],
+    "a salt that is written": ["SEALING_SALT_LENGTH", "SALT_TEXT_LIMIT"],
+    "a label": ["LABEL_LIMIT"],
+    "a password file": ["PASSWORD_FILE_LIMIT"],
 }
 
 
@@ -48,59 +47,42 @@ def code_texts() -> dict[str, list[str]]:
     return texts
 
 
-def code_statuses() -> dict[str, int]:
-    """Return the exit status of each fault that has its own, and the status of all others under `_`."""
-    codes = dict(re.findall(r"Status::(\w+) => (\d),", STATUSES))
-    statuses = {}
-    for faults, status in re.findall(r"^ +(Fault::.*|_) => Status::(\w+),$", STATUSES, re.MULTILINE):
-        for name in re.findall(r"Fault::(\w+)|(_)", faults):
-            statuses["".join(name)] = int(codes[status])
-    return statuses
-
-
 def code_faults() -> dict[int, tuple[list[str], int]]:
     """Return the texts and the status of each fault number in the code."""
-    texts, statuses = code_texts(), code_statuses()
-    numbers = re.findall(r"Fault::(\w+)(?:\(_\))? => (\d+),", FAULTS)
-    return {int(number): (texts[name], statuses.get(name, statuses["_"])) for name, number in numbers}
-
-
-def document_faults() -> dict[int, tuple[list[str], int]]:
-    """Return the texts and the status of each fault number in the document."""
-    rows = re.findall(r"^ +(\d+) +(\d) +(\S.*(?:\n {5,}\D.*)*)$", FORMATS, re.MULTILINE)
-    return {int(number): (re.split(r"\n +", texts), int(status)) for number, status, texts in rows}
+    statuses: dict[str, int] = {}
+    for faults, status in re.findall(r"^ +(Fault::.*|_) => Status::(\w+),$", STATUSES, re.MULTILINE):
+        statuses |= dict.fromkeys(re.findall(r"Fault::(\w+)", faults) or ["others"], CODES[status])
+    texts, numbers = code_texts(), re.findall(r"Fault::(\w+)(?:\(_\))? => (\d+),", FAULTS)
+    return {int(number): (texts[name], statuses.get(name, statuses["others"])) for name, number in numbers}
 
 
 def code_limits() -> dict[str, int]:
     """Return the constants of the files `limits.rt`."""
     values: dict[str, int] = {}
     for file in sorted(CRATES.glob("vault_*/src/limits.rt")):
-        constants = re.findall(r"^(?:pub )?const (\w+): \w+ = (.*);$", file.read_text(), re.MULTILINE)
-        for name, expression in constants:
+        for name, expression in re.findall(r"^(?:pub )?const (\w+): \w+ = (.*);$", file.read_text(), re.MULTILINE):
             values[name] = eval(expression, {}, values)
     return values
 
 
-def numbers(text: str) -> set[int]:
-    """Return the numbers of a row, except for the 1 that begins some ranges."""
-    return {int(each.replace(",", "")) for each in re.findall(r"\d[\d,]*", text)} - {1}
+def test_faults() -> None:
+    rows = re.findall(r"^ +(\d+) +(\d) +(\S.*(?:\n {5,}\D.*)*)$", FORMATS, re.MULTILINE)
+    listed = {int(number): (re.split(r"\n +", texts), int(status)) for number, status, texts in rows}
+    assert listed == code_faults(), "docs/formats.md has the faults of the code"
+    messages = re.findall(r"^\.It (.*)$", sections(PAGE.read_text())["DIAGNOSTICS"], re.MULTILINE)
+    texts = [text for texts in code_texts().values() for text in texts]
+    assert sorted(messages) == sorted(texts), "the manual page explains every message"
 
 
-def document_limits() -> dict[str, str]:
-    """Return the rows of the document's table."""
-    table = FORMATS.partition("\n## Limits\n")[2].partition("\n## ")[0]
-    rows = dict(re.findall(r"^\| (.+) \| (.+) \|$", table, re.MULTILINE))
-    secrets = re.findall(r"at most (\d+) secrets", table)
-    return rows | {"secrets": " ".join(secrets)}
-
-
-def test_formats() -> None:
-    assert document_faults() == code_faults(), "docs/formats.md has the faults of the code"
-    rows, limits = document_limits(), code_limits()
-    wanted = {what: {limits[constant] for constant in constants} for what, constants in LIMITS.items()}
-    assert {what: numbers(rows.get(what, "")) for what in LIMITS} == wanted, "and the code's limits"
-    assert reading.LONGEST_PLAINTEXT == limits["PLAINTEXT_LIMIT"], "as the companions have"
-    assert reading.LIMIT == limits["ENVELOPE_LIMIT"]
+def test_limits() -> None:
+    """A range's first number, 1, is no constant."""
+    limits, table = code_limits(), FORMATS.partition("\n## Limits\n")[2].partition("\n## ")[0]
+    rows = re.findall(r"^\| (.+) \| ([\d].*) \|$", table.replace(",", ""), re.MULTILINE)
+    found = {what: {int(each) for each in re.findall(r"\d+", numbers)} - {1} for what, numbers in rows}
+    assert found == {what: {limits[constant] for constant in constants} for what, constants in LIMITS.items()}
+    assert f"at most {limits['SECRET_COUNT_LIMIT']} secrets" in table
+    of_companions = (reading.LONGEST_PLAINTEXT, reading.LIMIT)
+    assert of_companions == (limits["PLAINTEXT_LIMIT"], limits["ENVELOPE_LIMIT"]), "the companions have the same"
 
 
 def test_bytes() -> None:
@@ -112,36 +94,20 @@ def test_bytes() -> None:
     assert listed == {code for code in range(256) if is_label(f"a{chr(code)}b")}
 
 
-def test_documents() -> None:
+def test_suffixes() -> None:
     """Each list of suffixes that marks documents, in which blocks may be examples, is the companions' own."""
-    lists = [each for document in DOCUMENTS for each in re.findall(r"\.md(?:`? ?, `?\.\w+)+", document.read_text())]
+    lists = re.findall(r"\.md(?:`? ?, `?\.\w+)+", TEXT)
     assert len(lists) > 2
     assert {tuple(re.findall(r"\.\w+", each)) for each in lists} == {PROSE}
 
 
-def test_page() -> None:
-    diagnostics = sections(PAGE.read_text())["DIAGNOSTICS"]
-    messages = re.findall(r"^\.It (.*)$", diagnostics, re.MULTILINE)
-    texts = [text for texts in code_texts().values() for text in texts]
-    assert sorted(messages) == sorted(texts), "the manual page explains every message"
-    longest = re.search(r"Plaintext may have at most ([\d,]+) bytes", diagnostics)
-    assert longest and numbers(longest[1]) == {code_limits()["PLAINTEXT_LIMIT"]}, "and names the longest plaintext"
-
-
-def code_codes() -> set[int]:
-    """Return the exit statuses in the code."""
-    return {int(code) for code in re.findall(r"Status::\w+ => (\d),", STATUSES)}
-
-
 def test_exit_statuses() -> None:
-    """The code's statuses include the parser's own."""
+    """The manual page has the code's exit statuses, and says of each what its faults say in their last word."""
     texts = dict(re.findall(r"^\.It (\d)\n(.+)$", sections(PAGE.read_text())["EXIT STATUS"], re.MULTILINE))
-    assert [int(code) for code in texts] == sorted(code_codes()), "the manual page has the code's exit statuses"
-    # Faults with a status of their own end with what could not be done, or with what was missing.
+    assert [int(code) for code in texts] == sorted(CODES.values())
     ends = {(status, text.split()[-1]) for faults, status in code_faults().values() for text in faults if status > 1}
     assert ends == {(3, "opened"), (3, "read"), (3, "written"), (4, "memory")}
-    others = [(status, end) for status, end in ends for code in (3, 4) if (end in texts[str(code)]) != (code == status)]
-    assert others == [], "and says of each what its faults say"
+    assert [(status, end) for status, end in ends if end not in texts[str(status)]] == []
 
 
 def unspaced(code: str) -> str:
@@ -153,47 +119,29 @@ def test_examples() -> None:
     """The example of each library is also a test, which may first get an allocator."""
     tests = (CRATES / "vault_program_tests" / "src" / "examples.rt").read_text()
     bodies = dict(re.findall(r"^fn of_(\w+)\(.*?\{\n(.*?)^\}", tests, re.MULTILINE | re.DOTALL))
-    tested = {
-        crate: unspaced(body).removeprefix("letalloc=rt.alloc();").removesuffix("Ok(())")
-        for crate, body in bodies.items()
-    }
-    examples = {}
+    examples, tested = {}, {}
+    for crate, body in bodies.items():
+        tested[crate] = unspaced(body).removeprefix("letalloc=rt.alloc();").removesuffix("Ok(())")
     for page in CRATES.glob("vault_*/src/lib.rt"):
         if example := re.search(r"^//! ```rust\n(.*?)^//! ```", page.read_text(), re.MULTILINE | re.DOTALL):
             examples[page.parent.parent.name] = unspaced(example[1].replace("//! ", ""))
     assert examples == tested
-    assert len(examples) > 6, "there are examples"
+    assert len(examples) > 6
 
 
-PAGES = sorted(PAGE.parent.glob("*.1"))
-DOCUMENTS = [README, ROOT / "CONTRIBUTING.md", *sorted((ROOT / "docs").glob("*.md")), *PAGES]
-# Options of other programs that the documents also name.
-OF_GIT = {"--cached", "--clean", "--filter", "--global", "--merge", "--no-edit", "--no-verify", "--ours", "--textconv"}
-OF_GIT |= {"--theirs"}
-OF_OTHERS = {"--hook-type", "--no-install-recommends", "--sample", "--strict", "--unshallow", "--wait"}
-OF_RT = {"--allow-holes", "--anew", "--list-axioms", "--only", "--test"}
-# Options that Ansible's tool has only after release 2.14.
-OF_NEWER = {"--skip-tty-check"}
-# A placeholder for any option.
-ANY_OPTION = "--option"
+# Options of git, of the prover, of other programs, and of Ansible's tool after release 2.14; and one for any option.
+OTHER_OPTIONS = """--cached --clean --filter --global --merge --no-edit --no-verify --ours --textconv --theirs
+    --allow-holes --anew --list-axioms --only --test --hook-type --no-install-recommends --sample --strict
+    --unshallow --wait --skip-tty-check --option""".split()
 
 
-def options_named(text: str) -> set[str]:
-    return set(re.findall(r"(?<![\w\\-])--[a-z][\w-]+", re.sub(r"\bFl -", " --", text)))
-
-
-@pytest.mark.parametrize("document", DOCUMENTS, ids=attrgetter("name"))
-def test_options(document: Path) -> None:
+def test_options() -> None:
     """Every option in a document belongs to the program, a companion, Ansible's tool or another known program."""
+    named = set(re.findall(r"(?<![\w\\-])--[a-z][\w-]+", re.sub(r"\bFl -", " --", TEXT)))
     of_companions = (each for name in COMPANIONS for each in companion_options(name))
     ours = described_options().union(*OF_ANSIBLE.values(), *of_companions)
-    others = OF_GIT | OF_RT | OF_OTHERS | OF_NEWER | {ANY_OPTION}
-    assert len(ours) > 30
-    assert options_named(document.read_text()) - ours - others == set()
-
-
-def test_options_are_named() -> None:
-    assert len(set().union(*(options_named(document.read_text()) for document in DOCUMENTS))) > 40
+    assert len(named & ours) > 20
+    assert named - ours - {*OTHER_OPTIONS} == set()
 
 
 # Variables that documents set, but that are none of make's.
@@ -204,62 +152,9 @@ def test_variables() -> None:
     """Every variable that a document sets is one of the Makefile, of Ansible or of another program."""
     makefile = (ROOT / "Makefile").read_text()
     of_make = set(re.findall(r"^(?:[a-z]+: (?:export )?)?([A-Z_]+) [?:]?=", makefile, re.MULTILINE))
-    named = set(re.findall(r"\b([A-Z][A-Z_]+)=", "".join(document.read_text() for document in DOCUMENTS)))
+    named = set(re.findall(r"\b(?!ANSIBLE_)([A-Z][A-Z_]+)=", TEXT))
     assert len(named & of_make) > 8
-    assert {name for name in named - of_make - OF_PROGRAMS if not name.startswith("ANSIBLE_")} == set()
-
-
-def constant(path: str, name: str) -> int:
-    [found] = re.findall(rf"^(?:pub )?const {name}: \w+ = ([\d_]+);$", (CRATES / path).read_text(), re.MULTILINE)
-    return int(found)
-
-
-def least_glibc(program: str) -> str:
-    """Return the newest version of the C library that the program takes a symbol from."""
-    needs("nm")
-    listed = subprocess.run(["nm", "--dynamic", "--with-symbol-versions", program], capture_output=True, text=True)
-    found = re.findall(r"@GLIBC_(\d+)\.(\d+)", listed.stdout)
-    major, minor = max((int(major), int(minor)) for major, minor in found)
-    return f"{major}.{minor}"
-
-
-def test_figures(program: str) -> None:
-    """Each figure is in a document, and agrees with the code everywhere."""
-    longest = code_limits()["PLAINTEXT_LIMIT"] >> 20
-    figures = {
-        r"\*\*Status:\*\* ([\d.]+\d)": version(),
-        r"glibc (\d+\.\d+)": least_glibc(program),
-        r"Python (\d+\.\d+)": PYTHON,
-        r"([\d,]+) rounds of PBKDF2": f"{constant('vault_kdf/src/keys.rt', 'ROUNDS'):,}",
-        r"(\d+) MiB(?! of address space)": str(longest),
-    }
-    text = "\n".join(document.read_text() for document in DOCUMENTS if document.name != "speed.md")
-    assert {pattern: {*re.findall(pattern, text)} for pattern in figures} == {each: {figures[each]} for each in figures}
-
-
-def test_figures_in_words() -> None:
-    """The seconds that an editor has after a signal, and the end of temporary names."""
-    edit, hook = (" ".join(PAGE.with_name(f"ansible-vault-{each}.1").read_text().split()) for each in ("edit", "hook"))
-    words = [*re.findall(r"(\w+) seconds later", edit), *re.findall(r"and (\w+) more characters", hook)]
-    numbers = {"five": 5, "eight": 8}
-    assert [numbers.get(word) for word in words] == [GRACE_PERIOD, int(RANDOM[-2])]
-
-
-# Figures that are not in the code: measured ones, with their units, and those of standards, of other programs and of
-# examples. The pages named here are generated, or say when they were measured.
-UNITS = {"GB", "KiB", "MB", "MiB", "min", "ms", "s"}
-MEASURED = {"11 min", "25 min", "50 min", "40 s", "90 s", "36 KiB", "64 KiB", "20 MiB", "16 MiB"}
-OTHERS = {"0600", "09", "100", "12", "120", "127", "20480", "24", "250", "40", "400", "4,097", "5432", "600,000", "99"}
-PYTHON = ".".join(map(str, OLDEST))
-OTHERS |= {PYTHON, "1.0", "1.1", "1.2", "2.0", "2.26", "2.39", "3.2", "2009", "2011"}
-OTHERS |= {"140", "197", "2104", "5652", "8018", "5.2", "6.3", "6.5"}
-ELSEWHERE = {"DECISIONS.md", "speed.md", "verification.md", "verification-reference.md"}
-
-
-def figures(text: str) -> set[tuple[str, str]]:
-    """Return the numbers with at least two digits, and the word after each, except in examples, code and links."""
-    prose = re.sub(r"^(?: {4}|\.[DO]).*$|`[^`\n]*`|\]\([^)]*\)", "", text, flags=re.MULTILINE).replace("\n", " ")
-    return set(re.findall(r"(?<![\w.#+-])(\d[\d,.]*\d)(?![\w-])(?: (\w+))?", prose))
+    assert named - of_make - OF_PROGRAMS == set()
 
 
 def ported_crates() -> dict[str, str]:
@@ -278,20 +173,50 @@ def test_ported_crates() -> None:
     assert [name for name, number in ported_crates().items() if f"{name} {number}" not in pages] == []
 
 
-def test_every_figure(program: str) -> None:
-    """Each figure is one of the code, of the releases that were tried, or of those above."""
-    code = "\n".join(path.read_text() for path in CRATES.glob("*/src/**/*.rt"))
-    in_code = {int(each.replace("_", "")) for each in re.findall(r"\bconst \w+: \w+ = ([\d_]+);", code)}
-    in_code |= {*code_limits().values(), *code_faults()}
-    known = OTHERS.union(*({f"{each:,}", str(each)} for each in in_code))
+def least_glibc(program: str) -> str:
+    """Return the newest version of the C library that the program takes a symbol from."""
+    needs("nm")
+    listed = subprocess.run(["nm", "--dynamic", "--with-symbol-versions", program], capture_output=True, text=True)
+    versions = re.findall(r"@GLIBC_(\d+)\.(\d+)", listed.stdout)
+    major, minor = max((int(major), int(minor)) for major, minor in versions)
+    return f"{major}.{minor}"
+
+
+IN_WORDS = {5: "five", 8: "eight"}
+
+
+def test_figures_in_words(program: str) -> None:
+    """The figures before and after these words."""
+    wanted = {
+        r"\*\*Status:\*\* ([\d.]+\d)": version(),
+        r"glibc ([\d.]+\d)": least_glibc(program),
+        r"Python ([\d.]+\d)": ".".join(map(str, OLDEST)),
+        r"([\d,]+) rounds of PBKDF2": "10,000",
+        r"(\w+) seconds later": IN_WORDS[int(GRACE_PERIOD)],
+        r"and (\w+) more characters": IN_WORDS[int(RANDOM[-2])],
+    }
+    found = {words: {*re.findall(words, " ".join(TEXT.split()))} for words in wanted}
+    assert found == {words: {figure} for words, figure in wanted.items()}
+
+
+# Sizes that are no limits of the code.
+OTHER_SIZES = {"14 bytes", "80 bytes", "4095 bytes", "4097 bytes", "20 MiB"}
+
+
+def test_sizes() -> None:
+    """All other sizes are limits of the code. docs/speed.md has measured ones."""
+    words = [word for document in DOCUMENTS if document.name != "speed.md" for word in document.read_text().split()]
+    named = {*re.findall(r"(?<![\w.])\d+ (?:bytes|secrets|MiB)\b", " ".join(words).replace(",", ""))}
+    limits = code_limits()
+    known = {f"{limits['SECRET_COUNT_LIMIT']} secrets", f"{limits['PLAINTEXT_LIMIT'] >> 20} MiB"}
+    assert named - known - {f"{each} bytes" for each in limits.values()} == OTHER_SIZES
+
+
+def test_releases() -> None:
+    """docs/coming-from-ansible.md has the releases of Debian whose Ansible was tried."""
     page = (ROOT / "docs" / "coming-from-ansible.md").read_text()
-    releases = dict(re.findall(r"(\d+\.\d+\.\d+)(?:b\d)? \((\w+)\)", page))
-    assert [*releases.values()] == [*runpy.run_path(str(ROOT / "tools" / "releases"))["RELEASES"]]
-    known |= {version(), least_glibc(program), *ported_crates().values()}
-    known |= {*releases, *(each.rpartition(".")[0] for each in releases)}
-    found = set().union(*(figures(each.read_text()) for each in DOCUMENTS if each.name not in ELSEWHERE))
-    unknown = {(each, word) for each, word in found if word in UNITS or each not in known}
-    assert {" ".join(each) for each in unknown} == MEASURED
+    named = re.findall(r"\d+\.\d+\.\d+(?:b\d)? \((\w+)\)", page)
+    assert [*dict.fromkeys(named)] == [*runpy.run_path(str(ROOT / "tools" / "releases"))["RELEASES"]]
 
 
 # Paths that the documents give as examples.
@@ -303,8 +228,7 @@ def test_paths() -> None:
     """Every absolute path in a document is also in the code."""
     files = [path for pattern in CODE for path in ROOT.glob(pattern) if path.is_file() and path.suffix != ".pyc"]
     code = "".join(path.read_text() for path in files)
-    text = "".join(document.read_text() for document in DOCUMENTS)
-    paths = re.findall(r"(?<![\w$*./@~{}\]-])/(?:dev|etc|run|srv|tmp|usr|var)[\w./-]*", text)
+    paths = re.findall(r"(?<![\w$*./@~{}\]-])/(?:dev|etc|run|srv|tmp|usr|var)[\w./-]*", TEXT)
     named = {each.rstrip("./") for each in paths}
     assert len(named) > 10
     assert {each for each in named - EXAMPLES if each not in code} == set()

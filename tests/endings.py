@@ -11,52 +11,41 @@ import pytest
 
 from lib.paths import ROOT
 
-SKIP = "import pytest; pytest.skip('why')"
 ROOT_ONLY = "import os; os.geteuid = lambda: {user}; import pytest; import lib.needs; pytest.skip(lib.needs.TAKES_ROOT)"
 MOUNTS_ONLY = """import conftest, pytest, lib.needs
     conftest.is_confined = lambda: {}; pytest.skip(lib.needs.TAKES_MOUNTS)"""
 NO_TOOL = "import subprocess; subprocess.run(['no-such-tool'])"
-READING = f"pass\n{NO_TOOL}"
-NO_FILE = "open('no-such-file')"
 THREAD = "import threading; thread = threading.Thread(target=lambda: 1 / 0); thread.start(); thread.join()"
-ROWS = "for row in range(3):\n        with subtests.test(): assert row != 1"
-LEFT_OUT = f"""def test_left_out():
-    {NO_TOOL}"""
+LEFT_OUT = f"pass\ndef test_left_out():\n    {NO_TOOL}"
 ENDLESS = """import time
     for row in range(3):
         with subtests.test(): time.sleep(600 if row else 0); assert row"""
-LOW = "import conftest; conftest.FLOORS['fuzz'] = -1"
 ENOUGH = """for row in range(1000):
         with subtests.test(): record_property("random requests", (row < 200, 1))"""
+LOW = "import conftest; conftest.FLOORS['fuzz'] = -1"
+ALL = ["--require-all"]
 # The body of a test, pytest's options, its exit status, and the line of counts.
 SAMPLES = {
     "it passes": ("pass", [], 0, "1 passed, 0 failed, 0 skipped"),
-    "it fails": ("assert False", [], 1, "0 passed, 1 failed, 0 skipped"),
     "a thread fails": (THREAD, [], 1, "0 passed, 1 failed, 0 skipped"),
     "it returns something": ("return 1 == 2", [], 1, "0 passed, 1 failed, 0 skipped"),
-    "it does not end": ("import time; time.sleep(600)", ["--timeout=1"], 1, "0 passed, 1 failed, 0 skipped"),
-    "a row fails": (ROWS, [], 1, "1 passed, 1 failed, 0 skipped"),
     "rows that fail and do not end": (ENDLESS, ["--timeout=1"], 1, "1 passed, 3 failed, 0 skipped"),
-    "a skip": (SKIP, [], 0, "0 passed, 0 failed, 1 skipped"),
-    "a skip, and all is required": (SKIP, ["--require-all"], 1, "0 passed, 1 failed, 0 skipped"),
-    "only root can do it": (ROOT_ONLY.format(user=1), ["--require-all"], 0, "0 passed, 0 failed, 1 skipped"),
-    "root cannot do it": (ROOT_ONLY.format(user=0), ["--require-all"], 1, "0 passed, 1 failed, 0 skipped"),
-    "it may not mount": (MOUNTS_ONLY.format(True), ["--require-all"], 0, "0 passed, 0 failed, 1 skipped"),
-    "it could mount": (MOUNTS_ONLY.format(False), ["--require-all"], 1, "0 passed, 1 failed, 0 skipped"),
+    "a skip, and all is required": ("import pytest; pytest.skip('why')", ALL, 1, "0 passed, 1 failed, 0 skipped"),
+    "only root can do it": (ROOT_ONLY.format(user=1), ALL, 0, "0 passed, 0 failed, 1 skipped"),
+    "root cannot do it": (ROOT_ONLY.format(user=0), ALL, 1, "0 passed, 1 failed, 0 skipped"),
+    "it may not mount": (MOUNTS_ONLY.format(True), ALL, 0, "0 passed, 0 failed, 1 skipped"),
+    "it could mount": (MOUNTS_ONLY.format(False), ALL, 1, "0 passed, 1 failed, 0 skipped"),
     "a tool is missing": (NO_TOOL, [], 0, "0 passed, 0 failed, 1 skipped"),
-    "a tool is missing, and all is required": (NO_TOOL, ["--require-all"], 1, "0 passed, 1 failed, 0 skipped"),
-    "a tool is missing while it is read": (READING, [], 5, "0 passed, 0 failed, 1 skipped"),
-    "it is missing then, and all is required": (READING, ["--require-all"], 2, "0 passed, 1 failed, 0 skipped"),
-    "two processes lack it": (READING, ["--numprocesses=2"], 5, "0 passed, 0 failed, 1 skipped"),
-    "a file is missing": (NO_FILE, [], 1, "0 passed, 1 failed, 0 skipped"),
-    "too few": ("pass", ["--floors"], 1, "1 passed, 11 failed, 0 skipped"),
+    "a tool is missing, and all is required": (NO_TOOL, ALL, 1, "0 passed, 1 failed, 0 skipped"),
+    "it is missing while a file is read": (f"pass\n{NO_TOOL}", ALL, 2, "0 passed, 1 failed, 0 skipped"),
+    "two processes lack it": (f"pass\n{NO_TOOL}", ["--numprocesses=2"], 5, "0 passed, 0 failed, 1 skipped"),
+    "a file is missing": ("open('no-such-file')", [], 1, "0 passed, 1 failed, 0 skipped"),
     "too few in two processes": ("pass", ["--floors", "--numprocesses=2"], 1, "1 passed, 11 failed, 0 skipped"),
-    "too few, and something is left out": (f"pass\n{LEFT_OUT}", ["--floors"], 0, "1 passed, 0 failed, 1 skipped"),
+    "too few, and something is left out": (LEFT_OUT, ["--floors"], 0, "1 passed, 0 failed, 1 skipped"),
     "too few, and only root can do it": (ROOT_ONLY.format(user=1), ["--floors"], 1, "0 passed, 11 failed, 1 skipped"),
     "a floor that is too low": (LOW, ["--floors"], 1, "1 passed, 11 failed, 0 skipped"),
     "enough of two kinds": (ENOUGH, ["--floors"], 1, "1 passed, 9 failed, 0 skipped"),
     "it cannot be collected": ("pass\nimport no_such", ["--floors"], 1, "0 passed, 12 failed, 0 skipped"),
-    "no test of that name": ("pass", ["-k", "another"], 5, "0 passed, 0 failed, 0 skipped"),
 }
 
 
@@ -70,16 +59,13 @@ def run_sample(folder: Path, program: str, body: str, options: list[str]) -> sub
     return subprocess.run([sys.executable, "-B", "-m", *words], capture_output=True, text=True, cwd=folder, env=kept)
 
 
-def test_time_limit(pytestconfig: pytest.Config) -> None:
-    assert 0 < float(pytestconfig.getini("timeout")) <= 900
-
-
 @pytest.mark.parametrize("body, options, status, counts", SAMPLES.values(), ids=SAMPLES)
 def test_ending(program: str, tmp_path: Path, body: str, options: list[str], status: int, counts: str) -> None:
     done = run_sample(tmp_path, program, body, options)
     found = re.findall(r"^(\d+ passed, .*)$", done.stdout, re.MULTILINE)
     assert (done.returncode, found[0]) == (status, counts), done.stdout
     assert done.stdout.count("\nskipped: tests/sample.py") == counts.endswith(" 1 skipped"), "and why"
+    assert "\nseed: 1\n" in done.stdout, "as there is no git"
     kept = {*re.findall(r"^kept in (.*)$", done.stdout, re.MULTILINE)}
     has_failed = status == 1 and "--floors" not in options
     assert [Path(each).is_dir() for each in kept] == [True] * has_failed, "a folder is kept where it fails"
@@ -87,11 +73,12 @@ def test_ending(program: str, tmp_path: Path, body: str, options: list[str], sta
         shutil.rmtree(each)
 
 
-def test_seed_of_commit(program: str, tmp_path: Path) -> None:
-    """The seed is 1 in a copy without git, and it is printed."""
-    assert "\nseed: 1\n" in run_sample(tmp_path, program, "pass", []).stdout
-    command = ["git", "-C", str(ROOT), "rev-parse", "--short=8", "HEAD"]
-    commit = subprocess.run(command, capture_output=True, text=True).stdout
+def test_seed_of_commit(program: str) -> None:
+    commit = subprocess.run(["git", "-C", str(ROOT), "rev-parse", "--short=8", "HEAD"], capture_output=True, text=True)
     words = [sys.executable, "-B", "-m", "pytest", f"--program={program}", "tests/endings.py", "-k", "time_limit"]
     done = subprocess.run(words, capture_output=True, text=True, cwd=ROOT)
-    assert f"\nseed: {int(commit, 16) if commit else 1}\n" in done.stdout
+    assert f"\nseed: {int(commit.stdout, 16) if commit.stdout else 1}\n" in done.stdout
+
+
+def test_time_limit(pytestconfig: pytest.Config) -> None:
+    assert 0 < float(pytestconfig.getini("timeout")) <= 900

@@ -2,14 +2,11 @@
 
 import re
 import runpy
-import string
 import subprocess
-from collections import Counter
 from collections.abc import Callable
 from dataclasses import replace
 from hashlib import shake_128
 from pathlib import Path
-from random import Random
 
 import pytest
 from hypothesis import given, settings
@@ -17,14 +14,13 @@ from hypothesis import strategies as st
 
 from companion_cases import AWKWARD, COMPANIONS, PASSWORDS, Done, Place, ended, oracle, silent, wait_until
 from companion_cases.oracle import DEV, LABEL_OF, NAMES
-from companion_cases.terminal import ask
 from fault_injection import OLD, OLD_MODE, OUTPUT, Left, Scenario, Target, run
 from lib.ansible import ansible_vault
-from lib.cases import Cases, refusal
+from lib.cases import Cases
 from lib.installed import VERSION
 from lib.links import dead_links
 from lib.needs import needs_pyyaml
-from lib.paths import README, ROOT
+from lib.paths import ROOT
 from lib.scripts import write_script
 from lib.system_calls import calls_in
 from model import random_envelopes, random_requests, vaults
@@ -33,69 +29,51 @@ from model.faults import Fault
 from model.random_requests import Case, make
 from model.vaults import SALT, seal
 
-# A request, and programs that differ in one thing from the program that answers it.
-CASE = Case(["decrypt", "--vault-password-file", "right", "--output", "new"], {"right": b"right\n"}, b"no vault\n")
+# Requests that are refused, answered and not parsed, with scripts that differ from the program in one thing.
+REFUSED = Case(["decrypt", "--vault-password-file", "right", "--output", "new"], {"right": b"right\n"}, b"no vault\n")
+ANSWERED = replace(REFUSED, stdin=seal(b"right", b"text"))
 DIFFERING = {
-    "another file": '"$PROGRAM" "$@"; status=$?; touch other; exit $status',
-    "a changed file": '"$PROGRAM" "$@"; status=$?; echo >> right; exit $status',
-    "another mode": '"$PROGRAM" "$@"; status=$?; chmod 600 right; exit $status',
-    "another message": '"$PROGRAM" "$@" 2>&1 | tr i I >&2; exit 1',
-    "output besides": 'echo; exec "$PROGRAM" "$@"',
-    "another status": '"$PROGRAM" "$@"; exit 3',
+    "another file": (REFUSED, '"$PROGRAM" "$@"; status=$?; touch other; exit $status'),
+    "a changed file": (REFUSED, '"$PROGRAM" "$@"; status=$?; echo >> right; exit $status'),
+    "another mode": (REFUSED, '"$PROGRAM" "$@"; status=$?; chmod 600 right; exit $status'),
+    "another message": (REFUSED, '"$PROGRAM" "$@" 2>&1 | tr i I >&2; exit 1'),
+    "another status": (REFUSED, '"$PROGRAM" "$@"; exit 3'),
+    "another mode of the output": (ANSWERED, '"$PROGRAM" "$@" && chmod 644 new'),
+    "standard output besides": (ANSWERED, '"$PROGRAM" "$@" && cat new'),
+    "a warning": (ANSWERED, '"$PROGRAM" "$@" && echo a warning >&2'),
+    "no message of the parser": (replace(REFUSED, words=["decrypt", "--none"]), "exit 2"),
 }
 
 
-@pytest.mark.parametrize("text", DIFFERING.values(), ids=DIFFERING)
-def test_differences(program: str, tmp_path: Path, monkeypatch: pytest.MonkeyPatch, text: str) -> None:
+@pytest.mark.parametrize("case, text", DIFFERING.values(), ids=DIFFERING)
+def test_differences(program: str, tmp_path: Path, monkeypatch: pytest.MonkeyPatch, case: Case, text: str) -> None:
     monkeypatch.setenv("PROGRAM", program)
-    assert differences(CASE, [write_script(tmp_path / "same", 'exec "$PROGRAM" "$@"')]) == []
-    assert differences(CASE, [write_script(tmp_path / "differing", text)]) != []
-
-
-def test_what_is_beside_an_output(program: str, tmp_path: Path, monkeypatch: pytest.MonkeyPatch) -> None:
-    monkeypatch.setenv("PROGRAM", program)
-    case = replace(CASE, stdin=seal(b"right", b"text"))
-    assert differences(case, [write_script(tmp_path / "same", 'exec "$PROGRAM" "$@"')]) == []
-    for text in ("chmod 644 new", "cat new", "echo a warning >&2"):
-        assert differences(case, [write_script(tmp_path / "differing", f'"$PROGRAM" "$@" && {text}')]) != []
-
-
-def test_message_of_the_parser(program: str, tmp_path: Path) -> None:
-    case = replace(CASE, words=["decrypt", "--none"])
     assert differences(case, [program]) == []
-    assert differences(case, [write_script(tmp_path / "silent", "exit 2")]) != []
+    assert differences(case, [write_script(tmp_path / "differing", text)]) != []
 
 
-# A fault, and answers that differ from it in one part.
 FAULT = Fault.NOT_VAULT
-WRONG = [(FAULT.status + 1, b"", FAULT.line), (FAULT.status, b"output", FAULT.line), (FAULT.status, b"", b"another")]
-CHECKS: dict[str, Callable[[Cases], object]] = {
-    "run": lambda cases: cases.run(["view"], b"", FAULT.status, b"", FAULT.line),
+CHECKS: dict[str, Callable[[Cases], None]] = {
     "refused": lambda cases: cases.refused(["view"], FAULT),
     "refuses": lambda cases: cases.refuses([], b"", FAULT),
 }
 
 
-def answering(folder: Path, status: int, output: bytes, message: bytes) -> Cases:
-    """Return cases whose program always gives this answer."""
-    (folder / "output").write_bytes(output)
-    (folder / "message").write_bytes(message)
-    text = f"cat {folder}/output; cat {folder}/message >&2; exit {status}"
-    return Cases(write_script(folder / "program", text), folder)
-
-
 @pytest.mark.parametrize("check", CHECKS.values(), ids=CHECKS)
-def test_each_part_of_an_answer(tmp_path: Path, check: Callable[[Cases], object]) -> None:
-    check(answering(tmp_path, *refusal(FAULT)))
-    for wrong in WRONG:
+def test_each_part_of_an_answer(tmp_path: Path, check: Callable[[Cases], None]) -> None:
+    """The program that gives the answer is accepted, and none with another status, output or message."""
+    (tmp_path / "message").write_bytes(FAULT.line)
+    right = f"cat {tmp_path}/message >&2; exit {FAULT.status}"
+    check(Cases(write_script(tmp_path / "program", right), tmp_path))
+    for wrong in (f"({right}); exit 9", f"echo output; {right}", f"echo >&2; {right}"):
         with pytest.raises(AssertionError):
-            check(answering(tmp_path, *wrong))
+            check(Cases(write_script(tmp_path / "program", wrong), tmp_path))
 
 
-def test_both_commands_that_read(tmp_path: Path) -> None:
-    for command in ("view", "decrypt"):
-        with pytest.raises(AssertionError):
-            Cases(write_script(tmp_path / command, f'[ "$1" = {command} ]'), tmp_path).decrypts([], b"", b"")
+@pytest.mark.parametrize("command", ["view", "decrypt"])
+def test_both_commands_that_read(tmp_path: Path, command: str) -> None:
+    with pytest.raises(AssertionError):
+        Cases(write_script(tmp_path / command, f'[ "$1" = {command} ]'), tmp_path).decrypts([], b"", b"")
 
 
 def test_what_faulty_runs_leave(tmp_path: Path) -> None:
@@ -111,7 +89,7 @@ def test_each_line_of_strace_is_a_call() -> None:
 
 
 def test_each_part_is_looked_for() -> None:
-    done = subprocess.CompletedProcess(["x"], 0, "one", "two")
+    done = Done([], 0, "one", "two")
     ended("both", done, 0, "one", "two")
     for parts in (["one", "three"], ["three", "two"], ["one\n"], [" two"]):
         with pytest.raises(AssertionError):
@@ -130,7 +108,6 @@ def test_what_a_place_has(tmp_path: Path) -> None:
     place.put("../runtime/a/.b", b"")
     assert (place.files(), {*place.names()}) == (files, files.keys() | {"a", "a/.b", "d.git"})
     assert place.left() == [f"{place.runtime}/a", f"{place.runtime}/a/.b"]
-    assert not ask(place, "sh", "-c", "stty -echo < /dev/tty", answers=[]).echoes
 
 
 def test_waits() -> None:
@@ -158,38 +135,26 @@ def test_oracle(layers: list[tuple[str, str]], is_yaml: bool) -> None:
     assert oracle.visible(content) == ({b"text-0001"} if is_seen else set())
 
 
-a_value = st.sampled_from([None, ("a", "x"), ("a", "y"), ("b", "x")])
+def test_merged_values() -> None:
+    base, tagged, changed = ("a", "x"), ("b", "x"), ("a", "y")
+    for ours, theirs, new in ((base, changed, changed), (changed, base, changed), (base, None, None)):
+        found = [oracle.is_merged(base, ours, theirs, each) for each in (new, base, tagged)]
+        assert found == [True, False, False], "only one side changes"
+    found = [oracle.is_merged(base, tagged, changed, each) for each in (("b", "y"), tagged, changed)]
+    assert found == [True, False, False], "each side changes a part"
 
 
-@given(a_value, a_value, a_value)
-def test_merged_values(base: oracle.Value | None, other: oracle.Value | None, found: oracle.Value | None) -> None:
-    sides = [(base, other), (other, base)]
-    assert [oracle.is_merged(base, *each, found) for each in sides] == [found == other] * 2, "only one side changes"
-    both = oracle.is_merged(("a", "x"), ("b", "x"), ("a", "y"), found or ("b", "y"))
-    assert both == (found is None), "each side changes a part"
-
-
-def test_values(tmp_path: Path) -> None:
+def test_values() -> None:
     needs_pyyaml()
     assert {*(oracle.values(b"a: 1\n---\nl:\n- {b: 2}\n- 3\n") or ())} == {("a",), ("l", "0", "b"), ("l", "1")}
     assert oracle.values(oracle.make("dev", b"a: 1\nb: 2\n", "", 0)) == {("a",): ("", "a: 1"), ("b",): ("", "b: 2")}
-    assert oracle.values(b"a: [") is None
-    (tmp_path / ".x").write_bytes(b"y")
-    (tmp_path / "link").symlink_to(".x")
-    assert oracle.read_tree(tmp_path) == {".x": b"y"}
-
-
-@given(st.text(sorted({*string.printable} - {*")#"}), max_size=20))
-def test_dead_files(name: str) -> None:
-    text = f"[x](https://x) [x](none{name}) [x](none{name}#x)"
-    assert [*dead_links(README, text)] == [f"none{name}", f"none{name}#x"]
 
 
 def test_dead_links(tmp_path: Path) -> None:
-    page = tmp_path / "page.md"
-    links = "[1](#a-title) [2](page.md#a-title) [3](#code) [4](page.md#gone) [5](h.md)"
+    page, dead = tmp_path / "page.md", ["#code", "page.md#gone", "h.md", "no-file", "no file's.md#a", "größe", "<a>*"]
+    links = "".join(f"[x]({link})" for link in ["#a-title", "page.md#a-title", "https://x-y.z", *dead])
     page.write_text(f"# A title\n```\n# code\n```\n{links}")
-    assert [*dead_links(page)] == ["#code", "page.md#gone", "h.md"]
+    assert [*dead_links(page)] == dead
 
 
 # Faults that no random request meets: one takes a lack of memory, the others a size that is rare.
@@ -197,28 +162,18 @@ NOT_MET = {Fault.MEMORY, Fault.TOO_LONG, Fault.CIPHER_TOO_LONG}
 
 
 def test_kinds_of_requests(monkeypatch: pytest.MonkeyPatch) -> None:
-    """Random requests meet each fault, with each value and each size of the tables. A quick cipher will do here."""
-    repeated, sizes = random_envelopes.repeated, set[int]()
-
-    def cut(random: Random, size: int) -> bytes:
-        sizes.add(size)
-        return repeated(random, min(size, 300))
-
-    monkeypatch.setattr(random_envelopes, "repeated", cut)
+    """Random requests meet each fault, with each value of the tables. A quick cipher will do here."""
+    monkeypatch.setattr(random_envelopes, "LIMIT_SIZES", random_envelopes.LARGE_SIZES)
     monkeypatch.setattr(vaults, "keys", lambda password, salt: shake_128(password + b"/" + salt).digest(80))
     monkeypatch.setattr(vaults, "counter_mode", lambda key, counter, data: data)
     cases = [make(str(number)) for number in range(3_000)]
     wanted = {fault.line for fault in {*Fault} - NOT_MET} | {b"", None}
     assert wanted - {expected(case, SALT).message for case in cases} == set(), "faults, a success, the parser's text"
-    given = Counter(case.words[0] for case in cases if case.stdin.startswith(vaults.MAGIC))
-    assert {each for each, count in given.items() if count > 200} == {"decrypt", "view", "rekey"}, "vaults as input"
-    assert {*random_envelopes.SIZES, *random_envelopes.LARGE_SIZES} <= sizes, "sizes"
-    assert len(sizes & {*random_envelopes.LIMIT_SIZES}) > 1, "sizes near the limit"
     texts = [text for case in cases for text in (*case.words, *case.files)]
     said = {part for text in texts for part in (text, text[2:], *re.split("[=@]", text))}
     tables = [table for name, table in vars(random_requests).items() if name.isupper() and not isinstance(table, str)]
     assert len(tables) > 12
-    assert {each for table in tables for each in table if isinstance(each, str)} - said == set(), "values"
+    assert {each for table in tables for each in table if isinstance(each, str)} - said == set()
 
 
 # How pytest ends with a planted fault, and what becomes of the fault.
@@ -227,7 +182,6 @@ ENDS = {
     "no test fails": (0, "1 passed\n", "failed"),
     "a test is skipped": (0, "SKIPPED [1] tests/a.py:2: why\n1 passed, 1 skipped\n", "skipped"),
     "nothing can be collected": (2, "ERROR tests/a.py - why\n", "failed"),
-    "there is no such test": (5, "no tests ran\n", "failed"),
     "pytest does not start": (1, "No module named pytest\n", "failed"),
 }
 
@@ -244,36 +198,27 @@ def test_planted_faults(program: str, status: int, output: str, outcome: str) ->
 
 # How Ansible's tool behaves in a locale that is not UTF-8, and how each tool identifies itself.
 STRICT = "case $LC_ALL in *UTF-8) ;; *) echo 'the locale encoding has to be UTF-8' >&2; exit 1 ;; esac; "
-THEIRS, OURS = "echo 'ansible-vault [core 2.14.18]'", f"echo 'ansible-vault {VERSION}'"
-# The tools on PATH, and the one that is Ansible's, or None.
-FOUND = [
-    ({"ansible-vault": STRICT + THEIRS}, "ansible-vault"),
-    ({"ansible-vault": OURS, "ansible-vault-original": THEIRS}, "ansible-vault-original"),
-    ({"ansible-vault": OURS}, None),
-]
+THEIRS, OURS = f"{STRICT}echo 'ansible-vault [core 2.14.18]'", f"echo 'ansible-vault {VERSION}'"
+FAILS = "echo 'no module named ansible' >&2; exit 1"
 
 
-@pytest.mark.parametrize("tools, wanted", FOUND)
-def test_ansible_is_found(
-    tmp_path: Path, monkeypatch: pytest.MonkeyPatch, tools: dict[str, str], wanted: str | None
-) -> None:
-    for name, value in {"PATH": str(tmp_path), "LC_ALL": "C", "ANSIBLE_VAULT": ""}.items():
+def search_in(folder: Path, monkeypatch: pytest.MonkeyPatch, named: str = "") -> None:
+    """Look for Ansible's tool in this directory alone, or at the named path."""
+    for name, value in {"PATH": str(folder), "LC_ALL": "C", "ANSIBLE_VAULT": named}.items():
         monkeypatch.setenv(name, value)
-    paths = {name: write_script(tmp_path / name, text) for name, text in tools.items()}
-    assert ansible_vault() == (paths[wanted] if wanted else None)
 
 
-@pytest.mark.parametrize("is_named", [True, False])
-def test_ansible_that_fails(tmp_path: Path, monkeypatch: pytest.MonkeyPatch, is_named: bool) -> None:
-    """It does not count as missing."""
-    path = write_script(tmp_path / "ansible-vault", "echo 'no module named ansible' >&2; exit 1")
-    for name, value in {"PATH": str(tmp_path), "ANSIBLE_VAULT": path if is_named else ""}.items():
-        monkeypatch.setenv(name, value)
-    with pytest.raises(RuntimeError, match="no module named ansible"):
-        ansible_vault()
+def test_ansible_is_found(tmp_path: Path, monkeypatch: pytest.MonkeyPatch) -> None:
+    search_in(tmp_path, monkeypatch)
+    write_script(tmp_path / "ansible-vault", OURS)
+    assert ansible_vault() is None
+    assert write_script(tmp_path / "ansible-vault-original", THEIRS) == ansible_vault()
 
 
-def test_another_tool_that_is_named(tmp_path: Path, monkeypatch: pytest.MonkeyPatch) -> None:
-    monkeypatch.setenv("ANSIBLE_VAULT", write_script(tmp_path / "ansible-vault", OURS))
-    with pytest.raises(RuntimeError, match="not of Ansible's core"):
+@pytest.mark.parametrize("text, is_named", [(FAILS, True), (FAILS, False), (OURS, True)])
+def test_ansible_that_fails(tmp_path: Path, monkeypatch: pytest.MonkeyPatch, text: str, is_named: bool) -> None:
+    """It does not count as missing, and neither does another tool that is named."""
+    path = write_script(tmp_path / "ansible-vault", text)
+    search_in(tmp_path, monkeypatch, path if is_named else "")
+    with pytest.raises(RuntimeError, match="no module named ansible" if text == FAILS else "not of Ansible's core"):
         ansible_vault()

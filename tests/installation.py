@@ -16,11 +16,8 @@ from lib.needs import needs
 from lib.scripts import searched_first, write_script
 
 LOCAL_FILES = PREFIX_FILES | {"lib/ansible-vault/installed.sha256"}
-
-# Loads the completion that bash-completion finds for the command.
-BASH = "source {} && _completion_loader ansible-vault; complete -p ansible-vault"
+PROGRAM, LINK, MANUAL = "bin/ansible-vault", "bin/ansible-vault-edit", "share/man/man1/ansible-vault-edit.1"
 BASH_COMPLETION = pathlib.Path("/usr/share/bash-completion/bash_completion")
-
 
 Make = Callable[..., subprocess.CompletedProcess[str]]
 
@@ -36,61 +33,11 @@ def make(program: str, place: pathlib.Path) -> Make:
     return partial(run_make, program, "DESTDIR=", f"PREFIX={place}")
 
 
-@pytest.fixture(scope="module")
-def prefix(program: str, tmp_path_factory: pytest.TempPathFactory) -> pathlib.Path:
-    folder = tmp_path_factory.mktemp("installed")
-    assert run_make(program, "install", f"DESTDIR={folder}", "PREFIX=/opt/vault").returncode == 0
-    return folder / "opt" / "vault"
-
-
-def test_found_by_man(prefix: pathlib.Path) -> None:
-    needs("man")
-    pages = prefix / "share" / "man"
-    found = {name: printed("man", "-M", str(pages), "-w", name).strip() for name in NAMES}
-    assert found == {name: str(pages / "man1" / f"{name}.1") for name in NAMES}
-
-
-def test_found_by_fish(prefix: pathlib.Path) -> None:
-    needs("fish")
-    share = str(prefix / "share")
-    ask = 'complete -C "ansible-vault view --require"'
-    offered = printed("fish", "-c", ask, XDG_DATA_DIRS=share)
-    assert "--require-id-match" in offered, "fish finds its completion"
-    # fish looks for no completion of a missing command.
-    path = searched_first(prefix / "bin")["PATH"]
-    ask = 'complete -C "ansible-vault-rotate --dry"'
-    offered = printed("fish", "-c", ask, XDG_DATA_DIRS=share, PATH=path)
-    assert "--dry-run" in offered, "fish finds that of a companion"
-
-
-# Prints where zsh searches, and the commands that it completes with the installed files.
-ZSH = "print -l $fpath; fpath=($0 $fpath); autoload -Uz compinit; compinit -u -D; print -l $_comps[(I)ansible-vault*]"
-
-
-def test_found_by_zsh(prefix: pathlib.Path) -> None:
-    """zsh searches directories below /usr and /usr/local. It does not find what is installed below another prefix."""
-    needs("zsh")
-    shown = printed("zsh", "-f", "-c", ZSH, str(prefix / "share/zsh/site-functions")).split()
-    folders = {"/usr/local/share/zsh/site-functions", "/usr/share/zsh/vendor-completions"}
-    assert folders | NAMES <= {*shown}, "zsh looks where its completion is put, which is for each command"
-
-
-def test_found_by_bash_completion(prefix: pathlib.Path) -> None:
-    if not BASH_COMPLETION.exists():
-        pytest.skip("without bash-completion")
-    share = str(prefix / "share")
-    loaded = printed("bash", "-c", BASH.format(BASH_COMPLETION), XDG_DATA_DIRS=share)
-    assert "_ansible_vault " in loaded, "bash-completion finds its completion"
-    text = BASH.replace("ansible-vault", "ansible-vault-rotate").format(BASH_COMPLETION)
-    loaded = printed("bash", "-c", text, XDG_DATA_DIRS=share)
-    assert "_ansible_vault_companion" in loaded, "bash-completion finds that of a companion"
-
-
 def check_files(prefix: pathlib.Path) -> None:
     """Everything is installed, and each module of the companions is compiled."""
     found = files_below(prefix)
     compiled = {each for each in found if each.endswith(".pyc")}
-    assert found - compiled == LOCAL_FILES, "make install puts the files below the prefix"
+    assert found - compiled == LOCAL_FILES
     modules = {re.sub(r"__pycache__/(\w+)\..*", r"\1.py", each) for each in compiled}
     assert modules == {f"lib/ansible-vault/{each}" for each in SHARED}, "the compiled modules"
 
@@ -98,47 +45,43 @@ def check_files(prefix: pathlib.Path) -> None:
 @pytest.mark.parametrize("destination, path", [("", "opt/vault"), ("a folder", "opt/two words")])
 def test_install(tmp_path: pathlib.Path, make: Make, destination: str, path: str) -> None:
     words = [f"DESTDIR={tmp_path / destination}", f"PREFIX=/{path}"]
-    assert make("install", *words).returncode == 0, "make install ends well"
-    prefix = tmp_path / destination / path
-    assert files_below(prefix) == LOCAL_FILES, "make install puts the files below the prefix"
-    check_program(prefix / "bin" / "ansible-vault", "the installed program")
+    done, prefix = make("install", *words), tmp_path / destination / path
+    assert (done.returncode, done.stdout, files_below(prefix)) == (0, "", LOCAL_FILES)
+    check_program(prefix / PROGRAM, "the installed program")
     documents = [*(prefix / "share/doc/ansible-vault").rglob("*.md")]
     assert [(page.name, link) for page in documents for link in dead_links(page)] == [], "links that lead nowhere"
-    assert make("uninstall", *words).returncode == 0, "make uninstall ends well"
+    assert make("uninstall", *words).returncode == 0
     assert files_below(tmp_path) == set(), "make uninstall leaves no file"
     assert [*tmp_path.rglob("ansible*")] == [], "nor a folder of its own"
     assert make("uninstall", *words).returncode != 0, "make uninstall fails if nothing is installed"
 
 
 def test_modes(make: Make, place: pathlib.Path) -> None:
-    """Everybody can use what somebody with another umask installs."""
-    assert make("install", umask=0o077).returncode == 0
+    """Everybody can use what somebody with another umask installs. Without DESTDIR, a line says what to type next."""
+    done = make("install", umask=0o077)
+    wanted = (0, "Type next: hash -r; ansible-vault --version\n", "")
+    assert (done.returncode, done.stdout, done.stderr) == wanted
+    check_files(place)
     modes = {path: stat.S_IMODE(path.stat().st_mode) for path in place.rglob("*")}
-    programs = {place / "bin" / "ansible-vault", *(place / "lib/ansible-vault").glob("ansible-vault-*")}
+    programs = {place / PROGRAM, *(place / "lib/ansible-vault").glob("ansible-vault-*")}
     run = {path for path in modes if path.is_dir() or path.resolve() in programs}
     assert modes == {path: 0o755 if path in run else 0o644 for path in modes}
-    assert len(modes) > len(LOCAL_FILES)
 
 
-def test_next_step(tmp_path: pathlib.Path, make: Make) -> None:
-    """Without DESTDIR, a line says what to type next."""
-    done = make("install")
-    wanted = (0, "Type next: hash -r; ansible-vault --version\n", "")
-    assert (done.returncode, done.stdout, done.stderr) == wanted, "make install prints the next step"
-    assert make("install", f"DESTDIR={tmp_path}").stdout == "", "with DESTDIR it does not"
+def test_found_by_man(make: Make, place: pathlib.Path) -> None:
+    needs("man")
+    make("install")
+    found = {name: printed("man", "-M", str(place / "share/man"), "-w", name).strip() for name in NAMES}
+    assert found == {name: str(place / f"share/man/man1/{name}.1") for name in NAMES}
 
 
-@pytest.mark.parametrize("name", ["bin/ansible-vault", "share/man/man1/ansible-vault-edit.1"])
-def test_owned(tmp_path: pathlib.Path, make: Make, place: pathlib.Path, name: str) -> None:
-    """No file of a package is overwritten, whichever of our files it conflicts with."""
-    path = theirs(place / name)
-    # In place of dpkg-query: a package owns the file.
-    query = f'[ "$1" = --search ] && [ "$2" = "{path}" ] && echo "ansible-core: $2"'
-    write_script(tmp_path / "tools" / "dpkg-query", query)
-    done = make("install", env=searched_first(tmp_path / "tools"))
-    assert done.returncode != 0, "make install refuses a package's file"
-    assert done.stderr.startswith(f"{path} belongs to the package ansible-core: "), "and says whose it is"
-    assert (files_below(place), path.read_text()) == ({name}, "theirs"), "and writes nothing beside it"
+def test_found_by_bash_completion(make: Make, place: pathlib.Path) -> None:
+    """That of a companion is a link to the program's."""
+    if not BASH_COMPLETION.exists():
+        pytest.skip("without bash-completion")
+    make("install")
+    ask = f"source {BASH_COMPLETION} && _completion_loader ansible-vault-rotate; complete -p ansible-vault-rotate"
+    assert "_ansible_vault_companion" in printed("bash", "-c", ask, XDG_DATA_DIRS=str(place / "share"))
 
 
 def theirs(path: pathlib.Path) -> pathlib.Path:
@@ -148,50 +91,49 @@ def theirs(path: pathlib.Path) -> pathlib.Path:
     return path
 
 
-@pytest.mark.parametrize("name", ["bin/ansible-vault", "bin/ansible-vault-edit"])
-def test_not_replaced(make: Make, place: pathlib.Path, name: str) -> None:
-    """A file that another installer, such as pip, put at one of the paths stays unless the caller says otherwise."""
+# What is in the way, as another installer, such as pip, puts it there; what a package owns; and what make says of it.
+IS_THERE = "{} is there already, and make install did not put it there: "
+IN_THE_WAY = [
+    (PROGRAM, "", IS_THERE),
+    (LINK, "", IS_THERE),
+    (MANUAL, MANUAL, "{} belongs to the package ansible-core: "),
+]
+
+
+@pytest.mark.parametrize("name, owned, message", IN_THE_WAY)
+def test_not_replaced(
+    tmp_path: pathlib.Path, make: Make, place: pathlib.Path, name: str, owned: str, message: str
+) -> None:
     path = theirs(place / name)
-    done = make("install")
-    assert done.returncode != 0, "make install refuses to overwrite it"
-    assert done.stderr.startswith(f"{path} is there already"), "and names it"
-    assert (files_below(place), path.read_text()) == ({name}, "theirs"), "and leaves it"
+    query = f'[ "$1 $2" = "--search {place / owned}" ] && echo "ansible-core: $2"'
+    write_script(tmp_path / "tools" / "dpkg-query", query)
+    done = make("install", env=searched_first(tmp_path / "tools"))
+    assert done.returncode != 0 and done.stderr.startswith(message.format(path)), done.stderr
+    assert (files_below(place), path.read_text()) == ({name}, "theirs"), "it stays, and nothing is beside it"
     assert make("uninstall").returncode != 0 and path.exists(), "make uninstall refuses, too"
 
 
 def test_replaced(make: Make, place: pathlib.Path) -> None:
-    program = theirs(place / "bin/ansible-vault")
+    program = theirs(place / PROGRAM)
     assert make("install", "REPLACE=yes").returncode == 0, "REPLACE=yes overwrites it"
     check_program(program, "the program that replaced another")
-    check_files(place)
     assert make("install").returncode == 0, "and it is then ours"
     theirs(program)
     assert make("install").returncode != 0, "a file that was changed since is not overwritten"
-    done = make("uninstall")
-    wanted = (0, f"left, since it was changed: {program}\n", {"bin/ansible-vault"})
-    assert (done.returncode, done.stdout, files_below(place)) == wanted, "nor removed"
+    assert program.read_text() == "theirs"
 
 
-@pytest.mark.parametrize("replace", ["no", "yes"])
-@pytest.mark.parametrize("name", ["bin/ansible-vault", "bin/ansible-vault-edit"])
-def test_folders(make: Make, place: pathlib.Path, name: str, replace: str) -> None:
-    """A directory at a path is not replaced, and nothing is put into it."""
-    path = place / name
+def test_folders(tmp_path: pathlib.Path, make: Make, place: pathlib.Path) -> None:
+    """A directory at a path is not replaced, and nothing is put into it. A link to one is replaced."""
+    path, folder = place / PROGRAM, tmp_path / "folder"
     path.mkdir(parents=True)
-    done = make("install", f"REPLACE={replace}")
-    wanted = f"{path} is a folder: remove it, or give another PREFIX\n"
-    assert done.returncode != 0 and wanted in done.stderr, "it is refused"
-    assert files_below(place) == set(), "nothing is written"
-
-
-def test_link_to_a_folder(tmp_path: pathlib.Path, make: Make, place: pathlib.Path) -> None:
-    folder, path = tmp_path / "folder", place / "bin/ansible-vault"
-    folder.mkdir()
-    path.parent.mkdir(parents=True)
-    path.symlink_to(folder)
     done = make("install", "REPLACE=yes")
-    assert (done.returncode, path.is_symlink()) == (0, False), "a link to a folder is replaced"
-    assert files_below(folder) == set(), "and the folder stays"
+    assert done.returncode != 0 and f"{path} is a folder: remove it, " in done.stderr
+    assert files_below(place) == set()
+    path.rename(folder)
+    path.symlink_to(folder)
+    assert make("install", "REPLACE=yes").returncode == 0
+    assert (path.is_symlink(), files_below(folder)) == (False, set())
 
 
 # In place of a tool: the call with this number fails, or kills the script that runs the tool.
@@ -200,11 +142,8 @@ echo >> '{calls}'
 [ "$(wc -l < '{calls}')" -ne {number} ] || {{ {kill} exit 1; }}
 exec {tool} "$@"
 """
-
-
 KILL = 'kill -9 "$PPID";'
-ENDS = [*(("mv", number, KILL) for number in (1, 2, 12)), ("install", 9, KILL), ("ln", 1, KILL), ("ln", 9, KILL)]
-ENDS += [("mv", 12, ""), ("install", 9, ""), ("ln", 1, "")]
+ENDS = [("mv", 1, KILL), ("mv", 2, KILL), ("install", 9, KILL), ("ln", 9, KILL), ("mv", 12, ""), ("ln", 1, "")]
 
 
 @pytest.mark.parametrize("tool, number, kill", ENDS)
@@ -227,20 +166,17 @@ def test_interrupted(
 def test_changed(make: Make, place: pathlib.Path) -> None:
     """`make uninstall` leaves what it did not install, and lists what was changed."""
     make("install")
-    program, page = place / "bin/ansible-vault", place / "share/man/man1/ansible-vault-edit.1"
-    links = [place / "bin/ansible-vault-edit", place / "share/bash-completion/completions/ansible-vault-edit"]
-    stray = place / "lib/ansible-vault/stray"
-    aside = program.rename(place.with_name("moved"))
-    for path in (page, *links, stray):
+    stray, linked = "lib/ansible-vault/stray", "share/bash-completion/completions/ansible-vault-edit"
+    program, link, *files = (place / name for name in (PROGRAM, LINK, MANUAL, linked, stray))
+    program.symlink_to(program.rename(place.with_name("moved")))
+    link.unlink()
+    link.symlink_to("elsewhere")
+    for path in files:
         path.unlink(missing_ok=True)
-    program.symlink_to(aside)
-    links[0].symlink_to("elsewhere")
-    for path in (page, links[1], stray):
         theirs(path)
     done = make("uninstall")
-    kept = {str(path.relative_to(place)) for path in (program, page, *links, stray)}
-    assert files_below(place) == kept, "make uninstall leaves what is not its own"
-    listed = {f"left, since it was changed: {path}" for path in (program, page, *links)}
+    assert files_below(place) == {PROGRAM, LINK, MANUAL, linked, stray}, "it leaves what is not its own"
+    listed = {f"left, since it was changed: {place / name}" for name in (PROGRAM, LINK, MANUAL, linked)}
     assert (done.returncode, {*done.stdout.splitlines()}) == (0, listed), "and lists it"
 
 

@@ -6,57 +6,47 @@ import re
 from collections.abc import Iterator
 from pathlib import Path
 
-import pytest
-
 from contracts import crates
 from documents import LIBRARY, PROGRAMS
 from lib.paths import ROOT
 
-# A row of the table: the job, the calls, their crate.
-ROW = re.compile(r"^\| [^|]+ \| ([^|]*`[^|]*) \| `(vault_\w+)` \|$", re.MULTILINE)
-CRATE_LINE = re.compile(r"^(\w+):(.*)$", re.MULTILINE)
+PAGE = LIBRARY.read_text()
 
 
 def test_programs() -> None:
     """The page shows or names each program."""
     programs = {file.name for file in (ROOT / PROGRAMS).glob("*.rt")} - {"tests.rt"}
     assert len(programs) > 2
-    assert programs - {*re.findall(r"\b(\w+\.rt)`", LIBRARY.read_text())} == set()
+    assert programs - {*re.findall(r"\b(\w+\.rt)`", PAGE)} == set()
 
 
 def test_calls() -> None:
-    """The crate offers each call in the table."""
-    rows = ROW.findall(LIBRARY.read_text())
-    assert len(rows) > 10, "there is a table of calls"
-    named = {(crate, call) for calls, crate in rows for call in re.findall(r"`(\w+)[\w:]*`", calls)}
-    offered = {crate: (ROOT / "crates" / crate / "src" / "lib.rt").read_text() for crate, _ in named}
-    missing = [
-        (crate, call)
-        for crate, call in sorted(named)
-        if not re.search(rf"^pub use .*\b{call}\b", offered[crate], re.MULTILINE)
-    ]
-    assert missing == [], missing
+    """The crate offers each call in the table, whose rows are the job, the calls and their crate."""
+    rows = re.findall(r"^\| [^|]+ \| ([^|]*`[^|]*) \| `(vault_\w+)` \|$", PAGE, re.MULTILINE)
+    assert len(rows) > 10
+    for calls, crate in rows:
+        offered = (ROOT / "crates" / crate / "src" / "lib.rt").read_text()
+        for call in re.findall(r"`(\w+)[\w:]*`", calls):
+            assert re.search(rf"^pub use .*\b{call}\b", offered, re.MULTILINE), (crate, call)
 
 
 def test_crate_lines() -> None:
-    """The lines to copy agree with crates.txt."""
-    ours = dict(CRATE_LINE.findall((ROOT / "crates.txt").read_text()))
-    shown = dict(re.findall(r"^    (vault_\w+):(.*)$", LIBRARY.read_text(), re.MULTILINE))
-    assert len(shown) > 3, "lines are shown"
-    assert shown == {crate: ours.get(crate) for crate in shown}
-    needed = {name for needed in shown.values() for name in needed.split() if name.startswith("vault_")}
-    assert needed - shown.keys() == set(), "what they need is shown, too"
+    """The lines to copy are those of crates.txt, with what they need."""
+    ours = (ROOT / "crates.txt").read_text().splitlines()
+    shown = re.findall(r"^    (vault_\w+:.*)$", PAGE, re.MULTILINE)
+    assert len(shown) > 3
+    assert {*shown} - {*ours} == set()
+    assert {*re.findall(r"vault_\w+", " ".join(shown))} == {line.partition(":")[0] for line in shown}
 
 
 def test_crates() -> None:
-    """The table of the crates agrees with crates.txt."""
     page = (ROOT / "docs" / "architecture.md").read_text()
     table = page.partition("\n| Crate | What it does |")[2].partition("\n\n")[0]
     listed = re.findall(r"^\| `(\w+)` \|", table, re.MULTILINE)
     assert sorted(listed) == sorted(crates()), "docs/architecture.md lists every crate"
 
 
-PAGES = [*ROOT.glob("*.md"), ROOT / "tests" / "README.md", *sorted(ROOT.glob("docs/*.md")), *sorted(ROOT.glob("man/*"))]
+PAGES = [*ROOT.glob("*.md"), ROOT / "tests" / "README.md", *ROOT.glob("docs/*.md"), *ROOT.glob("man/*")]
 PAGES += [ROOT / "debian" / "control", ROOT / "debian" / "README.source"]
 # A path in quotes, or a path below a top-level directory without quotes, which BEFORE may precede.
 BEFORE = r"(?:/usr/share/doc/ansible-vault/|(?<![\w/.~$*`-]))"
@@ -75,14 +65,10 @@ def paths_in(page: Path) -> Iterator[tuple[str, str]]:
             yield crate, word or quoted
 
 
-@pytest.mark.parametrize("page", PAGES, ids=lambda page: str(page.relative_to(ROOT)))
-def test_paths(page: Path) -> None:
+def test_paths() -> None:
     """Each path is below the crate, the directory `crates`, the page's directory or the repository."""
-    folders = (ROOT, page.parent, ROOT / "crates")
-    named = {(crate, word): (*folders, ROOT / "crates" / crate) for crate, word in paths_in(page)}
-    missing = [each for each, places in named.items() if not any((place / each[1]).exists() for place in places)]
-    assert missing == [], missing
-
-
-def test_paths_are_named() -> None:
-    assert sum(len([*paths_in(page)]) for page in PAGES) > 150
+    named = [(page, crate, path) for page in PAGES for crate, path in paths_in(page)]
+    assert len(named) > 150
+    for page, crate, path in named:
+        folders = (ROOT, page.parent, ROOT / "crates", ROOT / "crates" / crate)
+        assert any((folder / path).exists() for folder in folders), f"{page.name} names {path}"

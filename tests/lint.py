@@ -36,49 +36,39 @@ def test_each_script_is_looked_at() -> None:
     assert others == ["rules", "zsh_matches"]
 
 
-def test_each_check_counts(monkeypatch: pytest.MonkeyPatch, capsys: pytest.CaptureFixture[str]) -> None:
-    """Every kind of file is given to its tools, and one failure is enough to fail."""
+# The tools, and for each kind of file, one that is given to them.
+LOOKED_AT = [("pyflakes3", "lint"), ("shellcheck", "run"), ("mandoc", "ansible-vault.1"), ("tools/dead_names", None)]
+LOOKED_AT += [("mypy", name) for name in ("chart.py", "ansible-vault-edit", "conftest.py", "lint")]
+
+
+@pytest.mark.parametrize("failing, name", LOOKED_AT)
+def test_each_check_counts(monkeypatch: pytest.MonkeyPatch, failing: str, name: str | None) -> None:
+    """If one tool fails for one file, so does lint."""
     needs_checkout()
-    lint = runpy.run_path(str(LINT))
-    given: list[tuple[str, set[str]]] = []
-    failing = -1
+    main = runpy.run_path(str(LINT))["main"]
 
     def passes(tool: str, *words: str | Path) -> bool:
-        given.append((tool, {Path(word).name for word in words}))
-        return len(given) - 1 != failing
+        return tool != failing or name not in {None, *(Path(word).name for word in words)}
 
-    monkeypatch.setitem(lint["main"].__globals__, "passes", passes)
-    monkeypatch.setitem(lint["main"].__globals__, "long_lines", lambda *_: [])
-    with pytest.raises(SystemExit, match="0"):
-        lint["main"]()
-    looked_at = [("pyflakes3", "lint"), ("shellcheck", "run"), ("mandoc", "ansible-vault.1"), ("tools/dead_names", "")]
-    looked_at += [("mypy", name) for name in ("chart.py", "ansible-vault-edit", "conftest.py", "lint")]
-    found = [any(tool == each and name in {*names, ""} for each, names in given) for tool, name in looked_at]
-    assert (all(found), len(given)) == (True, len(looked_at)), given
-    for failing in range(len(looked_at)):
-        given.clear()
-        with pytest.raises(SystemExit, match="1"):
-            lint["main"]()
-        assert capsys.readouterr().out.endswith(f"lint: {len(looked_at)} passed, 1 failed\n")
+    monkeypatch.setitem(main.__globals__, "passes", passes)
+    with pytest.raises(SystemExit, match="1"):
+        main()
 
 
-# The most columns of a kind of file.
-WIDTHS = {"a.py": 120, "a.bash": 120, "a.rt": 100, "a.antt": 100, "a.md": None}
-
-
-@pytest.mark.parametrize("name, width", WIDTHS.items())
-def test_long_lines(
-    tmp_path: Path, monkeypatch: pytest.MonkeyPatch, capsys: pytest.CaptureFixture[str], name: str, width: int | None
-) -> None:
+def test_long_lines(tmp_path: Path, monkeypatch: pytest.MonkeyPatch, capsys: pytest.CaptureFixture[str]) -> None:
+    """Each kind of file has its width; a document has none."""
+    files = {tmp_path / name: width for name, width in {"a.py": 120, "a.bash": 120, "a.rt": 100, "a.antt": 100}.items()}
+    for file, width in files.items():
+        file.write_text(f"{'x' * width}\n{'x' * (width + 1)}\n")
+    (tmp_path / "a.md").write_text("x" * 999)
     main = runpy.run_path(str(LINT))["main"]
-    changed = {"passes": lambda *_: True, "ROOT": tmp_path, "tracked_files": lambda: [tmp_path / name]}
+    changed = {"passes": lambda *_: True, "ROOT": tmp_path, "tracked_files": lambda: [*tmp_path.iterdir()]}
     for each, value in changed.items():
         monkeypatch.setitem(main.__globals__, each, value)
-    (tmp_path / name).write_text("x" * (width or 999) + "\n" + "x" * ((width or 999) + 1))
-    with pytest.raises(SystemExit, match="1" if width else "0"):
+    with pytest.raises(SystemExit, match="1"):
         main()
-    printed = capsys.readouterr().out
-    assert printed.startswith(f"{name}:2: {width + 1} columns of at most {width}\nlint: " if width else "lint: ")
+    wanted = [f"{file.name}:2: {width + 1} columns of at most {width}" for file, width in files.items()]
+    assert sorted(capsys.readouterr().out.splitlines()[:-1]) == sorted(wanted)
 
 
 def test_dead_names(tmp_path: Path) -> None:

@@ -30,25 +30,22 @@ BUILDS = {
     **dict.fromkeys(["test", "check"], {*CHECKED}),
     "bench": {PROGRAM, BENCH},
 }
-# The goals whose commands get the value of each variable.
+# The variables whose values each goal's commands get.
 REACHED = {
-    "PROGRAM": "demo test planted coverage fuzz faults bench install dist package releases",
-    "PYTEST": "test coverage fuzz faults",
-    "PYTEST_PROCESSES": "test coverage fuzz faults releases",
-    "PLANTED": "planted",
-    "MUTANTS": "mutants",
-    "MACHINE": "fresh-machine",
-    "RELEASES": "releases",
-    "COVERED": "coverage",
-    "LEAST_COVERED": "coverage",
-    "SECONDS": "fuzz",
-    "SHARE": "faults",
-    "CHART": "bench",
-    "DIST": "dist",
-    "SOURCE_DATE_EPOCH": "dist",
-    "PREFIX": "install uninstall",
-    "DESTDIR": "install uninstall",
-    "REPLACE": "install",
+    "demo": "PROGRAM",
+    "test": "PROGRAM PYTEST PYTEST_PROCESSES",
+    "planted": "PROGRAM PLANTED",
+    "mutants": "MUTANTS",
+    "coverage": "PROGRAM PYTEST PYTEST_PROCESSES COVERED LEAST_COVERED",
+    "fuzz": "PROGRAM PYTEST PYTEST_PROCESSES SECONDS",
+    "faults": "PROGRAM PYTEST PYTEST_PROCESSES SHARE",
+    "bench": "PROGRAM CHART",
+    "install": "PROGRAM PREFIX DESTDIR REPLACE",
+    "uninstall": "PREFIX DESTDIR",
+    "dist": "PROGRAM DIST SOURCE_DATE_EPOCH",
+    "package": "PROGRAM",
+    "fresh-machine": "MACHINE",
+    "releases": "PROGRAM PYTEST_PROCESSES RELEASES",
 }
 
 
@@ -107,15 +104,11 @@ def test_built_again(rules: Rules, name: str) -> None:
     assert found == ([newer, [], build, []] if name != FAILURES else [[]] * 4)
 
 
-@pytest.mark.parametrize("name", BUILT)
-def test_failed_build(rules: Rules, name: str) -> None:
+@pytest.mark.parametrize("path, text", [("crates/ansible_vault/during", ""), ("stand-ins/cp", 'echo > "$2"')])
+def test_failed_build(rules: Rules, path: str, text: str) -> None:
     """If the prover or the copy fails, so does make, and it leaves no program that the next build would keep."""
-    copy = rules.folder / "stand-ins" / "cp"
-    write_script(copy, 'echo > "$2"; exit 1')
-    assert (rules.make(BUILT[name]).returncode, (rules.folder / BUILT[name]).exists()) == (2, False)
-    copy.unlink()
-    (rules.folder / f"crates/{name}/during").write_text("exit 1")
-    assert (rules.make(BUILT[name]).returncode, (rules.folder / BUILT[name]).exists()) == (2, False)
+    write_script(rules.folder / path, f"{text}\nexit 1")
+    assert (rules.make(BUILT[PROGRAM]).returncode, (rules.folder / BUILT[PROGRAM]).exists()) == (2, False)
 
 
 # What happens during the gate, the processor, and what is built for the tests after it.
@@ -148,14 +141,16 @@ def test_goals(rules: Rules) -> None:
     assert {*re.findall(r"^([a-z-]+):", MAKEFILE, re.MULTILINE)} == GOALS
 
 
-def test_variables(rules: Rules) -> None:
-    pairs = [(name, goal) for name, goals in REACHED.items() for goal in goals.split()]
-    assert [pair for pair in pairs if "/a-value" not in rules.make("-n", pair[1], f"{pair[0]}=/a-value").stdout] == []
+@pytest.mark.parametrize("goal", REACHED)
+def test_variables(rules: Rules, goal: str) -> None:
+    names = REACHED[goal].split()
+    printed = rules.make("-n", goal, *(f"{name}=/value-of-{name}" for name in names)).stdout
+    assert [name for name in names if not re.search(rf"/value-of-{name}\b", printed)] == []
 
 
 def test_benchmarks(rules: Rules) -> None:
     """`make bench` runs each, and with QUICK=yes each is quick."""
-    scripts = {path.name for path in (ROOT / "bench").glob("*.py") if "options(__doc__" in path.read_text()}
-    for quick in ("no", "yes"):
-        lines = re.findall(r"^bench/(\S+)(.*)$", rules.make("-n", "bench", f"QUICK={quick}").stdout, re.MULTILINE)
-        assert {name: line.endswith(" --quick") for name, line in lines} == dict.fromkeys(scripts, quick == "yes")
+    scripts = [path.name for path in (ROOT / "bench").glob("*.py") if "options(__doc__" in path.read_text()]
+    printed = rules.make("-n", "bench", "QUICK=yes").stdout
+    assert sorted(re.findall(r"^bench/(\S+) .*--quick$", printed, re.MULTILINE)) == sorted(scripts)
+    assert "--quick" not in rules.make("-n", "bench").stdout

@@ -1,46 +1,31 @@
 """The table of options in the code agrees with the manual page, the model and the program's own help; and the help of
-each companion agrees with its page, word for word. `completions.py` compares what the shells offer. `mandoc` and
-`groff` check the pages.
+each companion agrees with its page, word for word. `completions.py` compares what the shells offer. `groff` checks the
+pages, and tools/lint also has mandoc check them.
 """
 
 import inspect
-import json
 import re
-import subprocess
-import sys
-from collections.abc import Iterable
+from collections import Counter
 from operator import attrgetter
 from pathlib import Path
 
 import pytest
 
 from ansible_vault_companions import program as companion
+from ansible_vault_companions.alias import table
 from ansible_vault_companions.files import private_folder, replacing
 from ansible_vault_companions.git import unmerged
 from ansible_vault_companions.plaintext import edits
 from ansible_vault_companions.secrets import settings
 from lib.needs import needs
 from lib.option_sets import OF_ANSIBLE, companion_help, companion_options, companion_page, described_options
-from lib.option_sets import help_commands, help_of, help_options, help_text, options_in, page_sets, sections, spellings
-from lib.option_table import Entry, helps_of, table_options
+from lib.option_sets import help_commands, help_options, help_text, options_in, page_sets, sections, spellings
+from lib.option_table import table_options
 from lib.paths import COMPANIONS, PAGE, ROOT, version
 from lib.processes import run_text
 from model.options import COMMON, FLAGS, OPTIONS
 
-# The tools that check a page and render it.
-CHECKERS = {
-    "mandoc": ["mandoc", "-W", "all", "-T", "utf8"],
-    "groff": ["groff", "-ww", "-mdoc", "-T", "utf8", "-P", "-c"],
-}
 COLUMNS = 80
-# Expected warnings. The pages that a page refers to are not installed where the tests run, and its footer names the
-# program instead of the operating system.
-EXPECTED = (
-    "referenced manual not found",
-    "outdated mandoc.db",
-    "see above the output for STYLE",
-    "operating system explicitly specified",
-)
 PAGES = sorted(PAGE.parent.glob("*.1"))
 # The sections of a companion's page, in order, and the optional ones.
 SECTIONS = ["NAME", "SYNOPSIS", "DESCRIPTION", "OPTIONS", "ENVIRONMENT", "FILES", "EXIT STATUS", "EXAMPLES", "SEE ALSO"]
@@ -50,58 +35,21 @@ FURTHER = {"ENVIRONMENT", "FILES", "CAVEATS", "SECURITY CONSIDERATIONS"}
 SHARED = "ansible-vault-with"
 
 
-def long(options: Iterable[str]) -> set[str]:
-    return {option for option in options if option.startswith("--")}
+def test_model() -> None:
+    """The page, the model and the table have the same options."""
+    synopsis, short = page_sets(), {"-h", "-n", "-V"}
+    of_page = {command: options - short for command, options in synopsis.items() if command}
+    assert of_page == {command: options | COMMON | {"--help"} for command, options in OPTIONS.items()}
+    assert described_options() == set().union(*synopsis.values()), "the page describes what its synopsis names"
+    assert {entry.option for entry in table_options()} == COMMON.union(*OPTIONS.values())
+    assert sorted(FLAGS) == [entry.option for entry in table_options() if not entry.value_name]
 
 
-def test_table() -> None:
-    """The page and the model agree with the table."""
-    table = {entry.option for entry in table_options()}
-    assert len(table) > 10
-    assert COMMON.union(*OPTIONS.values()) == table, "the model knows the table's options"
-    assert sorted(FLAGS) == [entry.option for entry in table_options() if not entry.value_name], "and its flags"
-    assert long(described_options()) - {"--help", "--version"} == table, "the page describes the table's options"
-
-
-def test_commands_in_help(program: str) -> None:
-    assert help_commands(help_text(program, None)) == [command for command in page_sets() if command]
-
-
-@pytest.mark.parametrize("command", page_sets(), ids=str)
-def test_help(program: str, command: str | None) -> None:
-    text = help_text(program, command)
-    found = help_options(text)
-    assert found == page_sets()[command], "it has the options of the page"
-    takes_file = "[FILE]" in text
-    assert ("FILE" in text) == takes_file, "and names FILE if the command takes one"
-    if "--output" in found:
-        needed = "required if FILE is given" in help_of(text, "--output")
-        assert needed == takes_file, "and says that FILE requires --output"
-    others = [entry.option for entry in table_options() if entry.option in found and not is_helped(entry, text)]
-    assert others == [], "and of each what the table has"
-
-
-def is_helped(entry: Entry, text: str) -> bool:
-    value = f"<{entry.value_name}> " if entry.value_name else ""
-    return help_of(text, entry.option) in {value + each for each in helps_of(entry.name)}
-
-
-@pytest.mark.parametrize("command, options", OPTIONS.items())
-def test_model(command: str, options: set[str]) -> None:
-    assert options | COMMON == long(page_sets()[command]) - {"--help"}
-
-
-def test_page() -> None:
-    named = set().union(*page_sets().values())
-    assert described_options() == named, "the page describes what its synopsis names"
-
-
-def flat(sets: list[set[str]]) -> list[str]:
-    return sorted(set().union(*sets))
-
-
-def in_order(sets: list[set[str]]) -> list[list[str]]:
-    return sorted(sorted(each) for each in sets)
+def test_help(program: str) -> None:
+    """The page's synopsis has the commands of the program's help, with their options."""
+    synopsis = page_sets()
+    assert [*help_commands(help_text(program, None)), None] == [*synopsis]
+    assert {command: help_options(help_text(program, command)) for command in synopsis} == synopsis
 
 
 def referred(text: str) -> list[set[str]]:
@@ -113,37 +61,29 @@ def referred(text: str) -> list[set[str]]:
 
 @pytest.mark.parametrize("name", COMPANIONS)
 def test_companion(name: str) -> None:
-    """The page of a companion agrees with its help."""
-    page = companion_page(name)
-    titles = [title for title in SECTIONS if title in page or title not in FURTHER]
-    assert [*page] == titles, "its page has the sections of every companion's"
-    own, in_help = spellings(page["OPTIONS"]), companion_options(name)
-    described = own + referred(page["OPTIONS"])
-    assert in_order(described) == in_order(in_help), "its page describes the options of its help, or says where"
+    """The page of a companion describes the options of its help, or says where they are described."""
+    page, in_help = companion_page(name), companion_options(name)
+    assert [*page] == [title for title in SECTIONS if title in page or title not in FURTHER]
+    described = spellings(page["OPTIONS"]) + referred(page["OPTIONS"])
+    assert Counter(frozenset(each) for each in described) == Counter(frozenset(each) for each in in_help)
     named = options_in(page["SYNOPSIS"])
     assert [each for each in described if not each & named] == [], "the synopsis names each option"
-    assert sorted(named - set(flat(described))) == [], "and no other"
+    assert named - set().union(*described) == set(), "and no other"
     assert re.findall(r"^\.It (\d)$", page["EXIT STATUS"], re.MULTILINE) == ["0", "1", "2"]
-    others = [title for title, text in page.items() if "exit status" in " ".join(text.split())]
-    assert set(others) <= {"EXIT STATUS"}, "one section describes the exit statuses"
     # The hook puts its options for secrets into git's settings, and does not read Ansible's.
-    takes_secrets = "--vault-id" in flat(in_help) and name != "ansible-vault-hook"
-    settings = {"ANSIBLE_VAULT_IDENTITY_LIST", "ANSIBLE_VAULT_PASSWORD_FILE", "ANSIBLE_CONFIG"}
-    variables = set(re.findall(r"\bEv (\w+)", page.get("ENVIRONMENT", "")))
-    assert settings & variables == (settings if name == SHARED else set()), "one page describes the settings"
+    reads_settings = "--vault-id" in set().union(*in_help) and name not in ("ansible-vault-hook", SHARED)
     says_where = f"Xr {SHARED} 1" in page["OPTIONS"] and "settings" in page["OPTIONS"]
-    assert says_where == (takes_secrets and name != SHARED), "and the page of who reads them refers to it"
+    assert says_where == reads_settings, "the page of who reads Ansible's settings says where they are described"
 
 
 def test_variables() -> None:
     """A page names each variable that the companions read from the environment."""
-    code = "".join(path.read_text() for path in (ROOT / "companions").rglob("ansible*") if path.is_file())
-    code += "".join(path.read_text() for path in (ROOT / "companions").rglob("*.py"))
+    files = [*COMPANIONS.values(), *(ROOT / "companions").rglob("*.py")]
+    code = "".join(path.read_text() for path in files)
     read = set(re.findall(r'environ(?:\.get\(|\[)"([A-Z_]+)"', code) + re.findall(r'"(ANSIBLE_[A-Z_]+)", "', code))
-    pages = [companion_page(name).get("ENVIRONMENT", "") for name in COMPANIONS]
-    named = set().union(*(re.findall(r"\bEv ([A-Z_]+)", page) for page in pages))
-    assert len(read) > 5, ("variables are read", sorted(read))
-    assert sorted(read - named) == [], "each is named"
+    pages = "".join(companion_page(name).get("ENVIRONMENT", "") for name in COMPANIONS)
+    assert len(read) > 5
+    assert read - {*re.findall(r"\bEv ([A-Z_]+)", pages)} == set()
 
 
 def test_settings() -> None:
@@ -213,10 +153,10 @@ def wide(name: str) -> str:
     return re.sub(r"(?<=\nDESCRIPTION\n) +\S+ (?:is )?", "", re.sub(".\b", "", page))
 
 
-def shown(name: str) -> list[tuple[str, str]]:
-    """Return what a page says of the program, of the options and of the commands."""
+def shown(name: str) -> dict[str, str]:
+    """Return what a page says of each option and command and, by an empty name, of the program."""
     text = wide(name)
-    return [*texts_in(text), *(("", plain(each)) for each in re.findall(r"\nDESCRIPTION\n(.*)", text))]
+    return {**dict(texts_in(text)), "": plain(re.findall(r"\nDESCRIPTION\n(.*)", text)[0])}
 
 
 @pytest.mark.parametrize("name", ["ansible-vault", *COMPANIONS])
@@ -225,7 +165,7 @@ def test_words(program: str, name: str) -> None:
     texts = [companion_help(name)] if name in COMPANIONS else [help_text(program, each) for each in page_sets()]
     about = next(each for each in texts[-1].split("\n\n") if not each.startswith("usage: "))
     said = [("", plain(re.split(r"\.\s", about)[0])), *(each for text in texts for each in texts_in(text))]
-    page = dict(shown(SHARED)) | dict(shown(name))
+    page = shown(SHARED) | shown(name)
     assert len(said) > 5
     assert [(what, words) for what, words in said if not page.get(what, "").startswith(words)] == []
     others = [what for what, words in said if ("be repeated" in words) != ("be repeated" in page[what])]
@@ -237,44 +177,27 @@ def test_sentences(name: str) -> None:
     """What else a help says is in the page, or in the one that describes what the companions share, word for word."""
     _, _, text = ENTRY.sub("", joined(companion_help(name))).partition("\n\n")
     said = statements(HEADING.sub("", text)) - {f"for more, see man {name}."}
-    pages = "".join(wide(each) for each in (name, SHARED))
     assert len(said) > 20
     assert [each for each in said if each.startswith("$ ") and name in each], "it has an example"
-    assert sorted(said - statements(pages.replace("\n", "\n\n"))) == []
+    assert said - statements((wide(name) + wide(SHARED)).replace("\n", "\n\n")) == set()
 
 
 def test_references() -> None:
-    """The program's page lists the companions, in the words of their own pages, and each page that is referred to
-    exists."""
+    """The program's page lists the companions in the words of their own pages, and each page it refers to exists."""
     items = re.findall(r"^\.It Xr (\S+) 1 Ta (.+)$", sections(PAGE.read_text())["COMPANIONS"], re.MULTILINE)
     described = {name: re.findall(r"^\.Nd (.+)$", companion_page(name)["NAME"], re.MULTILINE) for name in COMPANIONS}
-    assert {name: [words] for name, words in items} == described, "the page lists the companions"
-    assert {page.stem for page in PAGES} == {"ansible-vault", *COMPANIONS}, "each companion has a page"
+    assert {name: [words] for name, words in items} == described
     references = set().union(*(re.findall(r"\bXr (ansible-vault\S*) 1", page.read_text()) for page in PAGES))
-    assert sorted(references - {page.stem for page in PAGES}) == [], "each page that is referred to is there"
+    assert references == {page.stem for page in PAGES}
 
 
 @pytest.mark.parametrize("page", PAGES, ids=attrgetter("stem"))
-@pytest.mark.parametrize("tool", CHECKERS)
-def test_page_as_it_is_shown(tool: str, page: Path) -> None:
-    needs(tool)
-    done = subprocess.run([*CHECKERS[tool], str(page)], capture_output=True, text=True)
-    lines = [re.sub(".\b", "", line) for line in done.stdout.splitlines()]
-    remarks = [line for line in done.stderr.splitlines() if not any(each in line for each in EXPECTED)]
-    assert remarks == [], f"{tool} finds nothing in the page"
-    assert [line for line in lines if len(line) > COLUMNS] == [], "the page is no wider than a terminal"
-    footer, start = next(line for line in reversed(lines) if line), f"ansible-vault {version()} "
-    assert footer.startswith(start), "its footer has the program and the version"
-
-
-# Documents that contain commands of the companions.
-DOCUMENTS = [*PAGES, ROOT / "README.md", *sorted((ROOT / "docs").glob("*.md"))]
-COMMAND = re.compile(r"\b(ansible-vault-\w+)((?: +[^\s`|;&'\"<>()]+)*)")
-
-
-def shell_of(text: str) -> str:
-    """Return a document's text with its shell commands on single lines, without the marks of a manual page."""
-    return re.sub(r" (?:\\e|\\)\n +", " ", text)
+def test_page_as_it_is_shown(page: Path) -> None:
+    needs("groff")
+    done = run_text(["groff", "-ww", "-mdoc", "-T", "utf8", "-P", "-c", str(page)])
+    lines = re.sub(".\b", "", done.stdout).strip().split("\n")
+    assert (done.stderr, [line for line in lines if len(line) > COLUMNS]) == ("", []), "it fits into a terminal"
+    assert lines[-1].startswith(f"ansible-vault {version()} "), "its footer has the program and the version"
 
 
 # The options of Ansible's tool for each command, in addition to the program's.
@@ -284,32 +207,38 @@ OF_SECRETS = {"--vault-pass-file", "-J", "--ask-vault-password", "--ask-vault-pa
 def test_alias(program: str) -> None:
     """The table of ansible-vault-with has the options in each command's help, agrees on which take a value, and has the
     options of Ansible's tool."""
-    code = f"import sys; sys.path.insert(0, {str(ROOT / 'companions')!r})\n" + (
-        "from ansible_vault_companions.alias.table import FLAG, OPTIONS, VALUE; import json\n"
-        "print(json.dumps([(name, kind in (FLAG, 'asks'), commands) for name, (kind, commands) in OPTIONS.items()]))"
-    )
-    done = subprocess.run([sys.executable, "-B", "-c", code], capture_output=True, check=True)
-    table = json.loads(done.stdout)
-    for command in help_commands(help_text(program, None)):
-        text, of_ansible = help_text(program, command), OF_SECRETS | OF_ANSIBLE.get(command, set())
-        known = {name for name, _, commands in table if command in commands}
-        assert known == help_options(text) - {"-h", "-n"} | of_ansible - {"-p"}, command
-        values = set(re.findall(r"(--[\w-]+) <", text))
-        assert {name for name, is_alone, _ in table if name in known & help_options(text) and not is_alone} == values
-    assert {command for _, _, commands in table for command in commands} >= {"create", "edit"}
+    commands = help_commands(help_text(program, None))
+    for command in commands:
+        text = help_text(program, command)
+        known = {name: kind for name, (kind, having) in table.OPTIONS.items() if command in having}
+        of_ansible = OF_SECRETS | OF_ANSIBLE.get(command, set())
+        assert known.keys() == help_options(text) - {"-h", "-n"} | of_ansible - {"-p"}, command
+        valued = {name for name in known.keys() & help_options(text) if known[name] != table.FLAG}
+        assert valued == {*re.findall(r"(--[\w-]+) <", text)}, command
+    assert {*table.COMMANDS} == {*commands, "create", "edit"}
 
 
-@pytest.mark.parametrize("document", DOCUMENTS, ids=attrgetter("name"))
-def test_commands(document: Path) -> None:
+# Documents that contain commands of the companions.
+DOCUMENTS = [*PAGES, ROOT / "README.md", *sorted((ROOT / "docs").glob("*.md"))]
+COMMAND = re.compile(r"\b(ansible-vault-\w+)((?: +[^\s`|;&'\"<>()]+)*)")
+
+
+def options_of(name: str, words: list[str]) -> set[str]:
+    """Return the options of a companion. With the name of a command, ansible-vault-with also has the command's."""
+    known = {"-v"}.union(*companion_options(name))
+    if name == SHARED:
+        sets = page_sets()
+        known = known.union(*(sets.get(word, set()) | OF_ANSIBLE.get(word, set()) for word in words))
+    return known
+
+
+def test_commands() -> None:
     """The options that a document gives to a companion belong to it, or to a command of the tool."""
-    sets, unknown = page_sets(), []
-    for name, words in COMMAND.findall(shell_of(document.read_text())):
-        if name not in COMPANIONS:
-            continue
-        known = set(flat(companion_options(name)))
-        if name == "ansible-vault-with":
-            known |= set().union(*(sets[word] for word in words.split() if word in sets))
-            known |= set().union(*(OF_ANSIBLE[word] for word in words.split() if word in OF_ANSIBLE))
-        given = {word.partition("=")[0] for word in words.split() if re.match(r"--?[A-Za-z]", word)}
-        unknown += [f"{name}{words}: {option}" for option in sorted(given - known - {"-v"})]
-    assert unknown == [], "the options that no command has"
+    text = "".join(re.sub(r" (?:\\e|\\)\n +", " ", document.read_text()) for document in DOCUMENTS)
+    unknown, tried = [], 0
+    for name, words in ((name, words.split()) for name, words in COMMAND.findall(text) if name in COMPANIONS):
+        options = [word.partition("=")[0] for word in words if re.match(r"--?[A-Za-z]", word)]
+        unknown += [(name, *words) for option in options if option not in options_of(name, words)]
+        tried += len(options)
+    assert unknown == []
+    assert tried > 30

@@ -3,15 +3,14 @@ symbol that they name, and what `tools/write_documents` writes into the document
 """
 
 import re
-from collections.abc import Callable, Iterable, Iterator
+from collections.abc import Callable, Iterator
 from functools import cache
-from operator import attrgetter
 from pathlib import Path
 
 import pytest
 
 from contracts import CRATES, code, declared_in
-from documents import PAGE, REFERENCE, WRITTEN, definition_files
+from documents import LIBRARY, PAGE, REFERENCE, WRITTEN, definition_files
 from lib.links import dead_links
 from lib.paths import ROOT
 
@@ -23,40 +22,36 @@ TEST = re.compile(r"`(tests/[\w/.]+|vault_\w+)`(?:: ((?:`\w+`(?:, )?)+))?")
 CODE = re.compile(r"`([^`]+)`")
 
 
-# The functions below find the mistakes in a page.
-
-
 @cache
 def contracts_of(call: str) -> list[str]:
     """Return the contracts of the functions with this name, in the files that mention each part of its path."""
     *path, name = call.split("::")
     # Match up to the body, or to the empty line after a trait's method.
     contract = re.compile(rf"\bfn {name}\b.*?(?:^ *\{{|;\n\n)", re.MULTILINE | re.DOTALL)
-    found = []
-    for file, text in code().items():
-        if all(re.search(rf"\b{part}\b", f"{file} {text}") for part in path):
-            found += contract.findall(text)
-    return [each for each in found if "ensures" in each]
+    texts = [text for file, text in code().items() if all(re.search(rf"\b{part}\b", f"{file} {text}") for part in path)]
+    return [each for text in texts for each in contract.findall(text) if "ensures" in each]
 
 
 def unproved(page: str) -> Iterator[str]:
-    """Yield calls without a contract, clauses that no contract of the call has, and tests that do not exist."""
-    for proved, tests in CLAIM.findall(page):
-        for call in filter(None, (CONTRACT.match(part.strip()) for part in proved.split(";"))):
-            contracts = contracts_of(call[1])
-            clauses = CODE.findall(call[2] or "")
-            yield from [] if contracts else [f"{call[1]} has no contract"]
-            for clause in clauses:
-                if not any(re.search(rf"\bensures {clause}\b", each) for each in contracts):
-                    yield f"{call[1]} has no clause {clause}"
-        for name, functions in TEST.findall(tests):
-            path = ROOT / name if name.startswith("tests/") else CRATES / name
-            files = [file for file in [path, *path.glob("src/**/*.rt")] if file.is_file()]
-            text = "".join(file.read_text() for file in files)
-            yield from [] if path.exists() else [f"there is no {name}"]
-            for function in CODE.findall(functions):
-                if not re.search(rf"\b(?:def test_|fn ){function}\b", text):
-                    yield f"{name} has no {function}"
+    """Yield calls without a contract, and clauses that no contract of the call has."""
+    parts = [part.strip() for proved, _ in CLAIM.findall(page) for part in proved.split(";")]
+    for call in filter(None, map(CONTRACT.match, parts)):
+        contracts = contracts_of(call[1])
+        yield from [] if contracts else [f"{call[1]} has no contract"]
+        for clause in CODE.findall(call[2] or ""):
+            if not any(re.search(rf"\bensures {clause}\b", each) for each in contracts):
+                yield f"{call[1]} has no clause {clause}"
+
+
+def untested(page: str) -> Iterator[str]:
+    """Yield tests that do not exist."""
+    for name, functions in (found for _, tests in CLAIM.findall(page) for found in TEST.findall(tests)):
+        path = ROOT / name if name.startswith("tests/") else CRATES / name
+        text = "".join(file.read_text() for file in [path, *path.glob("src/**/*.rt")] if file.is_file())
+        yield from [] if path.exists() else [f"there is no {name}"]
+        for function in CODE.findall(functions):
+            if not re.search(rf"\b(?:def test_|fn ){function}\b", text):
+                yield f"{name} has no {function}"
 
 
 def undefined(page: str) -> Iterator[str]:
@@ -77,6 +72,47 @@ def unexplained(page: str) -> Iterator[str]:
         yield from (f"{file.name}: {sign}" for sign in signs - explained)
 
 
+# The checks of each page, and for each, a mistake that it must find: what to replace, once, and with what.
+CHECKS = [
+    (PAGE, unproved, "`Sink::begin`: `takes`", "`Sink::begin`: `took`"),
+    (PAGE, untested, "`calls_of_refused_runs`", "`calls_of_refused_files`"),
+    (PAGE, untested, "`tests/faults.py`", "`tests/no_faults.py`"),
+    (PAGE, undefined, "`opened_paths` (", "`opened_from` ("),
+    (REFERENCE, unproved, "`read_prefix`: ", "`read_suffix`: "),
+    (REFERENCE, untested, "`reads_prefixes`", "`reads_suffixes`"),
+    (REFERENCE, undefined, "`cipher` (", "`ciphers` ("),
+    (REFERENCE, unexplained, ", `A ⊎ B`", ""),
+]
+
+
+@pytest.mark.parametrize("page, check, old, new", CHECKS)
+def test_page(page: Path, check: Callable[[str], Iterator[str]], old: str, new: str) -> None:
+    text = page.read_text()
+    assert [*check(text)] == []
+    assert [*check(text.replace(old, new, 1))] != []
+
+
+# What is written again if it changes: what to find, and what to change it to, once.
+CHANGED = [
+    (PAGE, r"^password_of file =", "password_of bytes ="),
+    (PAGE, r"\d+ lines of code", "12 lines of code"),
+    (PAGE, r"[\d,]+ lines of proofs", "20,000 lines of proofs"),
+    (REFERENCE, r"`load` in `(\w+)/src", r"`load` in `\1/sources"),
+    (REFERENCE, r"^fn open_directory", "fn open_folder"),
+    (REFERENCE, r"^ +\d+ specs/OpenedPaths.antt\n", ""),
+    (LIBRARY, r"^//! Decrypts a vault", "//! Encrypts a vault"),
+]
+
+
+@pytest.mark.parametrize("page, old, new", CHANGED)
+def test_written(page: Path, old: str, new: str) -> None:
+    """tools/write_documents changes nothing in a page, finds each name in one file, and repairs what was changed."""
+    text = page.read_text()
+    changed = re.sub(old, new, text, count=1, flags=re.MULTILINE)
+    assert changed != text == WRITTEN[page](changed)
+    assert "in `none.rt`" not in text
+
+
 # The axioms of the C library and of the system, if a log is about the program.
 AXIOMS = re.compile(
     r"^axioms libc: .*\((\d+) of.*\naxioms os: .*\((\d+) of.*\n.*\n.*\nlinked .*=out/ansible_vault\.o,", re.MULTILINE
@@ -91,70 +127,7 @@ def test_axioms() -> None:
     assert found <= {(library, system)} and int(total) == int(library) + int(system)
 
 
-def links_of_page(text: str) -> Iterator[str]:
-    return dead_links(PAGE, text)
-
-
-CHECKS = [
-    *((PAGE, check) for check in (unproved, undefined)),
-    *((REFERENCE, check) for check in (unproved, undefined, unexplained)),
-]
-# Changes that each break a page for a check: what to find, and what to replace it with, once.
-BROKEN = [
-    (PAGE, unproved, r"`Sink::begin`: `takes`", "`Sink::begin`: `took`"),
-    (PAGE, unproved, r"`calls_of_refused_runs`", "`calls_of_refused_files`"),
-    (PAGE, unproved, r"`tests/faults.py`", "`tests/no_faults.py`"),
-    (PAGE, undefined, r"`opened_paths` \(", "`opened_from` ("),
-    (PAGE, links_of_page, r"\(security.md\)", "(secure.md)"),
-    (REFERENCE, unexplained, r", `A ⊎ B`", ""),
-]
-
-
-@pytest.mark.parametrize("page", WRITTEN, ids=attrgetter("stem"))
-def test_written(page: Path) -> None:
-    """tools/write_documents changes nothing, and finds each name in one file."""
-    assert page.read_text() == WRITTEN[page](page.read_text())
-    assert "in `none.rt`" not in page.read_text()
-
-
-# Text that is written again if it changes: what to find, and what to change it to, once.
-CHANGED = [
-    (PAGE, r"^password_of file =", "password_of bytes ="),
-    (PAGE, r"\d+ lines of code", "12 lines of code"),
-    (PAGE, r"[\d,]+ lines of proofs", "20,000 lines of proofs"),
-    (REFERENCE, r"`load` in `(\w+)/src", r"`load` in `\1/sources"),
-    (REFERENCE, r"^fn open_directory", "fn open_folder"),
-    (REFERENCE, r"^ +\d+ specs/OpenedPaths.antt\n", ""),
-]
-
-
-@pytest.mark.parametrize("page, old, new", CHANGED)
-def test_written_anew(page: Path, old: str, new: str) -> None:
-    text = page.read_text()
-    changed = re.sub(old, new, text, count=1, flags=re.MULTILINE)
-    assert changed != text == WRITTEN[page](changed)
-
-
-def name_of(value: object) -> str | None:
-    """Return the name of a page or a function."""
-    return getattr(value, "__name__", getattr(value, "stem", None))
-
-
-@pytest.mark.parametrize("page, check", CHECKS, ids=name_of)
-def test_page(page: Path, check: Callable[[str], Iterable[str]]) -> None:
-    wrong = [*check(page.read_text())]
-    assert wrong == [], wrong
-
-
 def test_links() -> None:
     pages = [*ROOT.glob("*.md"), *ROOT.glob("docs/*.md"), ROOT / "tests" / "README.md"]
-    dead = [(page.name, link) for page in pages for link in dead_links(page)]
-    assert dead == [], dead
-
-
-@pytest.mark.parametrize(("page", "check", "old", "new"), BROKEN, ids=name_of)
-def test_broken_page(page: Path, check: Callable[[str], Iterable[str]], old: str, new: str) -> None:
-    """The check finds the mistake in the page."""
-    broken = re.sub(old, new, page.read_text(), count=1, flags=re.MULTILINE)
-    assert broken != page.read_text(), "the page is changed"
-    assert [*check(broken)] != []
+    assert len(pages) > 10
+    assert [(page.name, link) for page in pages for link in dead_links(page)] == []
