@@ -19,7 +19,6 @@ from lib.ansible import ansible_vault
 from lib.cases import Cases
 from lib.installed import VERSION
 from lib.links import dead_links
-from lib.needs import needs_pyyaml
 from lib.paths import ROOT
 from lib.scripts import write_script
 from lib.system_calls import calls_in
@@ -133,21 +132,6 @@ def test_oracle(layers: list[tuple[str, str]], is_yaml: bool) -> None:
         assert [spot.envelope for spot in oracle.spots({"x": content})] == [envelope]
     is_seen = all(LABEL_OF.get(name) == DEV for name, _ in layers)
     assert oracle.visible(content) == ({b"text-0001"} if is_seen else set())
-
-
-def test_merged_values() -> None:
-    base, tagged, changed = ("a", "x"), ("b", "x"), ("a", "y")
-    for ours, theirs, new in ((base, changed, changed), (changed, base, changed), (base, None, None)):
-        found = [oracle.is_merged(base, ours, theirs, each) for each in (new, base, tagged)]
-        assert found == [True, False, False], "only one side changes"
-    found = [oracle.is_merged(base, tagged, changed, each) for each in (("b", "y"), tagged, changed)]
-    assert found == [True, False, False], "each side changes a part"
-
-
-def test_values() -> None:
-    needs_pyyaml()
-    assert {*(oracle.values(b"a: 1\n---\nl:\n- {b: 2}\n- 3\n") or ())} == {("a",), ("l", "0", "b"), ("l", "1")}
-    assert oracle.values(oracle.make("dev", b"a: 1\nb: 2\n", "", 0)) == {("a",): ("", "a: 1"), ("b",): ("", "b: 2")}
 
 
 def test_dead_links(tmp_path: Path) -> None:

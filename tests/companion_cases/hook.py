@@ -111,7 +111,7 @@ CONTENTS = {
     "a block that ends early": (b"".join([*LINES[:3], b"b: 1\n"]), "has a damaged block in line 2"),
     "plaintext with the tag": (block("old") + b"b: !vault text\n", TAGGED.format(len(LINES) + 1)),
     "a literal with the tag": (b"b: !vault |\n  text\n" + block("old"), TAGGED.format(1)),
-    "a text like a header": (b"b: !vault $ANSIBLE_VAULT_PASSWORD=text\n" + block("old"), "has a damaged block in line 1"),
+    "a text like a header": (b"b: !vault $ANSIBLE_VAULT_KEY=text\n" + block("old"), "has a damaged block in line 1"),
     "conflict markers": (block("old") + b"<<<<<<< HEAD\n=======\nb: 2\n>>>>>>> branch\n", "has git's conflict markers"),
 }
 

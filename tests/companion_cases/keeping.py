@@ -11,6 +11,7 @@ import pytest
 from ansible_vault_companions.files import replacing
 from ansible_vault_companions.files.last_save import LastSave
 from ansible_vault_companions.files.private_folder import PrivateFolder
+from ansible_vault_companions.plaintext import copies
 from companion_cases import ABOVE_EDITOR, CHANGE, CHANGED, EDIT, ENCRYPTED, Done, Place, decrypted, edit
 from companion_cases import ended, run_changed, sealed, silent
 
@@ -131,12 +132,13 @@ def test_earlier_copies(tmp_path: Path, monkeypatch: pytest.MonkeyPatch) -> None
     target, temporary = str(tmp_path / "all.yml"), tmp_path / "temporary"
     temporary.mkdir()
     monkeypatch.setenv("TMPDIR", str(temporary))
-    copy, left = replacing.save_copy(target, b"x"), replacing.save_copy(target, b"x", "all.yml.swp")
-    replacing.save_copy(f"{target}-more", b"x")
-    elsewhere = temporary / f".ansible-vault-saved-{target.replace('/', '%')}-abcd1234"
+    last_save = f"of-{'0' * 16}"
+    copy, left = (replacing.save_copy(target, b"x", name) for name in (last_save, "all.yml.swp"))
+    replacing.save_copy(f"{target}-more", b"x", last_save)
+    elsewhere = temporary / f".ansible-vault-saved-{target.replace('/', '%')}-abcd1234-{last_save}"
     elsewhere.touch()
     assert sorted(replacing.copies(target)) == sorted([copy, left, str(elsewhere)])
-    assert replacing.copies(target, is_last_save=True) == [copy, str(elsewhere)]
+    assert replacing.copies(target, copies.OF) == [copy, str(elsewhere)]
 
 
 def test_faults_of_its_own(place: Place) -> None:

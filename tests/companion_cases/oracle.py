@@ -1,13 +1,12 @@
-"""Read a repository without the companions: its envelopes, what decrypts them, and the values of its YAML."""
+"""Read a repository without the companions: its envelopes, and what decrypts them."""
 
 from __future__ import annotations
 
 import os
 import re
-from collections.abc import Iterable, Iterator, Sequence
 from functools import lru_cache
 from pathlib import Path
-from typing import Any, NamedTuple
+from typing import NamedTuple
 
 from companion_cases import PASSWORDS, decrypted
 from model.vaults import MAGIC, SALT, seal
@@ -27,9 +26,6 @@ BLOCK = re.compile(
 )
 # The content of each file.
 Tree = dict[str, bytes]
-# The tag and the text of each value, by its keys. For a vault, the values are the lines of its text.
-Value = tuple[str, str]
-Values = dict[tuple[str, ...], Value]
 
 
 class Opened(NamedTuple):
@@ -122,42 +118,6 @@ def spots(tree: Tree) -> list[Spot]:
 def block(key: bytes, envelope: bytes, spaces: bytes = b"", tag: bytes = b"!vault") -> bytes:
     lines = b"".join(spaces + b"    " + line + b"\n" for line in envelope.splitlines())
     return spaces + key + b": " + tag + b" |\n" + lines
-
-
-@lru_cache(maxsize=4096)
-def values(content: bytes) -> Values | None:
-    """Return the values, or None if the content is not YAML."""
-    if content.startswith(MAGIC):
-        found = opened(content)
-        return {tuple(line.split(": ")[:1]): ("", line) for line in (found.text.decode().splitlines() if found else [])}
-    import yaml
-
-    try:
-        documents = list(yaml.compose_all(content, Loader=yaml.CSafeLoader))  # type: ignore[no-untyped-call]
-    except (yaml.YAMLError, UnicodeDecodeError):
-        return None
-    return {path: value for document in documents for path, value in _below(document, ())}
-
-
-def _below(node: Any, path: tuple[str, ...]) -> Iterator[tuple[tuple[str, ...], Value]]:
-    if node.id == "mapping":
-        for key, value in node.value:
-            yield from _below(value, (*path, str(key.value)))
-    elif node.id == "sequence":
-        for number, value in enumerate(node.value):
-            yield from _below(value, (*path, str(number)))
-    else:
-        yield path, (node.tag, node.value.strip())
-
-
-def is_merged(*versions: Value | None) -> bool:
-    """Return whether a tag or a text that only one side has changed is the same as on that side. The versions are base,
-    ours, theirs and the result."""
-    there = [each for each in versions if each]
-    parts: Iterable[Sequence[object]] = zip(*there) if len(there) == len(versions) else [versions]
-    return all(
-        found == (theirs if ours == base else ours) for base, ours, theirs, found in parts if base in (ours, theirs)
-    )
 
 
 def read_tree(folder: Path) -> Tree:

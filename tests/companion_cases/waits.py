@@ -5,6 +5,7 @@ import os
 import signal
 import subprocess
 from collections.abc import Callable
+from contextlib import suppress
 from pathlib import Path
 
 import pytest
@@ -63,7 +64,10 @@ def test_while_files_are_searched(place: Place, companion: str, number: int) -> 
 
     def searches(process: Process) -> bool:
         files = Path("/proc", str(process.pid), "fd")
-        return any(os.readlink(each).endswith(".img") for each in files.iterdir() if each.is_symlink())
+        # A file may be closed before its link is read.
+        with suppress(FileNotFoundError):
+            return any(os.readlink(each).endswith(".img") for each in files.iterdir())
+        return False
 
     words = place.by_file("old") if companion == CHECK else to_new(place)
     check_end(place, [companion, *words, "."], searches, number)

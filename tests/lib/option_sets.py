@@ -55,12 +55,6 @@ def help_options(text: str) -> set[str]:
     return {option for pair in found for option in pair if option}
 
 
-def help_of(text: str, option: str) -> str:
-    """Return the help's text for an option."""
-    [found] = re.findall(rf"^ +(?:-\w, )?{option} (.*(?:\n {{12,}}\S.*)*)", text, re.MULTILINE)
-    return " ".join(found.split())
-
-
 def help_commands(text: str) -> list[str]:
     listed = text.partition("Commands:\n")[2].partition("\n\n")[0]
     return re.findall(r"^  (\w+)", listed, re.MULTILINE)

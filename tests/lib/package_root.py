@@ -35,12 +35,11 @@ def write_files(top: Path, files: dict[str, str]) -> None:
         (top / file).chmod(0o755)
 
 
-def later(package: Path, folder: Path, version: str, files: dict[str, str] | None = None) -> Path:
-    """Rebuild the package with another version, and with these files added."""
+def later(package: Path, folder: Path, version: str) -> Path:
+    """Rebuild the package with another version."""
     with tempfile.TemporaryDirectory() as path:
         top = Path(path) / "package"
         subprocess.run(["dpkg-deb", "-R", str(package), str(top)], check=True)
-        write_files(top, files or {})
         control = (top / "DEBIAN/control").read_text()
         return build_package(top, folder, re.sub(r"^Version: .*$", f"Version: {version}", control, flags=re.MULTILINE))
 
