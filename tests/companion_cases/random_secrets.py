@@ -226,13 +226,16 @@ def what_counts(case: Case) -> Case | None:
         # Nothing in the current directory may name a secret.
         variables = case.variables.without_relative_paths()
         case = case._replace(variables=variables, file=without_folder(case))
+    label = line.label or case.variables.encrypt or case.file.encrypt
+    if line.command in ("encrypt", "encrypt_string"):
+        return case if has_password(case, label) else None
     if line.command != "rekey":
         return case
     case = heeding_label(case)
-    label = line.label or case.variables.encrypt or case.file.encrypt
     if not line.new:
         # Here, a question asks for it. Ansible's tool takes the password file of the settings.
-        return case if label else None
+        by_settings = case._replace(line=line._replace(ids=[], paths=[]))
+        return case if label and has_password(by_settings, label) else None
     if line.label not in ("", line.new_label):
         return None
     # The new secret of the options takes precedence over the label of the settings.
@@ -240,12 +243,23 @@ def what_counts(case: Case) -> Case | None:
     return case._replace(line=line._replace(label=""), variables=variables, file=file)
 
 
+def all_named(case: Case) -> list[Named]:
+    """Return the secrets that are named, in Ansible's order."""
+    identities = case.variables.identities or case.file.identities
+    password_file = case.variables.password_file or case.file.password_file
+    paths = [*case.line.paths, *([password_file] if password_file else [])]
+    return [*identities, *case.line.ids, *(path._replace(label="default") for path in paths)]
+
+
+def has_password(case: Case, label: str) -> bool:
+    """Return whether all secrets are usable that might encrypt. Ansible's tool chooses among those that are usable."""
+    fitting = [each for each in all_named(case) if label in ("", each.label or "default")]
+    return all(each.is_usable() for each in (fitting[:1] if label else fitting))
+
+
 def heeding_label(case: Case) -> Case:
     """If several secrets are named, only those of its label are tried here. Ansible's tool does so by a setting."""
-    identities = case.variables.identities or case.file.identities
-    password_files = [each for each in (case.variables.password_file or case.file.password_file,) if each]
-    named = [*case.line.ids, *case.line.paths, *identities, *password_files]
-    is_heeded = len(named) > 1 and case.vault.startswith(b"$ANSIBLE_VAULT;1.2;")
+    is_heeded = len(all_named(case)) > 1 and case.vault.startswith(b"$ANSIBLE_VAULT;1.2;")
     return case._replace(variables=case.variables._replace(match="True")) if is_heeded else case
 
 

@@ -56,4 +56,6 @@ def new_secrets(run: Run, old: list[Secret]) -> list[Secret]:
     fitting = [secret for secret in new or old if secret.label == run.label and (new or secret.is_setting)]
     if run.label and not fitting and (words.value(ENCRYPT_ID) or not new):
         raise Refused(f"no new secret has the label that was chosen for encryption, {program.shown(run.label)}")
+    for secret in fitting[:1]:
+        secret.require()
     return new or fitting[:1] or secrets(encrypts=True, none=NO_NEW)

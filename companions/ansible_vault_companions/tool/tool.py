@@ -52,6 +52,8 @@ class Tool:
     def accept(self, secrets: list[Secret]) -> None:
         """Refuses a secret that the tool refuses. An empty input makes the tool check the secret alone."""
         for secret in secrets:
+            if secret.is_left_out:
+                continue
             try:
                 with suppress(NotVault):
                     self.view(b"", secret)
