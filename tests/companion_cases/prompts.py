@@ -2,8 +2,8 @@
 
 import pytest
 
-from companion_cases import CHECK, EDIT, PASSWORDS, ROTATE, TEXT, TEXTCONV, WITH, Place, block, decrypted, ended
-from companion_cases import sealed
+from companion_cases import CHECK, EDIT, FOUND, PASSWORDS, ROTATE, TEXT, TEXTCONV, WITH, Place, block, decrypted
+from companion_cases import ended, sealed, texts
 from companion_cases.both import ours, theirs_at_terminal
 from companion_cases.terminal import READING, Session, ask
 from lib.needs import needs, needs_ansible
@@ -82,6 +82,62 @@ def test_every_companion(place: Place) -> None:
     answers = typed("dev2", NEW_OF_DEV, AGAIN_OF_DEV)
     session = ask(place, EDIT, *word, "a.yml", "b.yml", answers=answers, EDITOR=editor)
     check_session("edit of two, one of which is new", session, NEW_OF_DEV, AGAIN_OF_DEV)
+
+
+NEW_VALUE = b"word: !vault TEXT\n"
+OF_PROD, AGAIN_OF_PROD = "Vault password (prod): ", "Confirm new vault password (prod): "
+BY_LABEL = "--vault-id prod@prompt --encrypt-vault-id prod"
+WHICH = "Label to encrypt word with (dev, prod): "
+# Command lines for a password that was not typed for encryption, the file, and the questions.
+ONLY_ENCRYPTING: dict[str, tuple[str, bytes, list[str]]] = {
+    "a new value": (f"{EDIT} -J a.yml", NEW_VALUE, [ASKED, AGAIN]),
+    "a new value beside others": (
+        f"{EDIT} --vault-id dev@../secrets/dev {BY_LABEL} a.yml",
+        block("dev", b"one", "dev", "a") + NEW_VALUE,
+        [OF_PROD, AGAIN_OF_PROD],
+    ),
+    "a label that is typed": (
+        f"{EDIT} --vault-id dev@../secrets/dev --vault-id prod@prompt a.yml < /dev/tty",
+        block("dev", b"one", "dev", "a") + NEW_VALUE,
+        [OF_PROD, WHICH, AGAIN_OF_PROD],
+    ),
+    "one that is set": (f"printf new | {EDIT} {BY_LABEL} --value=word a.yml", NEW_VALUE, [OF_PROD, AGAIN_OF_PROD]),
+    "rekey": (f"{WITH} rekey --encrypt-vault-id=prod a.yml", sealed("old"), [OF_PROD, AGAIN_OF_PROD]),
+    "rekey to an output": (
+        f"{WITH} rekey --encrypt-vault-id=prod --output a.yml b.yml", sealed("old"), [OF_PROD, AGAIN_OF_PROD]
+    ),
+}
+
+
+@pytest.mark.parametrize("line, before, questions", ONLY_ENCRYPTING.values(), ids=ONLY_ENCRYPTING)
+@pytest.mark.parametrize("is_mistyped", [False, True])
+def test_what_only_encrypts(place: Place, line: str, before: bytes, questions: list[str], is_mistyped: bool) -> None:
+    """A password that encrypts without having decrypted anything is asked for twice. If the answers differ, nothing is
+    encrypted with it."""
+    place.put("a.yml", before)
+    place.put("b.yml", before)
+    if "rekey" in line:
+        place.environment["ANSIBLE_VAULT_IDENTITY_LIST"] = "old@../secrets/old, prod@prompt"
+    answers = [(each, b"prod\n") if each == WHICH else (each, PASSWORDS["prod"] + b"\n") for each in questions]
+    if is_mistyped:
+        answers[-1] = (questions[-1], b"mistyped\n")
+        answers += [("Open the editor again? (yes, no): ", b"no\n")] if WHICH in questions else []
+    session = ask(place, "sh", "-c", line, answers=answers, EDITOR="true")
+    if is_mistyped:
+        assert session.returncode == 1 and "the two passwords differ; try again" in session.stderr, session
+        assert place.get("a.yml") == before, "nothing is changed"
+    else:
+        assert (session.returncode, session.stderr) == (0, ""), session
+        assert texts(FOUND.findall(place.get("a.yml"))[-1], "prod") != [None], "it can be read"
+
+
+def test_what_has_decrypted(place: Place) -> None:
+    """A password that has decrypted something is asked for once, even if a new value is encrypted, too."""
+    place.put("a.yml", block("dev", b"one", "", "a") + NEW_VALUE)
+    session = ask(place, EDIT, "-J", "a.yml", answers=typed("dev", ASKED), EDITOR="true")
+    assert (session.returncode, session.stderr) == (0, ""), session
+    check_session("edit", session, ASKED)
+    assert texts(place.get("a.yml"), "dev") == [b"one", b"TEXT"], "both values"
 
 
 def test_by_settings(place: Place) -> None:

@@ -53,6 +53,8 @@ class Secret:
         self.requires_match = False
         # Whether no other password is named.
         self.is_only = False
+        # Whether it was typed twice, or has decrypted something. Only then may a typed password encrypt.
+        self.is_certain = False
         # Whether it is ignored for want of a password, and only the other secrets decrypt.
         self.is_left_out = False
 
@@ -172,6 +174,7 @@ def obtain(secrets: list[Secret], encrypts: bool, password: Password) -> None:
         else:
             secret.descriptor = os.memfd_create("password")
             os.write(secret.descriptor, content)
+            secret.is_certain = encrypts
             secret.path = f"/dev/fd/{secret.descriptor}"
 
 

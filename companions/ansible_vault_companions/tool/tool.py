@@ -68,7 +68,9 @@ class Tool:
         tried = labels.in_order(secrets, label_of(envelope))
         for secret in tried:
             with suppress(NotDecrypted):
-                return secret, self.view(envelope, secret)
+                plaintext = self.view(envelope, secret)
+                secret.is_certain = True
+                return secret, plaintext
         raise NotDecrypted(f"{NOT_DECRYPTED} {labels.tried(envelope, tried)}")
 
     def encrypt(self, plaintext: bytes, secret: Secret, label: str) -> bytes:

@@ -53,6 +53,7 @@ class Choice(NamedTuple):
         if self.label is None and len(fitting) > 1:
             fitting = self._asked(value, fitting)
         fitting[0].require()
+        prompts.confirm(fitting[0])
         return fitting[0], fitting[0].label
 
     def _asked(self, value: Value, secrets: list[Secret]) -> list[Secret]:
