@@ -2,14 +2,14 @@
 
 import pytest
 
-from companion_cases import CHECK, EDIT, PASSWORDS, ROTATE, TEXT, TEXTCONV, WITH, Done, Place, block, decrypted
-from companion_cases import described, ended, sealed
+from companion_cases import CHECK, EDIT, FOUND, PASSWORDS, ROTATE, TEXT, TEXTCONV, WITH, Done, Place, block, decrypted
+from companion_cases import described, ended, sealed, texts
 from companion_cases.both import ours, theirs_at_terminal
 from companion_cases.terminal import READING, READY, SHELL, Session, ask
 from lib.needs import needs, needs_ansible
 from model.vaults import seal
 
-ASKED = "Vault password: "
+ASKED, AGAIN = "Vault password: ", "Confirm New Vault password: "
 OF_DEV = "Vault password (dev): "
 NEW_OF_DEV, AGAIN_OF_DEV = "New vault password (dev): ", "Confirm new vault password (dev): "
 
@@ -58,6 +58,62 @@ def test_how_often(place: Place) -> None:
     check_asked(session, OF_DEV, NEW_OF_DEV, AGAIN_OF_DEV)
     found = [decrypted("dev2", place.get(name)) for name in ("a.yml", "new.yml")]
     assert found == [TEXT + b"more\nmore\n", b"more\n"]
+
+
+NEW_VALUE = b"word: !vault TEXT\n"
+OF_PROD, AGAIN_OF_PROD = "Vault password (prod): ", "Confirm new vault password (prod): "
+BY_LABEL = "--vault-id prod@prompt --encrypt-vault-id prod"
+WHICH = "Label to encrypt word with (dev, prod): "
+# Command lines for a password that was not typed for encryption, the file, and the questions.
+ONLY_ENCRYPTING: dict[str, tuple[str, bytes, list[str]]] = {
+    "a new value": (f"{EDIT} -J a.yml", NEW_VALUE, [ASKED, AGAIN]),
+    "a new value beside others": (
+        f"{EDIT} --vault-id dev@../secrets/dev {BY_LABEL} a.yml",
+        block("dev", b"one", "dev", "a") + NEW_VALUE,
+        [OF_PROD, AGAIN_OF_PROD],
+    ),
+    "a label that is typed": (
+        f"{EDIT} --vault-id dev@../secrets/dev --vault-id prod@prompt a.yml < /dev/tty",
+        block("dev", b"one", "dev", "a") + NEW_VALUE,
+        [OF_PROD, WHICH, AGAIN_OF_PROD],
+    ),
+    "one that is set": (f"printf new | {EDIT} {BY_LABEL} --value=word a.yml", NEW_VALUE, [OF_PROD, AGAIN_OF_PROD]),
+    "rekey": (f"{WITH} rekey --encrypt-vault-id=prod a.yml", sealed("old"), [OF_PROD, AGAIN_OF_PROD]),
+    "rekey to an output": (
+        f"{WITH} rekey --encrypt-vault-id=prod --output a.yml b.yml", sealed("old"), [OF_PROD, AGAIN_OF_PROD]
+    ),
+}
+
+
+@pytest.mark.parametrize("line, before, questions", ONLY_ENCRYPTING.values(), ids=ONLY_ENCRYPTING)
+@pytest.mark.parametrize("is_mistyped", [False, True])
+def test_what_only_encrypts(place: Place, line: str, before: bytes, questions: list[str], is_mistyped: bool) -> None:
+    """A password that encrypts without having decrypted anything is asked for twice. If the answers differ, nothing is
+    encrypted with it."""
+    place.put("a.yml", before)
+    place.put("b.yml", before)
+    if "rekey" in line:
+        place.environment["ANSIBLE_VAULT_IDENTITY_LIST"] = "old@../secrets/old, prod@prompt"
+    answers = [(each, b"prod\n") if each == WHICH else (each, PASSWORDS["prod"] + b"\n") for each in questions]
+    if is_mistyped:
+        answers[-1] = (questions[-1], b"mistyped\n")
+        answers += [("Open the editor again? (yes, no): ", b"no\n")] if WHICH in questions else []
+    session = ask(place, "sh", "-c", line, answers=answers, EDITOR="true")
+    if is_mistyped:
+        assert session.returncode == 1 and "the two passwords differ; try again" in session.stderr, session
+        assert place.get("a.yml") == before, "nothing is changed"
+    else:
+        assert (session.returncode, session.stderr) == (0, ""), session
+        assert texts(FOUND.findall(place.get("a.yml"))[-1], "prod") != [None], "it can be read"
+
+
+def test_what_has_decrypted(place: Place) -> None:
+    """A password that has decrypted something is asked for once, even if a new value is encrypted, too."""
+    place.put("a.yml", block("dev", b"one", "", "a") + NEW_VALUE)
+    session = ask(place, EDIT, "-J", "a.yml", answers=typed("dev", ASKED), EDITOR="true")
+    assert (session.returncode, session.stderr) == (0, ""), session
+    check_asked(session, ASKED)
+    assert texts(place.get("a.yml"), "dev") == [b"one", b"TEXT"], "both values"
 
 
 def test_by_settings(place: Place) -> None:

@@ -187,10 +187,22 @@ def what_counts(case: Case) -> Case | None:
         file = file._replace(password_files=case.file.password_files)
         if "folder" in case.place:
             file = NOTHING._replace(match=case.file.match)
+    if case.command[0].startswith("encrypt") and not is_clear(case._replace(variables=variables, file=file)):
+        return None
     if ansible_release() < (2, 14):
         # These releases do not skip a missing secret beside others.
         variables, file = variables.only(Named.is_usable), file.only(Named.is_usable)
     return case._replace(variables=variables, file=file)
+
+
+def is_clear(case: Case) -> bool:
+    """Return whether each secret is usable that might encrypt. Ansible's tool chooses among those that are usable."""
+    identities = case.variables.identities or case.file.identities
+    password_files = case.variables.password_files or case.file.password_files
+    label = case.label or case.variables.encrypt or case.file.encrypt
+    named = [*identities, *case.ids, *case.paths, *password_files]
+    fitting = [each for each in named if label in ("", each.label or DEFAULT)]
+    return all(each.is_usable() for each in (fitting[:1] if label else fitting))
 
 
 # Whether a run succeeds, its output, and the files that have changed.

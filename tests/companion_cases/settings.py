@@ -2,8 +2,8 @@
 
 import pytest
 
-from companion_cases import CHECK, EDIT, MERGE, ROTATE, TEXT, TEXTCONV, WITH, Place, decrypted, ended, sealed, silent
-from companion_cases import use_everywhere
+from companion_cases import CHECK, EDIT, MERGE, ROTATE, TEXT, TEXTCONV, WITH, Place, decrypted, described, ended
+from companion_cases import sealed, silent, use_everywhere
 from companion_cases.both import ours, theirs
 from lib.needs import needs_ansible
 from lib.subtests import SubTests
@@ -196,11 +196,54 @@ def test_missing_secrets(place: Place) -> None:
     ended("to decrypt", done, 0, "a.yml: dev: decrypted by dev@../secrets/dev")
     assert done.stderr.splitlines() == [f"{CHECK}: {given}: {why}; it is ignored" for given, why in ignored.items()]
     done = ours(place, "encrypt", "--encrypt-vault-id", "prod", "plain.yml", **variables)
-    ended("under a missing one", done, 1, "it is ignored", "no secret has the label of --encrypt-vault-id")
+    ended("under a missing one", done, 1, "it is ignored", "and no other secret encrypts in its place")
     asked = {"ANSIBLE_VAULT_IDENTITY_LIST": "prod@prompt, dev@../secrets/dev"}
     done = ours(place, "encrypt", "plain.yml", **asked)
     ended("one that nobody can type", done, 1, "prod@prompt: there is no terminal to ask for the password")
     assert place.get("plain.yml") == TEXT, "nothing is encrypted"
+
+
+# Secrets of the settings, the label to encrypt with, the one password that is there, and whether it encrypts.
+CHOSEN = {
+    "two labels": ("dev@../secrets/dev, prod@../secrets/none", "", "dev", False),
+    "a label that is missing": ("dev@../secrets/dev, prod@../secrets/none", "prod", "dev", False),
+    "the first of a label": ("prod@../secrets/none, prod@../secrets/old", "prod", "old", False),
+    "a prompt without a terminal": ("prod@prompt, prod@../secrets/old", "prod", "old", False),
+    "the second of a label": ("prod@../secrets/old, prod@../secrets/none", "prod", "old", True),
+    "a label that is there": ("prod@../secrets/none, dev@../secrets/dev", "dev", "dev", True),
+}
+SEALING = [
+    [WITH, "encrypt", "plain.yml"],
+    [WITH, "encrypt_string", "word"],
+    [WITH, "rekey", "a.yml"],
+    [EDIT, "new.yml"],
+    [EDIT, "values.yml"],
+    [EDIT, "--value=word", "values.yml"],
+]
+
+
+@pytest.mark.parametrize("listed, label, there, encrypts", CHOSEN.values(), ids=CHOSEN)
+@pytest.mark.parametrize("line", SEALING, ids=" ".join)
+def test_missing_secrets_to_encrypt_with(
+    place: Place, line: list[str], listed: str, label: str, there: str, encrypts: bool
+) -> None:
+    """If the secret to encrypt with is missing, no other one encrypts in its place. Others may be missing."""
+    before = {"plain.yml": TEXT, "values.yml": b"word: !vault TEXT\n", "a.yml": sealed(there)}
+    for name, content in before.items():
+        place.put(name, content)
+    variables = {"ANSIBLE_VAULT_IDENTITY_LIST": listed, "ANSIBLE_VAULT_ENCRYPT_IDENTITY": label}
+    # Without a label, rekey would ask for a password. --value takes the label from the option alone.
+    option = ["--encrypt-vault-id", label or "prod"] if {"rekey", "--value=word"} & {*line} else []
+    editor = place.script('test -s "$1" || echo new > "$1"', "editor")
+    words = [*line[:2], *option, *line[2:]]
+    done = place.run_on(b"new", "setsid", "--wait", *words, EDITOR=editor, **variables)
+    written = done.stdout if line[1] == "encrypt_string" else place.files().get(line[-1], b"")
+    assert done.returncode == (0 if encrypts else 1), done
+    if encrypts:
+        header, found = described(written)
+        assert header.decode() == f"$ANSIBLE_VAULT;1.2;AES256;{label}" and found and found[0] == there, written
+    else:
+        assert written == before.get(line[-1], b""), "nothing is encrypted"
 
 
 def test_the_label_to_encrypt_with(place: Place) -> None:

@@ -7,7 +7,7 @@ from ansible_vault_companions import program, stopping
 from ansible_vault_companions.alias.run import Run
 from ansible_vault_companions.alias.table import ENCRYPT_ID, ENCRYPTING, REKEY
 from ansible_vault_companions.program import Refused
-from ansible_vault_companions.secrets import options, sources
+from ansible_vault_companions.secrets import options, prompts, sources
 from ansible_vault_companions.secrets.sources import ASKED, NoTerminal, Secret
 from ansible_vault_companions.tool import finding
 from ansible_vault_companions.tool.tool import Tool
@@ -56,4 +56,7 @@ def new_secrets(run: Run, old: list[Secret]) -> list[Secret]:
     fitting = [secret for secret in new or old if secret.label == run.label and (new or secret.is_setting)]
     if run.label and not fitting and (words.value(ENCRYPT_ID) or not new):
         raise Refused(f"no new secret has the label that was chosen for encryption, {program.shown(run.label)}")
+    for secret in fitting[:1]:
+        secret.require()
+        prompts.confirm(secret)
     return new or fitting[:1] or secrets(encrypts=True, none=NO_NEW)

@@ -4,11 +4,13 @@ from __future__ import annotations
 
 from ansible_vault_companions.alias.table import DECRYPTING, ENCRYPT_ID, ENCRYPTING, MATCH, REKEY
 from ansible_vault_companions.alias.words import Words
+from ansible_vault_companions.program import Refused
 from ansible_vault_companions.secrets.settings import Settings
 from ansible_vault_companions.secrets.sources import Secret
 
 # The maximum number of secrets that the tool accepts.
 MOST = 16
+SEVERAL = "several secrets were given; choose one with --encrypt-vault-id"
 
 
 class Run:
@@ -27,10 +29,16 @@ class Run:
         self.label = words.value(ENCRYPT_ID) or found.encrypt_label()
 
     def take(self, secrets: list[Secret], new: list[Secret]) -> None:
-        """Sets the secrets. To encrypt, only the secret with the label is kept, since the tool accepts at most MOST."""
-        self.secrets, self.new = secrets, new
-        if self.words.command in ENCRYPTING and self.label:
-            self.secrets = [secret for secret in secrets if secret.label == self.label][:1] or secrets[:1]
+        """Sets the secrets. To encrypt, only the secret with the label is kept, since the tool accepts at most MOST. It
+        is chosen among all that are named, and refused if it was left out."""
+        self.secrets, self.new = [secret for secret in secrets if not secret.is_left_out], new
+        if self.words.command not in ENCRYPTING:
+            return
+        if self.label:
+            self.secrets = [secret for secret in secrets if secret.label == self.label][:1] or self.secrets[:1]
+            self.secrets[0].require()
+        elif len(self.secrets) < len(secrets):
+            raise Refused(SEVERAL)
 
     def command(self, secrets: list[Secret]) -> list[str]:
         """The words that give the tool the command and these secrets."""

@@ -79,7 +79,9 @@ class Values:
         values. If none of these is known, all secrets."""
         shown = [each.key for each in self.showing.decrypted]
         chosen = self.choice.keys() if self.choice.label is not None or not shown else []
-        return layers.different([*shown, *chosen] or [(each, each.label) for each in self.choice.secrets])
+        known = [key for key in (*shown, *chosen) if not key[0].is_left_out]
+        every = [(each, each.label) for each in self.choice.secrets if not each.is_left_out]
+        return layers.different(known or every)
 
     def is_as_it_was(self, text: bytes) -> bool:
         return text == self.plaintext and all(value.is_encrypted for value in self.showing.found.values)
@@ -102,6 +104,7 @@ def load(tool: Tool, secrets: list[Secret], path: str, new_label: str | None) ->
         keys = choice.keys()
         if not keys:
             raise Refused(UNCLEAR if new_label is None else NO_SUCH_LABEL)
+        keys[0][0].require()
         return Vault(target, keys)
     if damage.is_torn(content):
         raise Refused(f"{damage.TORN}; {damage.merge_again(path)}")
@@ -121,6 +124,9 @@ def _load_values(tool: Tool, target: str, content: bytes, choice: Choice) -> Val
     showing = inline.showing(content, lambda envelope: tool.decrypt(envelope, choice.secrets), with_notes=True)
     if not showing.found.values:
         raise Refused(NO_VAULT)
+    if not showing.decrypted:
+        for secret, _ in choice.keys():
+            secret.require()
     all_encrypted = len(showing.still_encrypted) == len(showing.found.values)
     are_locked = all(isinstance(each.why, NotDecrypted) for each in showing.still_encrypted)
     if all_encrypted and choice.label is None and are_locked:

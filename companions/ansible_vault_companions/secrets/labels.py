@@ -14,7 +14,8 @@ NO_OPTION = "its label {} has an @, so no option can name it; change it in its f
 
 def in_order(secrets: list[Secret], label: str | None) -> list[Secret]:
     """The secrets that may be tried on a vault with this label. Those with the same label come first."""
-    fitting = [secret for secret in secrets if secret.label == label or not secret.requires_match]
+    found = [secret for secret in secrets if not secret.is_left_out]
+    fitting = [secret for secret in found if secret.label == label or not secret.requires_match]
     return sorted(fitting, key=lambda secret: secret.label != label)
 
 

@@ -66,10 +66,9 @@ def from_options(
     secrets = sources.load(parser.prog, named, encrypts, password)
     if not secrets:
         parser.error(NONE)
-    are_all_there = len(secrets) == len(named)
     for secret in secrets:
         secret.requires_match = found.requires_match()
-        secret.is_only = are_all_there and all(each.password() == secret.password() for each in secrets)
+        secret.is_only = all(each.password() == secret.password() for each in secrets)
     return secrets
 
 

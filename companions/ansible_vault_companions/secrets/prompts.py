@@ -11,9 +11,10 @@ from typing import Iterator
 from ansible_vault_companions import stopping
 from ansible_vault_companions.program import Refused, shown
 from ansible_vault_companions.secrets.settings import ASK, PROMPT
-from ansible_vault_companions.secrets.sources import NoTerminal
+from ansible_vault_companions.secrets.sources import NoTerminal, Secret
 
 TERMINAL = "/dev/tty"
+DIFFER = "the two passwords differ; try again"
 # The character that Ctrl-Z types when it sends no signal, and the value that disables a special key.
 SUSPEND, NO_KEY = b"\x1a", b"\0"
 # The prompts for decrypting, and those for encrypting.
@@ -29,8 +30,17 @@ def password(kind: str, label: str, encrypts: bool) -> bytes:
     questions = (TO_ENCRYPT if encrypts else TO_DECRYPT)[kind]
     typed = [_answer(question.format(shown(label))) for question in questions]
     if len(set(typed)) > 1:
-        raise Refused("the two passwords differ; try again")
+        raise Refused(DIFFER)
     return typed[0]
+
+
+def confirm(secret: Secret) -> None:
+    """Asks again for a password before it encrypts, if it was typed once and has decrypted nothing: after a typing
+    mistake, nobody could read the vault."""
+    if secret.is_prompt and not secret.is_certain:
+        if _answer(TO_ENCRYPT[secret.place][-1].format(shown(secret.label))) != secret.password():
+            raise Refused(f"{shown(secret.given)}: {DIFFER}")
+        secret.is_certain = True
 
 
 def string(is_hidden: bool) -> bytes:

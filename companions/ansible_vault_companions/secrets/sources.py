@@ -53,6 +53,10 @@ class Secret:
         self.requires_match = False
         # Whether no other password is named.
         self.is_only = False
+        # Whether it was typed twice, or has decrypted something. Only then may a typed password encrypt.
+        self.is_certain = False
+        # Whether it is ignored for want of a password, and only the other secrets decrypt.
+        self.is_left_out = False
 
     def is_active(self) -> bool:
         """Whether getting the password runs a script or asks the user."""
@@ -88,6 +92,11 @@ class Secret:
             return str(self.fault or "this password file cannot be read")
         return "" if self.password() else "the password is empty"
 
+    def require(self) -> None:
+        """Raises Refused if it is to encrypt but was left out: then no other secret may encrypt in its place."""
+        if self.is_left_out:
+            raise Refused(f"{shown(self.given)}: {self.why_missing()}, and no other secret encrypts in its place")
+
     def is_plain(self) -> bool:
         """Whether the tool is certain to accept the password and the label."""
         letters = self.label.replace("_", "").replace("-", "")
@@ -115,22 +124,22 @@ def named(ids: list[str], paths: list[str], found: Settings) -> list[Secret]:
 
 
 def load(companion: str, found: list[Secret], encrypts: bool, password: Password) -> list[Secret]:
-    """The secrets, except those from the settings that cannot be obtained, which are ignored if any other is left."""
+    """The same secrets, with their passwords. Leaves out those from the settings that cannot be obtained, if any other
+    is left. They stay in the list, since the secret to encrypt with is chosen among all that are named."""
     obtain(found, encrypts, password)
-    left_out = [secret for secret in found if _may_be_left_out(secret, encrypts)]
-    if len(left_out) == len(found):
-        return found
-    for secret in left_out:
-        write_error(f"{companion}: {shown(secret.given)}: {secret.why_missing()}; it is ignored")
-    return [secret for secret in found if secret not in left_out]
+    left_out = [secret for secret in found if _may_be_left_out(secret)]
+    if len(left_out) < len(found):
+        for secret in left_out:
+            secret.is_left_out = True
+            write_error(f"{companion}: {shown(secret.given)}: {secret.why_missing()}; it is ignored")
+    return found
 
 
-def _may_be_left_out(secret: Secret, encrypts: bool) -> bool:
+def _may_be_left_out(secret: Secret) -> bool:
     """Whether it is a secret from the settings that cannot be obtained. As with Ansible, a mistyped password still ends
-    the run. To encrypt, so does a missing terminal, since another secret would be chosen."""
-    if not (secret.is_setting and secret.why_missing()):
-        return False
-    return not secret.is_prompt or (isinstance(secret.fault, NoTerminal) and not encrypts)
+    the run."""
+    is_missing = secret.is_setting and bool(secret.why_missing())
+    return is_missing and (not secret.is_prompt or isinstance(secret.fault, NoTerminal))
 
 
 def _by_setting(found: Iterable[Secret]) -> Iterator[Secret]:
@@ -165,6 +174,7 @@ def obtain(secrets: list[Secret], encrypts: bool, password: Password) -> None:
         else:
             secret.descriptor = os.memfd_create("password")
             os.write(secret.descriptor, content)
+            secret.is_certain = encrypts
             secret.path = f"/dev/fd/{secret.descriptor}"
 
 

@@ -52,6 +52,8 @@ class Tool:
     def accept(self, secrets: list[Secret]) -> None:
         """Refuses a secret that the tool refuses. An empty input makes the tool check the secret alone."""
         for secret in secrets:
+            if secret.is_left_out:
+                continue
             try:
                 with suppress(NotVault):
                     self.view(b"", secret)
@@ -66,7 +68,9 @@ class Tool:
         tried = labels.in_order(secrets, label_of(envelope))
         for secret in tried:
             with suppress(NotDecrypted):
-                return secret, self.view(envelope, secret)
+                plaintext = self.view(envelope, secret)
+                secret.is_certain = True
+                return secret, plaintext
         raise NotDecrypted(f"{NOT_DECRYPTED} {labels.tried(envelope, tried)}")
 
     def encrypt(self, plaintext: bytes, secret: Secret, label: str) -> bytes:

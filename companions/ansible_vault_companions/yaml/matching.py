@@ -52,6 +52,8 @@ class Choice(NamedTuple):
             raise unclear(value, NO_SUCH_LABEL)
         if self.label is None and len(fitting) > 1:
             fitting = self._asked(value, fitting)
+        fitting[0].require()
+        prompts.confirm(fitting[0])
         return fitting[0], fitting[0].label
 
     def _asked(self, value: Value, secrets: list[Secret]) -> list[Secret]:
@@ -63,7 +65,7 @@ class Choice(NamedTuple):
         return [secret for secret in secrets if secret.label == label]
 
     def keys(self) -> list[Key]:
-        """The key for a new value if it is clear without asking; otherwise empty."""
+        """The key for a new value if it is clear without asking, even if it was left out; otherwise empty."""
         fitting = self._fitting()
         is_clear = self.label is not None or len(fitting) == 1
         return [(fitting[0], fitting[0].label)] if fitting and is_clear else []
