@@ -30,7 +30,7 @@ OUTCOMES = "outcomes"
 # With --floors, at least this many tests of each part must run, and not many more, so that the floor is raised in time
 # (OUTCOMES counts the tests without a marker listed here); and the tests must record at least the amounts in LEAST.
 # Subtests count as one of these amounts.
-FLOORS = {OUTCOMES: 2000, "fuzz": 4, "faults": 44, "allocations": 40, "valgrind": 65, "newcomer": 16}
+FLOORS = {OUTCOMES: 1800, "fuzz": 4, "faults": 44, "allocations": 40, "valgrind": 65, "newcomer": 16}
 ROWS = "subtests"
 Report = pytest.TestReport | pytest.CollectReport
 HAS_FAILED = pytest.StashKey[bool]()
@@ -80,8 +80,9 @@ def pytest_sessionstart(session: pytest.Session) -> None:
 
 
 def pytest_collection_modifyitems(items: list[pytest.Item]) -> None:
-    """Run the longest tests first."""
-    items.sort(key=lambda item: item.get_closest_marker("newcomer") is None)
+    """Run newcomer.py first, since its proofs take longest, and targets.py, which needs the same ones, last."""
+    order = {"newcomer.py": 0, "targets.py": 2}
+    items.sort(key=lambda item: order.get(item.path.name, 1))
 
 
 def missing_tool(raised: pytest.ExceptionInfo[BaseException] | None) -> str | None:
