@@ -33,7 +33,8 @@ def fault(secret: Secret, envelope: bytes) -> str:
     other, meant = shown(secret.label), shown(label)
     mends = f"write {other} as the label in its first line"
     if "@" not in label:
-        option = shlex.quote(shown(f"{label}@{PROMPT if secret.is_prompt else secret.place}"))
+        place = PROMPT if secret.is_prompt else secret.place
+        option = shlex.quote(shown(f"{label}@{place}"))
         mends = f"either {mends} or, if that secret also belongs to {meant}, name it with --vault-id {option}"
     return (
         f"its label is {meant}, but {shown(secret.given)}, a secret with the label {other}, decrypts it; find out who "
