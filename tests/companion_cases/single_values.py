@@ -151,6 +151,7 @@ REFUSED = [
     (NEVER, f"{TO_PROD} app.users[1] vars.yml", 1, "there is no value app.users[1]"),
     (NEVER, f"{TO_PROD} port.new vars.yml", 1, "there is no value port.new"),
     (NEVER, "--encrypt-vault-id x --value db_password vars.yml", 1, "no secret has the label"),
+    (NEVER, "--value a relabelled.yml", 1, "its label is prod, but dev@"),
     (NEVER, "--value port vars.yml", 1, "port is not encrypted; to encrypt it there, choose its secret with"),
     (NEVER, "--value db.password vault.yml", 1, "the whole file is a vault"),
     (NEVER, "--value db_password conflict.yml", 1, "git's conflict markers"),
@@ -167,6 +168,7 @@ REFUSED = [
 def test_refused(place: Place, both: list[str], standard_input: str, words: str, status: int, why: str) -> None:
     os.mkfifo(place.path / "never")
     place.put("vault.yml", VAULT)
+    place.put("relabelled.yml", block("dev", b"one", "prod", "a"))
     place.put("conflict.yml", b"<<<<<<< ours\n" + FILE + b"=======\n>>>>>>> theirs\n")
     place.put("../long", bytes((1 << 24) + 1))
     before = place.files()

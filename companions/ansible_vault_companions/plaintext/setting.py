@@ -3,7 +3,7 @@
 from __future__ import annotations
 
 import re
-from typing import ClassVar, Iterable
+from typing import ClassVar
 
 from ansible_vault_companions.files.changes import Change, changed
 from ansible_vault_companions.files.envelopes import MAGIC
@@ -56,6 +56,10 @@ class SingleValue:
         self.path = "".join(found.path)
         self.before = self._decrypted(decrypt)
         self.keys: list[Key] = [choice.key(found)] if self.is_chosen or not self.before else [self.before.key]
+        # If the secret has another label than the value, the new text may be for other readers.
+        fault = labels.fault(self.keys[0][0], self.before.block.envelope) if self.before else ""
+        if fault and not self.is_chosen:
+            raise Refused(fault)
         if "@" in self.keys[0][1]:
             raise Refused(labels.NO_OPTION.format(self.keys[0][1]))
         # Fails early, before a text is read that might be lost.
@@ -63,11 +67,6 @@ class SingleValue:
 
     def is_as_it_was(self, text: bytes) -> bool:
         return self.before is not None and self.before.plaintext == text and self.before.key == self.keys[0]
-
-    def label_faults(self) -> Iterable[str]:
-        """A message if a secret with another label decrypts it. The edit keeps that secret and the label."""
-        if self.before and not self.is_chosen:
-            yield from filter(None, [labels.fault(self.before.secret, self.before.block.envelope)])
 
     def encrypted(self, tool: Tool, text: bytes) -> bytes:
         """The file's content with an envelope for this text."""
