@@ -12,7 +12,7 @@ _ansible_vault_files() {
 
 # A file, after a label and `@` where there is one.
 _ansible_vault_id() {
-    compset -P '*@'
+    compset -P 1 '*@'
     _ansible_vault_files
 }
 

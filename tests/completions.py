@@ -14,7 +14,7 @@ from lib.paths import COMPANIONS
 from model.options import COMMON, OPTIONS
 from shells import SHELLS, typed_in_bash
 
-FILES = ["one.pass", "one.yml", "two.yml", "with a space.pass", "-dash.yml"]
+FILES = ["one.pass", "one.yml", "two.yml", "with a space.pass", "te@m.pass", "-dash.yml"]
 WITH = "ansible-vault-with"
 WITH_COMMANDS = [*OPTIONS, "create", "edit"]
 # The starts of command lines, and the commands, options and paths that are offered.
@@ -57,6 +57,13 @@ def test_offered(shell: str, folder: pathlib.Path, line: str) -> None:
     """After a label, bash replaces only the text from the `@` on, the others the whole value."""
     wanted = {each.replace("dev@", "@") if shell == "bash" else each for each in OFFERED[line]}
     assert SHELLS[shell](line, folder) == wanted
+
+
+@pytest.mark.parametrize("name", ["fish", "zsh"])
+def test_path_with_an_at(name: str, folder: pathlib.Path) -> None:
+    """The first `@` ends the label. bash offers nothing, since it begins a word at the last one."""
+    needs(name)
+    assert SHELLS[name]("ansible-vault view --vault-id dev@te@m.p", folder) == {"dev@te@m.pass"}
 
 
 # The starts of command lines that arguments follow, and of those that take only one.

@@ -28,7 +28,7 @@ SECRETS: list[tuple[list[Pair], list[Pair]]] = [
 # The label and the password of the vault in each file.
 VAULTS = {f"{pair[0]}-{pair[1]}.yml": pair for pair in product(["", DEFAULT, "dev", "prod"], ["old", "dev", "prod"])}
 # The new passwords of labels.
-NEW = {DEFAULT: "new", "dev": "dev2"}
+NEW = {DEFAULT: "new", "dev": "dev2", "prod": "prod2"}
 NEXT_STEP = re.compile(r"its label is (\S+), but \S+, a secret with the label \S+, decrypts it; .* --vault-id (\S+)$")
 
 

@@ -156,10 +156,11 @@ def test_put_back(place: Place) -> None:
 
 def test_put_in_its_place(place: Place) -> None:
     """The commands in the message show what was saved, and put it into the vault."""
-    place.put("all.yml", sealed("old"), 0o640)
-    done = edit(place, 'echo more > "$1"; exit 3', *place.by_file("old"), "all.yml")
+    name = "-rf it's.yml"
+    place.put(name, sealed("old"), 0o640)
+    done = edit(place, 'echo more > "$1"; exit 3', *place.by_file("old"), "--", name)
     show, put = commands(done.stderr)
     ended("it is shown", place.shell(show), 0, "more\n")
     silent("it is put back", place.shell(put))
-    assert decrypted("old", place.get("all.yml")) == b"more\n", "it is there"
-    assert (place.names(), place.mode("all.yml")) == (["all.yml"], "0o640"), "the copy is gone, and the mode stays"
+    assert decrypted("old", place.get(name)) == b"more\n", "it is there"
+    assert (place.names(), place.mode(name)) == ([name], "0o640"), "the copy is gone, and the mode stays"
