@@ -118,8 +118,9 @@ def test_nothing_to_resume(place: Place) -> None:
     place.put("all.yml", sealed("old"))
     words = [*place.by_file("old"), "--resume", "all.yml"]
     if os.geteuid() == 0:
-        place.put(".ansible-vault-saved-all.yml-abcdefgh", sealed("old", b"theirs"))
-        place.give(".ansible-vault-saved-all.yml-abcdefgh")
+        edit(place, 'echo theirs > "$1"; exit 3', *place.by_file("old"), "all.yml")
+        [copy] = [name for name in place.names() if name.startswith(".ansible-vault-saved-")]
+        place.give(copy)
     ended("no copy", edit(place, "touch ../started", *words), 1, "all.yml: no earlier edit left a copy")
     ended("no editor", place.run(EDIT, "--value", "a", *words), 2, "--resume is for an editor")
     assert not (place.path / "started").exists()

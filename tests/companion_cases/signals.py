@@ -63,7 +63,7 @@ def check_whole(place: Place) -> None:
 
 def check_edit(place: Place, errors: str, wanted: bytes = CHANGED) -> None:
     """Check that a saved text is in the vault, or encrypted in a copy that the message names."""
-    copies = [*place.tree.glob(f"{COPY}????????")]
+    copies = [*place.tree.glob(f"{COPY}????????-of-*")]
     kept = [decrypted("old", each.read_bytes()) for each in copies]
     is_replaced = decrypted("old", place.get("a.yml")) == wanted
     # The editor may be ended before it notes that it has saved.
