@@ -34,7 +34,7 @@ FLOORS = {OUTCOMES: 1800, "fuzz": 4, "faults": 44, "allocations": 40, "valgrind"
 ROWS = "subtests"
 Report = pytest.TestReport | pytest.CollectReport
 HAS_FAILED = pytest.StashKey[bool]()
-LEAST = {ROWS: 1000, "random requests": 200, "refused calls": 700, "signals": 36, "refused allocations": 1200}
+LEAST = {ROWS: 550, "random requests": 200, "refused calls": 700, "signals": 36, "refused allocations": 1200}
 
 
 def seed_of_commit() -> int:

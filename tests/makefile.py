@@ -141,7 +141,7 @@ def test_goals(rules: Rules) -> None:
     assert {*re.findall(r"^([a-z-]+):", MAKEFILE, re.MULTILINE)} == GOALS
 
 
-@pytest.mark.parametrize("goal", REACHED)
+@pytest.mark.parametrize("goal", REACHED, ids="make {}".format)
 def test_variables(rules: Rules, goal: str) -> None:
     names = REACHED[goal].split()
     printed = rules.make("-n", goal, *(f"{name}=/value-of-{name}" for name in names)).stdout
