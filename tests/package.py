@@ -219,8 +219,9 @@ def test_beside_theirs(package: pathlib.Path, tmp_path: pathlib.Path, program: s
     beside.install_theirs("2.14")
     beside.dpkg("-i", package)
     beside.check_both()
-    beside.dpkg("-i", later(package, tmp_path, VERSION + "+later"))
-    beside.check_both()
+    for version in (later(package, tmp_path, VERSION + "+later"), package):
+        beside.dpkg("-i", version)
+        beside.check_both()
     beside.install_theirs("2.15", "# later\n")
     beside.check_both("# later\n")
     beside.dpkg("-r", "ansible-vault")

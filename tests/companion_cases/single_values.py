@@ -151,7 +151,7 @@ REFUSED = [
     (NEVER, f"{TO_PROD} app.users[1] vars.yml", 1, "there is no value app.users[1]"),
     (NEVER, f"{TO_PROD} port.new vars.yml", 1, "there is no value port.new"),
     (NEVER, "--encrypt-vault-id x --value db_password vars.yml", 1, "no secret has the label"),
-    (NEVER, "--value a relabelled.yml", 1, "its label is prod, but dev@"),
+    ("< /dev/null", "--value a relabelled.yml", 1, "its label is prod, but dev@"),
     (NEVER, "--value port vars.yml", 1, "port is not encrypted; to encrypt it there, choose its secret with"),
     (NEVER, "--value db.password vault.yml", 1, "the whole file is a vault"),
     (NEVER, "--value db_password conflict.yml", 1, "git's conflict markers"),
