@@ -1,11 +1,14 @@
-"""ansible-vault-edit: what an edit changes, what it leaves alone, and where the plaintext is."""
+"""ansible-vault-edit: what an edit changes, what it leaves alone, and where the plaintext is; first of vaults, then of
+YAML with values that are vaults.
+"""
 
 import os
+import re
 
 import pytest
 
-from companion_cases import AWKWARD, CHANGE, CHANGED, EDIT, TEXT, Place, block, decrypted, edit, ended, envelope_of
-from companion_cases import sealed, silent
+from companion_cases import AWKWARD, CHANGE, CHANGED, EDIT, ENCRYPTED, TEXT, Done, Place, block, decrypted, edit, ended
+from companion_cases import sealed, silent, texts
 
 
 @pytest.mark.parametrize("name", AWKWARD)
@@ -24,37 +27,36 @@ def test_where_the_plaintext_lies(place: Place, folder: str) -> None:
     look = 'stat -c "%a %n" "${1%/*}" "$1" > ../seen'
     done = edit(place, look, *place.by_file("old"), "all.yml", XDG_RUNTIME_DIR=folder)
     ended("an editor that looks", done, 0, "nothing was changed")
-    modes, (private, path) = zip(*(line.split(" ", 1) for line in (place.path / "seen").read_text().splitlines()))
-    assert modes == ("700", "600"), "folder and file are for their owner alone"
-    wanted = str(place.runtime) if folder == "../runtime" else "/dev/shm"
-    assert (os.path.dirname(private), path) == (wanted, f"{private}/all.yml"), "where it is"
+    wanted = place.runtime if folder == "../runtime" else "/dev/shm"
+    lines = (place.path / "seen").read_text().splitlines()
+    private = lines[0].removeprefix("700 ")
+    assert (lines[1:], os.path.dirname(private)) == ([f"600 {private}/all.yml"], str(wanted)), "both are private"
     assert not os.path.exists(private), "it is gone"
 
 
 # What changes nothing, the exit status of the edit, and what it prints.
-STOPS = {
-    "true": (0, "nothing was changed; if the editor returned at once, give it an option to wait"),
-    'rm -r "${1%/*}"': (1, ".yml: the editor left no file; nothing was changed\n"),
-}
+STOPS = [
+    ("true", 0, "nothing was changed; if the editor returned at once, give it an option to wait"),
+    ('rm -r "${1%/*}"', 1, ".yml: the editor left no file; nothing was changed\n"),
+]
 
 
-@pytest.mark.parametrize("editor", STOPS)
-def test_what_stays(place: Place, editor: str) -> None:
+@pytest.mark.parametrize("editor, status, why", STOPS)
+def test_what_stays(place: Place, editor: str, status: int, why: str) -> None:
     """If an edit fails or changes nothing, the vault is not even written, no new one is made, and nothing is left."""
     place.put("all.yml", vault := sealed("old"))
     before = (place.tree / "all.yml").stat()
     for name in ("all.yml", "new.yml"):
-        ended(name, edit(place, editor, *place.by_file("old"), name), *STOPS[editor])
+        ended(name, edit(place, editor, *place.by_file("old"), name), status, why)
     after = (place.tree / "all.yml").stat()
     assert (after.st_ino, after.st_mtime_ns) == (before.st_ino, before.st_mtime_ns), "the vault is not written"
     assert (place.files(), place.left()) == ({"all.yml": vault}, []), "it stays, and nothing is left"
 
 
-OLD, NEW, PROD = (f"--vault-password-file ../secrets/{name}" for name in ("old", "new", "prod"))
+OLD, PROD = (f"--vault-password-file ../secrets/{name}" for name in ("old", "prod"))
 BOTH = "--vault-id dev@../secrets/dev --vault-id prod@../secrets/prod"
 # The options for secrets, the file to edit, and why that is refused.
 REFUSED = [
-    (NEW, "all.yml", "no secret decrypts this vault"),
     (OLD, "all.yml", "hard links"),
     (OLD, "plain.yml", "not a vault"),
     (OLD, "marked.yml", "an envelope after a byte order mark; remove the mark"),
@@ -93,35 +95,133 @@ def test_what_cannot_be_removed(place: Place) -> None:
     assert decrypted("old", place.get("new.yml")) == b"a\n", "but the vault is made"
 
 
-def test_labels(place: Place) -> None:
-    """The result is encrypted with the secret that decrypted the vault, under the vault's label. A message says if that
-    secret has another label."""
-    place.put("all.yml", sealed("prod", label="prod"))
-    place.put("vars.yml", block("prod", label="prod"))
-    words = [*place.by_id("prod", "dev"), *place.by_id("dev", "prod"), "all.yml", "vars.yml"]
-    done = edit(place, CHANGE, *words)
-    why = f"its label is prod, but dev@{place.secret('prod')}, a secret"
-    ended("the edit", done, 0, f"{EDIT}: all.yml: {why}", f"{EDIT}: vars.yml: line 1: secret: {why}")
-    for envelope in (envelope_of(place.get(name)) or b"" for name in ("all.yml", "vars.yml")):
-        assert envelope.startswith(b"$ANSIBLE_VAULT;1.2;AES256;prod\n"), "the label stays"
-        assert decrypted("prod", envelope) == CHANGED, "the password stays"
-
-
-def test_links(place: Place) -> None:
-    place.put("shared/all.yml", sealed("old"))
-    (place.tree / "link.yml").symlink_to("shared/all.yml")
-    silent("a link", edit(place, CHANGE, *place.by_file("old"), "link.yml"))
-    assert os.readlink(place.tree / "link.yml") == "shared/all.yml", "it stays a link"
-    assert decrypted("old", place.get("shared/all.yml")) == CHANGED, "its file is changed"
-
-
 @pytest.mark.parametrize("visual", ("'{}' --wait \"two words\"", ""))
 def test_editors(place: Place, visual: str) -> None:
-    """$VISUAL, or else $EDITOR, is a shell command, as in other programs."""
+    """$VISUAL, or else $EDITOR, is a shell command, as in other programs. A link stays one."""
     script = place.script('printf "%s|" "$1" "$2" > ../words; sed -i s/correct/wrong/ "$3"', "an editor")
-    place.put("all.yml", sealed("old"))
+    place.put("shared/all.yml", sealed("old"))
+    (place.tree / "link.yml").symlink_to("shared/all.yml")
     editor = "false" if visual else f"'{script}' --wait two\\ words"
-    done = place.run(EDIT, *place.by_file("old"), "all.yml", VISUAL=visual.format(script), EDITOR=editor)
+    done = place.run(EDIT, *place.by_file("old"), "link.yml", VISUAL=visual.format(script), EDITOR=editor)
     silent("the edit", done)
     assert (place.path / "words").read_text() == "--wait|two words|"
-    assert decrypted("old", place.get("all.yml")) == CHANGED, "the text"
+    assert os.readlink(place.tree / "link.yml") == "shared/all.yml"
+    assert decrypted("old", place.get("shared/all.yml")) == CHANGED, "the text"
+
+
+# What may be typed after the key, and the text that it means.
+TYPED = {
+    # The file has it already.
+    "!vault x": b"x",
+    "!vault it's # why": b"it's",
+    "!vault 'it''s'": b"it's",
+    '!vault "a\\n\\u00e9\\x00"': "a\né\0".encode(),
+    '!vault ""': b"",
+    "!vault |-\n  a\n   b": b"a\n b",
+    "!vault |2+\n   a\n\n": b" a\n\n\n",
+    "!vault &x secret": b"secret",
+}
+# What is refused if it is typed, because it may be misread or would not be encrypted, and why.
+MISREAD = {
+    "b: !vault\n": "line 1: b is missing after `!vault`",
+    "b: !vault a\n  b\n": "line 1: b continues on further lines",
+    "b: !vault 'a\n  b'\n": "line 1: b continues on further lines",
+    "b: !vault >\n  a\n": "line 1: b is a folded scalar",
+    "b: !vault\n  a\n": "line 1: b is below its tag",
+    "b: !vault [a]\n": "line 1: b is a list, a mapping or a key, not a string",
+    "b: !vault {{ a }}\n": "line 1: b is a list, a mapping or a key, not a string",
+    "b: !vault |-\n  a\x01\n": "line 1: b has control characters",
+    'b: !vault "\\q"\n': "line 1: it cannot be read as YAML: found unknown escape character",
+    "b: !vault |-\n  x\ny\n": "line 3: it cannot be read as YAML: could not find expected ':'",
+    "b: {c: !vault x}\n": "line 1: c is within brackets",
+    "# b: !vault |-\n#   x\n": "line 1: `!vault` within a comment or a string is not a tag",
+    "t: |\n  b: !vault |-\n    x\n": "line 2: `!vault` within a comment or a string is not a tag",
+}
+
+
+def type_into(place: Place, content: bytes, text: str) -> Done:
+    """Edit a file with this content, so that it becomes the text."""
+    place.put("vars.yml", content)
+    place.put("../typed", text.encode())
+    return edit(place, 'cp ../typed "$1"', *place.by_file("old"), "vars.yml")
+
+
+def test_tag_that_is_removed(place: Place) -> None:
+    text = f"secret: |\n  {TEXT.decode()}"
+    ended("the edit", type_into(place, block("old"), text), 0, "vars.yml: no longer encrypted: secret")
+    assert place.get("vars.yml") == text.encode()
+
+
+@pytest.mark.parametrize("form", TYPED)
+def test_typed_forms(place: Place, form: str) -> None:
+    silent("the edit", type_into(place, b"b: !vault x\nc: 2\n", f"b: {form}\nc: 2\n"))
+    after = place.get("vars.yml")
+    assert (texts(after, "old"), after[-6:]) == ([TYPED[form]], b"\nc: 2\n"), "it is encrypted, and the rest stays"
+
+
+@pytest.mark.parametrize("text", MISREAD)
+def test_refused_forms(place: Place, text: str) -> None:
+    """The file stays, and what was typed is kept."""
+    done = type_into(place, before := block("old", b"x", name="b"), text)
+    ended("the edit", done, 1, f"vars.yml: {MISREAD[text]}", "; what you saved is encrypted in ")
+    [copy] = ENCRYPTED.findall(done.stderr)
+    assert (decrypted("old", place.get(copy)), place.get("vars.yml")) == (text.encode(), before)
+
+
+CLOSED = {b"a\r\nb": "control characters", b"\xff": "not UTF-8", "\u2028".encode(): "control characters"}
+CLOSED[b"$ANSIBLE_VAULT;1.1;AES256\n"] = "itself a vault"
+
+
+@pytest.mark.parametrize("text", CLOSED)
+def test_closed(place: Place, text: bytes) -> None:
+    """A text that YAML cannot show stays encrypted, and a comment says so during the edit. Other comments stay, and so
+    does an envelope in quotes."""
+    comments = b"# ansible-vault: one\n## ansible-vault: two\n"
+    quoted = b'q: !vault "' + sealed("old").replace(b"\n", b"\\n") + b'"\n'
+    closed = comments + block("old", text, name="a") + quoted
+    place.put("vars.yml", closed + block("old", b"b", name="b"))
+    done = edit(place, "cp \"$1\" ../shown; sed -i 's/^  b$/  B/' \"$1\"", *place.by_file("old"), "vars.yml")
+    silent("a change", done)
+    after = place.get("vars.yml")
+    assert (after.startswith(closed + b"b: !vault"), texts(after, "old")) == (True, [text, b"B"])
+    [note] = re.findall("# ansible-vault: a stays encrypted: (.*)", (place.path / "shown").read_text())
+    assert CLOSED[text] in note, "a comment"
+
+
+ITEMS = [("dev", b"one"), ("prod", b"two"), ("dev", b"three")]
+LIST = b"l:\n- " + b"- ".join(block(name, text, name, "") for name, text in ITEMS)
+# What may stand in the list afterwards, and an option that chooses a label for new values.
+UNCLEAR = {
+    "neu eins two three": "--encrypt-vault-id=prod",
+    "neu eins zwei drei": "--encrypt-vault-id=dev",
+    # After these, an item of dev might have come from one of prod.
+    "two three new": "",
+    "one! two! three": "",
+}
+
+
+@pytest.mark.parametrize("items, option", UNCLEAR.items())
+def test_lists(place: Place, items: str, option: str) -> None:
+    """The texts and places of items identify them in a list. If they do not tell which secret an item gets, it is
+    refused."""
+    place.put("vars.yml", LIST)
+    words = [*place.by_id("dev", "dev"), *place.by_id("prod", "prod"), *option.split(), "vars.yml"]
+    lines = "".join(f"- !vault {each}\\n" for each in items.split())
+    ended("it", edit(place, f"printf 'l:\\n{lines}' > \"$1\"", *words), 1, "may be a new value or a changed one")
+    assert place.get("vars.yml") == LIST
+
+
+def test_equal_items(place: Place) -> None:
+    """An unchanged item of a list keeps its envelope, even if another item had the same text under another secret."""
+    first, second = (block(name, b"same", name, "") for name in ("old", "prod"))
+    place.put("list.yml", b"users:\n- " + first + b"- " + second)
+    words = [*place.by_id("old", "old"), *place.by_id("prod", "prod"), "list.yml"]
+    silent("an edit", edit(place, 'sed -i "0,/same/s//changed/" "$1"', *words))
+    after = place.get("list.yml")
+    assert (first in after, after.endswith(second)) == (False, True), after
+    assert texts(after, "old")[0] == b"changed"
+    keyed = block("old", b"same", "old", "a") + block("prod", b"same", "prod", "b")
+    place.put("list.yml", keyed)
+    done = edit(place, 'sed -i "s/^a:/c:/; s/^b:/d:/" "$1"', *words)
+    ended("both get other keys", done, 1, "c is new; choose its secret with --encrypt-vault-id")
+    assert place.get("list.yml") == keyed

@@ -2,13 +2,11 @@
 
 from __future__ import annotations
 
-import os
-
 import pytest
 
-from companion_cases import CHANGE, EDIT, TEXT, Place, block, decrypted, edit, ended, sealed, texts
+from companion_cases import CHANGE, EDIT, NOBODY, TEXT, Place, block, decrypted, edit, ended, sealed, texts
 from companion_cases.mistakes import commands
-from companion_cases.terminal import READING, Session, ask
+from companion_cases.terminal import READING, ask
 from lib.needs import needs, needs_pyyaml
 
 AGAIN = "Open the editor again? (yes, no): "
@@ -21,56 +19,45 @@ MISTAKES = f"""\
 cat "$1" >> ../seen
 if grep -q '^new' "$1"; then {{}}; else echo '{TYPO}' >> "$1"; fi
 """
-
-
-def at_terminal(place: Place, editor: str, *typed: bytes) -> Session:
-    needs("stty")
-    needs_pyyaml()
-    place.put("vars.yml", block("old"))
-    words = [*READING, EDIT, *place.by_file("old"), "vars.yml"]
-    return ask(place, *words, answers=[(AGAIN, each) for each in typed], EDITOR=place.script(editor, "editor"))
-
-
-def kept(place: Place) -> list[bytes | None]:
-    return [decrypted("old", place.get(name)) for name in place.names() if name.startswith(".ansible-vault-saved-")]
-
-
-def test_mended(place: Place) -> None:
-    session = at_terminal(place, MISTAKES.format(MEND), b"yes\n")
-    assert (session.returncode, session.stderr) == (0, "")
-    assert "vars.yml: line 3: it cannot be read as YAML: " in session.shown, "the reason is shown"
-    assert (place.path / "seen").read_text() == f"{SHOWN}{SHOWN}{TYPO}\n", "the text is there again"
-    assert texts(place.get("vars.yml"), "old") == [TEXT, b"more"]
-    assert (place.names(), place.left()) == (["vars.yml"], []), "nothing is left"
-
-
 NO_YAML = "it cannot be read as YAML"
-# What the editor does when it opens again, what is typed at each question, and why the edit is given up.
+NO, YES = b"no\n", b"yes\n"
+COPIES = ".ansible-vault-saved-*"
+# What the editor does when it opens again, what is typed at each question, the status, and a part of the message.
 ENDS = {
-    "no": (":", [b"no\n"], NO_YAML),
-    "an interrupt": (":", [b"\x03"], NO_YAML),
-    "no, later": (":", [b"yes\n", b"yes\n", b"no\n"], NO_YAML),
-    "it empties the text and fails": ('sed -i /new/d "$1"; exit 3', [b"yes\n"], "status 3"),
-    "a folder in its place": ('rm "$1"; mkdir "$1"', [b"yes\n"], "Is a directory"),
+    "mended": (MEND, [YES], 0, ""),
+    "the mistake is taken back": ('sed -i /new/d "$1"', [YES], 0, "nothing was changed"),
+    "no": (":", [NO], 1, NO_YAML),
+    "an interrupt": (":", [b"\x03"], 130, NO_YAML),
+    "no, later": (":", [YES, YES, NO], 1, NO_YAML),
+    "it empties the text and fails": ('sed -i /new/d "$1"; exit 3', [YES], 1, "status 3"),
+    "a folder in its place": ('rm "$1"; mkdir "$1"', [YES], 1, "Is a directory"),
 }
 
 
-@pytest.mark.parametrize("what", ENDS)
-def test_given_up(place: Place, what: str) -> None:
-    """An edit that is given up is kept."""
-    later, typed, why = ENDS[what]
-    session = at_terminal(place, MISTAKES.format(later), *typed)
-    status = 130 if what == "an interrupt" else 1
-    assert (session.returncode, kept(place), place.left()) == (status, [TYPED], []), session
-    assert why in session.stderr and "what you saved is encrypted in" in session.stderr
-    assert place.get("vars.yml") == block("old")
+def copies(place: Place) -> list[str]:
+    return sorted(path.name for path in place.tree.glob(COPIES))
 
 
-def test_without_a_change(place: Place) -> None:
-    """Taking the mistake back counts as no change."""
-    session = at_terminal(place, MISTAKES.format('sed -i /new/d "$1"'), b"yes\n")
-    assert (session.returncode, "nothing was changed" in session.stderr, kept(place)) == (0, True, [])
-    assert place.get("vars.yml") == block("old")
+def kept(place: Place) -> list[bytes | None]:
+    return [decrypted("old", place.get(name)) for name in copies(place)]
+
+
+@pytest.mark.parametrize("later, typed, status, why", ENDS.values(), ids=ENDS)
+def test_opened_again(place: Place, later: str, typed: list[bytes], status: int, why: str) -> None:
+    """The text is there again. An edit that is given up is kept."""
+    needs("stty")
+    needs_pyyaml()
+    place.put("vars.yml", block("old"))
+    editor = place.script(MISTAKES.format(later), "editor")
+    words, answers = [*READING, EDIT, *place.by_file("old"), "vars.yml"], [(AGAIN, each) for each in typed]
+    session = ask(place, *words, answers=answers, EDITOR=editor)
+    assert (session.returncode, kept(place), place.left()) == (status, [TYPED] if status else [], []), session
+    assert "vars.yml: line 3: it cannot be read as YAML: " in session.shown, "the reason is shown"
+    assert (place.path / "seen").read_text() == SHOWN + f"{SHOWN}{TYPO}\n" * typed.count(YES)
+    assert (why in session.stderr, bool(session.stderr)) == (True, bool(why)), session
+    assert ("what you saved is encrypted in" in session.stderr) == (status != 0), session
+    after = place.get("vars.yml")
+    assert (after.startswith(block("old")), texts(after, "old")[1:]) == (True, [] if why else [b"more"])
 
 
 def test_resumed(place: Place) -> None:
@@ -101,7 +88,7 @@ def test_newest(place: Place) -> None:
     place.put("all.yml", sealed("old"))
     for number in range(3):
         edit(place, f'echo {number} > "$1"; exit 3', *place.by_file("old"), "all.yml")
-    _, newest, _ = sorted(name for name in place.names() if name.startswith(".ansible-vault-saved-"))
+    _, newest, _ = copies(place)
     text = decrypted("old", place.get(newest))
     place.put("../before", TEXT)
     words = [*place.by_file("old"), "--resume", "all.yml"]
@@ -111,24 +98,14 @@ def test_newest(place: Place) -> None:
     done = edit(place, "true", *words)
     assert (done.returncode, decrypted("old", place.get("all.yml"))) == (0, text), done.stderr
     assert {*kept(place)} == {b"0\n", b"1\n", b"2\n"} - {text}
-
-
-def test_nothing_to_resume(place: Place) -> None:
-    """A copy that belongs to another user is not resumed."""
-    place.put("all.yml", sealed("old"))
-    words = [*place.by_file("old"), "--resume", "all.yml"]
-    if os.geteuid() == 0:
-        edit(place, 'echo theirs > "$1"; exit 3', *place.by_file("old"), "all.yml")
-        [copy] = [name for name in place.names() if name.startswith(".ansible-vault-saved-")]
-        place.give(copy)
-    ended("no copy", edit(place, "touch ../started", *words), 1, "all.yml: no earlier edit left a copy")
+    place.shell(f"chown {NOBODY} {COPIES} || rm {COPIES}")
+    ended("copies of another user", edit(place, "touch ../started", *words), 1, "no earlier edit left a copy")
     ended("no editor", place.run(EDIT, "--value", "a", *words), 2, "--resume is for an editor")
     assert not (place.path / "started").exists()
 
 
 # A file at first, and what somebody else changes it to.
 CHANGES = {
-    "another text": (sealed("prod", label="prod"), sealed("prod", b"theirs", label="prod")),
     "a vault": (sealed("prod", label="prod"), sealed("dev", label="prod")),
     "a value": (block("prod", label="prod"), block("dev", label="prod")),
     "a value of two": (

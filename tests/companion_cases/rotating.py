@@ -1,34 +1,68 @@
-"""ansible-vault-rotate: which vaults get which secret, what is reported, and what stays."""
+"""ansible-vault-rotate: which envelopes get which secret, also within a plaintext, what is reported, and what stays."""
 
 import os
-from contextlib import suppress
+import re
 from itertools import product
+from operator import attrgetter
 
-import pytest
-
-from companion_cases import NOBODY, ROTATE, TEXT, Place, block, decrypted, ended, sealed, summary, to_new
+from companion_cases import BODY, CHECK, NOBODY, ROTATE, TEXT, TEXTCONV, Place, block, decrypted, ended, lines_of
+from companion_cases import sealed, summary, texts, to_new, without_digits
 from lib.needs import needs_root
+
+# A plaintext with blocks, the last of which is under another secret than its label says.
+NAMES = [b"a", b"b", b"stray"]
+INNER = (
+    block("prod", label="prod", name="a")
+    + b"middle: 2\n"
+    + block("dev", label="dev", name="b")
+    + block("old", label="prod", name="stray")
+)
 
 
 def test_by_label(place: Place) -> None:
-    """Envelopes whose label is not named keep every byte, and so do those that are under the new secret already."""
-    place.put("all.yml", sealed("old"))
-    place.put("dev.yml", sealed("dev", label="dev"))
-    place.put("prod/vars.yml", sealed("prod", label="prod"))
-    place.put("blocks.yml", block("dev", label="dev", name="a") + block("prod", label="prod", name="b"))
-    place.put("strange.yml", sealed("dev2", label="strange"))
-    place.put("done.yml", sealed("prod2", label="prod"))
+    """All that has the label of the new secret gets this secret, even if it is within a vault that has the secret
+    already. The check finds the same blocks within a vault."""
+    lines = [INNER.splitlines().index(name + b": !vault |") + 2 for name in NAMES]
+    a, b, stray = (f"in its plaintext, line {line}: " for line in lines)
+    place.put("all.yml", sealed("prod", INNER, "prod"))
+    place.put("done.yml", sealed("prod2", INNER, "prod"))
+    prod, dev = place.by_id("prod", "prod"), place.by_id("dev", "dev")
+    why = "no secret decrypts this vault (label prod; "
+    done = place.run(CHECK, *prod, *dev, "all.yml")
+    wanted = [
+        f"all.yml: prod: decrypted by {prod[1]}",
+        f"all.yml: {a}a: prod: decrypted by {prod[1]}",
+        f"all.yml: {b}b: dev: decrypted by {dev[1]}",
+        "3 decrypted, 1 not",
+    ]
+    assert (done.returncode, done.stdout.splitlines()) == (1, wanted), "the check"
+    assert done.stderr.startswith(f"{CHECK}: all.yml: {stray}stray: prod: {why}")
+    rotate = [ROTATE, *prod, *place.by_id("prod", "prod2", "new-"), "."]
+    names = ["all.yml", "done.yml"]
+    told = ["1 block within a plaintext rotated\n", f"{stray}{why}"]
+    reported = [f"./{name}: {each}" for name in names for each in told]
+    ended("both", place.run(*rotate), 1, *reported, summary(3, 1, 2, " (dev 2)", 2))
     before = place.files()
-    old = [*place.by_file("old"), *place.by_id("dev", "dev"), *place.by_id("prod", "prod")]
-    done = place.run(ROTATE, *old, *place.by_id("prod", "prod2", "new-"), ".")
-    counts = summary(2, 1, 4, " (default 1, dev 2, strange 1)")
-    ended("prod alone", done, 0, "./prod/vars.yml: rotated\n", "./blocks.yml: 1 block rotated\n", counts)
-    after = place.files()
-    changed = {name for name in before if before[name] != after[name]}
-    assert changed == {"prod/vars.yml", "blocks.yml"}, "the others stay"
-    assert decrypted("prod2", after["prod/vars.yml"]) == TEXT, "it is under the new secret"
-    assert after["prod/vars.yml"].startswith(b"$ANSIBLE_VAULT;1.2;AES256;prod\n"), "and keeps its label"
-    assert after["blocks.yml"].startswith(block("dev", label="dev", name="a")), "the block of dev stays"
+    for name in names:
+        after = decrypted("prod2", before[name]) or b""
+        assert before[name].startswith(b"$ANSIBLE_VAULT;1.2;AES256;prod\n"), "the label stays"
+        assert without_digits(after) == without_digits(INNER), "all around the digits stays"
+        found = [texts(after, password).index(TEXT) for password in ("prod2", "dev", "old")]
+        assert found == [0, 1, 2], "one is rotated, and the others stay"
+    ended("again", place.run(*rotate), 1, summary(0, 4, 2, " (dev 2)", 2))
+    assert place.files() == before, "all stays"
+
+
+def test_what_cannot_be_rotated(place: Place) -> None:
+    before = {"all.yml": sealed("old", block("old")), "twice.yml": sealed("old", sealed("old"))}
+    for name, content in before.items():
+        place.put(name, content)
+    # The block within it is encrypted. Encrypting the vault itself fails.
+    place.wrap_tool('[ "$1" != encrypt ] || mkdir ../one 2> /dev/null || { echo "ERROR! out of memory" >&2; exit 4; }')
+    done = place.run(ROTATE, *to_new(place), ".")
+    whys = ["./all.yml: out of memory", "./twice.yml: its plaintext is itself a vault"]
+    ended("they are not sealed", done, 1, *whys, summary(0, failed=2))
+    assert place.files() == before, "they stay"
 
 
 def test_nothing(place: Place) -> None:
@@ -38,25 +72,8 @@ def test_nothing(place: Place) -> None:
     ended("no vault", place.run(ROTATE, *to_new(place), "."), 1, summary(0), f"{why}default\n")
     place.put("a.yml", sealed("old"))
     done = place.run(ROTATE, *to_new(place), *place.by_id("prd", "prod2", "new-"), ".")
-    ended("a label that nothing has", done, 1, summary(1), f"{why}prd\n")
-    assert decrypted("new", place.get("a.yml")) == TEXT, "the others are rotated"
-
-
-def test_failures(place: Place) -> None:
-    """Each failure is reported, the other files are still rotated, and the status is 1."""
-    strays = {
-        "block.yml": b"a: 1\nb: !vault |\n  $ANSIBLE_VAULT;1.1;AES256\nc: 2\n",
-        "header.yml": b"$ANSIBLE_VAULT;1.1\n61\n",
-        "stray.yml": sealed("dev"),
-    }
-    for name, content in {"a.yml": sealed("old"), **strays, "z.yml": sealed("old")}.items():
-        place.put(name, content)
-    done = place.run(ROTATE, *to_new(place), ".")
-    whys = ["block.yml:3: vault ", "header.yml: its first line is malformed", "stray.yml: no secret decrypts"]
-    ended("all but two", done, 1, summary(2, failed=3), *(f"{ROTATE}: ./{why}" for why in whys))
-    after = place.files()
-    assert [decrypted("new", after.pop(name)) for name in ("a.yml", "z.yml")] == [TEXT] * 2, "the others are done"
-    assert after == strays, "these stay, and nothing else is left"
+    ended("one of two labels", done, 1, summary(1), f"{why}prd\n")
+    assert decrypted("new", place.get("a.yml")) == TEXT, "the other is rotated"
 
 
 def test_unreadable(place: Place) -> None:
@@ -70,14 +87,6 @@ def test_unreadable(place: Place) -> None:
     (place.tree / "folder").chmod(0o755)
 
 
-def about(place: Place, name: str) -> tuple[str, int, int, dict[str, bytes]]:
-    """Return the mode, the owner, the group and the extended attributes of a file."""
-    path = place.tree / name
-    found = path.stat()
-    attributes = {each: os.getxattr(path, each) for each in os.listxattr(path)}
-    return oct(found.st_mode), found.st_uid, found.st_gid, attributes
-
-
 def test_owners_and_modes(place: Place) -> None:
     modes = {"a.yml": 0o600, "b.yml": 0o664, "c.yml": 0o444, "d.yml": 0o2755}
     for (name, mode), owner in zip(modes.items(), product((NOBODY, 0), repeat=2)):
@@ -85,13 +94,10 @@ def test_owners_and_modes(place: Place) -> None:
         if os.geteuid() == 0:
             os.chown(place.tree / name, *owner)
         os.chmod(place.tree / name, mode)
-    with suppress(OSError):
-        os.setxattr(place.tree / "a.yml", "user.note", b"kept")
-    before = [about(place, name) for name in modes]
+    about = attrgetter("st_mode", "st_uid", "st_gid")
+    before = [about(os.stat(place.tree / name)) for name in modes]
     ended("all", place.run(ROTATE, *to_new(place), "."), 0, summary(4))
-    assert [about(place, name) for name in modes] == before, "modes, owners and attributes stay"
-    if "user.note" not in before[0][3]:
-        pytest.skip("the file system has no extended attributes")
+    assert [about(os.stat(place.tree / name)) for name in modes] == before, "modes and owners stay"
 
 
 def test_owners_that_cannot_be_kept(place: Place) -> None:
@@ -104,30 +110,9 @@ def test_owners_that_cannot_be_kept(place: Place) -> None:
     assert (place.get("a.yml"), place.names()) == (sealed("old"), ["a.yml"]), "it stays, and nothing is left"
 
 
-def test_dry_run(place: Place) -> None:
-    place.put("a.yml", sealed("old"))
-    place.put("b.yml", block("old") + block("new", name="c"))
-    place.put("within.yml", sealed("new", block("old")))
-    before = place.files()
-    dry = [ROTATE, "--dry-run", *to_new(place)]
-    lines = [
-        "./a.yml: would be rotated",
-        "./b.yml: 1 block would be rotated",
-        "./within.yml: 1 block within a plaintext would be rotated",
-        summary(3, 2).replace("rotated", "to be rotated", 1),
-    ]
-    done = place.run(*dry, ".")
-    assert (done.returncode, done.stdout.splitlines(), done.stderr) == (1, lines, ""), "something is left"
-    assert place.files() == before, "nothing is written"
-    place.put("z.yml", sealed("dev"))
-    ended("one cannot be decrypted", place.run(*dry, "z.yml"), 1, "z.yml: no secret decrypts this vault", "1 failed")
-    place.run(ROTATE, *to_new(place), "a.yml", "b.yml")
-    done = place.run(*dry, "a.yml", "b.yml")
-    ended("nothing is left", done, 0, summary(0, 3).replace("rotated", "to be rotated", 1))
-
-
 def test_documents(place: Place) -> None:
-    """An envelope in a document is counted, but not rotated, if an old secret decrypts it. An example is ignored."""
+    """An envelope in a document is counted, but not rotated, if an old secret decrypts it. An example is ignored. A
+    link is a document only if its file is."""
     line = sealed("old").decode().replace("\n", "\\n")
     left = {
         "README.md:4": b"An example:\n\n" + block("old"),
@@ -136,9 +121,10 @@ def test_documents(place: Place) -> None:
         "c.html:1": f'<pre>"{line}"</pre>'.encode(),
     }
     others = {"c.md": block("dev"), "d.md": block("new"), "e.md": block("prod", label="prod")}
-    others |= {"f.md": b"As $ANSIBLE_VAULT;1.1\n", "a.yml": sealed("old"), "vault.md": sealed("old")}
+    others |= {"f.md": b"As $ANSIBLE_VAULT;1.1\n", "vars.yml": block("old"), "vault.md": sealed("old")}
     for where, content in (left | others).items():
         place.put(where.partition(":")[0], content)
+    (place.tree / "link.md").symlink_to("vars.yml")
     before = place.files()
     why = "it is in a document and was not rotated; to ignore documents, add --skip-documents"
     for words, counts in (((), summary(2)), (("--dry-run",), summary(0, 2).replace("rotated", "to be rotated", 1))):
@@ -146,7 +132,7 @@ def test_documents(place: Place) -> None:
         assert (done.returncode, done.stderr.splitlines()) == (1, [f"{ROTATE}: ./{each}: {why}" for each in left])
         assert done.stdout.endswith(f"{counts}, {len(left)} left in documents\n"), "the counts"
     changed = {name for name, content in before.items() if place.get(name) != content}
-    assert changed == {"a.yml", "vault.md"}, "a document that is a vault is rotated"
+    assert changed == {"link.md", "vars.yml", "vault.md"}, "a document that is a vault is rotated"
     done = place.run(ROTATE, "--skip-documents", *to_new(place), ".")
     assert (done.returncode, done.stdout, done.stderr) == (0, f"{summary(0, 2)}\n", ""), "they are ignored"
 
@@ -157,3 +143,68 @@ def test_closed_output(place: Place) -> None:
         place.put(f"{number}.yml", sealed("old"))
     place.shell(f"{ROTATE} --jobs 1 {' '.join(to_new(place))} . | :", "bash")
     assert {content == sealed("old") for content in place.files().values()} == {True, False}
+
+
+# The content of a file, and how many of its envelopes are rotated.
+FILES = {
+    "no last line end": (b"a: !vault |\n" + BODY, 1),
+    "CR LF": (b"---\r\na: !vault |\r\n" + lines_of(sealed("old"), 6, b"\r\n") + b"\r\nb: 1\r\n", 1),
+    "lists": (b"a:\n  - !vault |\n" + lines_of(sealed("old"), 4) + b"\n  - b\n  - - !vault |\n" + BODY + b"\n", 2),
+    "a vault with CR LF": (sealed("old").replace(b"\n", b"\r\n"), 1),
+    "marks": (
+        b"a: !vault |-\n" + BODY + b"\nb: !vault |2+   # why\n" + lines_of(sealed("old", label="default"), 2) + b"\n",
+        2,
+    ),
+    "an anchor": (b"a: &x !vault |\n" + BODY + b"\nb: !vault-encrypted &y |\n" + BODY + b"\nc: *x\n", 2),
+    "a document of its own": (b"a\n--- !vault |\n" + lines_of(sealed("old"), 0) + b"\n", 1),
+    "digits as keys": (b"a: !vault |\n" + BODY + b"\ndeadbeef: 1\nabcd\n", 1),
+    "empty lines": (b"\n\na: !vault |\n\n\n" + BODY + b"\n\n\nb:\n\n", 1),
+    "upper case": (b"a: !vault |\n" + re.sub(rb"(?m)^ +[0-9a-f]+$", lambda found: found[0].upper(), BODY) + b"\n", 1),
+    "bytes of any kind": (b"\xef\xbb\xbf# \xff\x00\x85\xe2\x80\xa8\t\r\na: !vault |\n" + BODY + b"\n# \x0c \xfe", 1),
+    "a comment like a block": (b"# $ANSIBLE_VAULT;1.1;AES256\na: !vault |\n" + BODY + b"\n#  6162\n", 1),
+    "within a text": (b"script: |\n  x: !vault |\n" + lines_of(sealed("old"), 6) + b"\n  y: 1\n", 1),
+}
+
+
+def test_around(place: Place) -> None:
+    """All around the digits stays. A dry run writes nothing, and tells with its status whether anything is left."""
+    for name, (content, _) in FILES.items():
+        place.put(name, content)
+    dry, count = [ROTATE, "--dry-run", *to_new(place), "."], sum(count for _, count in FILES.values())
+    lines = ["./a vault with CR LF: would be rotated\n", "./CR LF: 1 block would be rotated\n"]
+    ended("a dry run", place.run(*dry), 1, *lines, summary(count).replace("rotated", "to be rotated", 1))
+    assert place.files() == {name: content for name, (content, _) in FILES.items()}, "nothing is written"
+    ended("blocks", place.run(ROTATE, *to_new(place), "."), 0, summary(count))
+    wanted = {
+        name: (without_digits(content).replace(b"1.2;AES256;default", b"1.1;AES256"), [TEXT] * count)
+        for name, (content, count) in FILES.items()
+    }
+    assert {name: (without_digits(after), texts(after, "new")) for name, after in place.files().items()} == wanted
+    ended("nothing is left", place.run(*dry), 0, summary(0, count).replace("rotated", "to be rotated", 1))
+
+
+# Makes a run of this command wait until another one has started, and fail if none does.
+MEET = """\
+if [ "$1" = {0} ]; then
+    touch ../{0}.$$
+    for i in $(seq 500); do [ "$(ls ../{0}.* | wc -l)" -gt 1 ] && break; sleep 0.02; done
+    [ "$(ls ../{0}.* | wc -l)" -gt 1 ] || {{ echo "ERROR! it runs alone" >&2; exit 4; }}
+fi"""
+
+
+def test_at_once(place: Place) -> None:
+    """The blocks of a file are encrypted concurrently, and with several processors also decrypted. A refused secret is
+    reported once."""
+    wanted = [b"text %d" % number for number in range(8)]
+    place.put("vars.yml", b"".join(block("old", text, name=f"n{number}") for number, text in enumerate(wanted)))
+    shown = "".join(f"n{number}: !vault |-\n  text {number}\n" for number in range(8))
+    done = place.run(TEXTCONV, *place.by_file("missing"), *place.by_file("old"), "vars.yml")
+    refused = done.stderr.count("missing: a password file cannot be opened")
+    assert (done.returncode, done.stdout, refused) == (0, shown, 1), "textconv with a secret that is missing"
+    place.wrap_tool(MEET.format("view") if len(os.sched_getaffinity(0)) > 1 else ":")
+    done = place.run(TEXTCONV, *place.by_file("old"), "vars.yml")
+    assert (done.returncode, done.stdout, done.stderr) == (0, shown, ""), "textconv"
+    place.wrap_tool(MEET.format("encrypt"))
+    done = place.run(ROTATE, *to_new(place), "--jobs", "2", "vars.yml")
+    ended("rotate", done, 0, "vars.yml: 8 blocks rotated", summary(8))
+    assert texts(place.get("vars.yml"), "new") == wanted, "they are rotated"

@@ -2,11 +2,10 @@
 patterns, or if git does not track them."""
 
 import os
+from itertools import product
 from pathlib import Path
 
 import pytest
-from hypothesis import given, settings
-from hypothesis import strategies as st
 
 from ansible_vault_companions.files import reading, searching
 from ansible_vault_companions.files.envelopes import MAGIC
@@ -64,13 +63,6 @@ def test_links(place: Place) -> None:
     ended("a path that leads nowhere", done, 1, "tree/dangling.yml: No such file")
 
 
-def test_links_to_documents(place: Place) -> None:
-    """A link is a document only if its file is."""
-    place.put("vars.yml", block("old"))
-    (place.tree / "README.md").symlink_to("vars.yml")
-    ended("the rotation", place.run(ROTATE, *to_new(place), "."), 0, summary(1))
-
-
 def test_what_is_looked_at(place: Place) -> None:
     vaults = ["vault", ".hidden/vault.yml", "host_vars/www.example.org", "notes.md"]
     blocks = ["vars.yaml", "host_vars/db.example.org", "a.json", "b.YML", ".github/x.yml"]
@@ -106,22 +98,13 @@ def test_pieces(tmp_path: Path, monkeypatch: pytest.MonkeyPatch) -> None:
     path = tmp_path / "a.yml"
     starts = [MAGIC.decode().encode(encoding) for encoding in ("ascii", "utf-16-le", "utf-16-be")]
     starts.append(b'"\\x24ANSIBLE\\\r\n' + b" " * 300 + b"\\\n \\x5FVAULT")
-    in_two = set()
-
-    @settings(max_examples=400, deadline=None, database=None)
-    @given(st.integers(32, 40), st.integers(1, 90), st.sampled_from(starts))
-    def check(size: int, before: int, start: bytes) -> None:
+    for size, before, start in product(range(32, 41, 4), range(1, 41), starts):
         monkeypatch.setattr(reading, "CHUNK_SIZE", size)
         monkeypatch.setattr(searching, "CHUNK_SIZE", size)
         path.write_bytes(b"x" * before + start + b";1.1")
-        assert searching.contents(str(path)) == path.read_bytes()
+        assert searching.contents(str(path)) == path.read_bytes(), (size, before, start)
         path.write_bytes(b"x" * before + start[:-1])
         assert searching.contents(str(path)) == b"", "a part of it is none"
-        if before % size + len(start) > size:
-            in_two.add((start[:2], size - before % size))
-
-    check()
-    assert len(in_two) > 30, "in many places, for each spelling"
 
 
 FILES = {"a.yml", "b.txt", "tests/a.yml", "tests/fixtures/c.yml", "roles/tests/d.yml", "[x]/e.yml"}

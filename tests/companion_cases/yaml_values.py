@@ -1,52 +1,43 @@
 """Random YAML: PyYAML composes the same values with the tag `!vault`, even after they are shown, changed and encrypted
-again. No envelope is decrypted here: each contains the digits of its plaintext."""
+again. Deeply nested YAML takes memory in proportion to the text. Most envelopes are not decrypted: they contain the
+digits of their plaintexts."""
 
 from __future__ import annotations
 
 import binascii
+import gc
+import os
 import random
+import re
+import tracemalloc
 from collections import Counter
+from collections.abc import Callable
 
 import pytest
 
+from ansible_vault_companions.files import reading
 from ansible_vault_companions.files.changes import Change, changed
+from ansible_vault_companions.git import leaks, places
 from ansible_vault_companions.program import Refused
 from ansible_vault_companions.secrets.sources import Secret
 from ansible_vault_companions.tool.tool import Tool
 from ansible_vault_companions.yaml import inline, nodes
 from ansible_vault_companions.yaml.matching import Choice
 from ansible_vault_companions.yaml.values import Scan
+from companion_cases import TEXT, TEXTCONV, Place, block, ended, run_changed
 from lib.needs import needs_pyyaml
 
 SECRET = Secret("default", "", "")
+# Characters that YAML does not allow. The last one stands for a byte that is not UTF-8.
+UNREADABLE = "\0\f\x9f\ufffe\udcff"
 LINE_ENDS = ["\n"] * 3 + ["\r\n", "\r", "\x85"]
-KEYS = ["a", "b c", "'q: ''x'", '"\\u00e9\\t"', "größe", "&k c", "!!str 1", "? d\n{}", "<<"]
+KEYS = ["a", "b c", "'q: ''x'", '"\\u00e9\\t"', "größe", "&k c", "!!str 1", "? d\n{}", "? [e, f]\n{}", "<<"]
 SCALARS = ["", "word", "'it''s'", '"a\\tb"', "two\n{}  words", "|\n{}  text\n\n{}   more", "{{a: 'x', b: [1, 2]}}"]
 SCALARS += ["word # no !vault", "&x 1", "~", ">-\n{}  folded\n{}  lines", "!other 1", "[]", "'!vault'"]
 # Each way in which a text can begin and end.
 PLAINTEXTS = ["", "x", "x\n", "x\n\n", "\n", "\n\n", " x", " x\ny", "\n x\n", "\tx", "x\n\ny", "x ", " ", "x\n  "]
 PLAINTEXTS += ["# x", "x: 'y", "größe\n", "- a\n- b\n", "<<<<<<< x\n", "---\n", "\n\n x\n\n\n", "!vault |\n  x"]
 PLAINTEXTS.append("a\n# ansible-vault: b\n")
-# A file with a conflict, and the keys, the text and the bytes of each value in it.
-CONFLICT = """\
-a: !vault one
-<<<<<<< ours
-b:
-  c: !vault |-
-    two
-||||||| base
-b: !vault three
-=======
-d:
-- !vault 'fünf'
->>>>>>> theirs
-"""
-IN_CONFLICT = [
-    (["a"], "one", "one"),
-    (["b", "c"], "two", "|-\n    two"),
-    (["b"], "three", "three"),
-    (["d"], "fünf", "'fünf'"),
-]
 
 
 def envelope(plaintext: bytes) -> bytes:
@@ -76,13 +67,14 @@ class Generator:
     def __init__(self, number: int) -> None:
         self.random = random.Random(number)
 
-    def text(self) -> str:
+    def data(self) -> bytes:
         documents = [self.collection(3, 0) for _ in range(self.random.choice((1, 1, 1, 2)))]
         text = "# größe\n---\n".join(documents)
-        text = self.random.choice(("", "", "\ufeff", "# first\n", "%YAML 1.1\n---\n")) + text
+        text = self.random.choice(("", "", "\ufeff", f"# {UNREADABLE}\n", "%YAML 1.1\n---\n")) + text
         ends = self.random.choice(LINE_ENDS)
         # The last line of a file may have no line end.
-        return text.replace("\n", ends).removesuffix(self.random.choice(("", ends)))
+        text = text.replace("\n", ends).removesuffix(self.random.choice(("", ends)))
+        return text.encode(errors="surrogateescape")
 
     def collection(self, depth: int, column: int) -> str:
         names = self.random.sample(KEYS, self.random.randint(1, 4))
@@ -118,10 +110,11 @@ class Generator:
         return self.random.choice(("", "", "", "\n", "\n\n", "# a comment\n", "\n    # !vault\n"))
 
 
-def composed(text: str) -> list[tuple[tuple[str, ...], str]] | None:
+def composed(data: bytes) -> list[tuple[tuple[str, ...], str]] | None:
     """Return the keys and the text of each value with the tag, as PyYAML composes them, or None if it is not YAML."""
     import yaml
 
+    text = re.sub(f"[{UNREADABLE}]", "?", nodes.decoded(data))
     found: list[tuple[tuple[str, ...], str]] = []
     seen: set[int] = set()
 
@@ -148,27 +141,28 @@ def composed(text: str) -> list[tuple[tuple[str, ...], str]] | None:
     return found
 
 
-def scanned(data: bytes) -> list[tuple[tuple[str, ...], str]]:
-    return [((*value.path,), value.content.decode()) for value in Scan(data).values]
-
-
-def test_shown_and_encrypted() -> None:
-    """PyYAML reads each shown value as its plaintext, and what is not changed keeps every byte."""
+def test_shown_and_encrypted(monkeypatch: pytest.MonkeyPatch) -> None:
+    """PyYAML, with libyaml and without, reads each shown value as its plaintext, and what is not changed keeps every
+    byte."""
     needs_pyyaml()
+    import yaml
+
+    loaders = [getattr(yaml, "CSafeLoader", yaml.SafeLoader), yaml.SafeLoader]
     counts: Counter[str] = Counter()
     for number in range(700):
-        text = Generator(number).text()
-        wanted = composed(text)
+        monkeypatch.setattr(yaml, "CSafeLoader", loaders[number % 2], raising=False)
+        data = Generator(number).data()
+        wanted = composed(data)
         if wanted is None:
             continue
-        assert scanned(text.encode()) == wanted, text
-        showing = inline.showing(text.encode(), decrypt, with_notes=True)
+        assert [((*each.path,), each.content.decode()) for each in Scan(data).values] == wanted, data
+        showing = inline.showing(data, decrypt, with_notes=True)
         counts.update(values=len(wanted), shown=len(showing.decrypted))
         contents = [content.decode() for content in showing.contents()]
         counts.update(map(repr, contents))
         plain = [(path, content) for (path, _), content in zip(wanted, contents, strict=True)]
-        assert composed(showing.text().decode()) == plain, text
-        assert encrypted(showing, showing.text()) == text.encode(), text
+        assert composed(showing.text()) == plain, data
+        assert encrypted(showing, showing.text()) == data, data
         counts["changed"] += check_changed(showing, Generator(number).random)
     assert min(counts["values"], counts["shown"], counts["changed"]) > 300, counts
     assert min(counts[repr(text)] for text in PLAINTEXTS) > 10, counts
@@ -185,10 +179,10 @@ def check_changed(showing: inline.Showing, generator: random.Random) -> bool:
     after = encrypted(showing, typed)
     if after == inline.NO_PLACE:
         return False
-    read = composed(typed.decode())
+    read = composed(typed)
     assert isinstance(after, bytes) and read is not None, (typed, after)
     wanted = [text if text.startswith("$") else envelope(text.encode()).decode() for _, text in read]
-    found = [text.split() for _, text in composed(after.decode()) or []]
+    found = [text.split() for _, text in composed(after) or []]
     assert found == [text.split() for text in wanted], typed
     return True
 
@@ -201,17 +195,70 @@ def encrypted(showing: inline.Showing, text: bytes) -> bytes | str:
         return str(fault)
 
 
-@pytest.mark.parametrize("text", (b"a: !vault new\n            # a comment\n", b"a: !vault new\xe2\x80\xa8b: 1"))
-def test_no_place(text: bytes) -> None:
-    """A text that would not be read as intended is not written."""
-    needs_pyyaml()
-    data = b"a: !vault |\n  " + envelope(b"old").replace(b"\n", b"\n  ") + b"\n"
-    assert encrypted(inline.showing(data, decrypt, with_notes=True), text) == inline.NO_PLACE
-
-
 def test_conflicts() -> None:
     """Each side of a conflict is read without the others."""
     needs_pyyaml()
-    data = CONFLICT.encode()
-    found = [([*each.path], each.content.decode(), data[each.start : each.end].decode()) for each in Scan(data).values]
-    assert found == IN_CONFLICT
+    ours, base, theirs = "b:\n  c: !vault |-\n    two\n", "b: !vault three\n", "d:\n- !vault 'fünf'\n"
+    text = f"a: !vault one\n<<<<<<< ours\n{ours}||||||| base\n{base}=======\n{theirs}>>>>>>> theirs\n"
+    data = text.encode()
+    found = [(*each.path, data[each.start : each.end].decode()) for each in Scan(data).values]
+    assert found == [("a", "one"), ("b", "c", "|-\n    two"), ("b", "three"), ("d", "'fünf'")]
+
+
+def test_where_pyyaml_is(place: Place) -> None:
+    """PyYAML is found even though the companions start without `site`, but never in the current directory."""
+    needs_pyyaml()
+    for name in ("yaml", "sitecustomize", "usercustomize"):
+        place.put(f"{name}.py", b"open('../imported', 'w')\n")
+        place.put(f"{name}/__init__.py", b"open('../imported', 'w')\n")
+    place.put("own.pth", b"import yaml\n")
+    place.put("vars.yml", block("old"))
+    done = place.run(TEXTCONV, *place.by_file("old"), "vars.yml", PYTHONPATH=str(place.tree))
+    assert (done.stdout, done.stderr) == (f"secret: !vault |\n  {TEXT.decode()}", ""), "it is found"
+    assert not (place.path / "imported").exists(), "nothing of the current folder is imported"
+
+
+# How a collection begins, with at most one value before the collection within it, and how it ends.
+LAYERS = {"- ": "", "? ": "", "[": "]", "[1, ": "]", "{a: 1, b: ": "}", "{a: !vault x, b: ": "}"}
+LAYERS |= {"{? [a] : 1, <<: ": "}", "{? ": "}"}
+
+
+def peak(work: Callable[[], object]) -> int:
+    """Return the most memory that this work takes. It must find something."""
+    places.by_keys.cache_clear()
+    gc.collect()
+    tracemalloc.start()
+    try:
+        assert work()
+        return tracemalloc.get_traced_memory()[1]
+    finally:
+        tracemalloc.stop()
+
+
+@pytest.mark.parametrize("layer, end", LAYERS.items())
+def test_memory(layer: str, end: str) -> None:
+    needs_pyyaml()
+    count = 10_000 // len(layer + end)
+    deep = f"deep:\n  {layer * count}x{end * count}\n".encode()
+    text = b"secret: !vault |\n  " + envelope(b"x").replace(b"\n", b"\n  ") + b"\n" + deep
+    most = 500 * len(text)
+    assert peak(lambda: Scan(text).values) < most, "its values"
+    assert peak(lambda: leaks.now_plain(text, b"secret: x\n" + deep)) < most, "what is in plaintext now"
+    assert peak(lambda: encrypted(inline.showing(text, decrypt, with_notes=True), b"secret: !vault y\n" + deep)) < most
+
+
+def test_long_files(place: Place) -> None:
+    """git can show a file that is not a vault, whatever its length, and this takes no memory for its content."""
+    length = reading.LIMIT + 5_000_001
+    place.put("long.yml", b"a: 1\n")
+    os.truncate(place.tree / "long.yml", length)
+    show = """
+import atexit, os
+os.dup2(os.open("../shown", os.O_WRONLY | os.O_CREAT), 1)
+status = lambda: [line for line in open("/proc/self/status") if line.startswith("VmHWM")]
+atexit.register(lambda: open("../peak", "w").write(status()[0].split()[1]))
+"""
+    done = run_changed(place, TEXTCONV, show, [*place.by_file("old"), "long.yml"])
+    ended("it", done, 0, "long.yml: shown as it is: it is longer than any vault")
+    assert (place.path / "shown").stat().st_size == length, "all of it"
+    assert 5_000 < int(place.get("../peak")) < 40_000, "how much memory it takes, in kB"
