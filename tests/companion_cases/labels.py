@@ -55,40 +55,33 @@ def may_decrypt(secrets: list[Pair], label: str, password: str, rotates: bool = 
 
 
 @pytest.mark.parametrize("options, by_settings", SECRETS)
-def test_rotate(place: Place, options: list[Pair], by_settings: list[Pair]) -> None:
-    """A text gets the new password of its label; otherwise, it stays, and its file is named."""
-    words = prepare(place, options, by_settings)
-    new = [word for label, password in NEW.items() for word in place.by_id(label, password, "new-")]
-    done = place.run(ROTATE, *words, *new, ".")
-    for name, (label, password) in VAULTS.items():
-        wanted, after = NEW.get(label or DEFAULT), place.get(name)
-        is_rotated = wanted and may_decrypt([*options, *by_settings], label, password, rotates=True)
-        if wanted and is_rotated:
-            assert decrypted(wanted, after) == name.encode(), (name, done.stderr)
-        else:
-            assert after == sealed(password, name.encode(), label), (name, done.stderr)
-        assert (f"./{name}" in done.stderr) == bool(wanted and not is_rotated), (name, done.stderr)
-    assert done.returncode == 1, "some are not rotated"
-
-
-@pytest.mark.parametrize("options, by_settings", SECRETS)
-def test_check(place: Place, options: list[Pair], by_settings: list[Pair]) -> None:
-    """It is a fault if a secret of another label decrypts an envelope. The advice in the message repairs it."""
+def test_check_and_rotate(place: Place, options: list[Pair], by_settings: list[Pair]) -> None:
+    """For a check, it is a fault if a secret of another label decrypts an envelope, and the advice in the message
+    repairs it. A rotation lets such an envelope stay, and names its file; a text gets the new password of its label."""
     words = prepare(place, options, by_settings)
     done = place.run(CHECK, *words, ".")
+    assert done.returncode == 1, "some are not decrypted"
     steps: list[str] = []
     unknown = 0
     for name, (label, password) in VAULTS.items():
         serves = may_decrypt([*options, *by_settings], label, password)
         lines = [line for line in done.stderr.splitlines() if f"./{name}" in line]
-        assert bool(lines) == (serves is not True), (name, done.stderr)
         told = [found for found in map(NEXT_STEP.search, lines) if found]
-        assert [found[1] for found in told] == [label] * (serves is False), (name, done.stderr)
+        named = [found[1] for found in told]
+        assert (bool(lines), named) == (serves is not True, [label] * (serves is False)), (name, done.stderr)
         steps += [f"--vault-id={found[2]}" for found in told]
         unknown += serves is None
-    assert done.returncode == 1, "some are not decrypted"
     again = place.run(CHECK, *words, *steps, ".")
     assert again.stdout.endswith(f"{len(VAULTS) - unknown} decrypted, {unknown} not\n"), "as told, it is repaired"
+    new = [word for label, password in NEW.items() for word in place.by_id(label, password, "new-")]
+    done = place.run(ROTATE, *words, *new, ".")
+    assert done.returncode == 1, "some are not rotated"
+    for name, (label, password) in VAULTS.items():
+        is_rotated = may_decrypt([*options, *by_settings], label, password, rotates=True) is True
+        text, after = name.encode(), place.get(name)
+        stays = after == sealed(password, text, label)
+        found = decrypted(NEW[label or DEFAULT] if is_rotated else password, after), stays, f"./{name}" in done.stderr
+        assert found == (text, not is_rotated, not is_rotated), (name, done.stderr)
 
 
 def test_awkward_labels(place: Place) -> None:
@@ -119,8 +112,7 @@ def test_within_a_plaintext(place: Place) -> None:
 REKEYED = {
     "in place": f"{WITH} rekey {{words}} v && cat v",
     "to another file": f"{WITH} rekey {{words}} --output out v && cat out",
-    "standard input": f"{WITH} rekey {{words}} --output - < v",
-    "a pipe": f"cat v | {WITH} rekey {{words}} --output out && cat out",
+    "standard input": f"cat v | {WITH} rekey {{words}} --output -",
     "a named pipe": f"{WITH} rekey {{words}} --output out <(cat v) && cat out",
 }
 # The label and the password of a vault, the password file for the label dev, and whether the vault may be rekeyed.
@@ -136,11 +128,13 @@ LABELLED = {
 
 @pytest.mark.parametrize("command", REKEYED.values(), ids=REKEYED)
 def test_rekey(place: Place, subtests: SubTests, command: str) -> None:
+    """A new secret takes precedence over the label of the settings."""
     for what, (label, password, other, is_rekeyed) in LABELLED.items():
         before = sealed(password, TEXT, label)
         place.put("v", before)
         # A missing secret is left out if it is a setting.
         variables = {"ANSIBLE_VAULT_IDENTITY_LIST": f"dev@{place.secret(other)}"} if other else {}
+        variables["ANSIBLE_VAULT_ENCRYPT_IDENTITY"] = "prod"
         words = " ".join([*place.by_id("prod", "prod"), *place.by_id("dev", "new", "new-")])
         done = place.shell(f"set -o pipefail; {command.format(words=words)}", "bash", **variables)
         with subtests.test(what):

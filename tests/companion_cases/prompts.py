@@ -3,9 +3,9 @@
 import pytest
 
 from companion_cases import CHECK, EDIT, FOUND, PASSWORDS, ROTATE, TEXT, TEXTCONV, WITH, Done, Place, block, decrypted
-from companion_cases import described, ended, sealed, texts
-from companion_cases.both import ours, theirs_at_terminal
-from companion_cases.terminal import READING, READY, SHELL, Session, ask
+from companion_cases import described, sealed, texts
+from companion_cases.both import theirs_at_terminal
+from companion_cases.terminal import READY, SHELL, Session, ask
 from lib.needs import needs, needs_ansible
 from model.vaults import seal
 
@@ -29,23 +29,36 @@ def check_asked(session: Session, *questions: str) -> None:
     assert session.echoes, "the terminal echoes again"
 
 
-@pytest.mark.parametrize(
-    "source, question", (("prompt", "Vault password (default): "), ("dev@prompt_ask_vault_pass", ASKED))
-)
-def test_sources(place: Place, source: str, question: str) -> None:
-    """They lead to the same question as with Ansible's tool. `guide` covers other options."""
-    words, answers = ["view", "--vault-id", source, "a.yml"], typed("dev", question)
-    place.put("a.yml", sealed("dev"))
+SETTINGS = "[defaults]\nvault_identity_list = dev@prompt\nvault_password_file = ../secrets/old\nask_vault_pass = {}\n"
+# Settings, options, and the passwords that are typed for each question. The last one decrypts.
+SOURCES = [
+    ("", ["--vault-id", "prompt"], {"Vault password (default): ": "dev"}),
+    ("", ["--vault-id", "dev@prompt_ask_vault_pass"], {ASKED: "dev"}),
+    (SETTINGS.format("yes"), [], {OF_DEV: "dev", ASKED: "new"}),
+    (SETTINGS.format("no"), [], {OF_DEV: "dev"}),
+]
+
+
+@pytest.mark.parametrize("settings, options, passwords", SOURCES)
+def test_sources(place: Place, settings: str, options: list[str], passwords: dict[str, str]) -> None:
+    """They lead to the same questions as with Ansible's tool. `guide` covers other options."""
+    place.put("ansible.cfg", settings.encode())
+    place.put("a.yml", sealed([*passwords.values()][-1]))
+    words = ["view", *options, "a.yml"]
+    answers = [answer for question, password in passwords.items() for answer in typed(password, question)]
     session = ask(place, WITH, *words, answers=answers)
     assert outcome(session) == (0, TEXT.decode(), "")
     other = theirs_at_terminal(place, needs_ansible(), words, answers)
     for each in (session, other):
-        check_asked(each, question)
+        check_asked(each, *passwords)
     assert other.stdout.strip() == TEXT.decode().strip()
 
 
+NEW_VALUE = b"word: !vault TEXT\n"
+
+
 def test_how_often(place: Place) -> None:
-    """A companion asks once to decrypt, and twice to encrypt."""
+    """A companion asks once to decrypt, even if it encrypts something with the same password, and twice to encrypt."""
     word, editor = ["--vault-id", "dev@prompt"], place.script('echo more >> "$1"', "editor")
     place.put("a.yml", sealed("dev", label="dev"))
     session = ask(place, EDIT, *word, "a.yml", answers=typed("dev", OF_DEV), EDITOR=editor)
@@ -58,86 +71,53 @@ def test_how_often(place: Place) -> None:
     check_asked(session, OF_DEV, NEW_OF_DEV, AGAIN_OF_DEV)
     found = [decrypted("dev2", place.get(name)) for name in ("a.yml", "new.yml")]
     assert found == [TEXT + b"more\nmore\n", b"more\n"]
+    place.put("vars.yml", block("dev", b"one", "", "a") + NEW_VALUE)
+    check_asked(ask(place, EDIT, "-J", "vars.yml", answers=typed("dev", ASKED), EDITOR="true"), ASKED)
+    assert texts(place.get("vars.yml"), "dev") == [b"one", b"TEXT"], "a new value beside one that was decrypted"
 
 
-NEW_VALUE = b"word: !vault TEXT\n"
-OF_PROD, AGAIN_OF_PROD = "Vault password (prod): ", "Confirm new vault password (prod): "
+OF_PROD = typed("prod", "Vault password (prod): ", "Confirm new vault password (prod): ")
 BY_LABEL = "--vault-id prod@prompt --encrypt-vault-id prod"
-WHICH = "Label to encrypt word with (dev, prod): "
-# Command lines for a password that was not typed for encryption, the file, and the questions.
-ONLY_ENCRYPTING: dict[str, tuple[str, bytes, list[str]]] = {
-    "a new value": (f"{EDIT} -J a.yml", NEW_VALUE, [ASKED, AGAIN]),
-    "a new value beside others": (
-        f"{EDIT} --vault-id dev@../secrets/dev {BY_LABEL} a.yml",
-        block("dev", b"one", "dev", "a") + NEW_VALUE,
-        [OF_PROD, AGAIN_OF_PROD],
-    ),
+BOTH = "--vault-id dev@../secrets/dev --vault-id prod@prompt"
+OF_ANOTHER = block("dev", b"one", "dev", "a")
+# Questions for the label of a new value.
+WHICH = [("Label to encrypt word with (dev, prod): ", label) for label in (b"stage\n", b" prod \n")]
+# Command lines for a password that was not typed for encryption, the file, and what is typed at each question.
+ONLY_ENCRYPTING: dict[str, tuple[str, bytes, list[tuple[str, bytes]]]] = {
+    "a new value": (f"{EDIT} -J a.yml", NEW_VALUE, typed("prod", ASKED, AGAIN)),
+    "a new value beside others": (f"{EDIT} {BOTH} --encrypt-vault-id prod a.yml", OF_ANOTHER + NEW_VALUE, OF_PROD),
     "a label that is typed": (
-        f"{EDIT} --vault-id dev@../secrets/dev --vault-id prod@prompt a.yml < /dev/tty",
-        block("dev", b"one", "dev", "a") + NEW_VALUE,
-        [OF_PROD, WHICH, AGAIN_OF_PROD],
+        f"{EDIT} {BOTH} a.yml < /dev/tty", OF_ANOTHER + NEW_VALUE, [OF_PROD[0], *WHICH, OF_PROD[1]]
     ),
-    "one that is set": (f"printf new | {EDIT} {BY_LABEL} --value=word a.yml", NEW_VALUE, [OF_PROD, AGAIN_OF_PROD]),
-    "rekey": (f"{WITH} rekey --encrypt-vault-id=prod a.yml", sealed("old"), [OF_PROD, AGAIN_OF_PROD]),
-    "rekey to an output": (
-        f"{WITH} rekey --encrypt-vault-id=prod --output a.yml b.yml", sealed("old"), [OF_PROD, AGAIN_OF_PROD]
-    ),
+    "one that is set": (f"printf new | {EDIT} {BY_LABEL} --value=word a.yml", NEW_VALUE, OF_PROD),
+    "rekey": (f"{WITH} rekey --encrypt-vault-id=prod a.yml", sealed("old"), OF_PROD),
+    "rekey to an output": (f"{WITH} rekey --encrypt-vault-id=prod --output a.yml b.yml", sealed("old"), OF_PROD),
 }
 
 
-@pytest.mark.parametrize("line, before, questions", ONLY_ENCRYPTING.values(), ids=ONLY_ENCRYPTING)
+@pytest.mark.parametrize("what", ONLY_ENCRYPTING)
 @pytest.mark.parametrize("is_mistyped", [False, True])
-def test_what_only_encrypts(place: Place, line: str, before: bytes, questions: list[str], is_mistyped: bool) -> None:
+def test_what_only_encrypts(place: Place, what: str, is_mistyped: bool) -> None:
     """A password that encrypts without having decrypted anything is asked for twice. If the answers differ, nothing is
-    encrypted with it."""
+    encrypted with it. If several secrets could encrypt a new value, a question asks for its label."""
+    line, before, answers = ONLY_ENCRYPTING[what]
     place.put("a.yml", before)
     place.put("b.yml", before)
     if "rekey" in line:
         place.environment["ANSIBLE_VAULT_IDENTITY_LIST"] = "old@../secrets/old, prod@prompt"
-    answers = [(each, b"prod\n") if each == WHICH else (each, PASSWORDS["prod"] + b"\n") for each in questions]
     if is_mistyped:
-        answers[-1] = (questions[-1], b"mistyped\n")
-        answers += [("Open the editor again? (yes, no): ", b"no\n")] if WHICH in questions else []
+        *others, (question, _) = answers
+        end = [("Open the editor again? (yes, no): ", b"no\n")] if "/dev/tty" in line else []
+        answers = [*others, (question, b"mistyped\n"), *end]
     session = ask(place, "sh", "-c", line, answers=answers, EDITOR="true")
     if is_mistyped:
         assert session.returncode == 1 and "the two passwords differ; try again" in session.stderr, session
         assert place.get("a.yml") == before, "nothing is changed"
     else:
         assert (session.returncode, session.stderr) == (0, ""), session
-        assert texts(FOUND.findall(place.get("a.yml"))[-1], "prod") != [None], "it can be read"
-
-
-def test_what_has_decrypted(place: Place) -> None:
-    """A password that has decrypted something is asked for once, even if a new value is encrypted, too."""
-    place.put("a.yml", block("dev", b"one", "", "a") + NEW_VALUE)
-    session = ask(place, EDIT, "-J", "a.yml", answers=typed("dev", ASKED), EDITOR="true")
-    assert (session.returncode, session.stderr) == (0, ""), session
-    check_asked(session, ASKED)
-    assert texts(place.get("a.yml"), "dev") == [b"one", b"TEXT"], "both values"
-
-
-def test_by_settings(place: Place) -> None:
-    """The setting ask_vault_pass works like the option, after all other secrets."""
-    settings = "vault_identity_list = dev@prompt\nask_vault_pass = yes\nvault_password_file = ../secrets/old\n"
-    place.put("ansible.cfg", f"[defaults]\n{settings}".encode())
-    place.put("a.yml", sealed("new"))
-    answers = [*typed("dev", OF_DEV), *typed("new", ASKED)]
-    session = ask(place, WITH, "view", "a.yml", answers=answers)
-    assert outcome(session) == (0, TEXT.decode(), "")
-    check_asked(session, OF_DEV, ASKED)
-    session = ask(place, WITH, "view", "a.yml", answers=answers[:1], ANSIBLE_ASK_VAULT_PASS="no")
-    assert session.returncode == 1, "nothing else is asked"
-    check_asked(session, OF_DEV)
-    other = theirs_at_terminal(place, needs_ansible(), ["view", "a.yml"], answers)
-    assert other.stdout.strip() == TEXT.decode().strip(), "Ansible's tool asks, too"
-    check_asked(other, OF_DEV, ASKED)
-
-
-def test_a_file_called_prompt(place: Place) -> None:
-    place.put("prompt", PASSWORDS["dev"])
-    place.put("a.yml", sealed("dev"))
-    done = ours(place, "view", "--vault-password-file", "prompt", "a.yml")
-    assert outcome(done) == (0, TEXT.decode(), ""), "nothing is asked"
+        header, found = described(FOUND.findall(place.get("a.yml"))[-1])
+        wanted = b"$ANSIBLE_VAULT;1.1;AES256" if "-J" in line else b"$ANSIBLE_VAULT;1.2;AES256;prod"
+        assert (header, found and found[0]) == (wanted, "prod"), "it can be read"
 
 
 # What is typed for a new password, and why it is refused.
@@ -164,58 +144,41 @@ def test_locales(place: Place) -> None:
         pytest.skip("without Debian's package locales")
     place.put("a.yml", seal("größe".encode(), TEXT, b""))
     words, variables = [WITH, "view", "-J", "a.yml"], {"LC_ALL": "latin", "LOCPATH": str(place.path)}
-    session = ask(place, *words, answers=[(ASKED, "größe\n".encode())], **variables)
-    assert outcome(session) == (0, TEXT.decode(), "")
-    session = ask(place, *words, answers=[(ASKED, "größe\n".encode("latin-1"))], **variables)
-    why = "--ask-vault-password: what you typed is not valid UTF-8; set the terminal to UTF-8"
-    assert outcome(session) == (1, "", f"{WITH}: {why}\n")
+    why = f"{WITH}: --ask-vault-password: what you typed is not valid UTF-8; set the terminal to UTF-8\n"
+    for codec, wanted in (("utf-8", (0, TEXT.decode(), "")), ("latin-1", (1, "", why))):
+        session = ask(place, *words, answers=[(ASKED, "größe\n".encode(codec))], **variables)
+        assert outcome(session) == wanted, codec
 
 
 def test_no_terminal(place: Place) -> None:
+    """`running` has the messages of ansible-vault-with."""
     place.put("a.yml", sealed("dev"))
     away, why = ["setsid", "--wait"], "there is no terminal to ask for the password; name a password file"
     done = place.run(*away, CHECK, "--vault-id=dev@prompt", "a.yml")
     assert outcome(done) == (1, "", f"{CHECK}: dev@prompt: {why}\n")
-    done = ours(place, "view", "-J", "a.yml")
-    assert outcome(done) == (1, "", f"{WITH}: --ask-vault-password: {why}\n")
     done = place.run(*away, TEXTCONV, "--vault-id", "prompt", *place.by_file("dev"), "a.yml")
     assert outcome(done) == (0, TEXT.decode(), f"{TEXTCONV}: prompt: {why}\n"), "it uses the other secret"
-    why = f"{WITH}: no secret is given: name one with --vault-id"
-    ended("no secret", ours(place, "view", "a.yml"), 1, why, "ansible.cfg")
-    why = f"{WITH}: no new secret is given: name one with --new-vault-id"
-    ended("no new secret", ours(place, "rekey", *place.by_file("dev"), "a.yml"), 1, why)
 
 
-READ = {"encrypt": "$ANSIBLE_VAULT;1.2;AES256;dev", "encrypt_string -": "!vault |"}
+# Inputs, whether somebody types them, and how the output begins.
+INPUTS = [
+    ("encrypt < /dev/tty", True, "$ANSIBLE_VAULT;1.2;AES256;dev\n"),
+    ("encrypt_string - < /dev/tty", True, "!vault |\n"),
+    ("view a.yml < /dev/tty", False, TEXT.decode()),
+    ("view < a.yml", False, TEXT.decode()),
+]
 
 
-@pytest.mark.parametrize("line, written", READ.items())
-def test_input_from_a_terminal(place: Place, line: str, written: str) -> None:
-    """A message says that it is read."""
-    words = ["sh", "-c", f"exec {WITH} {line} --vault-id dev@../secrets/dev < /dev/tty 2> /dev/tty"]
-    session = ask(place, *words, answers=[("if the last line is not empty.\r\n", b"x\n\x04")])
-    assert session.returncode == 0, session
-    assert session.shown.startswith(f"{WITH}: Reading standard input. End it with Ctrl-D"), "what is said"
-    assert session.stdout.startswith(written), "what is written"
-
-
-@pytest.mark.parametrize("line", ("view a.yml < /dev/tty", "view < a.yml"))
-def test_input_from_a_file(place: Place, line: str) -> None:
+@pytest.mark.parametrize("line, is_typed, begin", INPUTS)
+def test_inputs(place: Place, line: str, is_typed: bool, begin: str) -> None:
+    """A message says that standard input is read from a terminal."""
     place.put("a.yml", sealed("dev"))
-    session = ask(place, "sh", "-c", f"{WITH} --vault-id dev@../secrets/dev {line}", answers=[])
-    assert (*outcome(session), session.shown) == (0, TEXT.decode(), "", ""), "nothing is said"
-
-
-def test_labels(place: Place) -> None:
-    """If several secrets could encrypt a new value, a question at the terminal asks for its label."""
-    question = "Label to encrypt new with (dev, prod): "
-    editor = place.script('printf "new: !vault word\\n" >> "$1"', "editor")
-    place.put("vars.yml", before := block("dev", b"one", "dev", "a"))
-    words = [*READING, EDIT, *place.by_id("dev", "dev"), *place.by_id("prod", "prod"), "vars.yml"]
-    session = ask(place, *words, answers=[(question, b"stage\n"), (question, b" prod \n")], EDITOR=editor)
-    assert (session.returncode, session.stderr) == (0, "")
-    added = described(place.get("vars.yml").removeprefix(before))
-    assert added == (b"$ANSIBLE_VAULT;1.2;AES256;prod", ("prod", b"word"))
+    answers = [("if the last line is not empty.\r\n", b"x\n\x04")] if is_typed else []
+    line = f"{WITH} {line} --vault-id dev@../secrets/dev 2> /dev/tty"
+    session = ask(place, "sh", "-c", line, answers=answers)
+    said = f"{WITH}: Reading standard input. End it with Ctrl-D" if is_typed else ""
+    assert (session.returncode, session.stdout[: len(begin)]) == (0, begin), session
+    assert (session.shown != "", session.shown.startswith(said)) == (is_typed, True), session
 
 
 @pytest.mark.parametrize("words, key, status", (([EDIT], b"\x03", 130), ([WITH, "view"], b"\x1c", 131)))

@@ -16,7 +16,6 @@ import pytest
 from companion_cases import PASSWORDS, TEXT, WITH, Described, Place, described, sealed
 from lib.ansible import ansible_release
 from lib.ansible_runs import AnsibleRuns
-from lib.subtests import SubTests
 
 SEED = 62
 # How long to compare command lines, in seconds, if their number is not given; the least number in all, and per kind.
@@ -36,8 +35,8 @@ COMMANDS = [
     ["encrypt", "--output", "new.yml", "plain.yml"],
     ["encrypt_string", "a string", "--name", "name"],
 ]
-# Where settings are: in variables, or in a file that is found in these ways.
-PLACES = ["variables", "folder", "home", "named", "named by a relative path", "variables and folder"]
+# Where settings are: in variables, in the file of the current directory, or in one that a variable names.
+PLACES = ["variables", "folder", "named", "variables and folder"]
 # The files of each tree, besides the vault a.yml.
 PLAIN = {"plain.yml": TEXT, "more.yml": TEXT}
 
@@ -156,23 +155,13 @@ def prepare(case: Case, home: Path, tree: Path) -> dict[str, str]:
     tree.mkdir()
     for name, content in {"a.yml": case.vault, **PLAIN}.items():
         (tree / name).write_bytes(content)
-    (home / ".ansible.cfg").unlink(missing_ok=True)
     variables = {f"ANSIBLE_{name.upper()}": value for name, value in case.variables.values().items()}
     path = tree / "ansible.cfg"
-    if case.place == "home":
-        path = home / ".ansible.cfg"
-    elif case.place == "named":
-        path = home / "far" / "my.cfg"
+    if case.place == "named":
+        path = home / "secrets" / "my.cfg"
         variables["ANSIBLE_CONFIG"] = str(path)
-    elif case.place == "named by a relative path":
-        variables["ANSIBLE_CONFIG"] = "ansible.cfg"
-    if case.place != "variables":
-        path.parent.mkdir(exist_ok=True)
-        # The path of a password file is relative to the directory of the file.
-        folder = "secrets" if case.place == "home" else "../secrets"
-        files = [each if each.is_elsewhere() else each._replace(folder=folder) for each in case.file.password_files]
-        values = case.file._replace(password_files=files).values()
-        path.write_text("".join(["[defaults]\n", *(f"{name} = {value}\n" for name, value in values.items())]))
+    # The path of a password file is relative to the directory of the file.
+    path.write_text("".join(["[defaults]\n", *(f"{name} = {value}\n" for name, value in case.file.values().items())]))
     return variables
 
 
@@ -181,7 +170,7 @@ def what_counts(case: Case) -> Case | None:
     if not all(each.is_usable() for each in (*case.ids, *case.paths)):
         return None
     variables, file = case.variables, case.file
-    if (case.ids or case.paths) and case.place != "named by a relative path":
+    if case.ids or case.paths:
         # Nothing in the current directory may name a secret. The path of a password file starts from the file.
         variables, file = variables.only(Named.is_elsewhere), file.only(Named.is_elsewhere)
         file = file._replace(password_files=case.file.password_files)
@@ -231,9 +220,7 @@ def outcomes(place: Place, ansible: AnsibleRuns, case: Case) -> tuple[Outcome, O
     return ours, theirs, f"{done.stderr.decode()}\n{errors}"
 
 
-def test_command_lines(
-    place: Place, ansible_runs: AnsibleRuns, subtests: SubTests, pytestconfig: pytest.Config
-) -> None:
+def test_command_lines(place: Place, ansible_runs: AnsibleRuns, pytestconfig: pytest.Config) -> None:
     """Compare random command lines, and print how many there were."""
     place.script("cat ~/secrets/dev", "secrets/script-dev")
     place.script('cat ~/secrets/"$2"', "secrets/keys-client")
@@ -245,9 +232,7 @@ def test_command_lines(
     while sum(counts.values()) < (most or LEAST) or not most and time.monotonic() < end:
         case = random_case(random, place.secrets)
         ours, theirs, messages = outcomes(place, ansible_runs, case)
-        if ours != (wanted := theirs or (False, None, {})):
-            with subtests.test(f"{sum(counts.values())}: {case.words()} {case}"):
-                assert ours == wanted, messages
+        assert ours == (theirs or (False, None, {})), (case.words(), case, messages)
         kind = 2 if theirs is None else 0 if theirs[0] else 1
         counts[[*counts][kind]] += 1
     assert most or min(counts.values()) >= LEAST_OF_EACH, counts

@@ -5,23 +5,22 @@ import signal
 
 import pytest
 
-from companion_cases import AWKWARD, EDIT, TEXT, WITH, Place, decrypted, described, ended, sealed, silent, texts
+from companion_cases import AWKWARD, EDIT, PASSWORDS, TEXT, WITH, Place, decrypted, described, ended, sealed, silent
+from companion_cases import texts
 from lib.needs import needs
 from lib.option_sets import OF_ANSIBLE, help_options, page_sets
-from lib.subtests import SubTests
 
 # Command lines that the tool takes, too, if a secret is added.
 SAME = """
-    view a.yml
     view - < a.yml
     view --require-id-match a.yml
     view new.yml
     view --loud
     view --new-vault-id prod@../secrets/prod a.yml
     view --vault-password-file <(cat ../secrets/dev) a.yml
+    view --vault-password-file prompt new.yml
     view a.yml >&-
     view <&-
-    decrypt < a.yml
     decrypt --output=out.yml a.yml
     decrypt --output out.yml a.yml plain.yml
     encrypt --salt salt --output - plain.yml
@@ -39,13 +38,13 @@ SAME = """
 """
 # The tool's status for an invalid command line.
 WRONG_COMMAND_LINE = 2
-SALT_FOR_ONE = "--salt and --salt-file are for a single FILE or STRING"
 
 
 def prepare(place: Place) -> None:
     place.put("a.yml", sealed("old"))
     place.put("new.yml", sealed("new"))
     place.put("plain.yml", TEXT)
+    place.put("prompt", PASSWORDS["new"])
 
 
 def run(place: Place, line: str) -> tuple[int, str, str, dict[str, bytes]]:
@@ -91,23 +90,51 @@ def test_help(place: Place, command: str) -> None:
     assert (" one after the other;" in done.stdout) == (command == "view")
 
 
-def test_command_lines(place: Place, subtests: SubTests) -> None:
+OLD, DEV = "--vault-password-file ../secrets/old", "--vault-id dev@../secrets/dev"
+STRINGS, REKEY = f"encrypt_string {DEV}", "rekey --vault-id prod@../secrets/old --encrypt-vault-id prod a.yml"
+SALT_FOR_ONE = "--salt and --salt-file are for a single FILE or STRING"
+NOT_NEW = "no new secret has the label that was chosen for encryption, prod"
+# Command lines that are refused, the status, and a part of the message.
+REFUSED = [
+    ("", 2, "no command is given"),
+    (OLD, 2, "no command is given"),
+    (f"view {OLD} $'a\\nline.yml'", 3, f"{WITH}: 'a\\nline.yml': No such file or directory\n"),
+    (f"decrypt {OLD} --output out.yml .", 3, f"{WITH}: .: Is a directory\n"),
+    (f"encrypt {OLD} --salt-file /dev/zero plain.yml plain.yml", 2, SALT_FOR_ONE),
+    ("encrypt --vault x plain.yml", 2, "ambiguous option: --vault could match --vault-id, --vault-password-file"),
+    ("encrypt --sa x plain.yml", 2, "ambiguous option: --sa could match --salt, --salt-file"),
+    ("view --out x a.yml", 2, "unexpected argument '--out'"),
+    (f"encrypt {OLD} --loud plain.yml a.yml", 2, "error: unexpected argument '--loud' found"),
+    (f"encrypt {OLD} big.yml", 1, f"{WITH}: big.yml: input is longer than the limit"),
+    (f"{STRINGS} a b -n x -n y -n z", 2, "there are more names than strings: x, y, z"),
+    (f"{STRINGS} a ''", 1, "the string to encrypt is empty"),
+    (f"{STRINGS} a b --salt salt", 2, SALT_FOR_ONE),
+    (f"{STRINGS} a --stdin-name x --salt salt", 2, SALT_FOR_ONE),
+    (f"{STRINGS} a --prompt --salt-file ../secrets/old", 2, SALT_FOR_ONE),
+    (f"{STRINGS} a b --encrypt-vault-id prod", 1, "no secret has the label of --encrypt-vault-id"),
+    (f"{STRINGS} a b --output nowhere/c.yml", 1, "No such file or directory"),
+    # The old secret is not taken for the new one, even if it has the label that was chosen.
+    (REKEY, 1, NOT_NEW),
+    (f"{REKEY} --new-vault-id dev@../secrets/new", 1, NOT_NEW),
+    # Nobody can type a password.
+    ("view -J a.yml", 1, f"{WITH}: --ask-vault-password: there is no terminal to ask for the password; name "),
+    ("view a.yml", 1, f"{WITH}: no secret is given: name one with --vault-id or --vault-password-file, in "),
+    (f"rekey {OLD} a.yml", 1, f"{WITH}: no new secret is given: name one with --new-vault-id or "),
+    (f"create {OLD} x.yml y.yml", 2, "create takes one FILE"),
+    (f"create {OLD} a.yml", 1, "a.yml exists already; use `edit`"),
+    (f"edit --skip-tty-check {OLD} c.yml", 2, "arguments: --skip-tty-check"),
+]
+
+
+@pytest.mark.parametrize("line, status, part", REFUSED)
+def test_refused(place: Place, line: str, status: int, part: str) -> None:
+    needs("bash")
     prepare(place)
-    before, old = place.files(), place.by_file("old")
-    ended("no word", place.run(WITH), 2, f"usage: {WITH}", "no command is given")
-    ended("no command", place.run(WITH, *old), 2, "no command is given")
-    for name, part in {"a\nline.yml": "'a\\nline.yml': No such file or directory", ".": ".: Is a directory"}.items():
-        for words in (["view"], ["decrypt", "--output", "out.yml"]):
-            with subtests.test(f"{words} {name}"):
-                done = place.run(WITH, *words, *old, name)
-                assert (done.returncode, done.stdout, done.stderr) == (3, "", f"{WITH}: {part}\n")
-    done = place.run(WITH, "encrypt", *old, "--salt-file", "/dev/zero", "plain.yml", "plain.yml")
-    ended("one salt for two", done, 2, SALT_FOR_ONE)
-    ambiguous = {"--vault": "--vault-id, --vault-password-file", "--sa": "--salt, --salt-file"}
-    for word, others in ambiguous.items():
-        done = place.run(WITH, "encrypt", word, "x", "plain.yml")
-        ended(word, done, 2, f"{WITH}: error: ambiguous option: {word} could match {others}")
-    ended("no option", place.run(WITH, "view", "--out", "x", "a.yml"), 2, "unexpected argument '--out'")
+    place.put("big.yml", bytes(16_777_217))
+    before = place.files()
+    done = place.shell(f"setsid --wait {WITH} {line}", "bash", EDITOR="touch")
+    ended("it is refused", done, status, part)
+    assert (done.stdout, done.stderr.count("--help") < 2) == ("", True), "in one message"
     assert place.files() == before, "all files stay"
 
 
@@ -147,27 +174,6 @@ def test_those_that_fail(place: Place) -> None:
     assert (done.returncode, done.stdout, done.stderr.splitlines()) == (4, "", messages), "the messages"
     assert decrypted("dev", place.get("a.yml")) == TEXT, "the others go on"
     assert place.files() == before | {"a.yml": place.get("a.yml")}, "and these stay"
-    done = place.run(WITH, "encrypt", *place.by_file("old"), "--loud", "plain.yml", "a.yml")
-    ended("a fault of the command line", done, 2, "error: unexpected argument '--loud' found")
-    assert (done.stderr.count("--help"), place.get("plain.yml")) == (1, TEXT), "is reported once"
-    place.put("big.yml", bytes(16_777_217))
-    done = place.run(WITH, "encrypt", *place.by_file("old"), "big.yml")
-    ended("too long", done, 1, f"{WITH}: big.yml: input is longer than the limit")
-    assert (place.tree / "big.yml").stat().st_size == 16_777_217, "stays"
-
-
-def test_rekey_needs_a_new_secret(place: Place) -> None:
-    """The old secret is not taken for the new one, even if it has the label that was chosen. A new secret takes
-    precedence over the label of the settings."""
-    prepare(place)
-    before, new = place.files(), place.by_id("dev", "new", "new-")
-    rekey = [WITH, "rekey", *place.by_id("prod", "old"), "a.yml"]
-    why = "no new secret has the label that was chosen for encryption, prod"
-    ended("the old one alone", place.run(*rekey, "--encrypt-vault-id", "prod"), 1, why)
-    ended("another new one", place.run(*rekey, *new, "--encrypt-vault-id", "prod"), 1, why)
-    assert place.files() == before
-    silent("by a setting", place.run(*rekey, *new, ANSIBLE_VAULT_ENCRYPT_IDENTITY="prod"))
-    assert decrypted("new", place.get("a.yml")) == TEXT
 
 
 def test_several_views(place: Place) -> None:
@@ -181,39 +187,8 @@ def test_several_views(place: Place) -> None:
     assert (place.path / "runs").read_text() == "run\n"
 
 
-def test_several_edits(place: Place) -> None:
-    prepare(place)
-    place.script("echo run >> ../runs; cat ../secrets/old")
-    place.environment["EDITOR"] = place.script('echo more >> "$1"', "editor")
-    done = place.run(WITH, "edit", "--vault-id", "../script", "a.yml", "new.yml", "b.yml")
-    ended("edit", done, 1, f"{EDIT}: new.yml: no secret decrypts this vault")
-    edited = [decrypted("old", place.get(name)) for name in ("a.yml", "b.yml")]
-    assert edited == [TEXT + b"more\n", b"more\n"], "the others are edited"
-    assert (place.path / "runs").read_text() == "run\n", "the script is run once"
-    done = place.run(WITH, "create", *place.by_file("old"), "x.yml", "y.yml")
-    ended("create", done, 2, "create takes one FILE")
-
-
-# Strings to encrypt with options, and why they are refused.
-REFUSED_STRINGS = {
-    "a b -n x -n y -n z": (2, "there are more names than strings: x, y, z"),
-    "a ''": (1, "the string to encrypt is empty"),
-    "a b --salt salt": (2, SALT_FOR_ONE),
-    "a --stdin-name x --salt salt": (2, SALT_FOR_ONE),
-    "a --prompt --salt-file ../secrets/old": (2, SALT_FOR_ONE),
-    "a b --encrypt-vault-id prod": (1, "no secret has the label of --encrypt-vault-id"),
-    "a b --output nowhere/c.yml": (1, "No such file or directory"),
-}
-
-
-def test_several_strings(place: Place, subtests: SubTests) -> None:
-    """Strings are refused before anything is written, and are no arguments of the tool."""
-    encrypt = f"{WITH} encrypt_string {' '.join(place.by_id('dev', 'dev'))}"
-    for line, (status, part) in REFUSED_STRINGS.items():
-        with subtests.test(line):
-            done = place.shell(f"{encrypt} {line}")
-            ended("it is refused", done, status, part)
-            assert (done.stdout, place.names()) == ("", []), "nothing is written"
+def test_several_strings(place: Place) -> None:
+    encrypt = f"{WITH} {STRINGS}"
     done = place.shell(f"printf a | {encrypt} --salt salt --stdin-name x -")
     ended("a fixed salt for one", done, 0, "x: !vault |")
     done = place.shell(f"{encrypt} a b --output -")
@@ -232,28 +207,24 @@ def test_several_strings(place: Place, subtests: SubTests) -> None:
     assert ("word" in seen, "encrypt_string" in seen) == (False, True), "strings are no arguments of the tool"
 
 
-def test_what_messages_advise(place: Place) -> None:
-    """The command that the message advises works."""
-    place.put("plain.yml", TEXT)
+def test_editing(place: Place) -> None:
+    """Several files are edited, and a script is run once. The command that a message advises works."""
+    prepare(place)
+    place.script("echo run >> ../runs; cat ../secrets/old")
+    place.environment["EDITOR"] = place.script('echo more >> "$1"', "editor")
+    done = place.run(WITH, "edit", "--vault-id", "../script", "a.yml", "new.yml", "b.yml")
+    ended("edit", done, 1, f"{EDIT}: new.yml: no secret decrypts this vault")
+    choice = [*place.by_id("dev", "dev"), *place.by_id("prod", "prod"), "--encrypt-vault-id", "prod"]
+    silent("create, with a word of newer releases", place.run(WITH, "create", "--skip-tty-check", *choice, "c.yml"))
+    edited = [decrypted(password, place.get(f"{name}.yml")) for password, name in zip(("old", "old", "prod"), "abc")]
+    assert edited == [TEXT + b"more\n", b"more\n", b"more\n"]
+    assert (place.path / "runs").read_text() == "run\n"
+    ended("its help", place.run(WITH, "edit", "--help"), 0, f"usage: {EDIT}")
     done = place.run(EDIT, *place.by_file("old"), "plain.yml")
     ended("an edit of plaintext", done, 1, "it is not a vault")
     words = done.stderr.split("`")[3].split()
     silent("what it advises", place.run(*words, *place.by_file("old"), "plain.yml"))
     assert decrypted("old", place.get("plain.yml")) == TEXT
-
-
-def test_editing(place: Place) -> None:
-    place.environment["EDITOR"] = place.script('echo more >> "$1"', "editor")
-    dev = place.by_id("dev", "dev")
-    place.put("a.yml", sealed("dev"))
-    ended("create where one is", place.run(WITH, "create", *dev, "a.yml"), 1, "a.yml exists already; use `edit`")
-    assert place.get("a.yml") == sealed("dev"), "it stays"
-    choice = [*dev, *place.by_id("prod", "prod"), "--encrypt-vault-id", "prod"]
-    silent("create", place.run(WITH, "create", "--skip-tty-check", *choice, "b.yml"))
-    assert decrypted("prod", place.get("b.yml")) == b"more\n", "is made, in spite of a word of newer releases"
-    done = place.run(WITH, "edit", "--skip-tty-check", *dev, "c.yml")
-    ended("which edit has not", done, 2, "arguments: --skip-tty-check")
-    ended("its help", place.run(WITH, "edit", "--help"), 0, f"usage: {EDIT}")
 
 
 def test_signals(place: Place) -> None:

@@ -7,7 +7,6 @@ from companion_cases import sealed
 from companion_cases.both import ours
 from companion_cases.signals import has_ended
 from companion_cases.terminal import READING, ask
-from lib.subtests import SubTests
 
 # Options that name scripts, and the arguments that each script gets.
 STARTS = {
@@ -36,58 +35,47 @@ def test_how_they_start(place: Place, request: pytest.FixtureRequest, option: st
     assert (TEXT in output, started.read_text()) == (True, wanted), ("by Ansible's tool", errors)
 
 
-# Scripts that fail, and why.
-FAILING = {
-    "cat ../secrets/dev; exit 2": "this script ended with status 2",
-    "kill -9 $$": "signal 9 ended this script",
-    "echo": "this script wrote no password",
-    "printf ' word'": "the password of this script begins or ends with white space",
-    "printf 'word\\t\\n'": "the password of this script begins or ends with white space",
-    "head -c 5000 /dev/zero | tr '\\0' x": "a password file is longer than 4096 bytes",
-    "printf '#!word'": "a password file is a script",
-}
+SPACE = "the password of this script begins or ends with white space, which a password file cannot have"
+# Names and texts of scripts that fail, and why. A client's own messages are shown in one line.
+FAILING = [
+    ("data", "no script", "this script cannot be run: Exec format error; if it is not a script, `chmod -x` it"),
+    ("script", "cat ../secrets/dev; exit 2", "this script ended with status 2"),
+    ("script", "kill -9 $$", "signal 9 ended this script"),
+    ("script", "echo", "this script wrote no password"),
+    ("script", "printf ' word'", SPACE),
+    ("script", "printf 'word\\t\\n'", SPACE),
+    ("script", "head -c 5000 /dev/zero | tr '\\0' x", "a password file is longer than 4096 bytes"),
+    ("script", "printf '#!word'", "a password file is a script"),
+    ("keys-client", "exit 2", "this script has no secret for this label"),
+    ("keys-client", "echo no >&2; echo key >&2; exit 2", "this script has no secret for this label: no key"),
+    ("keys-client", "echo 'no net' >&2; exit 9", "this script ended with status 9: no net"),
+    ("keys-client", "printf '\\033[2J' >&2; exit 9", "this script ended with status 9: '\\x1b[2J'"),
+]
 
 
-@pytest.mark.parametrize("text, part", FAILING.items())
-def test_those_that_fail(place: Place, subtests: SubTests, text: str, part: str) -> None:
+@pytest.mark.parametrize("name, text, why", FAILING)
+def test_those_that_fail(place: Place, name: str, text: str, why: str) -> None:
     place.put("a.yml", sealed("dev"))
-    place.script(text)
-    for words in ([WITH, "rekey", "--new-vault-id", "x@../secrets/new"], [EDIT]):
-        with subtests.test(words[0]):
-            done = place.run(*words, "--vault-id", "dev@../script", "a.yml", EDITOR="touch ../edited; false")
-            ended("it fails", done, 1, f"{words[0]}: dev@../script: {part}")
-    done = place.run(TEXTCONV, "--vault-id", "../script", *place.by_file("dev"), "a.yml")
-    assert (done.returncode, done.stdout) == (0, TEXT.decode()), "another secret is there"
-    assert f"{TEXTCONV}: ../script: {part}" in done.stderr, "it says why"
+    begin = "" if name == "data" else "#!/bin/sh\n"
+    place.put(f"../{name}", f"{begin}{text}\n".encode(), 0o755)
+    secret = ["--vault-id", f"dev@../{name}"]
+    runs = ([WITH, "rekey", *secret, "--new-vault-id", "x@../secrets/new", "a.yml"], [EDIT, *secret, "a.yml"])
+    done = [place.run(*words, EDITOR="touch ../edited; false") for words in runs]
+    wanted = [(1, "", f"{words[0]}: dev@../{name}: {why}\n") for words in runs]
+    assert [(each.returncode, each.stdout, each.stderr) for each in done] == wanted
+    shown = place.run(TEXTCONV, "--vault-id", f"../{name}", *place.by_file("dev"), "a.yml")
+    assert (shown.returncode, shown.stdout) == (0, TEXT.decode()), "another secret is there"
+    assert f"{TEXTCONV}: ../{name}: {why}" in shown.stderr, "it says why"
     assert (place.files(), (place.path / "edited").exists()) == ({"a.yml": sealed("dev")}, False), "nothing is changed"
 
 
-CLIENT = f"{CHECK}: dev@../keys-client: this script "
-# Scripts, and the status and the messages of a check with each.
-MESSAGES = {
-    ("keys-client", "echo no >&2; echo key >&2; exit 2"): (1, f"{CLIENT}has no secret for this label: no key\n"),
-    ("keys-client", "echo 'no net' >&2; exit 9"): (1, f"{CLIENT}ended with status 9: no net\n"),
-    ("keys-client", "exit 2"): (1, f"{CLIENT}has no secret for this label\n"),
-    ("keys-client", "printf '\\033[2J' >&2; exit 9"): (1, f"{CLIENT}ended with status 9: '\\x1b[2J'\n"),
-    ("keys-client", "echo hello >&2; cat ../secrets/dev"): (0, ""),
-    ("keys", "echo hello >&2; cat ../secrets/dev"): (0, "hello\n"),
-}
-
-
-@pytest.mark.parametrize("name, text", MESSAGES)
-def test_messages(place: Place, name: str, text: str) -> None:
+@pytest.mark.parametrize("name, shown", (("keys-client", ""), ("keys", "hello\n")))
+def test_messages(place: Place, name: str, shown: str) -> None:
     """A client's standard error is shown only if it fails. The standard error of other scripts is always shown."""
     place.put("a.yml", sealed("dev"))
-    place.script(text, name)
+    place.script("echo hello >&2; cat ../secrets/dev", name)
     done = place.run(CHECK, "--vault-id", f"dev@../{name}", "a.yml")
-    assert (done.returncode, done.stderr) == MESSAGES[name, text]
-
-
-def test_what_cannot_be_run(place: Place) -> None:
-    place.put("a.yml", sealed("dev"))
-    (place.secrets / "dev").chmod(0o700)
-    why = "dev: this script cannot be run: Exec format error; if it is not a script, `chmod -x` it"
-    ended("a file", place.run(CHECK, *place.by_file("dev"), "a.yml"), 1, why)
+    assert (done.returncode, done.stderr) == (0, shown)
 
 
 def test_standard_input(place: Place) -> None:

@@ -94,25 +94,21 @@ def test_plaintext(place: Place, line: str, places: set[str]) -> None:
     assert (place.files() == before) == (companion in (CHECK, TEXTCONV)), "it does its work"
 
 
-def test_other_tools(place: Place) -> None:
-    """Another program with the name of the tool gets no password."""
+def test_which_tool(place: Place) -> None:
+    """Another program with the name of the tool gets no password. The tool may also be on PATH."""
     place.put("a.yml", sealed("old"))
-    (place.tools / "ansible-vault").unlink()
+    check = [CHECK, *place.by_file("old"), "."]
+    tool = place.tools / "ansible-vault"
+    tool.unlink()
     theirs = '[ "$1" = --version ] && echo "ansible-vault [core 2.14.18]"; echo run >> ../runs'
     place.script(theirs, "tools/ansible-vault")
-    done = place.run(CHECK, *place.by_file("old"), ".")
-    ended("Ansible's tool", done, 1, "is not the ansible-vault that the companions need")
+    ended("Ansible's tool", place.run(*check), 1, "is not the ansible-vault that the companions need")
     assert (place.path / "runs").read_text() == "run\n", "is asked its version alone"
-
-
-def test_no_tool(place: Place) -> None:
-    """The tool may also be on PATH."""
-    place.put("a.yml", sealed("old"))
-    (place.tools / "ansible-vault").unlink()
+    tool.unlink()
     (folder := place.path / "interpreter").mkdir()
     for name, path in (("python3", sys.executable), ("env", needs_tool("env"))):
         (folder / name).symlink_to(os.path.realpath(path))
     place.environment["PATH"] = f"{folder}{os.pathsep}{place.tools}"
-    ended("no tool", place.run(CHECK, *place.by_file("old"), "."), 1, "there is no ansible-vault")
+    ended("no tool", place.run(*check), 1, "there is no ansible-vault")
     (folder / "ansible-vault").symlink_to(place.program)
-    ended("the one on PATH", place.run(CHECK, *place.by_file("old"), "."), 0, "decrypted by")
+    ended("the one on PATH", place.run(*check), 0, "decrypted by")

@@ -2,8 +2,8 @@
 
 import pytest
 
-from companion_cases import CHECK, EDIT, MERGE, ROTATE, TEXT, TEXTCONV, WITH, Place, decrypted, described, ended
-from companion_cases import sealed, silent, use_everywhere
+from companion_cases import CHECK, EDIT, MERGE, ROTATE, TEXT, TEXTCONV, WITH, Place, described, edit, ended, sealed
+from companion_cases import silent
 from companion_cases.both import ours, theirs
 from lib.needs import needs_ansible
 from lib.subtests import SubTests
@@ -24,6 +24,7 @@ SETTINGS: dict[str, tuple[dict[str, str], dict[str, str], set[str]]] = {
     "a missing one": (NAMED, {"tree/ansible.cfg": FILE.format("../secrets/old")}, {"old"}),
     "the current folder": (NAMED, {"far/away/my.cfg": FILE.format("{{CWD}}/../secrets/old")}, {"old"}),
     "a comment": ({}, {"tree/ansible.cfg": FILE.format("../secrets/dev ; not old") + "# it = x\nat = %Y\n"}, {"dev"}),
+    "a list of another folder": ({}, {".ansible.cfg": LIST.format("../secrets/dev")}, {"dev"}),
     "another section": ({}, {"tree/ansible.cfg": FILE.format("../secrets/old").replace("defaults", "default")}, set()),
 }
 
@@ -48,39 +49,30 @@ def test_variables_and_files(
         assert (status == 0, output.decode().strip()) == expected, "by Ansible's tool"
 
 
-def by_settings(place: Place) -> None:
-    """Write settings whose default secret is `old`, and a vault under this secret."""
-    place.put("ansible.cfg", FILE.format("../secrets/old").encode())
-    place.put("a.yml", sealed("old"))
-
-
-def test_every_companion(place: Place) -> None:
-    by_settings(place)
-    use_everywhere(place, [], place.by_file("new", "new-"), "default: decrypted by ../secrets/old")
-    assert decrypted("new", place.get("a.yml")) == TEXT + b"more\n"
-
-
-# Settings and variables that name a script of an untrusted clone, and whether the script runs beside options.
-STRANGE: dict[str, tuple[str, dict[str, str], bool]] = {
-    "a list": (LIST.format("old@./script, ./script"), {}, False),
-    "a variable with a relative path": ("", {"ANSIBLE_VAULT_PASSWORD_FILE": "script"}, False),
-    "a list with a relative path": ("", {"ANSIBLE_VAULT_IDENTITY_LIST": "old@../tree/script"}, False),
-    "$PWD": ("", {"ANSIBLE_VAULT_IDENTITY_LIST": "$PWD/script, ${PWD}/script"}, False),
-    "{{CWD}}": ("", {"ANSIBLE_VAULT_PASSWORD_FILE": "{{CWD}}/script"}, False),
-    "a folder that is trusted": (FILE.format("./script"), {"ANSIBLE_CONFIG": "ansible.cfg"}, True),
+WITHOUT_OPTIONS = "no options"
+# Files and variables that name a script of an untrusted clone, and whether the script runs beside options.
+STRANGE: dict[str, tuple[dict[str, str], dict[str, str], bool]] = {
+    "a list": ({"ansible.cfg": LIST.format("old@./script, ./script")}, {}, False),
+    "a variable with a relative path": ({}, {"ANSIBLE_VAULT_PASSWORD_FILE": "script"}, False),
+    "a list with a relative path": ({}, {"ANSIBLE_VAULT_IDENTITY_LIST": "old@../tree/script"}, False),
+    "$PWD": ({}, {"ANSIBLE_VAULT_IDENTITY_LIST": "$PWD/script, ${PWD}/script"}, False),
+    "$PWD in the user's own file": ({"../.ansible.cfg": FILE.format("$PWD/script")}, {}, False),
+    "${PWD} in the user's own file": ({"../.ansible.cfg": FILE.format("${PWD}/script")}, {}, False),
+    "{{CWD}} in the user's own file": ({"../.ansible.cfg": FILE.format("{{CWD}}/script")}, {}, False),
+    "a folder that is trusted": ({"ansible.cfg": FILE.format("./script")}, {"ANSIBLE_CONFIG": "ansible.cfg"}, True),
+    WITHOUT_OPTIONS: ({"ansible.cfg": LIST.format("../secrets/old, ./script")}, {}, True),
 }
 
 
-@pytest.mark.parametrize("file, variables, runs", STRANGE.values(), ids=STRANGE)
-def test_what_is_not_trusted(
-    place: Place, subtests: SubTests, file: str, variables: dict[str, str], runs: bool
-) -> None:
+@pytest.mark.parametrize("what", STRANGE)
+def test_what_is_not_trusted(place: Place, subtests: SubTests, what: str) -> None:
     """Beside options, no companion runs a script of the current directory or encrypts with a secret that the directory
-    names, unless ANSIBLE_CONFIG names its settings."""
+    names, unless ANSIBLE_CONFIG names its settings. Without options, each uses the directory's settings."""
+    files, variables, runs = STRANGE[what]
     # As a shell sets it.
     place.environment["PWD"] = str(place.tree)
     place.environment["EDITOR"] = place.script('echo more >> "$1"', "editor")
-    secret, ran = place.by_file("old"), place.path / "ran"
+    secret, ran = [] if what == WITHOUT_OPTIONS else place.by_file("old"), place.path / "ran"
     lines = [
         [WITH, "view", *secret, "a.yml"],
         [WITH, "encrypt", *secret, "--encrypt-vault-id", "default", "plain.yml"],
@@ -91,11 +83,12 @@ def test_what_is_not_trusted(
         [MERGE, *secret, "a.yml", "a.yml", "a.yml", "a.yml"],
         [ROTATE, *secret, *place.by_file("new", "new-"), "a.yml"],
     ]
+    for name, content in files.items():
+        place.put(name, content.encode())
+    place.script("touch ../ran; cat ../secrets/prod", "tree/script")
     for line in lines:
         place.put("a.yml", sealed("old"))
         place.put("plain.yml", TEXT)
-        place.put("ansible.cfg", file.encode())
-        place.script("touch ../ran; cat ../secrets/prod", "tree/script")
         ran.unlink(missing_ok=True)
         with subtests.test(" ".join(line[:2])):
             done = place.run(*line, **variables)
@@ -103,28 +96,6 @@ def test_what_is_not_trusted(
     if not runs:
         ended("without options", place.run(CHECK, "a.yml", **variables), 1)
         assert ran.exists(), "without options it is run"
-
-
-def test_beside_options(place: Place) -> None:
-    """The user's own settings count, and a fault in the current directory's file is none."""
-    place.put("ansible.cfg", b"no section\n")
-    words = [*place.by_id("dev", "dev"), *place.by_id("prod", "prod"), "a.yml"]
-    editor = place.script('echo new > "$1"', "editor")
-    silent("an edit", place.run(EDIT, *words, EDITOR=editor, ANSIBLE_VAULT_ENCRYPT_IDENTITY="prod"))
-    assert decrypted("prod", place.get("a.yml")) == b"new\n", "by the variable's label"
-
-
-@pytest.mark.parametrize("path", ("$PWD/script", "${PWD}/script", "{{CWD}}/script"))
-def test_own_file(place: Place, path: str) -> None:
-    """Beside options, a path into the current directory does not even count in the user's own file."""
-    place.environment["PWD"] = str(place.tree)
-    place.put("a.yml", sealed("old"))
-    place.put("../.ansible.cfg", FILE.format(path).encode())
-    place.script("touch ../ran; cat ../secrets/prod", "tree/script")
-    ended("the check", place.run(CHECK, *place.by_file("old"), "a.yml"), 0)
-    assert not (place.path / "ran").exists()
-    ended("without options", place.run(CHECK, "a.yml"), 1)
-    assert (place.path / "ran").exists()
 
 
 def test_matching_labels(place: Place) -> None:
@@ -141,18 +112,28 @@ def test_matching_labels(place: Place) -> None:
     place.put("../own.cfg", b"[defaults]\n")
     ended("by another file", place.run(*words, ANSIBLE_CONFIG=str(place.path / "own.cfg")), 0, "2 decrypted")
     place.put("../.ansible.cfg", place.get("ansible.cfg"))
-    for value in (b"", b"''"):
-        place.put("ansible.cfg", b"[defaults]\nvault_id_match = %s\n" % value)
+    for content in (b"no section\n", b"[defaults]\nvault_id_match =\n", b"[defaults]\nvault_id_match = ''\n"):
+        place.put("ansible.cfg", content)
         ended("the folder's file only restricts", place.run(*words), 1, *wanted)
 
 
 def test_many_secrets(place: Place) -> None:
-    """More secrets than the tool takes at once are tried one after the other, even on standard input."""
-    wrong = ", ".join(["../secrets/old"] * 33)
-    place.put("a.yml", sealed("dev"))
-    done = place.shell(f"{WITH} view < a.yml", ANSIBLE_VAULT_IDENTITY_LIST=f"{wrong}, dev@../secrets/dev")
-    assert (done.returncode, done.stdout, done.stderr) == (0, TEXT.decode(), "")
-    done = ours(place, "view", "a.yml", ANSIBLE_VAULT_IDENTITY_LIST=wrong)
+    """More secrets than the tool takes at once are tried one after the other, even on standard input. One that is
+    unavailable is skipped with a warning if there is another one."""
+    place.put("a.yml", sealed("dev", label="dev"))
+    place.script("exit 4", "secrets/failing")
+    (place.secrets / "empty").touch()
+    ignored = {
+        "prod@../secrets/none": "this password file cannot be read",
+        "old@../secrets/failing": "this script ended with status 4",
+        "new@../secrets/empty": "the password is empty",
+    }
+    wrong = ["../secrets/old"] * 33
+    listed = ", ".join([*ignored, *wrong, "dev@../secrets/dev"])
+    done = place.shell(f"{WITH} view < a.yml", ANSIBLE_VAULT_IDENTITY_LIST=listed)
+    messages = [f"{WITH}: {given}: {why}; it is ignored" for given, why in ignored.items()]
+    assert (done.returncode, done.stdout, done.stderr.splitlines()) == (0, TEXT.decode(), messages)
+    done = ours(place, "view", "a.yml", ANSIBLE_VAULT_IDENTITY_LIST=", ".join(wrong))
     ended("without the right one", done, 1, "ERROR! no secret decrypts this vault")
 
 
@@ -167,7 +148,6 @@ MALFORMED = {
 
 def test_faults(place: Place, subtests: SubTests) -> None:
     """Settings that cannot be read are named, and nothing is done without them."""
-    by_settings(place)
     for content, part in MALFORMED.items():
         place.put("ansible.cfg", content)
         with subtests.test(part):
@@ -178,29 +158,6 @@ def test_faults(place: Place, subtests: SubTests) -> None:
     (place.tree / "ansible.cfg").unlink()
     parts = ("usage: ansible-vault-check", "no secret is given: name one with --vault-id", "ansible.cfg")
     ended("no secret", place.run(CHECK, "."), 2, *parts)
-
-
-def test_missing_secrets(place: Place) -> None:
-    """A secret of the settings that is unavailable is skipped with a warning if there is another one."""
-    place.put("a.yml", sealed("dev", label="dev"))
-    place.put("plain.yml", TEXT)
-    place.script("exit 4", "secrets/failing")
-    (place.secrets / "empty").touch()
-    ignored = {
-        "prod@../secrets/none": "this password file cannot be read",
-        "old@../secrets/failing": "this script ended with status 4",
-        "new@../secrets/empty": "the password is empty",
-    }
-    variables = {"ANSIBLE_VAULT_IDENTITY_LIST": ", ".join([*ignored, "dev@../secrets/dev"])}
-    done = place.run(CHECK, "a.yml", **variables)
-    ended("to decrypt", done, 0, "a.yml: dev: decrypted by dev@../secrets/dev")
-    assert done.stderr.splitlines() == [f"{CHECK}: {given}: {why}; it is ignored" for given, why in ignored.items()]
-    done = ours(place, "encrypt", "--encrypt-vault-id", "prod", "plain.yml", **variables)
-    ended("under a missing one", done, 1, "it is ignored", "and no other secret encrypts in its place")
-    asked = {"ANSIBLE_VAULT_IDENTITY_LIST": "prod@prompt, dev@../secrets/dev"}
-    done = ours(place, "encrypt", "plain.yml", **asked)
-    ended("one that nobody can type", done, 1, "prod@prompt: there is no terminal to ask for the password")
-    assert place.get("plain.yml") == TEXT, "nothing is encrypted"
 
 
 # Secrets of the settings, the label to encrypt with, the one password that is there, and whether it encrypts.
@@ -238,28 +195,26 @@ def test_missing_secrets_to_encrypt_with(
     words = [*line[:2], *option, *line[2:]]
     done = place.run_on(b"new", "setsid", "--wait", *words, EDITOR=editor, **variables)
     written = done.stdout if line[1] == "encrypt_string" else place.files().get(line[-1], b"")
-    assert done.returncode == (0 if encrypts else 1), done
     if encrypts:
         header, found = described(written)
-        assert header.decode() == f"$ANSIBLE_VAULT;1.2;AES256;{label}" and found and found[0] == there, written
+        assert header.decode() == f"$ANSIBLE_VAULT;1.2;AES256;{label}" and found and found[0] == there, done
     else:
         assert written == before.get(line[-1], b""), "nothing is encrypted"
+    why = "" if encrypts else "no other secret encrypts in its place" if label or option else "--encrypt-vault-id"
+    assert (done.returncode, why in done.stderr.decode()) == (0 if encrypts else 1, True), done
 
 
 def test_the_label_to_encrypt_with(place: Place) -> None:
-    """The setting may have quotes, and also counts for a new vault of an edit."""
-    names = "vault_identity_list = dev@../secrets/dev, prod@../secrets/prod\nvault_encrypt_identity = 'prod'\n"
-    place.put("ansible.cfg", f"[defaults]\n{names}".encode())
-    place.put("a.yml", TEXT)
-    silent("encrypt", ours(place, "encrypt", "a.yml"))
-    silent("a new one", place.run(EDIT, "b.yml", EDITOR=place.script('echo new > "$1"', "editor")))
-    assert [decrypted("prod", place.get(name)) for name in ("a.yml", "b.yml")] == [TEXT, b"new\n"]
-    assert place.get("a.yml").startswith(b"$ANSIBLE_VAULT;1.2;AES256;prod\n"), "under its label"
+    """The user's own setting also counts beside options. It may have quotes."""
+    both = [*place.by_id("dev", "dev"), *place.by_id("prod", "prod")]
+    silent("an edit", edit(place, 'echo new > "$1"', *both, "a.yml", ANSIBLE_VAULT_ENCRYPT_IDENTITY="'prod'"))
+    assert described(place.get("a.yml")) == (b"$ANSIBLE_VAULT;1.2;AES256;prod", ("prod", b"new\n"))
 
 
 def test_world_writable_folders(place: Place) -> None:
     """As with Ansible's tool, a configuration file in a world-writable directory is ignored, unless it is named."""
-    by_settings(place)
+    place.put("ansible.cfg", FILE.format("../secrets/old").encode())
+    place.put("a.yml", sealed("old"))
     place.tree.chmod(0o777)
     (place.path / ".ansible.cfg").write_text(FILE.format("secrets/dev"))
     warning = f"{CHECK}: {place.tree}/ansible.cfg is ignored, since its directory is world-writable\n"

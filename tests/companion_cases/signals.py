@@ -1,26 +1,32 @@
-"""Signals at each step: nothing is lost, nothing is left, and the companion ends by the signal."""
+"""Signals at each step: nothing is lost, nothing is left, and the companion ends by the signal. Every wait ends,
+whatever a companion reads, searches, runs or waits for.
+"""
 
+import fcntl
 import os
-import random
 import signal
 import subprocess
 import time
+from collections.abc import Callable
 from contextlib import suppress
 from pathlib import Path
 
 import pytest
 
-from companion_cases import ABOVE_EDITOR, CHANGE, CHANGED, EDIT, ENCRYPTED, MERGE, PASSWORDS, ROTATE, TEXT, WITH
-from companion_cases import Companions, Done, Place, block, decrypted, edit, run_changed, sealed, silent, texts, to_new
-from companion_cases import versions, wait_until
+from companion_cases import ABOVE_EDITOR, CHANGE, CHANGED, CHECK, EDIT, ENCRYPTED, HOOK, MERGE, PASSWORDS, ROTATE, TEXT
+from companion_cases import TEXTCONV, WITH, Companions, Place, block, decrypted, edit, run_changed, sealed, silent
+from companion_cases import texts, to_new, versions, wait_until
+from companion_cases.repository import add_and_commit, under_git
 from companion_cases.terminal import READY, SHELL, ask
 from lib.limits import SECONDS
+from lib.processes import started
 from lib.subtests import SubTests
 from model.vaults import seal, yaml_block
 
 # The start of the name of a saved copy.
 COPY = ".ansible-vault-saved-a.yml-"
 RUNS = (EDIT, ROTATE, "merge", "merge of blocks", "rekey", "decrypt")
+Process = subprocess.Popen[str]
 
 
 def two_blocks(password: str, text: bytes) -> bytes:
@@ -76,100 +82,55 @@ def check_edit(place: Place, errors: str, wanted: bytes = CHANGED) -> None:
     check_whole(place)
 
 
-def check_end(name: str, place: Place, done: Done, *statuses: int) -> None:
-    assert done.returncode in statuses, done.stderr
-    assert "Traceback" not in done.stderr, "no word of Python"
-    if name == EDIT:
-        check_edit(place, done.stderr)
-    else:
-        check_whole(place)
-
-
 def has_ended(noted: Path) -> bool:
     """Return whether the process whose ID is noted in this file has ended. A zombie has no command line."""
     line = Path("/proc", noted.read_text().strip(), "cmdline")
     return not line.exists() or line.read_bytes() == b""
 
 
-# Signals the companion before a run of a program, which then dies by the signal or continues.
-AT_RUN = """
-count=1; mkdir -p ../counted; until mkdir ../counted/$count 2>/dev/null; do count=$((count + 1)); done
-[ $count -ne {number} ] || {{ {trap}kill -{signal} $PPID; sleep 0.1; }}
+# Signals the companion, or its whole process group, at a step: before or after a call that creates, replaces or removes
+# a file, or that waits for a program.
+AT_STEP = """
+import itertools, shutil, subprocess, tempfile
+os.setsid()
+steps = itertools.count()
+def step():
+    if next(steps) == {number}:
+        os.mkdir("../sent")
+        os.kill({receiver}, signal.SIGTERM)
+def stepping(call):
+    def made(*words, **options):
+        step()
+        done = call(*words, **options)
+        step()
+        return done
+    return made
+for owner, names in ((tempfile, "mkdtemp mkstemp"), (os, "replace unlink"), (shutil, "rmtree")):
+    for name in names.split():
+        setattr(owner, name, stepping(getattr(owner, name)))
+subprocess.Popen.communicate = stepping(subprocess.Popen.communicate)
 """
 
 
 @pytest.mark.parametrize("name", RUNS)
-def test_at_each_run(cases: Companions, subtests: SubTests, name: str) -> None:
-    """A signal comes before each run of the program or of git, which dies by the signal or continues in spite of it."""
-    for number in range(1, 20):
-        trap, sent = ("", "TERM") if number % 2 else ("trap '' INT; ", "INT")
+def test_at_each_step(cases: Companions, subtests: SubTests, name: str) -> None:
+    for number in range(100):
         place = cases.place()
-        words = tree(place)[name]
-        for program in ("ansible-vault", "git"):
-            place.wrap_tool(AT_RUN.format(number=number, trap=trap, signal=sent), program)
-        done = place.run(*words)
-        with subtests.test(f"run {number}"):
-            check_end(name, place, done, 0, -signal.Signals[f"SIG{sent}"])
-        if done.returncode == 0:
+        companion, *words = tree(place)[name]
+        # Calls have two steps, so each of the two receivers gets signals before calls, and after them.
+        receiver = "os.getpid()" if number % 3 else "0"
+        done = run_changed(place, companion, AT_STEP.format(number=number, receiver=receiver), words)
+        is_sent = (place.path / "sent").exists()
+        with subtests.test(f"step {number}"):
+            assert done.returncode == (-signal.SIGTERM if is_sent else 0), done.stderr
+            assert "Traceback" not in done.stderr, "no word of Python"
+            if name == EDIT:
+                check_edit(place, done.stderr)
+            else:
+                check_whole(place)
+        if not is_sent:
             break
-    assert 3 < number < 19, "there were such runs"
-
-
-# The companion signals itself before or after a call.
-AT_CALL = """
-import shutil, tempfile
-call = {call}
-def signalling(*words, **options):
-    {before}
-    done = call(*words, **options)
-    {after}
-    return done
-{call} = signalling
-"""
-ITSELF = "os.kill(os.getpid(), signal.SIGTERM)"
-CALLS = [(name, call) for name in RUNS for call in ("tempfile.mkstemp", "os.replace")]
-CALLS += [(EDIT, call) for call in ("tempfile.mkdtemp", "os.unlink", "shutil.rmtree")]
-
-
-@pytest.mark.parametrize("before, after", ((ITSELF, "pass"), ("pass", ITSELF)), ids=("before", "after"))
-@pytest.mark.parametrize("name, call", CALLS)
-def test_at_each_call(place: Place, name: str, call: str, before: str, after: str) -> None:
-    """A signal comes before or after a call that creates, replaces or removes a file."""
-    companion, *words = tree(place)[name]
-    done = run_changed(place, companion, AT_CALL.format(call=call, before=before, after=after), words)
-    check_end(name, place, done, -signal.SIGTERM)
-
-
-def run_signalled(place: Place, words: list[str], chance: random.Random, seconds: float) -> Done:
-    """Signal a run once or twice, the first time within so many seconds."""
-    number, send = chance.choice([signal.SIGTERM, signal.SIGHUP]), chance.choice([os.kill, os.killpg])
-    delays = [chance.uniform(0, seconds), chance.uniform(0, 0.5)]
-    pipe = subprocess.PIPE
-    with place.start(*words, stdout=pipe, stderr=pipe, start_new_session=True) as process:
-        for delay in delays[: chance.randint(1, 2)]:
-            with suppress(subprocess.TimeoutExpired):
-                process.wait(delay)
-            if process.returncode is None:
-                send(process.pid, number)
-        output, errors = process.communicate(timeout=SECONDS)
-    return Done(words, process.returncode, output, errors)
-
-
-@pytest.mark.parametrize("name", RUNS)
-def test_at_random_moments(cases: Companions, subtests: SubTests, name: str) -> None:
-    """The signals go to the companion or to its whole process group, such as the editor."""
-    chance, ended, place = random.Random(1), 0, cases.place()
-    words = tree(place)[name]
-    begun = time.monotonic()
-    assert place.run(*words).returncode == 0, "without a signal"
-    seconds = time.monotonic() - begun
-    for number in range(20 if name == EDIT else 8):
-        place = cases.place()
-        with subtests.test(f"moment {number}"):
-            done = run_signalled(place, tree(place)[name], chance, seconds)
-            check_end(name, place, done, 0, -signal.SIGTERM, -signal.SIGHUP)
-            ended += done.returncode != 0
-    assert ended > 0, "some were ended"
+    assert 7 < number < 99, "there were such steps"
 
 
 def test_noted_signals(place: Place) -> None:
@@ -252,11 +213,10 @@ def test_children_of_threads(place: Place) -> None:
 
 
 def test_half_a_save(place: Place) -> None:
-    """If the editor is ended while it saves, the previous save is kept, too."""
-    tree(place)
-    first = f'above={ABOVE_EDITOR}; printf "the first of two" > "$1"; sleep 3'
-    second = f'printf half > "$1"; : > ../saved; kill -TERM $above; sleep {SECONDS}'
-    done = edit(place, f"{first}; {second}", *place.by_file("old"), "a.yml")
+    """If a signal ends the editor and the companion while the editor saves, the previous save is kept, too."""
+    words = tree(place)[EDIT]
+    editor = 'printf "the first of two" > "$1"; sleep 3; printf half > "$1"; : > ../saved; kill -TERM 0'
+    done = place.run("setsid", *words, EDITOR=place.script(editor, "editor"))
     assert done.returncode == -signal.SIGTERM, "the status"
     [before] = place.tree.glob(f"{COPY}*-before")
     assert decrypted("old", before.read_bytes()) == b"the first of two", "the save before"
@@ -264,31 +224,21 @@ def test_half_a_save(place: Place) -> None:
     check_edit(place, done.stderr, b"half")
 
 
-def test_signals_to_all(place: Place) -> None:
-    """Signals to the companion and to the program that encrypts do not stop them from keeping the text."""
-    words = tree(place)[EDIT]
-    signals = "kill -HUP $PPID; kill -TERM $PPID; kill -TERM $$; kill -HUP $$; kill -INT $$"
-    place.wrap_tool(f'[ "$1" != encrypt ] || {{ {signals}; }}')
-    done = place.run(*words)
-    assert decrypted("old", place.get("a.yml")) == TEXT, "the vault stays"
-    check_end(EDIT, place, done, -signal.SIGTERM, -signal.SIGHUP)
-
-
 @pytest.mark.parametrize("pause, least, most", ((0.1, 0, 4), (SECONDS, 4, 60)))
 def test_stubborn_programs(place: Place, pause: float, least: float, most: float) -> None:
     """A program that does not end by a signal is killed at the next signal, after a pause, or after some seconds."""
-    words, started = tree(place)[EDIT], place.path / "started"
-    stubborn = f"{CHANGE}; touch ../saved; trap '' TERM; echo $$ > ../started; exec sleep {2 * SECONDS}"
+    words, noted = tree(place)[EDIT], place.path / "noted"
+    stubborn = f"{CHANGE}; touch ../saved; trap '' TERM; echo $$ > ../noted; exec sleep {2 * SECONDS}"
     place.environment["EDITOR"] = place.script(stubborn, "editor")
     process = place.start(*words, stderr=subprocess.PIPE)
-    wait_until(lambda: started.exists() and started.read_text(), "the editor")
+    wait_until(lambda: noted.exists() and noted.read_text(), "the editor")
     begun = time.monotonic()
     while process.poll() is None and time.monotonic() < begun + SECONDS:
         process.terminate()
         with suppress(subprocess.TimeoutExpired):
             process.wait(pause)
     assert least < time.monotonic() - begun < most, "how long it takes"
-    assert (process.returncode, has_ended(started)) == (-signal.SIGTERM, True), "both end"
+    assert (process.returncode, has_ended(noted)) == (-signal.SIGTERM, True), "both end"
     check_edit(place, process.communicate()[1])
 
 
@@ -311,3 +261,93 @@ def test_signals_at_the_start(place: Place) -> None:
     assert done.returncode == -signal.SIGTERM, "the status"
     assert not (place.path / "survived").exists(), "the editor is ended"
     check_whole(place)
+
+
+# The numbers of a system call and of its descriptor.
+READS_INPUT, WRITES_OUTPUT = ["0", "0x0"], ["1", "0x1"]
+
+
+def check_wait(place: Place, words: list[str], waits: Callable[[Process], object], number: int, **streams: int) -> None:
+    """Check that a signal ends a companion that waits, without a word. `waits` says whether it does."""
+    pipes = {"stdin": subprocess.DEVNULL, "stdout": subprocess.PIPE, "stderr": subprocess.PIPE}
+    where = {"cwd": place.tree, "env": place.environment, "text": True}
+    with started(words, **where, **pipes | streams) as process:
+        wait_until(lambda: waits(process), "the wait")
+        process.send_signal(number)
+        assert process.wait(SECONDS) == -number, "it ends by the signal"
+        output, errors = process.communicate(timeout=SECONDS)
+        assert (output or "", errors) == ("", ""), "without a word"
+
+
+def is_in(process: Process, call: list[str]) -> bool:
+    """Return whether the process is in this system call."""
+    return Path("/proc", str(process.pid), "syscall").read_text().split()[:2] == call
+
+
+# Each directory contains another one, and the companion signals itself in each.
+ENDLESS_FOLDERS = """
+def walk(path, **options):
+    while True:
+        os.kill(os.getpid(), signal.SIGTERM)
+        yield path, [], []
+os.walk = walk
+"""
+
+
+def test_endless_folders(place: Place) -> None:
+    done = run_changed(place, CHECK, ENDLESS_FOLDERS, [*place.by_file("old"), "."])
+    assert (done.returncode, done.stdout, done.stderr) == (-signal.SIGTERM, "", "")
+
+
+@pytest.mark.parametrize("companion, number", ((CHECK, signal.SIGTERM), (ROTATE, signal.SIGINT)))
+def test_while_files_are_searched(place: Place, companion: str, number: int) -> None:
+    """Without a signal, reading these files takes minutes."""
+    first = place.tree / "0.img"
+    with open(first, "wb") as file:
+        file.truncate(1 << 40)
+    for name in range(1, 3000):
+        os.link(first, place.tree / f"{name}.img")
+
+    def searches(process: Process) -> bool:
+        files = Path("/proc", str(process.pid), "fd")
+        # A file may be closed before its link is read.
+        with suppress(FileNotFoundError):
+            return any(os.readlink(each).endswith(".img") for each in files.iterdir())
+        return False
+
+    words = place.by_file("old") if companion == CHECK else to_new(place)
+    check_wait(place, [companion, *words, "."], searches, number)
+
+
+# Makes a run of git with this command wait until it is signalled.
+WAITS = 'case " $* " in *" {} "*) exec 2> /dev/null; : > {}/started; exec sleep {};; esac'
+
+
+@pytest.mark.parametrize("companion, command", ((CHECK, "check-attr"), (MERGE, "merge-file"), (HOOK, "rev-parse")))
+def test_while_git_runs(place: Place, git: None, companion: str, command: str) -> None:
+    words = {MERGE: tree(place)["merge"], CHECK: [CHECK, *place.by_file("old"), "."], HOOK: [HOOK, "--all"]}
+    under_git(place, "*.yml diff=ansible-vault\n")
+    add_and_commit(place)
+    place.wrap_tool(WAITS.format(command, place.path, SECONDS), "git")
+    check_wait(place, words[companion], lambda _: (place.path / "started").exists(), signal.SIGTERM)
+    assert (os.listdir(place.temporary), place.left()) == ([], [])
+
+
+def test_while_input_is_awaited(place: Place) -> None:
+    """Nobody writes to standard input."""
+    words = [WITH, "encrypt_string", *place.by_file("old"), "--stdin-name", "a", "word", "--name", "b"]
+    pipe = subprocess.PIPE
+    check_wait(place, words, lambda process: is_in(process, READS_INPUT), signal.SIGINT, stdin=pipe)
+
+
+@pytest.mark.parametrize("companion", (CHECK, ROTATE, TEXTCONV, WITH))
+def test_while_nobody_reads(place: Place, companion: str) -> None:
+    tree(place)
+    old = place.by_file("old")
+    words = {CHECK: [*old, "."], ROTATE: [*to_new(place), "."], TEXTCONV: [*old, "a.yml"]}
+    words[WITH] = ["view", *old, "a.yml", "a.yml"]
+    reader, writer = os.pipe()
+    with open(reader), open(writer, "wb") as pipe:
+        os.write(writer, bytes(fcntl.fcntl(writer, fcntl.F_SETPIPE_SZ, 4096)))
+        full = [companion, *words[companion]]
+        check_wait(place, full, lambda process: is_in(process, WRITES_OUTPUT), signal.SIGTERM, stdout=pipe.fileno())

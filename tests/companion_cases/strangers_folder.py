@@ -2,7 +2,7 @@
 
 import pytest
 
-from companion_cases import CHECK, COMPANIONS, EDIT, HOOK, MERGE, ROTATE, TEXT, TEXTCONV, WITH, Place, block, sealed
+from companion_cases import CHECK, EDIT, HOOK, MERGE, ROTATE, TEXT, TEXTCONV, WITH, Place, block, sealed
 from companion_cases.repository import AUTHOR
 
 pytestmark = pytest.mark.usefixtures("git")
@@ -65,12 +65,6 @@ def commit_files(place: Place) -> None:
     place.shell("git add c.yml && git -c core.fsmonitor=true update-index --fsmonitor")
 
 
-def lose(place: Place, name: str) -> None:
-    """Remove the object of a committed file. git would fetch it from the promisor."""
-    blob = place.shell(f"git rev-parse HEAD:{name}").stdout.strip()
-    (place.tree / ".git/objects" / blob[:2] / blob[2:]).unlink()
-
-
 def trap(place: Place, name: str, folder: str) -> str:
     """Write a program that notes its start, and return its path."""
     (place.path / folder).mkdir(exist_ok=True)
@@ -79,16 +73,16 @@ def trap(place: Place, name: str, folder: str) -> str:
 
 def started(place: Place) -> set[str]:
     """Return what has started since the last call."""
-    notes = place.path / "started"
-    found = set(notes.read_text().split()) if notes.exists() else set()
-    notes.unlink(missing_ok=True)
-    return found
+    found = place.get("../started").decode().split()
+    place.put("../started", b"")
+    return {*found}
 
 
 @pytest.fixture(params=["tree/.git/hooks", "hooks"])
 def stranger(place: Place, request: pytest.FixtureRequest) -> Place:
     """The directory, whose hooks are git's own or those of core.hooksPath."""
     commit_files(place)
+    place.put("../started", b"")
     settings = OTHERS | {name: trap(place, name, "programs") for name in PROGRAMS}
     settings["remote.origin.url"] = f"ext::{trap(place, 'remote.origin.url', 'programs')}"
     for name in HOOKS:
@@ -101,24 +95,15 @@ def stranger(place: Place, request: pytest.FixtureRequest) -> Place:
     return place
 
 
-def test_one_place() -> None:
-    """Only one module starts git. It switches off what git could start in each run."""
-    modules = [*COMPANIONS.glob("ansible-vault-*"), *COMPANIONS.glob("*/**/*.py")]
-    assert [path.name for path in modules if '"git"' in path.read_text()] == ["commands.py"]
-
-
-def test_git_alone(stranger: Place) -> None:
-    """Without a companion, git starts these programs; otherwise, the next tests could not fail."""
+def test_missing_object(stranger: Place) -> None:
+    """Without a companion, git starts these programs, one of them to fetch a missing object; otherwise, no test could
+    fail. The hook needs the old version of a file that is staged, and does not fetch it."""
     stranger.shell(PLAIN)
-    lose(stranger, "b.yml")
+    blob = stranger.shell("git rev-parse HEAD:b.yml").stdout.strip()
+    (stranger.tree / ".git/objects" / blob[:2] / blob[2:]).unlink()
     stranger.shell("git cat-file -p HEAD:b.yml")
     assert set(STARTED) - started(stranger) == set()
-
-
-def test_missing_object(stranger: Place) -> None:
-    """The hook needs the old version of a file that is staged, and does not fetch it."""
     stranger.shell("git add b.yml")
-    lose(stranger, "b.yml")
     started(stranger)
     done = stranger.run(HOOK)
     assert (done.returncode, started(stranger)) == (1, set()), done

@@ -6,18 +6,20 @@ import select
 import signal
 import subprocess
 import termios
+from contextlib import suppress
 from typing import Any, NamedTuple
 
 from companion_cases import Place
 from lib.limits import SECONDS
+from shells import all_shown
 
 # Precedes the words of a program that reads the terminal.
 READING = ["sh", "-c", 'exec "$@" < /dev/tty', "sh"]
 # An interactive shell at the terminal, with job control, which prints this when it is ready.
 READY = "ready> "
 SHELL = ["sh", "-c", f"PS1='{READY}' exec bash --norc --noediting -i < /dev/tty > /dev/tty 2>&1"]
-# The session leader. When it exits, the terminal is hung up, so it first writes the terminal's modes to $MODES.
-LEADER = 'trap : INT QUIT; "$@"; status=$?; stty -a < /dev/tty > "$MODES"; exit $status'
+# The session leader, which is not ended by the keys that end the program.
+LEADER = 'trap : INT QUIT; "$@"; exit $?'
 
 
 class Session(NamedTuple):
@@ -35,10 +37,9 @@ class Session(NamedTuple):
 def ask(place: Place, *words: str, answers: list[tuple[str, bytes]], **variables: str) -> Session:
     """Run a program, wait for each question, and type the answer. The standard streams are not the terminal."""
     controller, terminal = os.openpty()
-    modes = place.path / "modes"
     options: dict[str, Any] = {
         **{"stdout": subprocess.PIPE, "stderr": subprocess.PIPE, "pass_fds": [terminal], "start_new_session": True},
-        "env": place.environment | variables | {"MODES": str(modes)},
+        "env": place.environment | variables,
         "preexec_fn": lambda: fcntl.ioctl(terminal, termios.TIOCSCTTY, 0),
     }
     shown = b""
@@ -53,26 +54,17 @@ def ask(place: Place, *words: str, answers: list[tuple[str, bytes]], **variables
             # The program would wait for an answer forever.
             os.killpg(program.pid, signal.SIGKILL)
             raise
-    shown += b"".join(iter(lambda: _chunk(controller), b""))
+    shown += all_shown(controller)
+    echoes = termios.tcgetattr(controller)[3] & termios.ECHO != 0
     os.close(controller)
-    echoes = "echo" in modes.read_text().split()
     return Session(program.returncode, output, errors, shown.decode().replace("\r", ""), echoes)
 
 
 def _shown_until(controller: int, question: bytes) -> bytes:
     """Wait until what is shown ends with the question, and return it."""
     shown = b""
-    while not shown.endswith(question):
-        chunk = _chunk(controller) if select.select([controller], [], [], SECONDS)[0] else b""
-        if not chunk:
-            raise AssertionError(f"{question!r} is not asked: {shown!r}")
-        shown += chunk
+    with suppress(OSError):
+        while not shown.endswith(question) and select.select([controller], [], [], SECONDS)[0]:
+            shown += os.read(controller, 4096)
+    assert shown.endswith(question), f"{question!r} is not asked: {shown!r}"
     return shown
-
-
-def _chunk(controller: int) -> bytes:
-    """Return what is shown next, or nothing after the last program at the terminal has ended."""
-    try:
-        return os.read(controller, 4096)
-    except OSError:
-        return b""
