@@ -2,8 +2,8 @@
 page and of the companions' help. None offers a `~` that nobody would expand.
 """
 
-import pathlib
 import re
+from pathlib import Path
 
 import pytest
 
@@ -24,13 +24,13 @@ OFFERED = {
     "ansible-vault encrypt folder/": {"folder/inner.yml"},
     "ansible-vault encrypt -- -": {"-dash.yml"},
     "ansible-vault view --vault-id dev@one.p": {"dev@one.pass"},
+    "ansible-vault view --vault-id dev@te@m.p": {"dev@te@m.pass"},
     "ansible-vault-with ": {*WITH_COMMANDS},
     "ansible-vault-with --vault-id one.pass encr": {"encrypt", "encrypt_string"},
     "ansible-vault-with --vault-password-file one.pass view on": {"one.pass", "one.yml"},
     "ansible-vault-with -J encrypt one.yml tw": {"two.yml"},
     "ansible-vault-with encrypt_string --sh": {"--show-input"},
     "ansible-vault-with view -- one.yml -": {"-dash.yml"},
-    "ansible-vault-rotate folder/": {"folder/inner.yml"},
     "ansible-vault-rotate --new-vault-id dev@one.p": {"dev@one.pass"},
     "ansible-vault-check one.yml -- -": {"-dash.yml"},
     "ansible-vault-check --ask-vault-pass tw": {"two.yml"},
@@ -45,25 +45,31 @@ def shell(request: pytest.FixtureRequest) -> str:
 
 
 @pytest.fixture
-def folder(tmp_path: pathlib.Path) -> pathlib.Path:
+def folder(tmp_path: Path) -> Path:
     (tmp_path / "folder").mkdir()
     for name in [*FILES, "folder/inner.yml"]:
         (tmp_path / name).touch()
     return tmp_path
 
 
+SHORT = "alias ansible-vault=ansible-vault-with"
+# The aliases through which ansible-vault has the completion of ansible-vault-with, and one that changes nothing. With
+# an option, zsh does not expand an alias before it completes.
+ALIASES = [SHORT, "alias ansible-vault='ansible-vault-with --vault-id one.pass'"]
+IN_ZSH, OTHER = f"setopt complete_aliases; {SHORT}", f"alias ansible-vault-edit={WITH}"
+
+
 @pytest.mark.parametrize("line", OFFERED)
-def test_offered(shell: str, folder: pathlib.Path, line: str) -> None:
-    """After a label, bash replaces only the text from the `@` on, the others the whole value."""
-    wanted = {each.replace("dev@", "@") if shell == "bash" else each for each in OFFERED[line]}
-    assert SHELLS[shell](line, folder) == wanted
-
-
-@pytest.mark.parametrize("name", ["fish", "zsh"])
-def test_path_with_an_at(name: str, folder: pathlib.Path) -> None:
-    """The first `@` ends the label. bash offers nothing, since it begins a word at the last one."""
-    needs(name)
-    assert SHELLS[name]("ansible-vault view --vault-id dev@te@m.p", folder) == {"dev@te@m.pass"}
+def test_offered(shell: str, folder: Path, line: str) -> None:
+    """After a label, bash replaces only the text from the `@` on, the others the whole value. bash begins a word at the
+    last `@`, so it offers no path with another one."""
+    wanted = OFFERED[line]
+    if shell == "bash":
+        wanted = {each.replace("dev@", "@") for each in wanted if each.count("@") < 2}
+    assert SHELLS[shell](line, folder, OTHER) == wanted
+    if line.startswith(f"{WITH} "):
+        for alias in [*ALIASES, IN_ZSH] if shell == "zsh" else ALIASES:
+            assert SHELLS[shell](line.replace(WITH, "ansible-vault"), folder, alias) == wanted, alias
 
 
 # The starts of command lines that arguments follow, and of those that take only one.
@@ -73,14 +79,14 @@ TAKE_ONE = [*STARTS[: len(OPTIONS)], f"{WITH} encrypt_string", f"{WITH} create",
 
 
 @pytest.mark.parametrize("start", STARTS)
-def test_arguments(shell: str, folder: pathlib.Path, start: str) -> None:
+def test_arguments(shell: str, folder: Path, start: str) -> None:
     """Every file and directory is offered for an argument, and nothing else; no file for the text of encrypt_string."""
     lines = [start, f"{start} --", *([] if start in TAKE_ONE else [f"{start} one.yml", f"{start} -- one.yml two.yml"])]
     found = {line: {each.replace("\\", "").rstrip("/") for each in SHELLS[shell](f"{line} ", folder)} for line in lines}
     assert found == dict.fromkeys(lines, set() if "encrypt_string" in start else {*FILES, "folder"})
 
 
-def offered_options(shell: str, words: str, folder: pathlib.Path) -> list[str]:
+def offered_options(shell: str, words: str, folder: Path) -> list[str]:
     """Return the options that a shell offers after one dash and after two."""
     return sorted((SHELLS[shell](f"{words} -", folder) | SHELLS[shell](f"{words} --", folder)) - set(FILES))
 
@@ -98,27 +104,24 @@ def options_of(line: str) -> set[str]:
     return page_sets()[command] | own | OF_ANSIBLE.get(command, set())
 
 
-@pytest.mark.parametrize("line", ["ansible-vault", *COMPANIONS, *(start for start in STARTS if " " in start)])
-def test_options(shell: str, folder: pathlib.Path, line: str) -> None:
-    assert offered_options(shell, line, folder) == sorted(options_of(line))
-
-
-def repeatable(name: str) -> list[str]:
+def repeatable(line: str) -> list[str]:
     """Return the options that may be repeated, according to a companion's help."""
-    entries = [" ".join(each.split()) for each in re.split(r"^ +(?=-)", companion_help(name), flags=re.MULTILINE)]
+    text = companion_help(line) if line in COMPANIONS else ""
+    entries = [" ".join(each.split()) for each in re.split(r"^ +(?=-)", text, flags=re.MULTILINE)]
     return [option for each in entries if "may be repeated" in each for option in re.findall(r"(?:^|, )(--\S+)", each)]
 
 
-@pytest.mark.parametrize("name", COMPANIONS)
-def test_repeatable_options(shell: str, folder: pathlib.Path, name: str) -> None:
-    """They are offered again."""
-    options = repeatable(name)
-    assert len(options) > 1
-    assert [each for each in options if each not in offered_options(shell, f"{name} {each} one.pass", folder)] == []
+@pytest.mark.parametrize("line", ["ansible-vault", *COMPANIONS, *(start for start in STARTS if " " in start)])
+def test_options(shell: str, folder: Path, line: str) -> None:
+    """A companion's options that may be repeated are offered again."""
+    assert offered_options(shell, line, folder) == sorted(options_of(line))
+    options = repeatable(line)
+    assert (len(options) > 1) == (line in COMPANIONS)
+    assert [each for each in options if each not in offered_options(shell, f"{line} {each} one.pass", folder)] == []
 
 
 @pytest.mark.parametrize("line", ["-vault rekey", "-vault-with encrypt_string", "-vault-edit", "-vault-hook"])
-def test_excluded_in_zsh(folder: pathlib.Path, line: str) -> None:
+def test_excluded_in_zsh(folder: Path, line: str) -> None:
     """If an option excludes another, so does the other."""
     needs("zsh")
     options = {*offered_options("zsh", f"ansible{line}", folder)} - {"-h", "--help", "-V", "--version"}
@@ -141,7 +144,7 @@ def values_of(name: str) -> dict[str, str]:
 
 
 @pytest.mark.parametrize("name", ["ansible-vault", *COMPANIONS])
-def test_values(shell: str, folder: pathlib.Path, name: str) -> None:
+def test_values(shell: str, folder: Path, name: str) -> None:
     """Files are offered for an option whose value is a file, and for no other."""
     values = values_of(name)
     assert len(values) > 2
@@ -151,25 +154,7 @@ def test_values(shell: str, folder: pathlib.Path, name: str) -> None:
         assert {start: {each.split("=")[-1] for each in offered} for start, offered in found.items()} == wanted
 
 
-SHORT = "alias ansible-vault=ansible-vault-with"
-ALIASES = [SHORT, "alias ansible-vault='ansible-vault-with --vault-id one.pass'"]
-# With this option, zsh does not expand an alias before it completes.
-IN_ZSH = f"setopt complete_aliases; {SHORT}"
-
-
-def test_alias(shell: str, folder: pathlib.Path) -> None:
-    """Through an alias, ansible-vault has the completion of ansible-vault-with."""
-    wanted = {line: offered for line, offered in OFFERED.items() if line.startswith(f"{WITH} ")}
-    for alias in [*ALIASES, IN_ZSH] if shell == "zsh" else ALIASES:
-        found = {line: SHELLS[shell](line.replace(WITH, "ansible-vault"), folder, alias) for line in wanted}
-        assert found == wanted, alias
-
-
-def test_alias_of_another_tool(shell: str, folder: pathlib.Path) -> None:
-    assert SHELLS[shell]("ansible-vault ", folder, f"alias ansible-vault-edit={WITH}") == set(OPTIONS)
-
-
-def test_home(shell: str, folder: pathlib.Path, monkeypatch: pytest.MonkeyPatch) -> None:
+def test_home(shell: str, folder: Path, monkeypatch: pytest.MonkeyPatch) -> None:
     """`~` is offered where the shell expands it. Otherwise the directory's path is offered, and in fish, nothing."""
     monkeypatch.setenv("HOME", str(folder))
     (folder / "work").mkdir()
@@ -178,12 +163,11 @@ def test_home(shell: str, folder: pathlib.Path, monkeypatch: pytest.MonkeyPatch)
     assert len(labelled) > 1
     for line in ("ansible-vault view ~/one.p", *(f"{start} ~/one.p" for start in starts)):
         assert SHELLS[shell](line, folder / "work") == {"~/one.pass"}, line
-    others = [*(f"{start}=~/one.p" for start in starts)]
+    others = [f"{start}=~/one.p" for start in starts]
     others += [f"{start}{before}dev@~/one.p" for start in labelled for before in (" ", "=")]
     for line in others:
-        offered = SHELLS[shell](line, folder / "work")
-        wanted = [] if shell == "fish" else [f"{folder}/one.pass"[1:]]
-        assert [each.partition("/")[2] for each in offered] == wanted, line
+        offered = {each.partition("/")[2] for each in SHELLS[shell](line, folder / "work")}
+        assert offered == (set() if shell == "fish" else {f"{folder}/one.pass"[1:]}), line
 
 
 # Values typed with quotes or backslashes in fish, and the whole value that is offered.
@@ -197,7 +181,7 @@ QUOTED = {
 
 
 @pytest.mark.parametrize("value, wanted", QUOTED.items())
-def test_quoted_in_fish(folder: pathlib.Path, value: str, wanted: str) -> None:
+def test_quoted_in_fish(folder: Path, value: str, wanted: str) -> None:
     needs("fish")
     for option, start in (("--vault-id ", ""), ("--vault-id=", "--vault-id=")):
         assert SHELLS["fish"](f"ansible-vault view {option}{value}", folder) == {start + wanted}
@@ -208,8 +192,6 @@ TYPED = {
     "cre": ["create"],
     "-J edit one.y": ["-J", "edit", "one.yml"],
     "view with": ["view", "with a space.pass"],
-    "view --vault-password-file with": ["view", "--vault-password-file", "with a space.pass"],
-    "view --vault-id dev@one.p": ["view", "--vault-id", "dev@one.pass"],
     "view --vault-id dev@with": ["view", "--vault-id", "dev@with a space.pass"],
     r"view --vault-id dev@with\ a": ["view", "--vault-id", "dev@with a space.pass"],
     "rekey --new-vault-id=dev@with": ["rekey", "--new-vault-id=dev@with a space.pass"],
@@ -219,7 +201,7 @@ TYPED = {
 
 
 @pytest.mark.parametrize("line", TYPED)
-def test_typed_in_bash(line: str, folder: pathlib.Path, monkeypatch: pytest.MonkeyPatch) -> None:
+def test_typed_in_bash(line: str, folder: Path, monkeypatch: pytest.MonkeyPatch) -> None:
     needs("bash")
     monkeypatch.setenv("HOME", str(folder))
     assert typed_in_bash(line, folder, SHORT) == [word.replace("HOME", str(folder)) for word in TYPED[line]]

@@ -4,25 +4,27 @@ on each crate's first page, which a test also runs.
 
 import re
 import runpy
-import subprocess
 from pathlib import Path
 
 from ansible_vault_companions import OLDEST
+from ansible_vault_companions.alias.table import COMMANDS
 from ansible_vault_companions.files import reading
 from ansible_vault_companions.files.replacing import RANDOM
 from ansible_vault_companions.files.searching import PROSE
 from ansible_vault_companions.stopping import GRACE_PERIOD
+from completions import options_of
 from lib.needs import needs
 from lib.option_sets import OF_ANSIBLE, companion_options, described_options, sections
 from lib.paths import COMPANIONS, PAGE, README, ROOT, version
+from lib.processes import run_text
 from model.answers import WHITESPACE
+from model.faults import Fault
 from model.options import is_label
 
 FORMATS = (ROOT / "docs" / "formats.md").read_text()
 CRATES = ROOT / "crates"
-FAULTS = (CRATES / "vault_fault" / "src" / "fault.rt").read_text()
-STATUSES = (CRATES / "vault_cli" / "src" / "runs" / "status.rt").read_text()
-CODES = {name: int(code) for name, code in re.findall(r"Status::(\w+) => (\d),", STATUSES)}
+# The exit status of each fault, by its text.
+STATUSES = {fault.line.decode().removeprefix("ERROR! ").strip(): fault.status for fault in Fault}
 DOCUMENTS = [README, ROOT / "CONTRIBUTING.md", *sorted((ROOT / "docs").glob("*.md")), *sorted(PAGE.parent.glob("*.1"))]
 TEXT = "".join(document.read_text() for document in DOCUMENTS)
 
@@ -39,21 +41,12 @@ LIMITS = {
 }
 
 
-def code_texts() -> dict[str, list[str]]:
-    """Return the texts of each fault, one for each role if there are several."""
-    texts: dict[str, list[str]] = {}
-    for name, text in re.findall(r'Fault::(\w+)(?:\(Role::\w+\))? =>\s*"(.*)",', FAULTS):
+def code_faults() -> dict[int, list[str]]:
+    """Return the texts of each fault in the code, one for each role if there are several, by the fault's number."""
+    code, texts = (CRATES / "vault_fault" / "src" / "fault.rt").read_text(), dict[str, list[str]]()
+    for name, text in re.findall(r'Fault::(\w+)(?:\(Role::\w+\))? =>\s*"(.*)",', code):
         texts.setdefault(name, []).append(text)
-    return texts
-
-
-def code_faults() -> dict[int, tuple[list[str], int]]:
-    """Return the texts and the status of each fault number in the code."""
-    statuses: dict[str, int] = {}
-    for faults, status in re.findall(r"^ +(Fault::.*|_) => Status::(\w+),$", STATUSES, re.MULTILINE):
-        statuses |= dict.fromkeys(re.findall(r"Fault::(\w+)", faults) or ["others"], CODES[status])
-    texts, numbers = code_texts(), re.findall(r"Fault::(\w+)(?:\(_\))? => (\d+),", FAULTS)
-    return {int(number): (texts[name], statuses.get(name, statuses["others"])) for name, number in numbers}
+    return {int(number): texts[name] for name, number in re.findall(r"Fault::(\w+)(?:\(_\))? => (\d+),", code)}
 
 
 def code_limits() -> dict[str, int]:
@@ -66,12 +59,13 @@ def code_limits() -> dict[str, int]:
 
 
 def test_faults() -> None:
+    """docs/formats.md has the faults of the code with their statuses, and the manual page explains every message."""
     rows = re.findall(r"^ +(\d+) +(\d) +(\S.*(?:\n {5,}\D.*)*)$", FORMATS, re.MULTILINE)
-    listed = {int(number): (re.split(r"\n +", texts), int(status)) for number, status, texts in rows}
-    assert listed == code_faults(), "docs/formats.md has the faults of the code"
+    listed = {int(number): (int(status), re.split(r"\n +", texts)) for number, status, texts in rows}
+    assert {number: texts for number, (_, texts) in listed.items()} == code_faults()
+    assert {text: status for status, texts in listed.values() for text in texts} == STATUSES
     messages = re.findall(r"^\.It (.*)$", sections(PAGE.read_text())["DIAGNOSTICS"], re.MULTILINE)
-    texts = [text for texts in code_texts().values() for text in texts]
-    assert sorted(messages) == sorted(texts), "the manual page explains every message"
+    assert sorted(messages) == sorted(STATUSES)
 
 
 def test_limits() -> None:
@@ -102,10 +96,10 @@ def test_suffixes() -> None:
 
 
 def test_exit_statuses() -> None:
-    """The manual page has the code's exit statuses, and says of each what its faults say in their last word."""
+    """The manual page has the exit statuses, and says of each what its faults say in their last word."""
     texts = dict(re.findall(r"^\.It (\d)\n(.+)$", sections(PAGE.read_text())["EXIT STATUS"], re.MULTILINE))
-    assert [int(code) for code in texts] == sorted(CODES.values())
-    ends = {(status, text.split()[-1]) for faults, status in code_faults().values() for text in faults if status > 1}
+    assert [int(status) for status in texts] == sorted({0, 2, *STATUSES.values()})
+    ends = {(status, text.split()[-1]) for text, status in STATUSES.items() if status > 1}
     assert ends == {(3, "opened"), (3, "read"), (3, "written"), (4, "memory")}
     assert [(status, end) for status, end in ends if end not in texts[str(status)]] == []
 
@@ -144,6 +138,18 @@ def test_options() -> None:
     assert named - ours - {*OTHER_OPTIONS} == set()
 
 
+def test_commands() -> None:
+    """The options that a document gives to a companion belong to it, or to the command of ansible-vault-with."""
+    lines = re.findall(r"\b(ansible-vault-\w+)((?: +[^\s`|;&'\"<>()]+)*)", re.sub(r" (?:\\e|\\)\n +", " ", TEXT))
+    unknown, tried = [], 0
+    for name, words in ((name, words.split()) for name, words in lines if name in COMPANIONS):
+        command = next((word for word in words if name == "ansible-vault-with" and word in COMMANDS), "")
+        options = [word.partition("=")[0] for word in words if re.match(r"--?[A-Za-z]", word)]
+        unknown += [(name, *words) for each in {*options} - options_of(f"{name} {command}".strip()) - {"-v"}]
+        tried += len(options)
+    assert (unknown, tried > 30) == ([], True)
+
+
 # Variables that documents set, but that are none of make's.
 OF_PROGRAMS = {"EDITOR", "IFS", "REQUIRE_ALL", "VISUAL"}
 
@@ -157,39 +163,35 @@ def test_variables() -> None:
     assert named - of_make - OF_PROGRAMS == set()
 
 
-def ported_crates() -> dict[str, str]:
-    """Return the version of each crate that security.md says is compiled in."""
+def test_ported_crates(program: str) -> None:
+    """The crates of the kit whose symbols are in the program, except its standard library, are in debian/copyright.
+    docs/security.md has the same, in the versions that the kit names."""
     [listed] = re.findall(r"and its ports of (.*); check", (ROOT / "docs" / "security.md").read_text())
-    return dict(re.findall(r"(\w+) (\d+\.\d+\.\d+)", listed))
-
-
-def test_ported_crates() -> None:
-    """They are those of debian/copyright, in the versions that the kit names."""
-    licensed = re.findall(r"^Files: (\w+)/\*$", (ROOT / "debian" / "copyright").read_text(), re.MULTILINE)
-    assert {name.partition("_")[0] for name in ported_crates()} == {*licensed}
-    needs("rt")
-    kit = Path(subprocess.run(["rt", "doc"], capture_output=True, text=True).stdout.strip()).parent
-    pages = "".join((kit / "rattle" / name / "README.md").read_text() for name in licensed).replace("`", "")
-    assert [name for name, number in ported_crates().items() if f"{name} {number}" not in pages] == []
-
-
-def least_glibc(program: str) -> str:
-    """Return the newest version of the C library that the program takes a symbol from."""
+    ported = re.findall(r"(\w+) (\d+\.\d+\.\d+)", listed)
+    licensed = {*re.findall(r"^Files: (\w+)/\*$", (ROOT / "debian" / "copyright").read_text(), re.MULTILINE)}
+    assert {name.partition("_")[0] for name, _ in ported} == licensed
     needs("nm")
-    listed = subprocess.run(["nm", "--dynamic", "--with-symbol-versions", program], capture_output=True, text=True)
-    versions = re.findall(r"@GLIBC_(\d+)\.(\d+)", listed.stdout)
-    major, minor = max((int(major), int(minor)) for major, minor in versions)
-    return f"{major}.{minor}"
+    crates = {*re.findall(r" [a-zA-Z] <?(\w+)::", run_text(["nm", "--demangle", program]).stdout)}
+    ours = {"ansible_vault", *(each.name for each in CRATES.glob("vault_*"))}
+    others = {each for each in crates - ours - licensed if not re.match("std|core", each)}
+    assert (others, len(crates & licensed) > 2) == (set(), True)
+    needs("rt")
+    kit = Path(run_text(["rt", "doc"]).stdout.strip()).parent
+    pages = "".join((kit / "rattle" / name / "README.md").read_text() for name in licensed).replace("`", "")
+    assert [name for name, number in ported if f"{name} {number}" not in pages] == []
 
 
 IN_WORDS = {5: "five", 8: "eight"}
 
 
 def test_figures_in_words(program: str) -> None:
-    """The figures before and after these words."""
+    """The figures before and after these words, such as the newest version of the C library that a symbol is from."""
+    needs("nm")
+    symbols = run_text(["nm", "--dynamic", "--with-symbol-versions", program]).stdout
+    major, minor = max((int(major), int(minor)) for major, minor in re.findall(r"@GLIBC_(\d+)\.(\d+)", symbols))
     wanted = {
         r"\*\*Status:\*\* ([\d.]+\d)": version(),
-        r"glibc ([\d.]+\d)": least_glibc(program),
+        r"glibc ([\d.]+\d)": f"{major}.{minor}",
         r"Python ([\d.]+\d)": ".".join(map(str, OLDEST)),
         r"([\d,]+) rounds of PBKDF2": "10,000",
         r"(\w+) seconds later": IN_WORDS[int(GRACE_PERIOD)],

@@ -1,12 +1,12 @@
 """Install the program below a directory with `make install`, and uninstall it again."""
 
-import pathlib
 import re
 import shutil
 import stat
 import subprocess
 from collections.abc import Callable
 from functools import partial
+from pathlib import Path
 
 import pytest
 
@@ -15,35 +15,35 @@ from lib.links import dead_links
 from lib.needs import needs
 from lib.scripts import searched_first, write_script
 
-LOCAL_FILES = PREFIX_FILES | {"lib/ansible-vault/installed.sha256"}
+SUMS = "lib/ansible-vault/installed.sha256"
+LOCAL_FILES = PREFIX_FILES | {SUMS}
 PROGRAM, LINK, MANUAL = "bin/ansible-vault", "bin/ansible-vault-edit", "share/man/man1/ansible-vault-edit.1"
-BASH_COMPLETION = pathlib.Path("/usr/share/bash-completion/bash_completion")
+BASH_COMPLETION = Path("/usr/share/bash-completion/bash_completion")
 
 Make = Callable[..., subprocess.CompletedProcess[str]]
 
 
 @pytest.fixture
-def place(tmp_path: pathlib.Path) -> pathlib.Path:
+def place(tmp_path: Path) -> Path:
     return tmp_path / "prefix"
 
 
 @pytest.fixture
-def make(program: str, place: pathlib.Path) -> Make:
+def make(program: str, place: Path) -> Make:
     """Return a function that runs make for the prefix `place`, unless its words name another."""
     return partial(run_make, program, "DESTDIR=", f"PREFIX={place}")
 
 
-def check_files(prefix: pathlib.Path) -> None:
+def check_files(prefix: Path) -> None:
     """Everything is installed, and each module of the companions is compiled."""
     found = files_below(prefix)
     compiled = {each for each in found if each.endswith(".pyc")}
-    assert found - compiled == LOCAL_FILES
     modules = {re.sub(r"__pycache__/(\w+)\..*", r"\1.py", each) for each in compiled}
-    assert modules == {f"lib/ansible-vault/{each}" for each in SHARED}, "the compiled modules"
+    assert (found - compiled, modules) == (LOCAL_FILES, {f"lib/ansible-vault/{each}" for each in SHARED})
 
 
 @pytest.mark.parametrize("destination, path", [("", "opt/vault"), ("a folder", "opt/two words")])
-def test_install(tmp_path: pathlib.Path, make: Make, destination: str, path: str) -> None:
+def test_install(tmp_path: Path, make: Make, destination: str, path: str) -> None:
     words = [f"DESTDIR={tmp_path / destination}", f"PREFIX=/{path}"]
     done, prefix = make("install", *words), tmp_path / destination / path
     assert (done.returncode, done.stdout, files_below(prefix)) == (0, "", LOCAL_FILES)
@@ -51,13 +51,13 @@ def test_install(tmp_path: pathlib.Path, make: Make, destination: str, path: str
     documents = [*(prefix / "share/doc/ansible-vault").rglob("*.md")]
     assert [(page.name, link) for page in documents for link in dead_links(page)] == [], "links that lead nowhere"
     assert make("uninstall", *words).returncode == 0
-    assert files_below(tmp_path) == set(), "make uninstall leaves no file"
-    assert [*tmp_path.rglob("ansible*")] == [], "nor a folder of its own"
+    assert (files_below(tmp_path), [*tmp_path.rglob("ansible*")]) == (set(), []), "no file is left, and no folder"
     assert make("uninstall", *words).returncode != 0, "make uninstall fails if nothing is installed"
 
 
-def test_modes(make: Make, place: pathlib.Path) -> None:
-    """Everybody can use what somebody with another umask installs. Without DESTDIR, a line says what to type next."""
+def test_found(make: Make, place: Path) -> None:
+    """Everybody can use what somebody with another umask installs. Without DESTDIR, a line says what to type next. man
+    and bash-completion find the pages and completions, of which a companion's is a link to the program's."""
     done = make("install", umask=0o077)
     wanted = (0, "Type next: hash -r; ansible-vault --version\n", "")
     assert (done.returncode, done.stdout, done.stderr) == wanted
@@ -66,27 +66,19 @@ def test_modes(make: Make, place: pathlib.Path) -> None:
     programs = {place / PROGRAM, *(place / "lib/ansible-vault").glob("ansible-vault-*")}
     run = {path for path in modes if path.is_dir() or path.resolve() in programs}
     assert modes == {path: 0o755 if path in run else 0o644 for path in modes}
-
-
-def test_found_by_man(make: Make, place: pathlib.Path) -> None:
     needs("man")
-    make("install")
     found = {name: printed("man", "-M", str(place / "share/man"), "-w", name).strip() for name in NAMES}
     assert found == {name: str(place / f"share/man/man1/{name}.1") for name in NAMES}
-
-
-def test_found_by_bash_completion(make: Make, place: pathlib.Path) -> None:
-    """That of a companion is a link to the program's."""
     if not BASH_COMPLETION.exists():
         pytest.skip("without bash-completion")
-    make("install")
     ask = f"source {BASH_COMPLETION} && _completion_loader ansible-vault-rotate; complete -p ansible-vault-rotate"
     assert "_ansible_vault_companion" in printed("bash", "-c", ask, XDG_DATA_DIRS=str(place / "share"))
 
 
-def theirs(path: pathlib.Path) -> pathlib.Path:
+def theirs(path: Path) -> Path:
     """Put a file that is not ours at a path."""
     path.parent.mkdir(parents=True, exist_ok=True)
+    path.unlink(missing_ok=True)
     path.write_text("theirs")
     return path
 
@@ -101,9 +93,7 @@ IN_THE_WAY = [
 
 
 @pytest.mark.parametrize("name, owned, message", IN_THE_WAY)
-def test_not_replaced(
-    tmp_path: pathlib.Path, make: Make, place: pathlib.Path, name: str, owned: str, message: str
-) -> None:
+def test_not_replaced(tmp_path: Path, make: Make, place: Path, name: str, owned: str, message: str) -> None:
     path = theirs(place / name)
     query = f'[ "$1 $2" = "--search {place / owned}" ] && echo "ansible-core: $2"'
     write_script(tmp_path / "tools" / "dpkg-query", query)
@@ -113,17 +103,25 @@ def test_not_replaced(
     assert make("uninstall").returncode != 0 and path.exists(), "make uninstall refuses, too"
 
 
-def test_replaced(make: Make, place: pathlib.Path) -> None:
-    program = theirs(place / PROGRAM)
-    assert make("install", "REPLACE=yes").returncode == 0, "REPLACE=yes overwrites it"
+def test_replaced(make: Make, place: Path) -> None:
+    """REPLACE=yes overwrites another file, which is then ours. It is replaced again, unless it was changed. What an
+    older version installed is remembered until `make uninstall`."""
+    program, older = theirs(place / PROGRAM), "lib/ansible-vault/older.py"
+    assert make("install", "REPLACE=yes").returncode == 0
     check_program(program, "the program that replaced another")
-    assert make("install").returncode == 0, "and it is then ours"
+    theirs(place / older)
+    sums = place / SUMS
+    sums.write_text(printed("sha256sum", older, cwd=place) + sums.read_text())
+    assert make("install").returncode == 0
+    ours = program.read_bytes()
     theirs(program)
-    assert make("install").returncode != 0, "a file that was changed since is not overwritten"
-    assert program.read_text() == "theirs"
+    assert (make("install").returncode != 0, program.read_text()) == (True, "theirs"), "a changed file stays"
+    program.write_bytes(ours)
+    make("uninstall")
+    assert files_below(place) == set(), "what an older version had is removed"
 
 
-def test_folders(tmp_path: pathlib.Path, make: Make, place: pathlib.Path) -> None:
+def test_folders(tmp_path: Path, make: Make, place: Path) -> None:
     """A directory at a path is not replaced, and nothing is put into it. A link to one is replaced."""
     path, folder = place / PROGRAM, tmp_path / "folder"
     path.mkdir(parents=True)
@@ -147,23 +145,21 @@ ENDS = [("mv", 1, KILL), ("mv", 2, KILL), ("install", 9, KILL), ("ln", 9, KILL),
 
 
 @pytest.mark.parametrize("tool, number, kill", ENDS)
-def test_interrupted(
-    tmp_path: pathlib.Path, make: Make, place: pathlib.Path, tool: str, number: int, kill: str
-) -> None:
+def test_interrupted(tmp_path: Path, make: Make, place: Path, tool: str, number: int, kill: str) -> None:
     """After an interrupted installation, another one is possible, and so is uninstalling it."""
     tools, copy = tmp_path / "tools", tmp_path / "copy"
     text = ENDING.format(calls=tmp_path / "calls", number=number, tool=shutil.which(tool), kill=kill)
     write_script(tools / tool, text)
     assert make("install", env=searched_first(tools)).returncode != 0, "it is interrupted"
     shutil.copytree(place, copy, symlinks=True)
-    if (copy / "lib/ansible-vault/installed.sha256").exists():
+    if (copy / SUMS).exists():
         assert (make("uninstall", f"PREFIX={copy}").returncode, files_below(copy)) == (0, set()), "removed"
     assert make("install").returncode == 0, "ended"
     check_files(place)
     assert (make("uninstall").returncode, files_below(place)) == (0, set()), "removed then"
 
 
-def test_changed(make: Make, place: pathlib.Path) -> None:
+def test_changed(make: Make, place: Path) -> None:
     """`make uninstall` leaves what it did not install, and lists what was changed."""
     make("install")
     stray, linked = "lib/ansible-vault/stray", "share/bash-completion/completions/ansible-vault-edit"
@@ -172,20 +168,8 @@ def test_changed(make: Make, place: pathlib.Path) -> None:
     link.unlink()
     link.symlink_to("elsewhere")
     for path in files:
-        path.unlink(missing_ok=True)
         theirs(path)
     done = make("uninstall")
     assert files_below(place) == {PROGRAM, LINK, MANUAL, linked, stray}, "it leaves what is not its own"
     listed = {f"left, since it was changed: {place / name}" for name in (PROGRAM, LINK, MANUAL, linked)}
     assert (done.returncode, {*done.stdout.splitlines()}) == (0, listed), "and lists it"
-
-
-def test_upgraded(make: Make, place: pathlib.Path) -> None:
-    """A second `make install` remembers what the first one installed."""
-    make("install")
-    theirs(place / "lib/ansible-vault/older.py")
-    sums = place / "lib/ansible-vault/installed.sha256"
-    sums.write_text(printed("sha256sum", "lib/ansible-vault/older.py", cwd=place) + sums.read_text())
-    assert make("install").returncode == 0
-    make("uninstall")
-    assert files_below(place) == set(), "make uninstall removes what an older version had"

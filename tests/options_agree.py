@@ -5,7 +5,6 @@ pages, and tools/lint also has mandoc check them.
 
 import inspect
 import re
-from collections import Counter
 from operator import attrgetter
 from pathlib import Path
 
@@ -35,21 +34,17 @@ FURTHER = {"ENVIRONMENT", "FILES", "CAVEATS", "SECURITY CONSIDERATIONS"}
 SHARED = "ansible-vault-with"
 
 
-def test_model() -> None:
-    """The page, the model and the table have the same options."""
+def test_options(program: str) -> None:
+    """The page, the program's help, the model and the table have the same options, and the first two the same commands
+    in the same order."""
     synopsis, short = page_sets(), {"-h", "-n", "-V"}
+    assert [*help_commands(help_text(program, None)), None] == [*synopsis]
+    assert {command: help_options(help_text(program, command)) for command in synopsis} == synopsis
     of_page = {command: options - short for command, options in synopsis.items() if command}
     assert of_page == {command: options | COMMON | {"--help"} for command, options in OPTIONS.items()}
     assert described_options() == set().union(*synopsis.values()), "the page describes what its synopsis names"
     assert {entry.option for entry in table_options()} == COMMON.union(*OPTIONS.values())
     assert sorted(FLAGS) == [entry.option for entry in table_options() if not entry.value_name]
-
-
-def test_help(program: str) -> None:
-    """The page's synopsis has the commands of the program's help, with their options."""
-    synopsis = page_sets()
-    assert [*help_commands(help_text(program, None)), None] == [*synopsis]
-    assert {command: help_options(help_text(program, command)) for command in synopsis} == synopsis
 
 
 def referred(text: str) -> list[set[str]]:
@@ -65,7 +60,7 @@ def test_companion(name: str) -> None:
     page, in_help = companion_page(name), companion_options(name)
     assert [*page] == [title for title in SECTIONS if title in page or title not in FURTHER]
     described = spellings(page["OPTIONS"]) + referred(page["OPTIONS"])
-    assert Counter(frozenset(each) for each in described) == Counter(frozenset(each) for each in in_help)
+    assert sorted(sorted(each) for each in described) == sorted(sorted(each) for each in in_help)
     named = options_in(page["SYNOPSIS"])
     assert [each for each in described if not each & named] == [], "the synopsis names each option"
     assert named - set().union(*described) == set(), "and no other"
@@ -153,33 +148,24 @@ def wide(name: str) -> str:
     return re.sub(r"(?<=\nDESCRIPTION\n) +\S+ (?:is )?", "", re.sub(".\b", "", page))
 
 
-def shown(name: str) -> dict[str, str]:
-    """Return what a page says of each option and command and, by an empty name, of the program."""
-    text = wide(name)
-    return {**dict(texts_in(text)), "": plain(re.findall(r"\nDESCRIPTION\n(.*)", text)[0])}
-
-
 @pytest.mark.parametrize("name", ["ansible-vault", *COMPANIONS])
 def test_words(program: str, name: str) -> None:
-    """What a page says of the program, a command or an option begins with the words of the help."""
+    """What a page says of the program, a command or an option begins with the words of the help. What else the help of
+    a companion says is in its page, or in the one that describes what the companions share, word for word."""
     texts = [companion_help(name)] if name in COMPANIONS else [help_text(program, each) for each in page_sets()]
     about = next(each for each in texts[-1].split("\n\n") if not each.startswith("usage: "))
     said = [("", plain(re.split(r"\.\s", about)[0])), *(each for text in texts for each in texts_in(text))]
-    page = shown(SHARED) | shown(name)
+    page = {"": plain(re.findall(r"\nDESCRIPTION\n(.*)", wide(name))[0])} | dict(texts_in(wide(SHARED) + wide(name)))
     assert len(said) > 5
     assert [(what, words) for what, words in said if not page.get(what, "").startswith(words)] == []
     others = [what for what, words in said if ("be repeated" in words) != ("be repeated" in page[what])]
     assert others == [], "and a page does not add that an option may be repeated"
-
-
-@pytest.mark.parametrize("name", COMPANIONS)
-def test_sentences(name: str) -> None:
-    """What else a help says is in the page, or in the one that describes what the companions share, word for word."""
-    _, _, text = ENTRY.sub("", joined(companion_help(name))).partition("\n\n")
-    said = statements(HEADING.sub("", text)) - {f"for more, see man {name}."}
-    assert len(said) > 20
-    assert [each for each in said if each.startswith("$ ") and name in each], "it has an example"
-    assert said - statements((wide(name) + wide(SHARED)).replace("\n", "\n\n")) == set()
+    if name in COMPANIONS:
+        rest = HEADING.sub("", ENTRY.sub("", joined(texts[0])).partition("\n\n")[2])
+        sentences = statements(rest) - {f"for more, see man {name}."}
+        assert len(sentences) > 20
+        assert [each for each in sentences if each.startswith("$ ") and name in each], "it has an example"
+        assert sentences - statements((wide(name) + wide(SHARED)).replace("\n", "\n\n")) == set()
 
 
 def test_references() -> None:
@@ -216,29 +202,3 @@ def test_alias(program: str) -> None:
         valued = {name for name in known.keys() & help_options(text) if known[name] != table.FLAG}
         assert valued == {*re.findall(r"(--[\w-]+) <", text)}, command
     assert {*table.COMMANDS} == {*commands, "create", "edit"}
-
-
-# Documents that contain commands of the companions.
-DOCUMENTS = [*PAGES, ROOT / "README.md", *sorted((ROOT / "docs").glob("*.md"))]
-COMMAND = re.compile(r"\b(ansible-vault-\w+)((?: +[^\s`|;&'\"<>()]+)*)")
-
-
-def options_of(name: str, words: list[str]) -> set[str]:
-    """Return the options of a companion. With the name of a command, ansible-vault-with also has the command's."""
-    known = {"-v"}.union(*companion_options(name))
-    if name == SHARED:
-        sets = page_sets()
-        known = known.union(*(sets.get(word, set()) | OF_ANSIBLE.get(word, set()) for word in words))
-    return known
-
-
-def test_commands() -> None:
-    """The options that a document gives to a companion belong to it, or to a command of the tool."""
-    text = "".join(re.sub(r" (?:\\e|\\)\n +", " ", document.read_text()) for document in DOCUMENTS)
-    unknown, tried = [], 0
-    for name, words in ((name, words.split()) for name, words in COMMAND.findall(text) if name in COMPANIONS):
-        options = [word.partition("=")[0] for word in words if re.match(r"--?[A-Za-z]", word)]
-        unknown += [(name, *words) for option in options if option not in options_of(name, words)]
-        tried += len(options)
-    assert unknown == []
-    assert tried > 30

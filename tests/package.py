@@ -3,10 +3,10 @@ a stand-in for Ansible's package.
 """
 
 import os
-import pathlib
 import re
 import shutil
 import subprocess
+from pathlib import Path
 
 import pytest
 
@@ -26,7 +26,7 @@ PACKAGE_FILES = FILES | {
 
 
 @pytest.fixture(scope="module")
-def package(program: str) -> pathlib.Path:
+def package(program: str) -> Path:
     needs("dpkg-deb", "dh")
     done = run_make(program, "package")
     assert done.returncode == 0, done.stderr
@@ -34,7 +34,7 @@ def package(program: str) -> pathlib.Path:
     return ROOT / "bin" / f"ansible-vault_{VERSION}_{architecture}.deb"
 
 
-def test_contents(package: pathlib.Path, tmp_path: pathlib.Path) -> None:
+def test_contents(package: Path, tmp_path: Path) -> None:
     """The package's contents, and what it says about itself."""
     fields = dict(re.findall(r"^(\S+): (.*)$", printed("dpkg-deb", "-f", str(package)), re.MULTILINE))
     assert fields["Version"] == VERSION
@@ -49,22 +49,9 @@ def test_contents(package: pathlib.Path, tmp_path: pathlib.Path) -> None:
     check_program(folder / "usr" / "bin" / "ansible-vault", "the packaged program")
     shebangs = {each.read_text().split("\n")[0] for each in (folder / "usr/lib/ansible-vault").glob("ansible-vault-*")}
     assert shebangs == {"#!/usr/bin/python3 -ESB"}, "the companions run by Debian's Python"
-
-
-def test_lint(package: pathlib.Path) -> None:
     needs("lintian")
     found = subprocess.run(["lintian", "--pedantic", str(package)], capture_output=True, text=True)
     assert (found.returncode, found.stdout) == (0, "")
-
-
-def test_copyright(program: str) -> None:
-    """debian/copyright lists each crate of the kit whose symbols are in the program, except its standard library."""
-    needs("nm")
-    crates = set(re.findall(r" [a-zA-Z] <?(\w+)::", printed("nm", "--demangle", program)))
-    ours = {"ansible_vault", *(each.name for each in (ROOT / "crates").glob("vault_*"))}
-    named = set(re.findall(r"^Files: (\w+)/\*$", (ROOT / "debian/copyright").read_text(), re.MULTILINE))
-    others = {each for each in crates - ours - named if not re.match("std|core", each)}
-    assert (others, len(crates & named) > 2) == (set(), True)
 
 
 def test_changelog() -> None:
@@ -75,7 +62,7 @@ def test_changelog() -> None:
 
 
 @pytest.fixture
-def copy(tmp_path: pathlib.Path, program: str) -> pathlib.Path:
+def copy(tmp_path: Path, program: str) -> Path:
     """Copy the repository below a path with a space. Its program is newer than its sources."""
     needs("dpkg-deb", "dh")
     copy = tmp_path / "two words"
@@ -87,7 +74,7 @@ def copy(tmp_path: pathlib.Path, program: str) -> pathlib.Path:
     return copy
 
 
-def test_made_again(copy: pathlib.Path, package: pathlib.Path) -> None:
+def test_made_again(copy: Path, package: Path) -> None:
     """A path with a space, and another date, umask and time zone, give the same bytes; nothing is built again."""
     write_script(copy.parent / "rt", "echo rt is run >&2; exit 1")
     (copy / "man/ansible-vault.1").touch()
@@ -99,30 +86,28 @@ def test_made_again(copy: pathlib.Path, package: pathlib.Path) -> None:
     assert (copy / "bin" / package.name).read_bytes() == package.read_bytes()
 
 
-def ran(command: str, copy: pathlib.Path) -> subprocess.CompletedProcess[str]:
+def ran(command: str, copy: Path) -> subprocess.CompletedProcess[str]:
     """Run a command without the variables of a `make` that runs this test: they may choose the processor."""
     variables = {name: value for name, value in os.environ.items() if name not in ("MAKEFLAGS", "CPU")}
     return subprocess.run(command.split(), cwd=copy, env=variables, capture_output=True, text=True)
 
 
-def test_program_of_another_machine(copy: pathlib.Path, program: str) -> None:
-    """The rules package the existing program, even if it is older than its sources, and build none."""
+def test_program_of_another_machine(copy: Path, program: str) -> None:
+    """The rules package the existing program, even if it is older than its sources, and build none. A package is for
+    all processors, so none is made from a program for a newer one."""
     (copy / "bin/processor").unlink()
     os.utime(copy / "bin/ansible-vault", (0, 0))
     done = ran("debian/rules override_dh_auto_install", copy)
     assert done.returncode == 0, done.stderr
     packed = copy / "debian/ansible-vault/usr/bin/ansible-vault"
-    assert packed.read_bytes() == pathlib.Path(program).read_bytes()
-
-
-@pytest.mark.parametrize("command", ["make -s package", "make -s dist", "debian/rules override_dh_auto_install"])
-def test_newer_processor(copy: pathlib.Path, command: str) -> None:
-    """A package is for all processors, so none is made from a program for a newer one."""
+    assert packed.read_bytes() == Path(program).read_bytes()
+    shutil.rmtree(copy / "debian/ansible-vault")
     (copy / "bin/processor").write_text("x86-64-v3\n")
     (copy / "bin/ansible-vault").touch()
-    done = ran(command, copy)
     wanted = "bin/ansible-vault is built for x86-64-v3, and packages and archives are for all processors: make CPU=\n"
-    assert done.returncode != 0 and wanted in done.stderr, done.stderr
+    for command in ("make -s package", "make -s dist", "debian/rules override_dh_auto_install"):
+        done = ran(command, copy)
+        assert done.returncode != 0 and wanted in done.stderr, (command, done.stderr)
     assert [*copy.glob("bin/*.deb"), *copy.glob("debian/ansible-vault")] == [], "no package is made of it"
 
 
@@ -144,104 +129,80 @@ CALLS = {
     "postrm": ["remove", "disappear other 1", "abort-install", "abort-install 1 2"]
     + ["purge", "upgrade 2", "failed-upgrade 1 2", "abort-upgrade 1 2"],
 }
-# The state after the calls of a script, by what changes: diversions, and whether the companions are compiled.
-DIVERTED, COMPILED = {path.replace("/", ":") for path in BOTH_HAVE}, {"compiled"}
-# In place of the tools that keep this state: in files of the current directory.
-KEEPING = {
-    "dpkg-divert": """\
-for path; do :; done
-name=$(printf %s "${path#/}" | tr / :)
-case " $* " in *" --add "*) touch "$name" ;; *" --remove "*) rm -f "$name" ;; esac""",
-    "py3compile": '[ "$*" = "-p ansible-vault /usr/lib/ansible-vault" ] && touch compiled',
-    "py3clean": '[ "$*" = "-p ansible-vault" ] && rm -f compiled',
+# In place of the tools that they run.
+TOOLS = {
+    "dpkg-divert": 'for path; do :; done; echo "$3 $4 $path"',
+    "py3compile": 'echo "compile $*"',
+    "py3clean": 'echo "clean $*"',
 }
 
 
-@pytest.mark.parametrize("before", [set[str](), DIVERTED | COMPILED], ids=["nothing", "everything"])
 @pytest.mark.parametrize("script, call", [(script, call) for script, calls in CALLS.items() for call in calls])
-def test_maintainer_script(tmp_path: pathlib.Path, script: str, call: str, before: set[str]) -> None:
-    """What a call leaves behind depends only on the script, except that postrm keeps the diversions in an upgrade."""
-    state = tmp_path / "state"
-    state.mkdir()
-    for name in before:
-        (state / name).touch()
-    for tool, text in KEEPING.items():
-        write_script(tmp_path / "tools" / tool, text)
-    command = ["sh", str(ROOT / "debian" / script), *call.split()]
-    subprocess.run(command, cwd=state, env=searched_first(tmp_path / "tools"), check=True)
-    after = {
-        "preinst": before | DIVERTED,
-        "postinst": before | COMPILED,
-        "prerm": before - COMPILED,
-        "postrm": before if re.search("upgrade|purge", call) else before - DIVERTED,
+def test_maintainer_script(tmp_path: Path, script: str, call: str) -> None:
+    """What is run depends only on the script, except that postrm keeps the diversions in an upgrade."""
+    for tool, text in TOOLS.items():
+        write_script(tmp_path / tool, text)
+    command, environment = ["sh", str(ROOT / "debian" / script), *call.split()], searched_first(tmp_path)
+    done = subprocess.run(command, env=environment, capture_output=True, text=True, check=True)
+    wanted = {
+        "preinst": {f"--add --rename /{path}" for path in BOTH_HAVE},
+        "postinst": {"compile -p ansible-vault /usr/lib/ansible-vault"},
+        "prerm": {"clean -p ansible-vault"},
+        "postrm": set() if re.search("upgrade|purge", call) else {f"--remove --rename /{path}" for path in BOTH_HAVE},
     }
-    assert {each.name for each in state.iterdir()} == after[script]
+    assert {*done.stdout.splitlines()} == wanted[script]
 
 
-class Beside:
-    """The package and Ansible's, in a root of their own."""
-
-    def __init__(self, folder: pathlib.Path, program: str):
-        self.folder = folder
-        self.root = Root(str(folder / "root"), program)
-        for name in ("libc6", "python3"):
-            self.dpkg("-i", stand_in(folder, name, "99", {}))
-
-    def dpkg(self, option: str, package: str | pathlib.Path) -> None:
-        done = self.root.dpkg(option, str(package))
-        assert done.returncode == 0, done.stdout + done.stderr
-
-    def install_theirs(self, version: str, mark: str = "") -> None:
-        """Install Ansible's package, with a mark at the end of each file."""
-        files = {path: content + mark for path, content in THEIRS.items()}
-        self.dpkg("-i", stand_in(self.folder, "ansible-core", version, files))
-
-    def check_both(self, mark: str = "") -> None:
-        """Our program has its name, and their files stand aside."""
-        programs = ["ansible-vault", "ansible-vault-original", "ansible-playbook"]
-        printed = [self.root.run(f"/usr/bin/{name}", "--version") for name in programs]
-        assert printed == [f"ansible-vault {VERSION}\n", "the other\n", "played\n"]
-        found = {path: self.root.read(self.root.aside(f"/{path}")) for path in BOTH_HAVE}
-        assert found == {path: THEIRS[path] + mark for path in BOTH_HAVE}
-
-    def check_theirs(self, mark: str = "") -> None:
-        """Everything is theirs, as if our package had never been installed."""
-        found = {path: self.root.read(path) for path in THEIRS}
-        assert found == {path: text + mark for path, text in THEIRS.items()}
-        assert self.root.diverted() == "", "nothing stands aside"
-        left = {f"usr/{path}" for path in files_below(self.root.path / "usr") if "ansible" in path}
-        assert left == THEIRS.keys()
+def install_theirs(root: Root, folder: Path, version: str, mark: str = "") -> None:
+    """Install Ansible's package, with a mark at the end of each file."""
+    files = {path: content + mark for path, content in THEIRS.items()}
+    run_dpkg(root, "-i", stand_in(folder, "ansible-core", version, files))
 
 
-def test_beside_theirs(package: pathlib.Path, tmp_path: pathlib.Path, program: str) -> None:
+def run_dpkg(root: Root, option: str, package: str | Path) -> None:
+    done = root.dpkg(option, str(package))
+    assert done.returncode == 0, done.stdout + done.stderr
+
+
+def check_both(root: Root, mark: str = "") -> None:
+    """Our program has its name, and their files stand aside."""
+    programs = ["ansible-vault", "ansible-vault-original", "ansible-playbook"]
+    printed = [root.run(f"/usr/bin/{name}", "--version") for name in programs]
+    assert printed == [f"ansible-vault {VERSION}\n", "the other\n", "played\n"]
+    found = {path: root.read(root.aside(f"/{path}")) for path in BOTH_HAVE}
+    assert found == {path: THEIRS[path] + mark for path in BOTH_HAVE}
+
+
+def check_theirs(root: Root, mark: str = "") -> None:
+    """Everything is theirs, as if our package had never been installed."""
+    found = {path: root.read(path) for path in THEIRS}
+    assert found == {path: text + mark for path, text in THEIRS.items()}
+    left = {f"usr/{path}" for path in files_below(root.path / "usr") if "ansible" in path}
+    assert (root.diverted(), left) == ("", {*THEIRS}), "nothing stands aside, and nothing is left"
+
+
+def test_beside_theirs(package: Path, tmp_path: Path, program: str) -> None:
     needs_root()
-    beside = Beside(tmp_path, program)
-    beside.install_theirs("2.14")
-    beside.dpkg("-i", package)
-    beside.check_both()
-    for version in (later(package, tmp_path, VERSION + "+later"), package):
-        beside.dpkg("-i", version)
-        beside.check_both()
-    beside.install_theirs("2.15", "# later\n")
-    beside.check_both("# later\n")
-    beside.dpkg("-r", "ansible-vault")
-    beside.check_theirs("# later\n")
-    beside.dpkg("-i", package)
-    beside.dpkg("-P", "ansible-core")
-    beside.install_theirs("2.14")
-    beside.check_both()
-    beside.dpkg("-P", "ansible-vault")
-    beside.check_theirs()
-    assert beside.root.dpkg("-s", "ansible-vault").returncode == 1, "it is unknown to dpkg"
-
-
-def test_failed_unpacking(package: pathlib.Path, tmp_path: pathlib.Path, program: str) -> None:
-    """Another package has one of our files: ours cannot be unpacked, and leaves everything as it was."""
-    needs_root()
-    beside = Beside(tmp_path, program)
-    beside.install_theirs("2.14")
+    root = Root(str(tmp_path / "root"), program)
+    for name in ("libc6", "python3"):
+        run_dpkg(root, "-i", stand_in(tmp_path, name, "99", {}))
+    install_theirs(root, tmp_path, "2.14")
     taken = {"usr/share/doc/ansible-vault/README.md": "taken\n"}
-    beside.dpkg("-i", stand_in(tmp_path, "in-the-way", "1", taken))
-    assert "trying to overwrite" in beside.root.dpkg("-i", str(package)).stderr
-    beside.dpkg("-P", "in-the-way")
-    beside.check_theirs()
+    run_dpkg(root, "-i", stand_in(tmp_path, "in-the-way", "1", taken))
+    assert "trying to overwrite" in root.dpkg("-i", str(package)).stderr, "it cannot be unpacked"
+    run_dpkg(root, "-P", "in-the-way")
+    check_theirs(root)
+    for version in (package, later(package, tmp_path, VERSION + "+later"), package):
+        run_dpkg(root, "-i", version)
+        check_both(root)
+    install_theirs(root, tmp_path, "2.15", "# later\n")
+    check_both(root, "# later\n")
+    run_dpkg(root, "-r", "ansible-vault")
+    check_theirs(root, "# later\n")
+    run_dpkg(root, "-i", package)
+    run_dpkg(root, "-P", "ansible-core")
+    install_theirs(root, tmp_path, "2.14")
+    check_both(root)
+    run_dpkg(root, "-P", "ansible-vault")
+    check_theirs(root)
+    assert root.dpkg("-s", "ansible-vault").returncode == 1, "it is unknown to dpkg"

@@ -2,30 +2,20 @@
 
 import os
 import re
-import subprocess
-from collections.abc import Iterator
 from pathlib import Path
 
 import pytest
 
 from lib.clone import PROVING, cloned, typed
 from lib.needs import is_confined
-from lib.paths import README, ROOT, version
+from lib.paths import README, ROOT
 from lib.readme import commands
 from makefile import GOALS
 
 pytestmark = [pytest.mark.newcomer, pytest.mark.timeout(PROVING)]
 
-# The targets that run in another way, and how: the gate itself, or a prerequisite of another target.
-RUN_BY_OTHERS = {
-    "all": "demo",
-    "check": ".ci/run",
-    "test": "check",
-    "packages": "check",
-    "portable": "package",
-    "fresh-machine": "nothing: it takes an hour, and is run before a release",
-    "releases": "nothing: it takes root and the network, and is run before a release",
-}
+# The targets that no command here names: the gate, prerequisites of other targets, and what is run before a release.
+RUN_BY_OTHERS = {"all", "check", "test", "packages", "portable", "fresh-machine", "releases"}
 # How many of ten planted faults are caught at least. For some, the test takes root.
 CAUGHT = "10" if os.geteuid() == 0 and not is_confined() else "([5-9]|10)"
 # Commands that show that a target works, and what each leaves or prints.
@@ -56,29 +46,12 @@ def test_target(clone: Path, request: pytest.FixtureRequest, command: str, wante
     assert re.search(wanted, printed), printed
 
 
-def test_dist_elsewhere(clone: Path, tmp_path: Path) -> None:
-    """`make dist` refuses sources that git does not track, even below a checkout."""
-    unpacked = clone / "bin" / "unpacked"
-    for folder in (tmp_path / "alone", unpacked):
-        folder.mkdir()
-        typed(f"tar -xzf {clone}/bin/dist/ansible-vault-{version()}.tar.gz --strip-components=1", folder)
-        words = ["make", "dist", f"PROGRAM={clone}/bin/ansible-vault", "CPU="]
-        done = subprocess.run(words, cwd=folder, capture_output=True, text=True)
-        assert (done.returncode != 0, [*folder.glob("bin/dist/*")]) == (True, []), "no archive is made"
-        assert "make dist archives what git tracks: run it in a git checkout\n" in done.stderr
-
-
-def scripts() -> Iterator[str]:
-    for folder in ("tools", "bench"):
-        yield from (f"{folder}/{path.name}" for path in (ROOT / folder).iterdir() if path.is_file())
-
-
 def test_all_are_typed() -> None:
     """Some test runs each target of the Makefile, and something runs each script."""
     typed_words = " ".join([*commands(README.read_text()), *SMALL, "make uninstall make clean"])
-    assert {goal for goal in GOALS if not re.search(rf"(?<![-\w]){goal}\b", typed_words)} == RUN_BY_OTHERS.keys()
-    tests = (str(path.relative_to(ROOT)) for path in ROOT.glob("tests/*.py"))
-    callers = {path: (ROOT / path).read_text() for path in ("Makefile", ".ci/run", *scripts(), *tests)}
-    for name in scripts():
-        texts = [typed_words, *(text for path, text in callers.items() if path != name)]
-        assert any(re.search(rf"\b{re.escape(Path(name).stem)}\b", text) for text in texts), f"nothing runs {name}"
+    assert {goal for goal in GOALS if not re.search(rf"(?<![-\w]){goal}\b", typed_words)} == RUN_BY_OTHERS
+    scripts = [path for folder in ("tools", "bench") for path in (ROOT / folder).iterdir() if path.is_file()]
+    callers = [ROOT / "Makefile", ROOT / ".ci" / "run", *scripts, *ROOT.glob("tests/*.py")]
+    for script in scripts:
+        texts = [typed_words, *(path.read_text() for path in callers if path != script)]
+        assert any(re.search(rf"\b{re.escape(script.stem)}\b", text) for text in texts), f"nothing runs {script}"

@@ -1,7 +1,9 @@
 """docs/verification.md and docs/verification-reference.md agree with the code: each call, clause, definition, test and
-symbol that they name, and what `tools/write_documents` writes into the documents.
+symbol that they name, and what `tools/write_documents` writes into the documents. docs/library.md agrees with its
+programs, which tests run, and with the crates, and docs/architecture.md has every crate. Links and paths lead to files.
 """
 
+import html
 import re
 from collections.abc import Callable, Iterator
 from functools import cache
@@ -9,8 +11,9 @@ from pathlib import Path
 
 import pytest
 
-from contracts import CRATES, code, declared_in
-from documents import LIBRARY, PAGE, REFERENCE, WRITTEN, definition_files
+import pictures
+from contracts import CRATES, code, crates, declared_in
+from documents import LIBRARY, PAGE, PROGRAMS, REFERENCE, WRITTEN, definition_files
 from lib.links import dead_links
 from lib.paths import ROOT
 
@@ -127,7 +130,87 @@ def test_axioms() -> None:
     assert found <= {(library, system)} and int(total) == int(library) + int(system)
 
 
+def test_programs() -> None:
+    """The page shows or names each program."""
+    programs = {file.name for file in (ROOT / PROGRAMS).glob("*.rt")} - {"tests.rt"}
+    assert len(programs) > 2
+    assert programs - {*re.findall(r"\b(\w+\.rt)`", LIBRARY.read_text())} == set()
+
+
+def test_calls() -> None:
+    """The crate offers each call in the table, whose rows are the job, the calls and their crate."""
+    rows = re.findall(r"^\| [^|]+ \| ([^|]*`[^|]*) \| `(vault_\w+)` \|$", LIBRARY.read_text(), re.MULTILINE)
+    assert len(rows) > 10
+    for calls, crate in rows:
+        offered = (CRATES / crate / "src" / "lib.rt").read_text()
+        for call in re.findall(r"`(\w+)[\w:]*`", calls):
+            assert re.search(rf"^pub use .*\b{call}\b", offered, re.MULTILINE), (crate, call)
+
+
+def test_crate_lines() -> None:
+    """The lines to copy are those of crates.txt, with what they need."""
+    ours = (ROOT / "crates.txt").read_text().splitlines()
+    shown = re.findall(r"^    (vault_\w+:.*)$", LIBRARY.read_text(), re.MULTILINE)
+    assert len(shown) > 3
+    assert {*shown} - {*ours} == set()
+    assert {*re.findall(r"vault_\w+", " ".join(shown))} == {line.partition(":")[0] for line in shown}
+
+
+def test_crates() -> None:
+    page = (ROOT / "docs" / "architecture.md").read_text()
+    table = page.partition("\n| Crate | What it does |")[2].partition("\n\n")[0]
+    listed = re.findall(r"^\| `(\w+)` \|", table, re.MULTILINE)
+    assert sorted(listed) == sorted(crates()), "docs/architecture.md lists every crate"
+
+
+def reached(uses: pictures.Uses) -> dict[str, set[str]]:
+    """Return everything that each name uses, directly or indirectly."""
+
+    def below(name: str) -> set[str]:
+        return {each for used in uses[name] for each in (used, *below(used))}
+
+    return {name: below(name) for name in uses}
+
+
+@pytest.mark.parametrize("name, uses", [("crates", pictures.crates()), ("companions", pictures.companions())])
+def test_pictures(name: str, uses: pictures.Uses) -> None:
+    """The arrows are those that tools/pictures.py would draw."""
+    text = html.unescape((ROOT / "docs" / f"{name}.svg").read_text())
+    drawn: dict[str, list[str]] = {node: [] for node in re.findall(r'class="node">\n<title>([^<]+)</title>', text)}
+    for user, used in re.findall(r"<title>(\S+)->(\S+)</title>", text):
+        drawn[user].append(used)
+    assert len(drawn) > 5
+    assert reached(drawn) == reached(uses)
+
+
+PAGES = [*ROOT.glob("*.md"), ROOT / "tests" / "README.md", *ROOT.glob("docs/*.md"), *ROOT.glob("man/*")]
+PAGES += [ROOT / "debian" / "control", ROOT / "debian" / "README.source"]
+# A path in quotes, or a path below a top-level directory without quotes, which BEFORE may precede.
+BEFORE = r"(?:/usr/share/doc/ansible-vault/|(?<![\w/.~$*`-]))"
+PATH = re.compile(rf"`([\w/.-]+)`|{BEFORE}((?:debian|docs|man|tests|tools)/[\w/.-]*\w)")
+# Placeholders for several names.
+SEVERAL = re.compile(r"\b(FILE|NAME|CRATE)\b")
+
+
+def paths_in(page: Path) -> Iterator[tuple[str, str]]:
+    """Yield each of our paths on a page, with the last crate that the page names before it."""
+    crate = ""
+    for quoted, word in PATH.findall(page.read_text()):
+        if quoted.startswith("vault_") and "/" not in quoted:
+            crate = quoted
+        elif word and not SEVERAL.search(word) or "/" in quoted and re.search(r"\.(rt|antt|py|md|1)$", quoted):
+            yield crate, word or quoted
+
+
 def test_links() -> None:
-    pages = [*ROOT.glob("*.md"), *ROOT.glob("docs/*.md"), ROOT / "tests" / "README.md"]
-    assert len(pages) > 10
-    assert [(page.name, link) for page in pages for link in dead_links(page)] == []
+    assert len(PAGES) > 20
+    assert [(page.name, link) for page in PAGES for link in dead_links(page)] == []
+
+
+def test_paths() -> None:
+    """Each path is below the crate, the directory `crates`, the page's directory or the repository."""
+    named = [(page, crate, path) for page in PAGES for crate, path in paths_in(page)]
+    assert len(named) > 150
+    for page, crate, path in named:
+        folders = (ROOT, page.parent, CRATES, CRATES / crate)
+        assert any((folder / path).exists() for folder in folders), f"{page.name} names {path}"

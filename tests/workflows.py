@@ -1,37 +1,49 @@
-"""Run the shell commands of docs/workflows.md as they are. `companion_cases` tests the rest of the companions."""
+"""Run the shell commands of docs/workflows.md and the EXAMPLES of the manual pages as they are. `companion_cases` tests
+the rest of the companions.
+"""
 
-import pathlib
 import re
+from fnmatch import fnmatchcase
+from pathlib import Path
+from typing import NamedTuple
 
 import pytest
 
 from lib.needs import needs
-from lib.paths import ROOT
-from lib.repository import MARKS, SETTINGS, Repository, block, vault
+from lib.option_sets import companion_page
+from lib.paths import COMPANIONS, ROOT
+from lib.repository import MARKS, PASSWORDS, SETTINGS, Repository, block, vault
 
 DOCUMENT = (ROOT / "docs" / "workflows.md").read_text()
-# The tools that a recipe needs besides git.
-TOOLS = {
-    "Name your secrets once": ["ansible-playbook"],
-    "Vaults and blocks for playbooks": ["ansible-playbook"],
-    "Type a password": ["bash"],
-    "Run the checks in a pipeline": ["ansible-playbook"],
-}
-PLAYBOOK = """\
-- hosts: all
-  gather_facts: false
-  tasks:
-    - ansible.builtin.debug:
-        msg: "{{ %s }}"
-"""
+PLAYBOOK = '[{hosts: all, gather_facts: false, tasks: [{ansible.builtin.debug: {msg: "{{ %s }}"}}]}]'
 # In place of the password manager. Its entry contains more than the password.
-PASS = """\
+PASS = b"""\
+#!/bin/sh
 [ "$*" = "show ansible/prod" ] || exit 1
 printf 'in production\\nuser: me\\n'
 """
-# A vault in most recipes.
-VAULT = "group_vars/all/vault.yml"
-VIEW = "ansible-vault view --require-id-match --vault-id prod@prod.pass"
+# In place of an editor that must be told to wait.
+CODE = """\
+[ "$1" = --wait ] || exit 1
+shift
+exec "$EDITOR_OF_TEST" "$@"
+"""
+# A vault and a file with blocks in most recipes and examples.
+VAULT, BLOCKS = "group_vars/all/vault.yml", "host_vars/web1.yml"
+FIRST_LINE = "$ANSIBLE_VAULT;1.2;AES256;prod"
+VIEW = f"ansible-vault view --require-id-match --vault-id prod@prod.pass {VAULT}"
+CONFIGURED = {"ansible.cfg": SETTINGS.encode()}
+KEPT = block("other", b"kept")
+# Two branches change the vault: the base, their side and ours; and the merged text.
+SIDES, MERGED = (b"a: 1\nb: 2\nc: 3\n", b"a: 1\nb: 2\nc: 4\n", b"a: 0\nb: 2\nc: 3\n"), "a: 0\nb: 2\nc: 4\n"
+
+
+@pytest.fixture
+def repository(tmp_path: Path, program: str) -> Repository:
+    needs("git")
+    repository = Repository(tmp_path, program)
+    repository.put(".gitattributes", MARKS.encode())
+    return repository
 
 
 def recipes() -> dict[str, str]:
@@ -41,213 +53,233 @@ def recipes() -> dict[str, str]:
     return {title: "\n".join(of_title) + "\n" for title, of_title in lines.items() if of_title}
 
 
-def put_playbook(repository: Repository, expression: str) -> None:
-    """Write a playbook that shows the value of this expression, and its inventory."""
-    repository.put("inventory", b"web1 ansible_connection=local\n")
-    repository.put("playbook.yml", (PLAYBOOK % expression).encode())
+def examples(name: str) -> dict[str, str]:
+    """Return the shell commands of each of a page's EXAMPLES, by the first three words of the text before them."""
+    display = r"(?:\A|^\.Pp)\n((?:(?!\.Pp$).+\n)+?)\.Bd .*\n((?:.*\n)+?)\.Ed$"
+    found = re.findall(display, companion_page(name)["EXAMPLES"], re.MULTILINE)
+    return {" ".join(words.split()[:3]): shown(text) for words, text in found}
 
 
-def played(shown: str) -> list[str]:
-    """Return the messages of a playbook's tasks."""
-    return re.findall(r'"msg": "(.*)"', shown)
+def shown(text: str) -> str:
+    """Return what a display of a page shows, without the prompts."""
+    for spelling, character in ((r"\(aq", "'"), (r"\(ha", "^"), (r"\e", "\\")):
+        text = text.replace(spelling, character)
+    return re.sub(r"^\$ ", "", text, flags=re.MULTILINE)
 
 
-def check_settings(repository: Repository, shell: str) -> None:
-    repository.put("host_vars/web1/secrets.yml", b"port: 1\n")
-    repository.put(VAULT, b"shared: battery staple\n")
-    put_playbook(repository, "shared")
-    assert f"```ini\n{SETTINGS}```" in DOCUMENT, "all recipes have the same settings"
-    repository.put("ansible.cfg", SETTINGS.encode())
-    shown = repository.shown(shell)
-    assert shown.splitlines()[:1] == ["shared: battery staple"], "the vault is shown"
-    assert played(shown) == ["battery staple"], "ansible-playbook reads it by the same settings"
-    first_lines = [repository.get(name).partition(b"\n")[0] for name in ("host_vars/web1/secrets.yml", VAULT)]
-    assert first_lines == [b"$ANSIBLE_VAULT;1.2;AES256;prod"] * 2, "both are vaults of the label"
+def playbook(expression: str) -> dict[str, bytes]:
+    """Return a playbook that shows the value of this expression, and its inventory."""
+    return {"inventory": b"web1 ansible_connection=local\n", "playbook.yml": (PLAYBOOK % expression).encode()}
 
 
-def check_first_day(repository: Repository, shell: str) -> None:
-    repository.put(".gitattributes", MARKS.encode())
-    repository.put("vault.yml", vault(b"password: shown\n"))
-    repository.put("other.yml", vault(b"a: 1\n", "new.pass", ""))
-    repository.put(VAULT, vault(b"password: first\n"))
-    repository.put("ansible.cfg", SETTINGS.encode())
-    repository.shell("rm -r ~/.vault; git add -A")
-    last_lines = ["2 decrypted, 0 not, 1 with other labels (default 1)", "password: first"]
-    assert repository.shown(shell).splitlines()[-2:] == last_lines, "counts, and shows a vault"
-    modes = repository.shell("stat -c %a ~/.vault ~/.vault/prod.pass; ls prod.pass").stdout
-    assert modes == "700\n600\n", "the password file is outside, for its owner alone"
-    assert "+password: shown" in repository.shown("git commit -qm one && git show"), "git shows plaintext"
-    assert repository.shell("git config merge.ansible-vault.driver").returncode == 0, "and has a driver for merges"
+class Recipe(NamedTuple):
+    """What happens before some commands, and what they do. In the outputs, a star matches any text."""
+
+    before: dict[str, bytes]
+    # Commands that prepare the rest, and the arguments of sed if an editor is needed.
+    prepare: str = ":"
+    sed: str = ""
+    printed: str = ""
+    # Commands that show what is left, and their output.
+    after: str = ":"
+    left: str = ""
 
 
-def check_playbook(repository: Repository, shell: str) -> None:
-    repository.put("plain.yml", b"shared: battery staple\n")
-    repository.put("group_vars/all/.keep", b"")
-    repository.put("host_vars/web1.yml", b"port: 5432\n")
-    put_playbook(repository, "[shared, port, db_password] | join(', ')")
-    assert played(repository.shell(shell).stdout) == ["battery staple, 5432, correct horse"], "the vault and the block"
-    assert repository.get("plain.yml") == b"shared: battery staple\n", "the plaintext is still there"
+RECIPES = {
+    "Name your secrets once": Recipe(
+        CONFIGURED
+        | playbook("shared")
+        | {VAULT: b"shared: staple\n", "host_vars/web1/secrets.yml": b"port: 1\n"},
+        printed='shared: staple\n*"msg": "staple"\n*',
+        after=f"head -qn 1 {VAULT} host_vars/web1/secrets.yml",
+        left=f"{FIRST_LINE}\n{FIRST_LINE}\n",
+    ),
+    "Set up a clone": Recipe(
+        CONFIGURED
+        | {VAULT: vault(b"a: first\n"), "vault.yml": vault(b"a: shown\n"), "b.yml": vault(b"b: 1\n", "new.pass", "")},
+        prepare="rm -r ~/.vault; git add -A",
+        printed="*\n2 decrypted, 0 not, 1 with other labels (default 1)\na: first\n",
+        after="""stat -c %a ~/.vault ~/.vault/prod.pass; echo *.pass
+            git commit -qm one; git show; git config merge.ansible-vault.driver""",
+        left="700\n600\nci.pass new.pass old.pass\n*\n+a: shown\n*ansible-vault-merge *",
+    ),
+    "Vaults and blocks for playbooks": Recipe(
+        playbook("[shared, port, db_password] | join(', ')")
+        | {"plain.yml": b"shared: staple\n", "group_vars/all/.keep": b"", BLOCKS: b"port: 5432\n"},
+        printed='*"msg": "staple, 5432, correct horse"\n*',
+        after="cat plain.yml",
+        left="shared: staple\n",
+    ),
+    "Edit a vault": Recipe(
+        {VAULT: vault(b"password: first\n")}, sed="s/first/second/", after=VIEW, left="password: second\n"
+    ),
+    "Change one value in a YAML file": Recipe(
+        CONFIGURED
+        | {VAULT: vault(b"port: 5432\n"), BLOCKS: b"port: 1  # stays\n" + block("db_password", b"horse") + KEPT},
+        sed="-e 's/horse/staple/' -e '$a new: !vault |-\\n  a third'",
+        printed="port: 1  # stays\ndb_password: !vault |-\n  horse\nother: !vault |-\n  kept\nstaple",
+        after=f"cat {BLOCKS}; for each in {BLOCKS} {VAULT}; do ansible-vault-textconv $each; done",
+        left=f"port: 1  # stays\n*\n{KEPT.decode()}*\n"
+        f"port: 1  # stays\ndb_password: !vault |-\n  {'[A-Za-z0-9+/]' * 32}\nother: !vault |-\n  kept\n"
+        "new: !vault |-\n  a third\nport: 5433\n",
+    ),
+    "Change a password everywhere": Recipe(
+        {"vars/a.yml": vault(b"a"), "b.yml": block("secret", b"b"), "c.yml": vault(b"c", "old.pass", "")},
+        prepare="rm ~/.vault/new.pass",
+        printed="*\n2 rotated, 0 under the new secret already, 1 with other labels (default 1), 0 failed\n",
+        after="""ansible-vault view --vault-id prod@"$HOME"/.vault/new.pass vars/a.yml
+            stat -c %a ~/.vault/new.pass; base64 --decode < ~/.vault/new.pass | wc -c""",
+        left="a600\n32\n",
+    ),
+    "Check that everything can be decrypted": Recipe(
+        {"vars/a.yml": vault(b"a", "new.pass"), "b.yml": block("secret", b"b", "new.pass")},
+        printed="./b.yml:2: secret: prod: decrypted by prod@~/.vault/new.pass\n"
+        "./vars/a.yml: prod: decrypted by prod@~/.vault/new.pass\n2 decrypted, 0 not\n",
+    ),
+    "Mark the files to be encrypted": Recipe(
+        {".gitattributes": b""},
+        printed=f"{VAULT}: diff: ansible-vault\nhost_vars/web1/secrets.yml: diff: ansible-vault\n"
+        f"{BLOCKS}: diff: ansible-vault\ngroup_vars/all/vars.yml: diff: unspecified\n",
+    ),
+    # At first the file is not encrypted, then it is under the old password, then under the new one.
+    "See differences in git": Recipe(
+        {"../1": b"db_password: a\n", "../2": vault(b"db_password: b\n")}
+        | {"../3": vault(b"db_password: c\n", "new.pass")},
+        prepare=f"""mkdir -p group_vars/all
+            for each in 1 2 3; do mv ../$each {VAULT}; git add .; git commit -qm $each; done""",
+        printed=f"db_password: c\n{VAULT}:db_password: c\n",
+        after="git log -p --format= 2> /dev/null | grep '^[-+]db_password'",
+        left="-db_password: b\n+db_password: c\n-db_password: a\n+db_password: b\n+db_password: a\n",
+    ),
+    "Use a password manager": Recipe(
+        {"../tools/pass": PASS, "vault.yml": vault(b"password: shown\n")},
+        prepare="chmod +x ../tools/pass; git add -A; git commit -qm one",
+        printed="*\n+password: shown\npassword: shown\n",
+    ),
+    "Keep plaintext out of commits": Recipe(
+        {"c.vault.yml": b"password: plain\n"},
+        printed="*",
+        after="git add .; ! git commit -qm one 2>&1",
+        left="ansible-vault-hook: c.vault.yml is not encrypted\n*",
+    ),
+    "Encrypt a file": Recipe(
+        {"plain.yml": b"plain: text\n", "group_vars/all/.keep": b""},
+        after=f"head -n 1 {VAULT}; cat other.yml",
+        left=f"{FIRST_LINE}\nplain: text\n",
+    ),
+    "Make a block": Recipe(
+        {"vars.yml": b"first: 1\n"},
+        after="head -n 2 vars.yml; ansible-vault-textconv --vault-id prod@prod.pass --value db_password vars.yml",
+        left="first: 1\ndb_password: !vault |\ncorrect horse",
+    ),
+}
+# The commands by their titles: those of the document, and those of the program's page and of the companions' pages.
+COMMANDS = recipes() | examples("ansible-vault")
+OF_COMPANIONS = [(name, title) for name in COMPANIONS for title in examples(name)]
+# The titles of the commands that have a test of their own.
+MERGE, PIPELINE, TYPED = "Merge", "Run the checks in a pipeline", ["Type a password", "Type a password,"]
 
 
-def check_asked(repository: Repository, shell: str) -> None:
-    repository.put(VAULT, vault(b"shown\n", "old.pass", ""))
-    passwords = ("the old one", "another")
-    shown = [repository.pasted(f"{shell.rstrip()}; exit\n", password) for password in passwords]
-    assert ["shown\r\n" in each for each in shown] == [True, False], "one of them is right"
-    assert [each for each, password in zip(shown, passwords) if password in each] == [], "and none is shown"
+def test_each_is_run() -> None:
+    assert sorted(COMMANDS) == sorted([*RECIPES, MERGE, PIPELINE, *TYPED])
+    assert {name for name, _ in OF_COMPANIONS} == {*COMPANIONS}
+    assert f"```ini\n{SETTINGS}```" in DOCUMENT, "the document has the settings"
 
 
-def check_edit(repository: Repository, shell: str) -> None:
-    repository.put(VAULT, vault(b"password: first\n"))
-    editor = repository.script('sed -i s/first/second/ "$1"')
-    assert repository.shown(shell, EDITOR=editor) == "", "an edit says nothing"
-    assert repository.shown(f"{VIEW} {VAULT}") == "password: second\n", "the vault has the new text and the label"
+@pytest.mark.parametrize("title", RECIPES)
+def test_recipe(repository: Repository, title: str) -> None:
+    recipe = RECIPES[title]
+    if "playbook.yml" in recipe.before:
+        needs("ansible-playbook")
+    for name, content in recipe.before.items():
+        repository.put(name, content)
+    repository.shell(recipe.prepare)
+    editor = repository.script(f'sed -i {recipe.sed} "$1"')
+    printed = repository.shown(COMMANDS[title], EDITOR=editor, secret="correct horse")
+    left = repository.shown(recipe.after)
+    assert (fnmatchcase(printed, recipe.printed), fnmatchcase(left, recipe.left)) == (True, True), (printed, left)
 
 
-def check_one_secret(repository: Repository, shell: str) -> None:
-    name, kept, old = "host_vars/web1.yml", block("other", b"kept"), block("db_password", b"correct horse")
-    repository.put("ansible.cfg", SETTINGS.encode())
-    repository.put(name, b"port: 5432  # stays\n" + old + kept)
-    repository.put(VAULT, vault(b"port: 5432\n"))
-    editor = repository.script("sed -i -e 's/correct horse/battery staple/' -e '$a new: !vault |-\\n  a third' \"$1\"")
-    secrets = "port: 5432  # stays\ndb_password: !vault |-\n  correct horse\nother: !vault |-\n  kept\n"
-    assert repository.shown(shell, EDITOR=editor) == secrets + "battery staple", "secrets are shown, and one alone"
-    after = repository.get(name)
-    assert after.startswith(b"port: 5432  # stays\n") and kept in after, "all else stays"
-    values = re.findall(r"^  (.*)$", repository.shown(f"ansible-vault-textconv {name}"), re.MULTILINE)
-    assert values[1:] == ["kept", "a third"], "one secret is new"
-    assert re.fullmatch(r"[A-Za-z0-9+/]{32}", values[0]), "and one is random"
-    assert repository.shown(f"ansible-vault-textconv {VAULT}") == "port: 5433\n", "a command changed a vault"
+@pytest.mark.parametrize("title", TYPED)
+def test_typed(repository: Repository, title: str) -> None:
+    """The example of the program's page also works in zsh."""
+    for name in (VAULT, "vault.yml"):
+        repository.put(name, vault(b"shown\n", "old.pass", ""))
+    shell, passwords = COMMANDS[title], {"the old one": (0, "shown\n"), "another": (1, "")}
+    screens = {password: repository.pasted(f"{shell.rstrip()}; exit\n", password) for password in passwords}
+    assert ["shown\r\n" in screen for screen in screens.values()] == [True, False], "one of them is right"
+    assert [password for password, screen in screens.items() if password in screen] == [], "and none is shown"
+    if "read" in shell:
+        needs("zsh")
+        done = {password: repository.shell(f"{{ {shell}\n}} <<< '{password}'", "zsh") for password in passwords}
+        assert {password: (each.returncode, each.stdout) for password, each in done.items()} == passwords
 
 
-def check_rotation(repository: Repository, shell: str) -> None:
-    repository.put("vars/a.yml", vault(b"a"))
-    repository.put("b.yml", block("secret", b"b"))
-    repository.put("c.yml", vault(b"c", "old.pass", ""))
-    repository.shell("rm ~/.vault/new.pass")
-    summary = "2 rotated, 0 under the new secret already, 1 with other labels (default 1), 0 failed"
-    assert repository.shown(shell).splitlines()[-1] == summary
-    shown = repository.shown('ansible-vault view --vault-id prod@"$HOME"/.vault/new.pass vars/a.yml')
-    assert shown == "a", "the vault is under the new secret"
-    output = repository.shown("stat -c %a ~/.vault/new.pass; base64 --decode < ~/.vault/new.pass | wc -c")
-    assert output == "600\n32\n", "which has 32 bytes, and is readable by its owner only"
-
-
-def check_check(repository: Repository, shell: str) -> None:
-    repository.put("vars/a.yml", vault(b"a", "new.pass"))
-    repository.put("b.yml", block("secret", b"b", "new.pass"))
-    lines = [
-        "./b.yml:2: secret: prod: decrypted by prod@~/.vault/new.pass",
-        "./vars/a.yml: prod: decrypted by prod@~/.vault/new.pass",
-        "2 decrypted, 0 not",
-    ]
-    assert repository.shown(shell).splitlines() == lines
-
-
-def check_marks(repository: Repository, shell: str) -> None:
-    lines = [
-        "group_vars/all/vault.yml: diff: ansible-vault",
-        "host_vars/web1/secrets.yml: diff: ansible-vault",
-        "host_vars/web1.yml: diff: ansible-vault",
-        "group_vars/all/vars.yml: diff: unspecified",
-    ]
-    assert repository.shown(shell).splitlines() == lines
-
-
-def check_differences(repository: Repository, shell: str) -> None:
-    """At first the file is not encrypted, then it is under the old password, then under the new one."""
-    repository.put(".gitattributes", MARKS.encode())
-    first, second, third = (f"db_password: {each}\n".encode() for each in ("first", "second", "third"))
-    for content in (first, vault(second), vault(third, "new.pass")):
-        repository.put(VAULT, content)
-        repository.shell("git add . && git commit -qm change")
-    found = repository.shown(shell).splitlines()
-    assert found == ["db_password: third", f"{VAULT}:db_password: third"], "git shows and finds the plaintext"
-    changed = re.findall(r"^[-+]db_password: (.*)$", repository.shell("git log -p --format=").stdout, re.MULTILINE)
-    assert changed == ["second", "third", "first", "second", "first"], "git shows the plaintext of each commit"
-
-
-def check_manager(repository: Repository, shell: str) -> None:
-    repository.put(".gitattributes", MARKS.encode())
-    repository.put("vault.yml", vault(b"password: shown\n"))
-    repository.script(PASS, "tools/pass")
-    repository.shell("git add -A && git commit -qm one")
-    shown = [line for line in repository.shown(shell).splitlines() if "password: shown" in line]
-    assert shown == ["+password: shown", "password: shown"], "git and the tool show the plaintext"
-
-
-def merge_changes(repository: Repository, base: bytes, theirs: bytes, ours: bytes, branch: str) -> None:
+def commit_sides(
+    repository: Repository, sides: tuple[bytes, ...] = SIDES, branch: str = "branch", password: str = "prod.pass"
+) -> None:
     """Commit a vault in three versions: the base, theirs on a branch, and ours."""
-    for text, before in ((base, ":"), (theirs, f"git checkout -qb {branch}"), (ours, "git checkout -q -")):
+    for text, before in zip(sides, (":", f"git checkout -qb {branch}", "git checkout -q -")):
         repository.shell(before)
-        repository.put(VAULT, vault(text))
+        repository.put(VAULT, vault(text, password))
         repository.shell("git add -A && git commit -qm change")
 
 
-def check_merge(repository: Repository, shell: str) -> None:
-    repository.put(".gitattributes", MARKS.encode())
-    merge_changes(repository, b"a: 1\nb: 2\nc: 3\n", b"a: 1\nb: 2\nc: 4\n", b"a: 0\nb: 2\nc: 3\n", "branch")
-    merge, _, solution = shell.partition("\nansible-vault-edit ")
+def test_merge(repository: Repository) -> None:
+    commit_sides(repository)
+    merge, _, solution = COMMANDS[MERGE].partition("\nansible-vault-edit ")
     assert repository.shell(merge).returncode == 0, "git merges what does not conflict"
-    assert repository.shown(f"{VIEW} {VAULT}") == "a: 0\nb: 2\nc: 4\n", "both changes are in the vault"
-    merge_changes(repository, b"a: 1\n", b"a: 5\n", b"a: 0\n", "other")
+    assert repository.shown(VIEW) == MERGED, "both changes are in the vault"
+    commit_sides(repository, (b"a: 1\n", b"a: 5\n", b"a: 0\n"), "other")
     assert repository.shell(merge.replace("branch", "other")).returncode == 1, "git reports a conflict"
     editor = repository.script("printf 'a: 5\\n' > \"$1\"")
     assert repository.shell(f"ansible-vault-edit {solution}", EDITOR=editor).returncode == 0
-    assert repository.shown(f"{VIEW} {VAULT}; git status --porcelain") == "a: 5\n", "it is solved and committed"
+    assert repository.shown(f"{VIEW}; git status --porcelain") == "a: 5\n", "it is solved and committed"
 
 
-def check_hook(repository: Repository, shell: str) -> None:
-    repository.put(".gitattributes", MARKS.encode())
-    repository.shown(shell)
-    repository.put("a b.vault.yml", vault(b"secret", "old.pass", ""))
-    assert repository.shell("git add . && git commit -qm one").returncode == 0, "the hook lets a vault pass"
-    repository.put("c.vault.yml", b"password: plain\n")
-    ran = repository.shell("git add . && git commit -qm two")
-    message = "ansible-vault-hook: c.vault.yml is not encrypted\n"
-    assert (ran.returncode, ran.stderr.splitlines(True)[0]) == (1, message), "it refuses plaintext"
-
-
-def check_pipeline(repository: Repository, shell: str) -> None:
-    repository.put(".gitattributes", MARKS.encode())
-    repository.put(VAULT, vault(b"shared: battery staple\n", "ci.pass", "ci"))
-    repository.put("prod.vault.yml", vault(b"a: 1\n"))
-    put_playbook(repository, "shared")
+def test_pipeline(repository: Repository) -> None:
+    needs("ansible-playbook")
+    vaults = {VAULT: vault(b"shared: staple\n", "ci.pass", "ci"), "prod.vault.yml": vault(b"a: 1\n")}
+    for name, content in (vaults | playbook("shared")).items():
+        repository.put(name, content)
     repository.shell("git add -A && git commit -qm one && git update-ref refs/remotes/origin/main HEAD")
-    password = (repository.tree / "ci.pass").read_text().removesuffix("\n")
-    shown = repository.shown(f"set -e\n{shell}", VAULT_PASSWORD=password)
-    assert "1 decrypted, 0 not, 1 with other labels (prod 1)" in shown.splitlines(), "vaults are counted"
-    assert played(shown) == ["battery staple"], "the playbook is run with the same password"
-    assert repository.get("../secrets.yml") == b"shared: battery staple\n", "and a vault is decrypted"
+    shell, password = COMMANDS[PIPELINE], PASSWORDS["ci.pass"].decode()
+    printed = repository.shown(f"set -e\n{shell}", VAULT_PASSWORD=password)
+    wanted = '*\n1 decrypted, 0 not, 1 with other labels (prod 1)\n*"msg": "staple"\n*'
+    assert fnmatchcase(printed, wanted), "vaults are counted, and the playbook is run with the same password"
+    assert repository.get("../secrets.yml") == b"shared: staple\n", "and a vault is decrypted"
     repository.put("vault.yml", b"a: 1\n")
     repository.shell("git add -A && git commit -qm two --no-verify")
     statuses = [repository.shell(line, VAULT_PASSWORD=password).returncode for line in shell.splitlines()[:4]]
     assert statuses == [1, 1, 0, 1], "plaintext"
 
 
-RECIPES = {
-    "Name your secrets once": check_settings,
-    "Set up a clone": check_first_day,
-    "Vaults and blocks for playbooks": check_playbook,
-    "Type a password": check_asked,
-    "Edit a vault": check_edit,
-    "Change one value in a YAML file": check_one_secret,
-    "Change a password everywhere": check_rotation,
-    "Check that everything can be decrypted": check_check,
-    "Mark the files to be encrypted": check_marks,
-    "See differences in git": check_differences,
-    "Use a password manager": check_manager,
-    "Merge": check_merge,
-    "Keep plaintext out of commits": check_hook,
-    "Run the checks in a pipeline": check_pipeline,
-}
+def prepare_examples(repository: Repository, password: str) -> str:
+    """Create what the examples on the companions' pages work on, and return the editor."""
+    files = {"a.yml": vault(b"a: 1\n", password), "b.yml": vault(b"b: 1\n", password)}
+    files[BLOCKS] = block("db_password", b"correct horse", password)
+    for name, content in (CONFIGURED | files).items():
+        repository.put(name, content)
+    repository.put("get-pass", b"#!/bin/sh\ncat prod.pass\n", 0o755)
+    commit_sides(repository, password=password)
+    repository.shell("git update-ref refs/remotes/origin/main HEAD^")
+    repository.script(CODE, "tools/code")
+    return repository.script("sed -i -e 's/horse/staple/' -e 's/a: ./a: 2/' \"$1\"")
 
 
-def test_each_recipe_is_run() -> None:
-    assert sorted(recipes()) == sorted(RECIPES)
-
-
-@pytest.mark.parametrize("title", RECIPES)
-def test_recipe(tmp_path: pathlib.Path, program: str, title: str) -> None:
-    needs("git", *TOOLS.get(title, []))
-    RECIPES[title](Repository(tmp_path, program), recipes()[title])
+@pytest.mark.parametrize("name, title", OF_COMPANIONS)
+def test_companion_example(repository: Repository, name: str, title: str) -> None:
+    """Each example ends as expected, and prints nothing on standard error. If it asks for a password, type it."""
+    shell = examples(name)[title]
+    editor = prepare_examples(repository, "old.pass" if name == "ansible-vault-rotate" else "prod.pass")
+    if "prompt" in shell or "--ask-" in shell:
+        typed = repository.pasted(shell.rstrip() + " && echo d''one; exit\n", PASSWORDS["prod.pass"].decode())
+        assert "done\r\n" in typed
+        return
+    if "HEAD^2" in shell:
+        repository.shell("git merge branch; git commit -qam merged")
+        assert b"<<<<<<<" in repository.get(VAULT), "git alone tears the vault"
+    ran = repository.shell(shell, EDITOR=editor, EDITOR_OF_TEST=editor, secret="correct horse", GIT_EDITOR="true")
+    assert (ran.returncode, ran.stderr) == (1 if "--dry-run" in shell else 0, "")
+    if name == "ansible-vault-merge":
+        assert repository.shown(VIEW) == MERGED, "it has the changes of both sides"
