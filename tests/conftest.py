@@ -6,6 +6,7 @@ With --require-all, a test that would be skipped because the machine lacks a too
 import locale
 import os
 import shutil
+import signal
 import subprocess
 import sys
 import tempfile
@@ -18,10 +19,9 @@ import pytest
 import pytest_timeout
 
 from lib.cases import Cases
-from lib.locales import use_plain_locale
-from lib.needs import OF_ANOTHER_BUILD, TAKES_MOUNTS, TAKES_ROOT, is_confined
+from lib.needs import OF_ANOTHER_BUILD, TAKES_ROOT
 from lib.paths import ROOT
-from lib.signals import heed_signals
+from lib.processes import PLAIN
 
 # Tests write into the repository only below bin/, which they leave out when they copy it.
 os.environ["HYPOTHESIS_STORAGE_DIRECTORY"] = str(ROOT / "bin" / "hypothesis")
@@ -39,11 +39,8 @@ LEAST = {ROWS: 550, "random requests": 200, "refused calls": 700, "signals": 36,
 
 def seed_of_commit() -> int:
     """Return the abbreviated hash of HEAD as a number, or 1 if git knows no commit."""
-    command = ["git", "-C", str(ROOT), "rev-parse", "--short=8", "HEAD"]
-    try:
-        return int(subprocess.run(command, capture_output=True, text=True, check=True).stdout, 16)
-    except (OSError, subprocess.CalledProcessError):
-        return 1
+    command = ["sh", "-c", "git rev-parse --short=8 HEAD || echo 1"]
+    return int(subprocess.run(command, cwd=ROOT, capture_output=True, text=True).stdout, 16)
 
 
 def pytest_addoption(parser: pytest.Parser) -> None:
@@ -63,8 +60,11 @@ def pytest_addoption(parser: pytest.Parser) -> None:
 
 
 def pytest_sessionstart(session: pytest.Session) -> None:
-    heed_signals()
-    use_plain_locale()
+    # A background job may ignore these signals, and its children inherit that.
+    for number in (signal.SIGHUP, signal.SIGINT, signal.SIGQUIT, signal.SIGTERM):
+        if signal.getsignal(number) == signal.SIG_IGN:
+            signal.signal(number, signal.SIG_DFL)
+    os.environ.update(PLAIN)
     # Other users must be able to read the tests' files, whatever the caller's umask.
     os.umask(0o022)
     # The companions, too, must run on the Python that runs the tests.
@@ -101,9 +101,7 @@ def reason_of(skipped: Report) -> str:
 
 def may_be_left_out(reason: str) -> bool:
     """Return whether --require-all accepts this reason to skip a test."""
-    if reason == TAKES_ROOT:
-        return os.geteuid() != 0
-    return is_confined() if reason == TAKES_MOUNTS else reason.startswith(OF_ANOTHER_BUILD)
+    return reason == TAKES_ROOT and os.geteuid() != 0 or reason.startswith(OF_ANOTHER_BUILD)
 
 
 def leave_out(report: Report, raised: pytest.ExceptionInfo[BaseException] | None, config: pytest.Config) -> None:
@@ -163,12 +161,11 @@ def too_few(config: pytest.Config) -> list[str]:
     is_partial = any(each.skipped and not may_be_left_out(reason_of(each)) for each in ends)
     if is_partial or not config.getoption("--floors"):
         return []
-    made = Counter(f"{part_of(each)} tests" for each in ends if not each.skipped)
-    made.update({what: amount for what, (amount, _) in amounts(ends).items()})
+    made, _ = amounts(ends)
+    made.update(part_of(each) for each in ends if not each.skipped)
     made[ROWS] = len(reports_of(config, "subtests passed"))
-    floors = {f"{part} tests": least for part, least in FLOORS.items()} | LEAST
-    most = {f"{part} tests": least * 1.2 for part, least in FLOORS.items()}
-    low = [f"{what}: {made[what]}, so raise its floor" for what in most if made[what] > most[what]]
+    low = [f"{part}: {made[part]}, so raise its floor" for part, least in FLOORS.items() if made[part] > least * 1.2]
+    floors = FLOORS | LEAST
     return low + [f"{what}: {made[what]}, of at least {least}" for what, least in floors.items() if made[what] < least]
 
 
@@ -179,31 +176,27 @@ def pytest_sessionfinish(session: pytest.Session) -> None:
         session.exitstatus = pytest.ExitCode.TESTS_FAILED
 
 
-def amounts(ends: list[pytest.TestReport]) -> dict[str, tuple[int, int]]:
+def amounts(ends: list[Any]) -> tuple[Counter[str], Counter[str]]:
     """Add up what the tests recorded, by name: how much they did, and how much they should have done."""
-    added: dict[str, tuple[int, int]] = {}
-    for what, (made, asked) in (each for end in ends for each in getattr(end, "user_properties", [])):
-        before = added.get(what, (0, 0))
-        added[what] = before[0] + made, before[1] + asked
-    return added
+    made, asked = Counter[str](), Counter[str]()
+    for what, (done, wanted) in (each for end in ends for each in getattr(end, "user_properties", [])):
+        made[what] += done
+        asked[what] += wanted
+    return made, asked
 
 
 def pytest_terminal_summary(terminalreporter: Any, config: pytest.Config) -> None:
     """Print the skipped tests and the amounts that the tests recorded. The last line counts the tests."""
     if config.option.collectonly:
         return
-    ends, failures, say = ends_of_tests(config), too_few(config), terminalreporter.write_line
-    for each in ends:
-        if each.skipped:
-            say(f"skipped: {each.nodeid}: {reason_of(each)}")
-    say(f"seed: {config.getoption('--seed')}")
-    for what, (made, asked) in amounts(ends).items():
-        say(f"{what}: {made} of {asked}")
-    for failure in failures:
-        say(f"FAILED {failure}")
-    counts: Counter[str] = Counter(each.outcome for each in ends)
-    counts["failed"] += len(failures)
-    say(", ".join(f"{counts[what]} {what}" for what in ("passed", "failed", "skipped")))
+    ends, failures = ends_of_tests(config), too_few(config)
+    made, asked = amounts(ends)
+    counts = Counter(each.outcome for each in ends) + Counter(failed=len(failures))
+    lines = [f"skipped: {each.nodeid}: {reason_of(each)}" for each in ends if each.skipped]
+    lines += [f"seed: {config.getoption('--seed')}", *(f"{what}: {made[what]} of {asked[what]}" for what in made)]
+    lines += [f"FAILED {failure}" for failure in failures]
+    lines += [", ".join(f"{counts[what]} {what}" for what in ("passed", "failed", "skipped"))]
+    terminalreporter.write_line("\n".join(lines))
 
 
 @pytest.fixture(scope="session")

@@ -1,41 +1,41 @@
-"""What the tests' own helpers must notice, so that a test that relies on one can fail."""
+"""What the tests' own helpers must notice, so that a test that relies on one can fail; and how pytest ends under
+`conftest.py` and `pytest.ini`.
+"""
 
+import os
 import re
 import runpy
+import shutil
 import subprocess
+import sys
+from collections import Counter
 from collections.abc import Callable
 from dataclasses import replace
-from hashlib import shake_128
 from pathlib import Path
 
 import pytest
-from hypothesis import given, settings
-from hypothesis import strategies as st
 
-from companion_cases import AWKWARD, COMPANIONS, PASSWORDS, Done, Place, ended, oracle, silent, wait_until
-from companion_cases.oracle import DEV, LABEL_OF, NAMES
-from fault_injection import OLD, OLD_MODE, OUTPUT, Left, Scenario, Target, run
+from companion_cases import Done, ended
 from lib.ansible import ansible_vault
 from lib.cases import Cases
 from lib.installed import VERSION
 from lib.links import dead_links
 from lib.paths import ROOT
+from lib.processes import run_text
 from lib.scripts import write_script
 from lib.system_calls import calls_in
-from model import random_envelopes, random_requests, vaults
-from model.compared import differences, expected
+from model.compared import differences
 from model.faults import Fault
-from model.random_requests import Case, make
-from model.vaults import SALT, seal
+from model.random_requests import Case
+from model.vaults import seal
 
-# Requests that are refused, answered and not parsed, with scripts that differ from the program in one thing.
+# Requests that are refused and answered, with scripts that differ from the program in one thing.
 REFUSED = Case(["decrypt", "--vault-password-file", "right", "--output", "new"], {"right": b"right\n"}, b"no vault\n")
 ANSWERED = replace(REFUSED, stdin=seal(b"right", b"text"))
 DIFFERING = {
     "another file": (REFUSED, '"$PROGRAM" "$@"; status=$?; touch other; exit $status'),
     "a changed file": (REFUSED, '"$PROGRAM" "$@"; status=$?; echo >> right; exit $status'),
     "another mode": (REFUSED, '"$PROGRAM" "$@"; status=$?; chmod 600 right; exit $status'),
-    "another message": (REFUSED, '"$PROGRAM" "$@" 2>&1 | tr i I >&2; exit 1'),
     "another status": (REFUSED, '"$PROGRAM" "$@"; exit 3'),
     "another mode of the output": (ANSWERED, '"$PROGRAM" "$@" && chmod 644 new'),
     "standard output besides": (ANSWERED, '"$PROGRAM" "$@" && cat new'),
@@ -69,18 +69,6 @@ def test_each_part_of_an_answer(tmp_path: Path, check: Callable[[Cases], None]) 
             check(Cases(write_script(tmp_path / "program", wrong), tmp_path))
 
 
-@pytest.mark.parametrize("command", ["view", "decrypt"])
-def test_both_commands_that_read(tmp_path: Path, command: str) -> None:
-    with pytest.raises(AssertionError):
-        Cases(write_script(tmp_path / command, f'[ "$1" = {command} ]'), tmp_path).decrypts([], b"", b"")
-
-
-def test_what_faulty_runs_leave(tmp_path: Path) -> None:
-    scenario = Scenario("x", ["decrypt"], "/dev/null", b"", Target.OLD)
-    script = write_script(tmp_path / "script", "echo 1; echo 2 >&2; echo 3 > .other; exit 4")
-    assert run(scenario, [script]) == Left(4, b"1\n", b"2\n", {OUTPUT: (OLD, OLD_MODE), ".other": (b"3\n", 0o644)})
-
-
 def test_each_line_of_strace_is_a_call() -> None:
     others = ["7 [00007f] read(0,  <unfinished ...>", "7 --- SIGTERM ---"]
     log = "\n".join(['7 [00007f] read(0, ""..., 9) = 3', *others, "7 [???] +++ exited with 0 +++"])
@@ -93,45 +81,6 @@ def test_each_part_is_looked_for() -> None:
     for parts in (["one", "three"], ["three", "two"], ["one\n"], [" two"]):
         with pytest.raises(AssertionError):
             ended("one of two", done, 0, *parts)
-    silent("neither", Done([], 0, "", ""))
-    for other in (Done([], 1, "", ""), Done([], 0, "x", ""), Done([], 0, "", "x")):
-        with pytest.raises(AssertionError):
-            silent("one of three", other)
-
-
-def test_what_a_place_has(tmp_path: Path) -> None:
-    place = Place(tmp_path, Path("/bin/true"), COMPANIONS)
-    files = {name: name.encode() for name in [*AWKWARD, ".gitattributes", "a/.b/c", "d.git/e"]}
-    for name, content in files.items():
-        place.put(name, content)
-    place.put("../runtime/a/.b", b"")
-    assert (place.files(), {*place.names()}) == (files, files.keys() | {"a", "a/.b", "d.git"})
-    assert place.left() == [f"{place.runtime}/a", f"{place.runtime}/a/.b"]
-
-
-def test_waits() -> None:
-    answers = [True, False, False]
-    wait_until(answers.pop, "the last answer")
-    assert answers == []
-
-
-# A password, and the label of an envelope that it encrypts.
-SEALED = st.tuples(st.sampled_from([*PASSWORDS]), st.sampled_from([*NAMES, ""]))
-
-
-@settings(deadline=None)
-@given(st.lists(SEALED, min_size=1, max_size=3), st.booleans())
-def test_oracle(layers: list[tuple[str, str]], is_yaml: bool) -> None:
-    """It takes the passwords of dev for each envelope around a text."""
-    content = b"text-0001\n"
-    for name, label in layers:
-        envelope, owner = oracle.make(name, content, label, 0), LABEL_OF.get(name)
-        assert (oracle.label_of(envelope), oracle.opened(envelope)) == (label, (name, content) if owner else None)
-        assert oracle.is_false(envelope) == (owner is None or label not in ("", owner))
-        content = b"a:\n" + oracle.block(b"b", envelope, b"  ") if is_yaml else envelope
-        assert [spot.envelope for spot in oracle.spots({"x": content})] == [envelope]
-    is_seen = all(LABEL_OF.get(name) == DEV for name, _ in layers)
-    assert oracle.visible(content) == ({b"text-0001"} if is_seen else set())
 
 
 def test_dead_links(tmp_path: Path) -> None:
@@ -139,25 +88,6 @@ def test_dead_links(tmp_path: Path) -> None:
     links = "".join(f"[x]({link})" for link in ["#a-title", "page.md#a-title", "https://x-y.z", *dead])
     page.write_text(f"# A title\n```\n# code\n```\n{links}")
     assert [*dead_links(page)] == dead
-
-
-# Faults that no random request meets: one takes a lack of memory, the others a size that is rare.
-NOT_MET = {Fault.MEMORY, Fault.TOO_LONG, Fault.CIPHER_TOO_LONG}
-
-
-def test_kinds_of_requests(monkeypatch: pytest.MonkeyPatch) -> None:
-    """Random requests meet each fault, with each value of the tables. A quick cipher will do here."""
-    monkeypatch.setattr(random_envelopes, "LIMIT_SIZES", random_envelopes.LARGE_SIZES)
-    monkeypatch.setattr(vaults, "keys", lambda password, salt: shake_128(password + b"/" + salt).digest(80))
-    monkeypatch.setattr(vaults, "counter_mode", lambda key, counter, data: data)
-    cases = [make(str(number)) for number in range(3_000)]
-    wanted = {fault.line for fault in {*Fault} - NOT_MET} | {b"", None}
-    assert wanted - {expected(case, SALT).message for case in cases} == set(), "faults, a success, the parser's text"
-    texts = [text for case in cases for text in (*case.words, *case.files)]
-    said = {part for text in texts for part in (text, text[2:], *re.split("[=@]", text))}
-    tables = [table for name, table in vars(random_requests).items() if name.isupper() and not isinstance(table, str)]
-    assert len(tables) > 12
-    assert {each for table in tables for each in table if isinstance(each, str)} - said == set()
 
 
 # How pytest ends with a planted fault, and what becomes of the fault.
@@ -180,29 +110,94 @@ def test_planted_faults(program: str, status: int, output: str, outcome: str) ->
     assert result_of(Path(program), fault | {"old": "not there"}).outcome.value == "failed"
 
 
-# How Ansible's tool behaves in a locale that is not UTF-8, and how each tool identifies itself.
-STRICT = "case $LC_ALL in *UTF-8) ;; *) echo 'the locale encoding has to be UTF-8' >&2; exit 1 ;; esac; "
-THEIRS, OURS = f"{STRICT}echo 'ansible-vault [core 2.14.18]'", f"echo 'ansible-vault {VERSION}'"
-FAILS = "echo 'no module named ansible' >&2; exit 1"
+# Ansible's tool if its module is missing, and our tool, by whether ANSIBLE_VAULT names it.
+FAILS, OURS = "echo 'no module named ansible' >&2; exit 1", f"echo 'ansible-vault {VERSION}'"
+BROKEN = [(FAILS, True, "no module named ansible"), (FAILS, False, "no module named ansible")]
+BROKEN += [(OURS, True, "not of Ansible's core")]
 
 
-def search_in(folder: Path, monkeypatch: pytest.MonkeyPatch, named: str = "") -> None:
-    """Look for Ansible's tool in this directory alone, or at the named path."""
-    for name, value in {"PATH": str(folder), "LC_ALL": "C", "ANSIBLE_VAULT": named}.items():
-        monkeypatch.setenv(name, value)
-
-
-def test_ansible_is_found(tmp_path: Path, monkeypatch: pytest.MonkeyPatch) -> None:
-    search_in(tmp_path, monkeypatch)
-    write_script(tmp_path / "ansible-vault", OURS)
-    assert ansible_vault() is None
-    assert write_script(tmp_path / "ansible-vault-original", THEIRS) == ansible_vault()
-
-
-@pytest.mark.parametrize("text, is_named", [(FAILS, True), (FAILS, False), (OURS, True)])
-def test_ansible_that_fails(tmp_path: Path, monkeypatch: pytest.MonkeyPatch, text: str, is_named: bool) -> None:
+@pytest.mark.parametrize("text, is_named, why", BROKEN)
+def test_ansible_that_fails(
+    tmp_path: Path, monkeypatch: pytest.MonkeyPatch, text: str, is_named: bool, why: str
+) -> None:
     """It does not count as missing, and neither does another tool that is named."""
     path = write_script(tmp_path / "ansible-vault", text)
-    search_in(tmp_path, monkeypatch, path if is_named else "")
-    with pytest.raises(RuntimeError, match="no module named ansible" if text == FAILS else "not of Ansible's core"):
+    monkeypatch.setenv("PATH", str(tmp_path))
+    monkeypatch.setenv("ANSIBLE_VAULT", path if is_named else "")
+    with pytest.raises(RuntimeError, match=why):
         ansible_vault()
+
+
+# The start of a file of tests, and one of its tests.
+HEAD = """\
+import os, subprocess, threading, time
+import conftest, pytest
+from lib.needs import TAKES_ROOT
+
+"""
+TEST = """\
+def test_{}(record_property, subtests, tmp_path):
+    {}
+"""
+NO_TOOL = "subprocess.run(['no-such-tool'])"
+THREAD = "thread = threading.Thread(target=lambda: 1 / 0); thread.start(); thread.join()"
+FOR_ROOT = "os.geteuid = lambda: {user}; pytest.skip(TAKES_ROOT)"
+# The body of each test, how it ends, and how with --require-all.
+BODIES = {
+    "passes": ("pass", "PASSED", "PASSED"),
+    "a_thread_fails": (THREAD, "FAILED", "FAILED"),
+    "returns_something": ("return 1 == 2", "FAILED", "FAILED"),
+    "is_skipped": ("pytest.skip('why')", "SKIPPED", "FAILED"),
+    "only_root_can": (FOR_ROOT.format(user=1), "SKIPPED", "SKIPPED"),
+    "root_cannot": (FOR_ROOT.format(user=0), "SKIPPED", "FAILED"),
+    "lacks_a_tool": (NO_TOOL, "SKIPPED", "FAILED"),
+    "lacks_a_file": ("open('no-such-file')", "FAILED", "FAILED"),
+}
+
+
+def run_sample(folder: Path, program: str, text: str, *options: str) -> subprocess.CompletedProcess[str]:
+    """Run pytest on a file of tests, in a copy of ours."""
+    shutil.copytree(ROOT / "tests", folder / "tests")
+    shutil.copy(ROOT / "pytest.ini", folder)
+    (folder / "tests" / "sample.py").write_text(HEAD + text)
+    ours = {name: value for name, value in os.environ.items() if not name.startswith(("PYTEST_", "REQUIRE_ALL"))}
+    words = ["pytest", f"--program={program}", *options, "tests/sample.py"]
+    return run_text([sys.executable, "-B", "-m", *words], cwd=folder, env=ours | {"TMPDIR": str(folder)})
+
+
+@pytest.mark.parametrize("options, column", [([], 1), (["--require-all"], 2)], ids=["some", "all"])
+def test_outcomes(program: str, tmp_path: Path, options: list[str], column: int) -> None:
+    text = "".join(TEST.format(name, body) for name, (body, *_) in BODIES.items())
+    done = run_sample(tmp_path, program, text, "--verbose", *options)
+    wanted = {name: row[column] for name, row in BODIES.items()}
+    assert dict(re.findall(r"^tests/sample\.py::test_(\w+) ([A-Z]+)", done.stdout, re.MULTILINE)) == wanted, done.stdout
+    counts = Counter(wanted.values())
+    assert done.stdout.count("\nskipped: tests/sample.py") == counts["SKIPPED"], "and why"
+    assert "\nseed: 1\n" in done.stdout, "as there is no git"
+    assert f"\n{counts['PASSED']} passed, {counts['FAILED']} failed, {counts['SKIPPED']} skipped\n" in done.stdout
+    kept = re.findall(r"^kept in (.*)$", done.stdout, re.MULTILINE)
+    assert [Path(each).is_dir() for each in kept] == [True] * counts["FAILED"], "a folder is kept where a test fails"
+
+
+ENDLESS = """\
+for row in range(3):
+        with subtests.test(): time.sleep(600 if row else 0); assert row"""
+# Enough of two of eleven kinds, and a floor that is too low.
+ENOUGH = """\
+conftest.FLOORS['fuzz'] = -1
+    for row in range(1000):
+        with subtests.test(): record_property("random requests", (row < 200, 1))"""
+ENOUGH_AND_A_SKIP = TEST.format("enough", ENOUGH) + TEST.format("for_root", FOR_ROOT.format(user=1))
+# A file of tests, pytest's options, its exit status, and the line of counts.
+FILES = {
+    "rows do not end": (TEST.format("rows", ENDLESS), ["--timeout=1"], 1, "1 passed, 3 failed, 0 skipped"),
+    "no tool on import": (NO_TOOL, ["--require-all"], 2, "0 passed, 1 failed, 0 skipped"),
+    "too few are run": (ENOUGH_AND_A_SKIP, ["--floors"], 1, "1 passed, 9 failed, 1 skipped"),
+    "one is left out": (TEST.format("left_out", NO_TOOL), ["--floors"], 0, "0 passed, 0 failed, 1 skipped"),
+}
+
+
+@pytest.mark.parametrize("text, options, status, counts", FILES.values(), ids=FILES)
+def test_endings(program: str, tmp_path: Path, text: str, options: list[str], status: int, counts: str) -> None:
+    done = run_sample(tmp_path, program, text, *options)
+    assert (done.returncode, f"\n{counts}\n" in done.stdout) == (status, True), done.stdout

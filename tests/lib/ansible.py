@@ -6,10 +6,8 @@ import functools
 import os
 import re
 import shutil
-import subprocess
 
-from lib.limits import SECONDS
-from lib.locales import PLAIN
+from lib.processes import PLAIN, run_text
 
 # Ansible's tool has the second name where this project's package is installed.
 NAMES = ("ansible-vault", "ansible-vault-original")
@@ -21,8 +19,7 @@ VERSION = re.compile(r"ansible-vault (?:\[core |(?=.*\n  config file))(\d+)\.(\d
 def release_of(path: str) -> tuple[int, int] | None:
     """Return the release, or None if this is another tool. Raise RuntimeError if the tool fails, since a broken tool is
     no reason to skip a test."""
-    environment = os.environ | PLAIN
-    done = subprocess.run([path, "--version"], capture_output=True, text=True, env=environment, timeout=SECONDS)
+    done = run_text([path, "--version"], env=os.environ | PLAIN)
     if done.returncode != 0:
         raise RuntimeError(f"{path} --version ends with {done.returncode}: {done.stderr}")
     found = VERSION.match(done.stdout)

@@ -8,6 +8,7 @@ import pytest
 
 from lib.needs import is_confined, needs, needs_checkout
 from lib.paths import ROOT
+from lib.processes import run_text
 
 # Seconds. If `rt` has cached nothing, as after a gate from scratch, the first build proves everything again.
 PROVING = 3600
@@ -38,14 +39,7 @@ def typed(command: str, folder: Path, **variables: str) -> str:
     ours = ("MAKE", "PYTEST_", "REQUIRE_")
     kept = {name: value for name, value in os.environ.items() if not name.startswith(ours)}
     offline = [] if is_confined() else ["unshare", "--net"]
-    done = subprocess.run(
-        [*offline, "bash", "-O", "expand_aliases", "-c", command],
-        cwd=folder,
-        env=kept | variables,
-        stdin=subprocess.DEVNULL,
-        stdout=subprocess.PIPE,
-        stderr=subprocess.STDOUT,
-        text=True,
-    )
+    words = [*offline, "bash", "-O", "expand_aliases", "-c", command]
+    done = run_text(words, cwd=folder, env=kept | variables, stderr=subprocess.STDOUT, timeout=None)
     assert done.returncode == 0, f"{command}\n{done.stdout}"
     return done.stdout

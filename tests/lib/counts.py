@@ -1,5 +1,5 @@
-"""Count what a run costs, in figures that do not depend on what else the machine does: instructions by function, memory
-allocations, and modules that Python imports.
+"""Count what a run costs, in figures that do not depend on what else the machine does: instructions by function, and
+modules that Python imports.
 
 Valgrind's callgrind counts the instructions. Standard input and output are files, since the size of a read from a pipe
 varies. The C library picks its copying functions by processor, so the ones for the newest processors are disabled.
@@ -9,16 +9,12 @@ import re
 import sys
 import tempfile
 from collections import Counter
-from functools import partial
 from pathlib import Path
 from typing import Any, NamedTuple
 
 from lib import processes
-from lib.preloaded import run_with
 
 ENVIRONMENT = {"GLIBC_TUNABLES": "glibc.cpu.hwcaps=-AVX512F,-AVX512VL,-AVX2,-AVX_Fast_Unaligned_Load,-ERMS,-FSRM"}
-# The library that counts allocations.
-LIBRARY = "count_allocations"
 # The parts of a run, and the prefixes of their functions' names. All other functions are the rest.
 PARTS: dict[str, str | tuple[str, ...]] = {
     "SHA-256": "sha2::block256::compress",
@@ -30,13 +26,6 @@ PARTS: dict[str, str | tuple[str, ...]] = {
 REST, TOTAL = "the rest", "total"
 # What the compiler and the kit write into a program, and the processor it is built for.
 BUILT_BY = re.compile(rb"Linker: (LLD [\d.]+)|(rattle logic=[0-9a-f]{16})|(x86-64-v\d)(?=, which)")
-# The type parameters of a generic function, and the symbol version of a C library function.
-SUFFIX = re.compile(r"::<.*|@.*|'\d+$")
-
-
-class Allocations(NamedTuple):
-    number: int
-    peak: int
 
 
 class Done(NamedTuple):
@@ -69,7 +58,7 @@ def functions_of(profile: Path) -> Counter[str]:
     with profile.open(errors="replace") as lines:
         for line in lines:
             if line.startswith("fn="):
-                name = SUFFIX.sub("", line[3:].strip())
+                name = line[3:].strip()
             elif line.startswith("calls="):
                 is_call = True
             elif line[:1].isdigit():
@@ -92,19 +81,8 @@ def parts_of(functions: Counter[str]) -> dict[str, int]:
     """Return the instructions of each part, and the total."""
     parts = dict.fromkeys([*PARTS, REST], 0)
     for name, count in functions.items():
-        parts[part_of(name)] += count
+        parts[next((part for part, start in PARTS.items() if name.startswith(start)), REST)] += count
     return {**parts, TOTAL: functions.total()}
-
-
-def part_of(function: str) -> str:
-    return next((part for part, start in PARTS.items() if function.startswith(start)), REST)
-
-
-def count_allocations(library: str, command: list[str], stdin: bytes) -> tuple[Done, Allocations]:
-    """Run the command with `library`, which is built from `count_allocations.c`."""
-    done, report = run_with(library, {}, partial(run, command, stdin))
-    number, peak = report.split()
-    return done, Allocations(int(number), int(peak))
 
 
 def imported_modules(script: Path) -> list[str]:

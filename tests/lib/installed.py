@@ -5,12 +5,11 @@ import pathlib
 import subprocess
 from typing import Any
 
-from lib.paths import FIXTURES, ROOT, version
+from lib.paths import COMPANIONS, FIXTURES, ROOT, version
 from lib.processes import run, run_text
 
 VERSION = version()
 
-COMPANIONS = {each.name for each in (ROOT / "companions").glob("ansible-vault-*")}
 SHARED = {str(each.relative_to(ROOT / "companions")) for each in (ROOT / "companions").rglob("*.py")}
 NAMES = {"ansible-vault", *COMPANIONS}
 DOCUMENTS = {"README.md", "CHANGELOG.md", "CONTRIBUTING.md", "LICENSE", "debian/copyright", "tests/README.md"}
@@ -48,21 +47,16 @@ def files_below(folder: pathlib.Path) -> set[str]:
 
 
 def check_program(program: pathlib.Path, where: str) -> None:
+    """Check that the program works, that each companion prints its help, and that one calls the program beside it."""
     output = printed(str(program), "--version").strip()
     assert output == f"ansible-vault {VERSION}", f"{where} prints its version"
-    password = str(FIXTURES / "one.password")
-    vault = (FIXTURES / "format-1.1.vault").read_bytes()
-    shown = run([str(program), "view", "--vault-password-file", password], vault)
+    password, vault = str(FIXTURES / "one.password"), FIXTURES / "format-1.1.vault"
+    shown = run([str(program), "view", "--vault-password-file", password], vault.read_bytes())
     assert (shown.stdout, shown.stderr) == (b"a" * 16, b""), f"{where} shows a vault"
-    check_companions(program, where, ["--vault-password-file", password])
-
-
-def check_companions(program: pathlib.Path, where: str, secret: list[str]) -> None:
-    """Check that each companion runs and prints its help, and that one calls the program beside it."""
     helps = {name: printed(str(program.with_name(name)), "--help", PATH=os.defpath) for name in COMPANIONS}
     silent = [name for name, text in helps.items() if not text.startswith(f"usage: {name}")]
     assert silent == [], f"the companions beside {where} that have no help"
-    vault = str(FIXTURES / "format-1.1.vault")
-    output = printed(str(program.with_name("ansible-vault-check")), *secret, vault, PATH=os.defpath)
-    wanted = f"{vault}: default: decrypted by {secret[-1]}\n1 decrypted, 0 not\n"
+    check = str(program.with_name("ansible-vault-check"))
+    output = printed(check, "--vault-password-file", password, str(vault), PATH=os.defpath)
+    wanted = f"{vault}: default: decrypted by {password}\n1 decrypted, 0 not\n"
     assert output == wanted, f"the companions beside {where} call it"

@@ -12,10 +12,9 @@ import pytest
 from lib.ansible import ansible_vault
 from lib.paths import ROOT
 
-# The reasons to skip a test that --require-all accepts: the user is not root, root is confined, or the stored counts
-# are for another kit or Python.
+# The reasons to skip a test that --require-all accepts: the user is not root, or the stored counts are for another kit
+# or Python.
 TAKES_ROOT = "it takes the rights of root"
-TAKES_MOUNTS = "it mounts, which root may not do in a container or a chroot"
 OF_ANOTHER_BUILD = "its counts are of another build"
 # The number of the capability that allows mounting.
 CAP_SYS_ADMIN = 21
@@ -30,10 +29,8 @@ def needs(*tools: str) -> None:
 
 def needs_tool(name: str) -> str:
     """Return the path of a program, or skip the test if it is not on PATH."""
-    path = shutil.which(name)
-    if path is None:
-        pytest.skip(f"without {name}")
-    return path
+    needs(name)
+    return str(shutil.which(name))
 
 
 def needs_checkout() -> None:
@@ -55,12 +52,6 @@ def is_confined() -> bool:
     [effective] = re.findall(r"^CapEff:\s+(\w+)$", status, re.MULTILINE)
     mounted = {line.split()[4] for line in Path("/proc/self/mountinfo").read_text().splitlines()}
     return not int(effective, 16) >> CAP_SYS_ADMIN & 1 or "/" not in mounted
-
-
-def needs_mounts(can_mount: bool) -> None:
-    """Skip the test if it could not mount what it needs."""
-    if not can_mount:
-        pytest.skip(TAKES_MOUNTS if os.geteuid() == 0 else TAKES_ROOT)
 
 
 def needs_pyyaml() -> None:

@@ -24,15 +24,11 @@ def stand_in(folder: Path, name: str, version: str, files: dict[str, str]) -> Pa
     with tempfile.TemporaryDirectory() as path:
         top = Path(path)
         top.chmod(0o755)
-        write_files(top, files)
+        for file, content in files.items():
+            (top / file).parent.mkdir(parents=True, exist_ok=True)
+            (top / file).write_text(content)
+            (top / file).chmod(0o755)
         return build_package(top, folder, CONTROL.format(name=name, version=version))
-
-
-def write_files(top: Path, files: dict[str, str]) -> None:
-    for file, content in files.items():
-        (top / file).parent.mkdir(parents=True, exist_ok=True)
-        (top / file).write_text(content)
-        (top / file).chmod(0o755)
 
 
 def later(package: Path, folder: Path, version: str) -> Path:

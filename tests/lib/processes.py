@@ -7,8 +7,8 @@ from typing import IO, Any
 
 from lib.limits import SECONDS
 
-# The polling interval in seconds.
-PAUSE = 0.001
+# The locale of the programs that the tests run, whatever the caller's locale.
+PLAIN = {"LC_ALL": "C.UTF-8", "LANGUAGE": ""}
 
 
 def run(

@@ -54,12 +54,8 @@ class Repository(Place):
         """Paste shell commands into a terminal, type the password when asked, and return what it shows."""
         with bash_at_terminal(self.tree, self.environment | {"PS1": "$ ", "TERM": "dumb"}) as terminal:
             os.write(terminal, shell.encode())
-            wait_for_question(terminal)
+            # It reads whole lines without echo then. While a shell edits a line, it reads key by key.
+            both = termios.ICANON | termios.ECHO
+            wait_until(lambda: termios.tcgetattr(terminal)[3] & both == termios.ICANON, "the question")
             os.write(terminal, f"{password}\nexit\n".encode())
             return all_shown(terminal).decode()
-
-
-def wait_for_question(terminal: int) -> None:
-    """Wait until the terminal reads whole lines without echo. While a shell edits a line, it reads key by key."""
-    both = termios.ICANON | termios.ECHO
-    wait_until(lambda: termios.tcgetattr(terminal)[3] & both == termios.ICANON, "the question")

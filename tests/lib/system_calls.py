@@ -1,6 +1,7 @@
 """The system calls of a run, as strace logs them."""
 
 import re
+from itertools import takewhile
 from pathlib import Path
 from typing import NamedTuple
 
@@ -63,12 +64,9 @@ def calls_in(log: str) -> list[Call]:
 
 def loaded(calls: list[Call]) -> int:
     """Return the number of calls before the first of the program itself, including `execve`."""
-    loader = calls[1].address
-    for number, call in enumerate(calls[1:], 1):
-        is_loader = abs(call.address - loader) < LOADER_LENGTH or call.name in OF_THE_LOADER
-        if not is_loader:
-            return number
-    return len(calls)
+    loader, others = calls[1].address, calls[1:]
+    of_loader = (abs(call.address - loader) < LOADER_LENGTH or call.name in OF_THE_LOADER for call in others)
+    return 1 + len([*takewhile(bool, of_loader)])
 
 
 def own_calls(log: Path, programs: int = 1) -> tuple[list[Call], list[Call]]:

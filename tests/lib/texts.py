@@ -7,7 +7,6 @@ changes.
 """
 
 import re
-import shlex
 from pathlib import Path
 from typing import NamedTuple
 
@@ -24,46 +23,42 @@ PROGRAM = "program"
 class Mistake(NamedTuple):
     """An invalid command line, and the argument that the message names."""
 
-    words: list[str]
+    line: str
     named: str
 
     @property
-    def line(self) -> str:
-        return shlex.join(self.words)
+    def words(self) -> list[str]:
+        return self.line.split()
 
 
 # Without a command: none, an unknown and a misspelled command, an unknown option, and a value for one that takes none.
-OF_PROGRAM = [
-    Mistake([], "subcommand"),
-    Mistake(["show"], "show"),
-    Mistake(["encryp"], "encryp"),
-    Mistake(["--loud"], "--loud"),
-    Mistake(["--version=x"], "--version"),
-]
-TWICE = ["--output", "a", "--output", "b"]
+OF_PROGRAM = {"": "subcommand", "show": "show", "encryp": "encryp", "--loud": "--loud", "--version=x": "--version"}
+# With a command: an unknown and a misspelled option, a word too many, and an option without its value.
+OF_COMMAND = {
+    "--loud": "--loud",
+    "--ask-vault-password": "--ask-vault-password",
+    "x y": "'y'",
+    "--vault-id": "--vault-id",
+}
+# An option given twice, for commands with an output and without.
+TO_OUTPUT, TWICE = {"--output a --output b": "--output"}, {"--require-id-match " * 2: "--require-id-match"}
 # With several mistakes: the first is named, but an unknown option before one given twice.
-OF_REKEY = [
-    Mistake(["rekey", *TWICE, "--loud"], "--loud"),
-    Mistake(["rekey", *TWICE, "x", "y"], "--output"),
-    Mistake(["rekey", "x", "y", "--help"], "'y'"),
-]
+OF_REKEY = {
+    "--output a --output b --loud": "--loud",
+    "--output a --output b x y": "--output",
+    "x y --help": "'y'",
+}
 
 
-def of_command(command: str) -> list[Mistake]:
-    """Return an unknown and a misspelled option, a word too many, an option without its value, and one given twice."""
-    twice = TWICE if "--output" in OPTIONS[command] else ["--require-id-match"] * 2
-    mistakes = [
-        (["--loud"], "--loud"),
-        (["--ask-vault-password"], "--ask-vault-password"),
-        (["x", "y"], "'y'"),
-        (["--vault-id"], "--vault-id"),
-        (twice, twice[0]),
-    ]
-    return [Mistake([command, *words], named) for words, named in mistakes]
+def mistakes_of(command: str) -> list[Mistake]:
+    mistakes = OF_COMMAND | (TO_OUTPUT if "--output" in OPTIONS[command] else TWICE)
+    if command == "rekey":
+        mistakes |= OF_REKEY
+    return [Mistake(f"{command} {words}".strip(), named) for words, named in mistakes.items()]
 
 
-MISTAKES = {PROGRAM: OF_PROGRAM} | {command: of_command(command) for command in OPTIONS}
-MISTAKES["rekey"] += OF_REKEY
+MISTAKES = {PROGRAM: [Mistake(*each) for each in OF_PROGRAM.items()]}
+MISTAKES |= {command: mistakes_of(command) for command in OPTIONS}
 
 
 def help_path(name: str) -> Path:

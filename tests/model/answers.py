@@ -22,18 +22,13 @@ WHITESPACE = b"\t\n\x0b\x0c\r "
 
 # The contents of the files by path. A directory, with None, can be opened, but not read.
 Files = Mapping[str, bytes | None]
+# The label, the salt, the tag and the ciphertext of an envelope.
+Payload = tuple[str, bytes, bytes, bytes]
 
 
 class Secret(NamedTuple):
     label: str
     password: bytes
-
-
-class Payload(NamedTuple):
-    label: str
-    salt: bytes
-    tag: bytes
-    ciphertext: bytes
 
 
 class Answer(NamedTuple):
@@ -132,7 +127,7 @@ def payload_in(envelope: bytes) -> Payload:
         raise Refused(Fault.BAD_PAYLOAD)
     if len(ciphertext) > CIPHERTEXT_LIMIT:
         raise Refused(Fault.CIPHER_TOO_LONG)
-    return Payload(label, salt, tag, ciphertext)
+    return label, salt, tag, ciphertext
 
 
 def tried(secrets: list[Secret], label: str, required: bool) -> list[Secret]:
@@ -148,10 +143,11 @@ def unpadded(whole: bytes) -> bytes:
     return plaintext
 
 
-def decrypt_payload(secrets: list[Secret], required: bool, payload: Payload) -> bytes:
-    for secret in tried(secrets, payload.label, required):
-        if tag_of(secret.password, payload.salt, payload.ciphertext) == payload.tag:
-            return unpadded(apply_keystream(secret.password, payload.salt, payload.ciphertext))
+def decrypted(secrets: list[Secret], required: bool, envelope: bytes) -> bytes:
+    label, salt, tag, ciphertext = payload_in(envelope)
+    for secret in tried(secrets, label, required):
+        if tag_of(secret.password, salt, ciphertext) == tag:
+            return unpadded(apply_keystream(secret.password, salt, ciphertext))
     raise Refused(Fault.NO_SECRET_FITS)
 
 
@@ -171,32 +167,28 @@ def encrypted(request: Request, secret: Secret, salt: bytes, plaintext: bytes) -
     return envelope if request.command == "encrypt" else yaml_block(envelope, (request.name or "").encode())
 
 
-def result(request: Request, contents: list[bytes], salt: bytes, given: bytes | None) -> bytes:
-    """Return the output. The input is read only if the passwords, the choice and the salt are valid."""
-    passwords = [password(content) for content in contents]
-    held = [Secret(file.label, word) for file, word in zip(request.files, passwords)]
-    secrets = held[: len(request.secrets)]
-    secret = chosen(secrets, request.choice) if request.command.startswith("encrypt") else None
-    sealing_salt = salt_of(request, salt) if request.salt_path or request.salt_text else b""
-    content = read(given, Fault.INPUT_NOT_READ)
-    if secret is not None:
-        return encrypted(request, secret, sealing_salt, content)
-    plaintext = decrypt_payload(secrets, request.label_required, payload_in(content))
-    return sealed(held[-1], sealing_salt, plaintext) if request.new_secret else plaintext
-
-
 def performed(request: Request, files: Files, stdin: bytes) -> bytes:
-    """Open the files in their order, and return the output."""
+    """Open the files in their order, and return the output. The input is read only if the passwords, the choice and the
+    salt are valid."""
     contents = []
     for file in request.files:
         contents.append(read(opened(files, file.path, Fault.SECRET_NOT_OPENED), Fault.SECRET_NOT_READ))
     salt = b""
     if request.salt_path is not None:
         salt = read(opened(files, request.salt_path, Fault.SALT_NOT_OPENED), Fault.SALT_NOT_READ)
-    given: bytes | None = stdin if request.string is None else request.string.encode()
-    if request.input is not None:
-        given = opened(files, request.input, Fault.INPUT_NOT_OPENED)
-    return result(request, contents, salt, given)
+    given: bytes | None = stdin
+    if request.positional is not None:
+        is_string = request.command == "encrypt_string"
+        given = request.positional.encode() if is_string else opened(files, request.positional, Fault.INPUT_NOT_OPENED)
+    held = [Secret(file.label, password(content)) for file, content in zip(request.files, contents)]
+    secrets = held[: len(request.secrets)]
+    secret = chosen(secrets, request.choice) if request.command.startswith("encrypt") else None
+    sealing_salt = salt_of(request, salt) if request.salt_path or request.salt_text else b""
+    content = read(given, Fault.INPUT_NOT_READ)
+    if secret is not None:
+        return encrypted(request, secret, sealing_salt, content)
+    plaintext = decrypted(secrets, request.label_required, content)
+    return sealed(held[-1], sealing_salt, plaintext) if request.new_secret else plaintext
 
 
 def refusal(fault: Fault) -> Answer:

@@ -19,16 +19,12 @@ FULL_DEVICE = "/dev/full"
 ZEROS = {"/dev/zero": bytes(SECRET_LIMIT + 1)}
 
 
-def is_folder(files: Files, path: str) -> bool:
-    return path in files and files[path] is None
-
-
 def can_be_written(files: Files, answered: Answer) -> bool:
     path = answered.path or ""
     if path == FULL_DEVICE:
         return answered.output == b""
-    folder = os.path.dirname(path)
-    return path != "" and not is_folder(files, path) and (folder == "" or is_folder(files, folder))
+    folders = {"", *(name for name, content in files.items() if content is None)}
+    return path not in folders and os.path.dirname(path) in folders
 
 
 def salt_in(output: bytes) -> bytes:

@@ -49,18 +49,17 @@ class SecretFile(NamedTuple):
 
 
 class Request(NamedTuple):
-    """A valid request. A path that is None means a standard stream."""
+    """A valid request. If FILE or STRING is None, standard input is read; an output that is None is standard output."""
 
     command: str
     secrets: list[SecretFile]
     new_secret: SecretFile | None
     choice: str | None
     name: str | None
-    string: str | None
+    positional: str | None
     salt_text: str | None
     salt_path: str | None
     label_required: bool
-    input: str | None
     output: str | None
 
     @property
@@ -175,7 +174,6 @@ def salts(matches: Matches) -> tuple[str | None, str | None]:
 
 def settle(matches: Matches) -> Request:
     positional = next((each for each in matches.positionals if each != "-"), None)
-    is_string = matches.command == "encrypt_string"
     secrets = secret_files(matches)
     choice = chosen_label(matches)
     new = new_secret(matches)
@@ -184,16 +182,5 @@ def settle(matches: Matches) -> Request:
     if matches.command in ("encrypt", "decrypt", "rekey") and positional is not None and output is None:
         raise Refused(Fault.OUTPUT_NEEDED)
     salt_text, salt_path = salts(matches)
-    return Request(
-        command=matches.command,
-        secrets=secrets,
-        new_secret=new,
-        choice=choice,
-        name=name,
-        string=positional if is_string else None,
-        salt_text=salt_text,
-        salt_path=salt_path,
-        label_required=bool(matches.all("--require-id-match")),
-        input=None if is_string else positional,
-        output=None if output == "-" else output,
-    )
+    required, output = "--require-id-match" in matches.values, None if output == "-" else output
+    return Request(matches.command, secrets, new, choice, name, positional, salt_text, salt_path, required, output)

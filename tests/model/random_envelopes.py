@@ -43,16 +43,15 @@ def respelled(random: Random, envelope: bytes) -> bytes:
         return envelope
     header, _, body = envelope.partition(b"\n")
     digits = body.replace(b"\n", b"")
-    width, end = random.choice(WIDTHS), random.choice(LINE_ENDS)
+    width = random.choice(WIDTHS)
     if random.random() < 0.3:
         digits = digits.upper()
     elif random.random() < 0.3:
         digits = bytes(random.choice((digit, digit ^ 32)) if digit > 64 else digit for digit in digits)
     lines = [digits[index : index + width] for index in range(0, len(digits), width)]
-    if random.random() < 0.3:
-        end, lines = b"", [line + random.choice(LINE_ENDS) for line in lines]
-    whole = other_header(random, header) + (end or b"\n") + end.join(lines)
-    return whole + random.choice([b"", end, b"\n\n\r\r"])
+    ends = random.choices(random.choice([LINE_ENDS, [random.choice(LINE_ENDS)]]), k=len(lines))
+    body = b"".join(end + line for end, line in zip(ends, lines))
+    return other_header(random, header) + body + random.choice([b"", ends[0], b"\n\n\r\r"])
 
 
 def other_header(random: Random, header: bytes) -> bytes:
@@ -71,26 +70,13 @@ def other_header(random: Random, header: bytes) -> bytes:
 
 
 def damaged(random: Random, envelope: bytes) -> bytes:
-    """Change, remove or insert bytes at one place."""
-    index = random.randrange(len(envelope))
-    end = random.randrange(index, len(envelope)) + 1
-    byte = bytes([random.choice(b"0aAfFgG \n\r;$\x00\x7f\x80\xff")])
-    flipped = bytes([envelope[index] ^ 1 << random.randrange(8)])
-    digit = bytes([random.choice(b"0123456789abcdef")])
-    return random.choice(
-        [
-            envelope[:index],
-            envelope[:index] + flipped + envelope[index + 1 :],
-            envelope[:index] + flipped + envelope[index + 1 :],
-            envelope[:index] + digit + envelope[index + 1 :],
-            envelope[:index] + byte + envelope[index:],
-            envelope[:index] + envelope[index + 1 :],
-            envelope[:index] + envelope[end:],
-            envelope[:end] + envelope[index:],
-            envelope + byte,
-            byte + envelope,
-        ]
-    )
+    """Change, remove, insert or repeat bytes at one place."""
+    length = len(envelope)
+    start = random.choice([0, *[random.randrange(length)] * 8, length])
+    end = random.choice([start, *[start + 1] * 4, random.randrange(length), length])
+    flipped = bytes(byte ^ 1 << random.randrange(8) for byte in envelope[start : start + 1])
+    other = bytes([random.choice(b"0123456789abcdefAFgG \n\r;$\x00\x7f\x80\xff")])
+    return envelope[:start] + random.choice([b"", flipped, other]) + envelope[end:]
 
 
 FIELDS = HEADER.split(b";")
@@ -144,13 +130,8 @@ def envelope(random: Random, password: bytes, label: bytes) -> bytes:
         lambda: wrong_digits(random, pieces, label): 0.03,
         lambda: b";".join(random.choice(HEADERS)(random)) + b"\n" + whole.partition(b"\n")[2]: 0.1,
         lambda: damaged(random, respelled(random, whole)): 0.13,
-        lambda: not_at_all(random): 0.02,
+        lambda: random.choice([b"", ENVELOPE, HEADER, MAGIC, b"key: value\n", random.randbytes(40)]): 0.02,
+        lambda: (HEADER + b"\nzz").ljust(ENVELOPE_LIMIT + random.choice([0, 1]), b"\n"): 0.02 / RARELY,
     }
     [make] = random.choices([*kinds], [*kinds.values()])
     return make()
-
-
-def not_at_all(random: Random) -> bytes:
-    if random.randrange(RARELY) == 0:
-        return (HEADER + b"\nzz").ljust(ENVELOPE_LIMIT + random.choice([0, 1]), b"\n")
-    return random.choice([b"", ENVELOPE, HEADER, MAGIC, b"key: value\n", random.randbytes(random.choice(SIZES))])

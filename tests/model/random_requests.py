@@ -1,11 +1,12 @@
 """Random requests: the words of a command line, the files that exist, and the standard input."""
 
+from collections.abc import Iterator
 from dataclasses import dataclass
 from pathlib import Path
 from random import Random
 
 from model import random_envelopes
-from model.options import FLAGS, OPTIONS, SEALING
+from model.options import COMMON, FLAGS, OPTIONS
 from model.vaults import ENVELOPE
 
 # By the names of their files, some of which need care in a shell or on a terminal.
@@ -32,10 +33,15 @@ BAD_PASSWORDS = {
     "long and blank": b"pw".ljust(4_097, b"\n"),
     "long script": b"#!".ljust(5_000, b"k"),
 }
-SALT_FILES = {"salt of 32": b"0123456789abcdef" * 2, "salt of 40": bytes(range(40)), "endless salt": bytes(70_000)}
+SALTS = {"salt of 32": b"0123456789abcdef" * 2, "salt of 40": bytes(range(40))}
 SHORT_SALTS = {"salt of 31": bytes(31), "no salt": b""}
-FOLDER = "folder"
+FOLDER, OLD = "folder", "old"
+FILES = PASSWORDS | BAD_PASSWORDS | SALTS | SHORT_SALTS | {OLD: b"what stood there before\n" * 40}
 NO_FILES = ["missing", "", "right/below", "missing/x", FOLDER]
+NO_PASSWORDS = [*BAD_PASSWORDS, *NO_FILES, "-", "prompt", "/dev/zero"]
+INPUTS = [*["input"] * 80, *["-"] * 10, *NO_FILES]
+OUTPUTS = ["-", "new", "new", OLD, f"{FOLDER}/new", "input"]
+BAD_OUTPUTS = [FOLDER, "missing/new", "", "/dev/full", f"{OLD}/new"]
 LABELS = ["default", "dev", "prod", "Prod", "a b", "~!#$%&'\"\\", "a" * 128]
 BAD_LABELS = ["a;b", " a", "a ", "a\tb", "dév", "a" * 129, " ", "a\x7f"]
 NAMES = ["k", "", "my secret", "näme", "x" * 300, "-n", "a: b"]
@@ -44,6 +50,9 @@ STRINGS = ["secret", "", "-", "ünï→\n", "$ANSIBLE_VAULT", "$ANSIBLE_VAUL", "
 SALT_TEXTS = ["abc", "a", "a" * 64, "é" * 32, " ", "-x"]
 BAD_SALT_TEXTS = ["", "a" * 65, "é" * 33]
 SECRET_COUNTS = [0] * 3 + [1] * 12 + [2] * 4 + [3, 4] + [16, 17]
+# Words that most command lines may not contain.
+WRONG = [["--loud"], ["x", "y"], ["--vault-id"], ["--vault-id", "--salt"], ["-x"]]
+WRONG += [[option, "x"] for option in sorted(set().union(*OPTIONS.values()))]
 
 
 @dataclass
@@ -67,141 +76,72 @@ class Maker:
 
     def __init__(self, random: Random) -> None:
         self.random = random
-        self.command = random.choice(list(OPTIONS))
-        self.options: list[tuple[str, str]] = []
-        self.files: dict[str, bytes | None] = {FOLDER: None}
+        self.command = random.choice([*OPTIONS])
+        # The labels and passwords of the secrets.
         self.held: list[tuple[str, bytes]] = []
 
     def likely(self, chance: float) -> bool:
         return self.random.random() < chance
 
-    def mostly(self, good: list[str], bad: list[str], chance: float = 0.95) -> str:
+    def mostly(self, good: list[str], bad: list[str], chance: float = 0.9) -> str:
         return self.random.choice(good if self.likely(chance) else bad)
 
-    def has(self, option: str) -> bool:
-        return option in OPTIONS[self.command]
-
-    def add(self, option: str, value: str = "") -> None:
-        self.options.append((option, value))
-
-    def file(self, name: str, content: bytes) -> str:
-        self.files[name] = content
-        return name
-
-    def password_path(self) -> str:
-        kind = self.random.random()
-        if kind < 0.93:
-            return self.file(*self.random.choice(list(PASSWORDS.items())))
-        if kind < 0.97:
-            return self.file(*self.random.choice(list(BAD_PASSWORDS.items())))
-        return self.random.choice([*NO_FILES, "-", "prompt", "/dev/zero"])
-
-    def vault_id(self, path: str) -> tuple[str, str]:
-        """Return the value of an option, and its label."""
-        label = self.mostly(LABELS, BAD_LABELS, 0.98)
-        if self.likely(0.1) and "@" not in path:
-            return self.random.choice([path, "@" + path]), "default"
-        return f"{label}@{'prompt' if self.likely(0.01) else path}", label
-
-    def secret(self, id_option: str, file_option: str) -> tuple[str, bytes]:
-        """Add an option, and return its label and password, provided that it is valid."""
-        path, label = self.password_path(), "default"
+    def secret(self, kind: str = "") -> tuple[str, str]:
+        """Return an option with its value, and note its label and password, provided that it is valid."""
+        path, label = self.mostly([*PASSWORDS], NO_PASSWORDS, 0.93), "default"
+        option, value = f"--{kind}vault-password-file", path
         if self.likely(0.7):
-            value, label = self.vault_id(path)
-            self.add(id_option, value)
-        else:
-            self.add(file_option, path)
-        return label, PASSWORDS.get(path, b"right").strip()
+            label = self.mostly(LABELS, BAD_LABELS, 0.98)
+            option, value = f"--{kind}vault-id", f"{label}@{path}"
+            if self.likely(0.1) and "@" not in path:
+                label, value = "default", self.random.choice([path, f"@{path}"])
+        self.held.append((label, PASSWORDS.get(path, b"right").strip()))
+        return option, value
 
-    def add_others(self) -> None:
-        """Add the choice of a secret, the flag and the names."""
-        chance = 0.2 if len(self.held) == 1 else 0.85
-        if self.has("--encrypt-vault-id") and self.likely(chance):
+    def others(self, has_input: bool) -> Iterator[tuple[str, str]]:
+        """Yield options with their values, some of which the command does not have."""
+        if self.likely(0.2 if len(self.held) == 1 else 0.85):
             labels = [label for label, _ in self.held] * 3 + LABELS
-            self.add("--encrypt-vault-id", self.mostly(labels, BAD_LABELS, 0.98))
-        if self.has("--require-id-match") and self.likely(0.3):
-            self.add("--require-id-match")
+            yield "--encrypt-vault-id", self.mostly(labels, BAD_LABELS, 0.98)
+        if self.likely(0.3):
+            yield "--require-id-match", ""
         for option in ("--name", "--stdin-name"):
-            if self.has(option) and self.likely(0.35):
-                self.add(option, self.mostly(NAMES, BAD_NAMES, 0.9))
-
-    def add_new_secret(self) -> None:
-        if self.command != "rekey":
-            return
-        kind = self.random.random()
-        if kind < 0.94:
-            self.secret("--new-vault-id", "--new-vault-password-file")
-        elif kind < 0.97:
-            self.add("--new-vault-id", self.vault_id(self.password_path())[0])
-            self.add("--new-vault-password-file", self.password_path())
-
-    def add_salt(self) -> None:
-        if self.command not in SEALING:
-            return
-        kind = self.random.random()
-        if kind < 0.4 or kind > 0.97:
-            self.add("--salt", self.mostly(SALT_TEXTS, BAD_SALT_TEXTS, 0.9))
-        if kind > 0.7:
-            name, content = self.random.choice([*SALT_FILES.items()] * 3 + [*SHORT_SALTS.items()])
-            good = self.likely(0.93)
-            self.add("--salt-file", self.file(name, content) if good else self.random.choice([*NO_FILES, "/dev/zero"]))
-
-    def add_output(self, input_path: str | None) -> None:
-        named = [input_path] if input_path is not None and input_path != "-" else []
-        if self.has("--output") and self.likely(0.95 if named else 0.3):
-            old = self.file("old", b"what stood there before\n" * 40)
-            good = ["-", "new", "new", old, f"{FOLDER}/new"] + named
-            bad = [FOLDER, "missing/new", "", "/dev/full", f"{old}/new"]
-            self.add("--output", self.mostly(good, bad, 0.9))
+            if self.likely(0.35):
+                yield option, self.mostly(NAMES, BAD_NAMES)
+        for _ in range(self.random.choice([1] * 30 + [0, 2])):
+            yield self.secret("new-")
+        if has_text := self.likely(0.45):
+            yield "--salt", self.mostly(SALT_TEXTS, BAD_SALT_TEXTS)
+        if self.likely(0.06 if has_text else 0.5):
+            yield "--salt-file", self.mostly([*SALTS, "/dev/zero"], [*[*SHORT_SALTS] * 2, *NO_FILES], 0.75)
+        if self.likely(0.95 if has_input else 0.3):
+            yield "--output", self.mostly(OUTPUTS, BAD_OUTPUTS)
 
     def content(self) -> bytes:
         if self.command.startswith("encrypt"):
             return random_envelopes.plaintext(self.random)
         label, password = self.random.choice(self.held or [("default", b"right")])
         if self.likely(0.15):
-            password = self.random.choice(list(PASSWORDS.values())).strip()
+            password = self.random.choice([*PASSWORDS.values()]).strip()
         if self.likely(0.3):
             label = self.random.choice(LABELS)
         spelled_label = "" if label == "default" or label in BAD_LABELS else label
         return random_envelopes.envelope(self.random, password, spelled_label.encode())
 
-    def positional(self) -> tuple[str | None, bytes]:
-        """Return FILE or STRING, and the standard input."""
-        if self.command == "encrypt_string":
-            string = self.random.choice(STRINGS) if self.likely(0.6) else None
-            return string, self.content()
-        if self.likely(0.4):
-            return None, self.content()
-        if self.likely(0.05):
-            return self.random.choice(NO_FILES), b"not asked"
-        if self.likely(0.1):
-            return "-", self.content()
-        return self.file("input", self.content()), b"not asked"
-
     def spelled(self, option: str, value: str) -> list[str]:
         if option in FLAGS:
             return [option]
+        is_joined = self.likely(0.3) or value.startswith("-") and value != "-"
         if option == "--name" and self.likely(0.5):
-            return ["-n", value] if not value.startswith("-") or value == "-" else [f"-n{value}"]
-        if self.likely(0.3) or value.startswith("-") and value != "-":
-            return [f"{option}={value}"]
-        return [option, value]
+            return [f"-n{value}"] if is_joined and value else ["-n", value]
+        return [f"{option}={value}"] if is_joined else [option, value]
 
-    def spoiled(self, groups: list[list[str]]) -> list[list[str]]:
-        """Add words that make the command line invalid."""
-        other = sorted({option for options in OPTIONS.values() for option in options} - OPTIONS[self.command])
-        wrong = [["--loud"], ["x", "y"], ["--vault-id"], ["--vault-id", "--salt"], ["-x"]]
-        wrong += [[self.random.choice(other), "x"]]
-        wrong += [[option, "x", option, "y"] for option in sorted(OPTIONS[self.command] - FLAGS)]
-        return groups + [self.random.choice(wrong)]
-
-    def words(self, positional: str | None) -> list[str]:
-        groups = [self.spelled(option, value) for option, value in self.options]
-        if self.likely(0.02):
-            return [self.command, *sum(self.spoiled(groups), [])]
-        dashed = positional is not None and positional.startswith("-") and positional != "-"
-        last = []
-        if positional is not None and (dashed or self.likely(0.2)):
+    def words(self, options: list[tuple[str, str]], positional: str | None) -> list[str]:
+        known = COMMON | OPTIONS[self.command]
+        groups, last = [self.spelled(*each) for each in options if each[0] in known], list[str]()
+        if self.likely(0.03):
+            groups.append(self.random.choice([*groups, *WRONG]))
+        if positional is not None and (self.likely(0.2) or positional.startswith("-") and positional != "-"):
             last = ["--", positional]
         elif positional is not None:
             groups.append([positional])
@@ -209,14 +149,15 @@ class Maker:
         return [self.command, *sum(groups, []), *last]
 
     def case(self) -> Case:
-        count = self.random.choice(SECRET_COUNTS)
-        self.held = [self.secret("--vault-id", "--vault-password-file") for _ in range(count)]
-        positional, stdin = self.positional()
-        self.add_others()
-        self.add_new_secret()
-        self.add_salt()
-        self.add_output(positional if self.command != "encrypt_string" else None)
-        return Case(self.words(positional), self.files, stdin)
+        options = [self.secret() for _ in range(self.random.choice(SECRET_COUNTS))]
+        content, is_string = self.content(), self.command == "encrypt_string"
+        positional = self.random.choice(STRINGS if is_string else INPUTS) if self.likely(0.6) else None
+        is_read = positional in (None, "-")
+        options += self.others(not is_read and not is_string)
+        words = self.words(options, positional)
+        # Only files that a word may name, since more take longer.
+        files = {name: text for name, text in {**FILES, "input": content}.items() if name in " ".join(words)}
+        return Case(words, {**files, FOLDER: None}, content if is_read else b"not asked")
 
 
 def make(seed: str) -> Case:
