@@ -1,59 +1,39 @@
 """The cipher reads its tables: no contract can say how a value is found.
 
-Copies of the cipher have another number at entry 0 of a table. The zero key and the zero block read that entry, so
-their test vector must then fail.
+Copies of the program have another number at entry 0 of a table. Among the many blocks of a long vault, some read that
+entry, so a copy must decrypt it to another text.
 """
 
 import re
-import shutil
-import subprocess
 from pathlib import Path
 
-from lib.limits import SECONDS
+from lib.cases import TEXT, Cases, answer_of, by_file
 from lib.paths import ROOT
+from lib.processes import run
+from model.faults import Fault
+from model.vaults import seal
 
-CIPHER = ROOT / "crates" / "vault_aes"
-VECTORS = ROOT / "crates" / "vault_format_tests" / "src" / "vectors.rt"
-TEST = "enciphers_zeros_under_the_zero_key"
-TABLE = re.compile(r"^const (\w+): \[u(?:8|32); 256\] = \[\s*0x(\w+)", re.MULTILINE)
-NAMES = [found[1] for found in TABLE.finditer((CIPHER / "src" / "tables.rt").read_text())]
-
-
-def copy_cipher(crates: Path, table: str) -> str:
-    """Copy the cipher under a new name, change the first entry of the table if it exists, and return the name."""
-    name = f"vault_aes_{table.lower()}"
-    shutil.copytree(CIPHER, crates / name, ignore=shutil.ignore_patterns("out", "proofs", "must-fail", "mutants"))
-    for file in [*crates.glob(f"{name}/src/**/*.rt"), *crates.glob(f"{name}/specs/**/*.antt")]:
-        file.write_text(file.read_text().replace("vault_aes", name))
-    tables = crates / name / "src" / "tables.rt"
-
-    def changed(found: re.Match[str]) -> str:
-        first = int(found[2], 16) ^ 1
-        return found[0] if found[1] != table else f"{found[0].removesuffix(found[2])}{first:0{len(found[2])}x}"
-
-    tables.write_text(TABLE.sub(changed, tables.read_text()))
-    return name
+SOURCE = ROOT / "crates" / "vault_aes" / "src" / "tables.rt"
+TABLE = re.compile(r"^const (\w+): \[u(8|32); 256\] = \[([^]]*)\]", re.MULTILINE)
 
 
-def outcomes(folder: Path, ciphers: dict[str, str]) -> dict[str, str]:
-    """Return how `rt try` ends the test of each cipher's vector, before any proof."""
-    source = folder / "crates" / "vectors" / "src"
-    source.mkdir(parents=True)
-    for name in ciphers.values():
-        (source / f"of_{name}.rt").write_text(VECTORS.read_text().replace("vault_aes", name))
-    modules = "".join(f"#[cfg(test)]\nmod of_{name};\n" for name in ciphers.values())
-    (source / "lib.rt").write_text(f"#![tactic(auto)]\n{modules}")
-    lines = [f"{name}:\n" for name in ciphers.values()]
-    (folder / "crates.txt").write_text("".join([*lines, f"vectors: {' '.join(ciphers.values())}\n"]))
-    shutil.copy(ROOT / "HANDLES", folder)
-    command = ["rt", "try", "--test"]
-    done = subprocess.run(command, cwd=source.parent, capture_output=True, text=True, timeout=SECONDS)
-    found = dict(re.findall(rf"^test of_(\w+)::{TEST} \.\.\. (\w+)$", done.stdout, re.MULTILINE))
-    assert found, done.stdout + done.stderr
-    return {table: found.get(name, "") for table, name in ciphers.items()}
+def tables() -> dict[str, bytes]:
+    """Return each table as the program has it in memory."""
+    found = {}
+    for name, bits, text in TABLE.findall(SOURCE.read_text()):
+        numbers = (int(each, 16) for each in re.findall(r"\w+", text))
+        found[name] = b"".join(number.to_bytes(int(bits) // 8, "little") for number in numbers)
+    return found
 
 
-def test_entry_0(tmp_path: Path) -> None:
-    assert len(NAMES) == 5, "a table of S, and one for each of the four rows"
-    ciphers = {table: copy_cipher(tmp_path / "crates", table) for table in ["none", *NAMES]}
-    assert outcomes(tmp_path, ciphers) == {"none": "ok", **dict.fromkeys(NAMES, "FAILED")}
+def test_entry_0(cases: Cases) -> None:
+    text, program = TEXT * 4_000, Path(cases.program).read_bytes()
+    words, vault = ["view", *by_file(cases.file(b"right\n"))], seal(b"right", text)
+    cases.run(words, vault, out=text)
+    assert len(tables()) == 5, "a table of S, and one for each of the four rows"
+    for name, table in tables().items():
+        assert program.count(table) == 1, name
+        copy = cases.file(program.replace(table, bytes([table[0] ^ 1]) + table[1:]), 0o755)
+        status, output, message = answer_of(run([copy, *words], vault))
+        assert (status, message) in [(0, b""), (Fault.BAD_PADDING.status, Fault.BAD_PADDING.line)], name
+        assert output != text, name

@@ -6,53 +6,30 @@ library was not loaded into the program, which is a failure.
 
 from collections.abc import Callable
 from functools import partial
-from pathlib import Path
 
 import pytest
 
-from fault_injection import Scenario, Target, run
-from fault_injection.scenarios import KIB, SALT_TEXT, TARGETS, refused_scenarios, scenarios
+from fault_injection import KIB, TARGETS, Target, refused_scenarios, run, scenarios
 from lib.cases import Cases
 from lib.needs import needs
 from lib.preloaded import build_library, refusing_each
+from lib.samples import SALT_TEXT
 from model.faults import Fault
 
 pytestmark = pytest.mark.allocations
 
-Record = Callable[[str, object], None]
 REFUSED = "a refused run"
 
 
-@pytest.fixture(scope="module")
-def folder(tmp_path_factory: pytest.TempPathFactory) -> Path:
-    return tmp_path_factory.mktemp("allocations")
-
-
-@pytest.fixture(scope="module")
-def library(folder: Path) -> str:
-    needs("cc")
-    return build_library(str(folder), "refuse_allocation")
-
-
-@pytest.fixture(scope="module")
-def every_scenario(program: str, folder: Path) -> dict[tuple[str, Target | None], list[Scenario]]:
-    cases = Cases(program, folder)
-    made = scenarios(cases, KIB, SALT_TEXT)
-    chosen = {(command, target): [each for each in made if each.is_of(command, target)] for command, target in TARGETS}
-    return chosen | {(REFUSED, None): refused_scenarios(cases)}
-
-
-@pytest.mark.parametrize("command, target", [*TARGETS, (REFUSED, None)])
+@pytest.mark.parametrize("command, target", [*TARGETS, (REFUSED, Target.STREAM)])
 def test_each_refused(
-    program: str,
-    library: str,
-    every_scenario: dict[tuple[str, Target | None], list[Scenario]],
-    command: str,
-    target: Target | None,
-    record_property: Record,
+    cases: Cases, command: str, target: Target, record_property: Callable[[str, object], None]
 ) -> None:
-    for scenario in every_scenario[command, target]:
-        refused, whole = refusing_each(library, partial(run, scenario, [program]))
+    needs("cc")
+    library = build_library(str(cases.folder), "refuse_allocation")
+    of_target = scenarios(cases, command, target, KIB, SALT_TEXT) if command != REFUSED else refused_scenarios(cases)
+    for scenario in of_target:
+        refused, whole = refusing_each(library, partial(run, scenario, [cases.program]))
         wanted = scenario.untouched(Fault.MEMORY.status, Fault.MEMORY.line)
         differing = {number: left for number, left in enumerate(refused, 1) if left != wanted}
         assert (differing, whole) == ({}, scenario.fault_free()), scenario.name

@@ -11,6 +11,7 @@ message.
 from collections import Counter
 from collections.abc import Callable
 from functools import partial
+from pathlib import Path
 from typing import NamedTuple
 
 import pytest
@@ -52,33 +53,27 @@ class Run(NamedTuple):
     ways: set[str]
 
 
-def refused(words: list[str], stdin: bytes, fault: Fault) -> Run:
-    return Run(words, stdin, Left(fault.status, message=fault.line), {MEMORY, LINE})
-
-
 def runs_of(call: str) -> list[Run]:
     """Return runs of each command: one with an output, one with a file, and one that is refused."""
-    vault = (FIXTURES / "format-1.1.vault").read_bytes()
-    one = ["--vault-password-file", "one"]
-    sealing = [*one, "--salt-file", "salt"]
+    vault, one = (FIXTURES / "format-1.1.vault").read_bytes(), ["--vault-password-file", "one"]
+    sealing, two = [*one, "--salt-file", "salt"], ["--vault-id", "a@two", "--vault-id", "b@one"]
     sealed, rekeyed = seal(b"one", TEXT, salt=SALT), seal(b"two", TEXT, b"prod", SALT)
-    whole = [
-        (["view", "--vault-id", "a@two", "--vault-id", "b@one"], seal(b"one", TEXT, b"b", SALT), TEXT),
-        (["decrypt", *one], vault, TEXT),
-        (["rekey", *sealing, "--new-vault-id", "prod@two"], vault, rekeyed),
-        (["encrypt", *sealing], TEXT, sealed),
-        (["encrypt_string", *sealing], TEXT, yaml_block(sealed)),
+    # The words of each command, its input and output, and an input that it refuses, with the fault.
+    commands = [
+        (["view", *two], seal(b"one", TEXT, b"b", SALT), TEXT, b"", Fault.NOT_VAULT),
+        (["decrypt", *one], vault, TEXT, b"", Fault.NOT_VAULT),
+        (["rekey", *sealing, "--new-vault-id", "prod@two"], vault, rekeyed, ENVELOPE, Fault.NO_SECRET_FITS),
+        (["encrypt", *sealing], TEXT, sealed, ENVELOPE, Fault.ALREADY_VAULT),
+        (["encrypt_string", *sealing], TEXT, yaml_block(sealed), ENVELOPE, Fault.ALREADY_VAULT),
     ]
-    runs = [refused([call, "view"], b"", Fault.NOT_VAULT)]
-    for words, stdin, output in whole:
+    refused, runs = [(["view"], b"", Fault.NOT_VAULT)], []
+    for words, stdin, output, bad, fault in commands:
+        refused.append((words, bad, fault))
         runs.append(Run([call, *words], stdin, Left(0, output), {MEMORY, OUTPUT}))
         if call == "drive" and "view" not in words:
             runs.append(Run([call, *words, "--output", "kept"], stdin, Left(0, kept=output), {MEMORY, OUTPUT}))
-        if words[0] in ("view", "decrypt"):
-            runs.append(refused([call, *words], b"", Fault.NOT_VAULT))
-        else:
-            fault = Fault.NO_SECRET_FITS if words[0] == "rekey" else Fault.ALREADY_VAULT
-            runs.append(refused([call, *words], ENVELOPE, fault))
+    for words, stdin, fault in refused:
+        runs.append(Run([call, *words], stdin, Left(fault.status, message=fault.line), {MEMORY, LINE}))
     return runs
 
 
@@ -95,47 +90,40 @@ def is_part(part: bytes, whole: bytes) -> bool:
     return len(part) < len(whole) and whole.startswith(part)
 
 
-def way_of(left: Left, whole: Left) -> str | None:
-    """Return the way in which a run with a refused allocation ended, or None if it is none of them."""
+def way_of(printed: bytes, run: Run, ways: Counter[str | None]) -> str | None:
+    """Return the way in which a run with a refused allocation ended, or None if it must not end so after these."""
+    if printed == b"":
+        return BEFORE if set(ways) <= {BEFORE, WHOLE} else None
+    whole, fault = run.whole, Fault.NOT_WRITTEN
+    left, is_called = left_in(printed)
+    to, output = ("output", whole.output) if whole.output else ("kept", whole.kept)
+    # Only part of the output was written, and nothing elsewhere.
+    not_written = whole._replace(status=fault.status, message=fault.line)._asdict()
     if left == whole:
-        return WHOLE
-    if left == Left(Fault.MEMORY.status, message=Fault.MEMORY.line):
-        return MEMORY
-    if (left.status, left.message) == (Fault.NOT_WRITTEN.status, Fault.NOT_WRITTEN.line):
-        # Only part of the output was written, and nothing elsewhere.
-        part, others = (left.output, left.kept == KEPT) if whole.output else (left.kept, left.output == b"")
-        return OUTPUT if others and is_part(part, whole.output or whole.kept) else None
-    if left._replace(message=whole.message) == whole and is_part(left.message, whole.message):
-        return LINE
-    return None
-
-
-@pytest.fixture(scope="module")
-def library(tmp_path_factory: pytest.TempPathFactory) -> str:
-    needs("cc")
-    return build_library(str(tmp_path_factory.mktemp("library")), "refuse_allocation")
-
-
-def way_of_refused(printed: bytes, run: Run, ways: Counter[str | None]) -> str | None:
-    """Return the way in which this run with a refused allocation ended, or None if it must not end so."""
-    if printed == b"" and set(ways) <= {BEFORE, WHOLE}:
-        return BEFORE
-    left, called = left_in(printed)
-    way = way_of(left, run.whole)
-    # In its call, `run` allocates nothing except for its output and its message.
-    if run.words[0] == "run" and not (way in {OUTPUT, LINE} if called else way == MEMORY):
+        way = WHOLE
+    elif left == Left(Fault.MEMORY.status, message=Fault.MEMORY.line):
+        way = MEMORY
+    elif left._asdict() | {to: output} == not_written and is_part(left._asdict()[to], output):
+        way = OUTPUT
+    elif left._replace(message=whole.message) == whole and is_part(left.message, whole.message):
+        way = LINE
+    else:
         return None
-    return way
+    # In its call, `run` allocates nothing except for its output and its message.
+    is_allowed = run.words[0] != "run" or (way in {OUTPUT, LINE} if is_called else way == MEMORY)
+    return way if is_allowed else None
 
 
 @pytest.mark.parametrize("asked", [*runs_of("drive"), *runs_of("run")], ids=lambda run: " ".join(run.words))
-def test_refused(library: str, asked: Run, record_property: Callable[[str, object], None]) -> None:
+def test_refused(tmp_path: Path, asked: Run, record_property: Callable[[str, object], None]) -> None:
+    needs("cc")
     if not PROGRAM.exists():
         pytest.skip("without bin/vault_allocation_failures, which make builds")
+    library = build_library(str(tmp_path), "refuse_allocation")
     each_refused, whole = refusing_each(library, partial(run, [str(PROGRAM), *asked.words], asked.stdin))
     ways, differing = Counter[str | None](), dict[int, bytes]()
     for number, done in enumerate(each_refused, 1):
-        way = way_of_refused(done.stdout, asked, ways)
+        way = way_of(done.stdout, asked, ways)
         ways[way] += 1
         if way is None:
             differing[number] = done.stdout

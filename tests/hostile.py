@@ -5,7 +5,6 @@ enough for each. Resident memory grows with the input, whether it is a file or a
 """
 
 import re
-import resource
 import subprocess
 from functools import partial
 
@@ -20,36 +19,20 @@ from lib.subtests import SubTests
 from model.faults import Fault
 from model.vaults import PLAINTEXT_LIMIT
 
+VERSION = Sample(["--version"], b"", b"")
 KIB = 1 << 10
 MIB = 1 << 20
 # The address space in which every run succeeds.
 ENOUGH = 20 * MIB
 # The peak resident memory of a run, in MiB, by the size of its plaintext.
 RESIDENT = {KIB: 3, MIB: 5, PLAINTEXT_LIMIT: 20}
-# How many limits of address space to try for each run.
-STEPS = 20
+# The steps between limits of address space.
+STEP = MIB // 2
 
 
 def in_memory(program: str, sample: Sample, amount: int) -> subprocess.CompletedProcess[bytes]:
     """Run the program with this much address space."""
-
-    def restrict() -> None:
-        resource.setrlimit(resource.RLIMIT_CORE, (0, 0))
-        resource.setrlimit(resource.RLIMIT_AS, (amount, amount))
-
-    return run([program, *sample.words], sample.stdin, preexec_fn=restrict)
-
-
-@pytest.fixture(scope="module")
-def least_memory(program: str) -> int:
-    """Return the least address space, in whole pages, in which `--version` succeeds."""
-    version = Sample(["--version"], b"", b"")
-    low, high = 1, 1 << 16
-    while low < high:
-        middle = (low + high) // 2
-        fits = in_memory(program, version, middle * resource.getpagesize()).returncode == 0
-        low, high = (low, middle) if fits else (middle + 1, high)
-    return low * resource.getpagesize()
+    return run(["prlimit", f"--as={amount}", "--core=0", program, *sample.words], sample.stdin)
 
 
 def outcome(done: subprocess.CompletedProcess[bytes], sample: Sample) -> str:
@@ -61,13 +44,14 @@ def outcome(done: subprocess.CompletedProcess[bytes], sample: Sample) -> str:
 
 @each_command
 @pytest.mark.parametrize("size", RESIDENT)
-def test_memory(cases: Cases, subtests: SubTests, size: int, command: str, least_memory: int) -> None:
-    """Try address spaces from the least in which the program starts to one in which every run succeeds, and measure
-    resident memory."""
+def test_memory(cases: Cases, subtests: SubTests, size: int, command: str) -> None:
+    """Try address spaces in which the program starts, up to one in which every run succeeds, and measure resident
+    memory."""
     sample = sample_of(cases, command, (TEXT * size)[:size])
     with subtests.test("address space"):
-        amounts = [least_memory + (ENOUGH - least_memory) * step // STEPS for step in range(STEPS + 1)]
-        found = [outcome(in_memory(cases.program, sample, amount), sample) for amount in amounts]
+        amounts = range(STEP, ENOUGH + 1, STEP)
+        starting = [each for each in amounts if in_memory(cases.program, VERSION, each).returncode == 0]
+        found = [outcome(in_memory(cases.program, sample, amount), sample) for amount in starting]
         assert (found[0], found[-1], set(found)) == ("refused", "whole", {"refused", "whole"}), found
     needs("cc")
     library, most = build_library(str(cases.folder), "peak_memory"), RESIDENT[size] * KIB
@@ -79,11 +63,3 @@ def test_memory(cases: Cases, subtests: SubTests, size: int, command: str, least
                 # The kernel's figure may be wrong by some 100 KiB.
                 is_within = most // 3 < resident <= most
                 assert (answer_of(done), is_within) == ((0, sample.output, b""), True), resident
-
-
-@pytest.mark.parametrize("amount, fault", ((16 * MIB, Fault.MEMORY), (ENOUGH, Fault.SECRET_NOT_OPENED)))
-def test_reserved_first(cases: Cases, amount: int, fault: Fault) -> None:
-    """The program reserves room for the longest text before it looks for any file."""
-    missing = Sample(["view", "--vault-password-file", cases.path()], b"", b"")
-    done = in_memory(cases.program, missing, amount)
-    assert (done.returncode, done.stderr) == (fault.status, fault.line)

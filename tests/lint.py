@@ -1,6 +1,6 @@
 """What tools/lint says of the scripts, the manual pages, the length of lines and the names; and what it checks."""
 
-import runpy
+import os
 import shutil
 import subprocess
 from pathlib import Path
@@ -9,78 +9,70 @@ import pytest
 
 from lib.needs import needs, needs_checkout
 from lib.paths import ROOT
+from lib.processes import run_text
 
-LINT = ROOT / "tools" / "lint"
+# What lint reads, and files without a mistake.
+COPIED = ["tools/lint", "tools/dead_names", "mypy.ini", "companions/ansible_vault_companions/__init__.py"]
+COPIED += ["bench/measured.py", "tests/lib/paths.py", "debian/prerm", "man/ansible-vault-check.1", "README.md"]
+# A mistake for each kind of file and each check, and what is said of it, after the file's name.
+MISTAKES = {
+    "tools/unused": ("#!/usr/bin/env python3\nimport os\n", ":2:1: 'os' imported but unused\n"),
+    "bench/a.py": ("a: int = ''\n", ":1: error: Incompatible types"),
+    "companions/ansible-vault-a": ("#!/usr/bin/env -S python3 -ISB\nmatch 1:\n    case _: ...\n", ":3: error: "),
+    "tests/conftest.py": ("a: int = ''\n", ":1: error: Incompatible types"),
+    "tools/typed": ("#!/usr/bin/env -S python3 -B\na: int = ''\n", ":2: error: Incompatible types"),
+    "debian/postrm": ("#!/bin/sh\nrm $1\n", " line 2:\n"),
+    ".ci/run": ("#!/usr/bin/env bash\nrm $1\n", " line 2:\n"),
+    "a.bash": ("# shellcheck shell=bash\nrm $1\n", " line 2:\n"),
+    "tests/a": ("#!/usr/bin/awk -f\n", " line 1:\n"),
+    "man/a.1": (".TH A 1\n", ":1:"),
+    "long.py": (f"# {'x' * 119}\n", ":1: 121 columns of at most 120\n"),
+    "long.bash": (f"# shellcheck shell=bash\n# {'x' * 119}\n", ":2: 121 columns of at most 120\n"),
+    "long.rt": ("x" * 101, ":1: 101 columns of at most 100\n"),
+    "long.antt": ("x" * 101, ":1: 101 columns of at most 100\n"),
+    "crates/one/src/a.rt": ("pub fn no() {\n    used(no())\n}\n\npub fn used() {}\n", ":1: no is mentioned "),
+    "crates/one/src/b.rt": ("ghost use Rattle.two.specs.Three.{four};\n", ": four is imported and not used\n"),
+    "crates/one/must-fail/a.edit": ("file: src/a.rt\nold: another\nnew: b\n", ": not once in "),
+}
 
 
 def test_lint() -> None:
     needs_checkout()
     needs("pyflakes3", "mypy", "shellcheck", "mandoc")
-    done = subprocess.run([str(LINT)], capture_output=True, text=True)
+    done = run_text([str(ROOT / "tools" / "lint")])
     assert (done.returncode, done.stderr) == (0, ""), done.stdout
 
 
-def test_missing_tool(capfd: pytest.CaptureFixture[str]) -> None:
-    assert not runpy.run_path(str(LINT))["passes"]("no-such-tool")
-    assert capfd.readouterr().out == "no-such-tool is not installed\n"
+@pytest.fixture
+def repository(tmp_path: Path) -> Path:
+    needs("git", "pyflakes3", "mypy", "shellcheck", "mandoc")
+    for name in COPIED:
+        (tmp_path / "copy" / name).parent.mkdir(parents=True, exist_ok=True)
+        shutil.copy(ROOT / name, tmp_path / "copy" / name)
+    subprocess.run(["git", "init", "--quiet"], cwd=tmp_path / "copy", check=True)
+    return tmp_path / "copy"
 
 
-def test_each_script_is_looked_at() -> None:
-    """Except the scripts for make and zsh, which have no checker."""
-    lint = runpy.run_path(str(LINT))
-    folders = (".ci", "bench", "companions", "debian", "tests", "tools")
-    files = [file for folder in folders for file in (ROOT / folder).rglob("*") if file.is_file()]
-    scripts = [file for file in files if file.read_bytes().startswith(b"#!")]
-    assert len(scripts) > 20
-    others = [file.name for file in scripts if not lint["is_python"](file) and not lint["is_shell"](file)]
-    assert others == ["rules", "zsh_matches"]
+def lint(repository: Path, path: str) -> tuple[int, str]:
+    subprocess.run(["git", "add", "--all"], cwd=repository, check=True)
+    done = run_text([str(repository / "tools" / "lint")], env={"PATH": path})
+    return done.returncode, done.stdout
 
 
-# The tools, and for each kind of file, one that is given to them.
-LOOKED_AT = [("pyflakes3", "lint"), ("shellcheck", "run"), ("mandoc", "ansible-vault.1"), ("tools/dead_names", None)]
-LOOKED_AT += [("mypy", name) for name in ("chart.py", "ansible-vault-edit", "conftest.py", "lint")]
+def test_mistakes(repository: Path) -> None:
+    """Every check fails, and every mistake is reported."""
+    for name, (text, _) in MISTAKES.items():
+        (repository / name).parent.mkdir(parents=True, exist_ok=True)
+        (repository / name).write_text(text)
+    status, printed = lint(repository, os.environ["PATH"])
+    assert [name for name, (_, said) in MISTAKES.items() if name + said not in printed] == [], printed
+    assert (status, printed.splitlines()[-1]) == (1, "lint: 0 passed, 9 failed")
 
 
-@pytest.mark.parametrize("failing, name", LOOKED_AT)
-def test_each_check_counts(monkeypatch: pytest.MonkeyPatch, failing: str, name: str | None) -> None:
-    """If one tool fails for one file, so does lint."""
-    needs_checkout()
-    main = runpy.run_path(str(LINT))["main"]
-
-    def passes(tool: str, *words: str | Path) -> bool:
-        return tool != failing or name not in {None, *(Path(word).name for word in words)}
-
-    monkeypatch.setitem(main.__globals__, "passes", passes)
-    with pytest.raises(SystemExit, match="1"):
-        main()
-
-
-def test_long_lines(tmp_path: Path, monkeypatch: pytest.MonkeyPatch, capsys: pytest.CaptureFixture[str]) -> None:
-    """Each kind of file has its width; a document has none."""
-    files = {tmp_path / name: width for name, width in {"a.py": 120, "a.bash": 120, "a.rt": 100, "a.antt": 100}.items()}
-    for file, width in files.items():
-        file.write_text(f"{'x' * width}\n{'x' * (width + 1)}\n")
-    (tmp_path / "a.md").write_text("x" * 999)
-    main = runpy.run_path(str(LINT))["main"]
-    changed = {"passes": lambda *_: True, "ROOT": tmp_path, "tracked_files": lambda: [*tmp_path.iterdir()]}
-    for each, value in changed.items():
-        monkeypatch.setitem(main.__globals__, each, value)
-    with pytest.raises(SystemExit, match="1"):
-        main()
-    wanted = [f"{file.name}:2: {width + 1} columns of at most {width}" for file, width in files.items()]
-    assert sorted(capsys.readouterr().out.splitlines()[:-1]) == sorted(wanted)
-
-
-def test_dead_names(tmp_path: Path) -> None:
-    """It finds a name, an import and an edit."""
-    for path in ("tools/dead_names", "crates/one/src/lib.rt", "crates/one/must-fail/gone.edit"):
-        (tmp_path / path).parent.mkdir(parents=True)
-    shutil.copy(ROOT / "tools" / "dead_names", tmp_path / "tools")
-    imports = "ghost use Rattle.two.specs.Three.{four};\n\n"
-    (tmp_path / "crates/one/src/lib.rt").write_text(imports + "pub fn used() {}\n\npub fn unused() {\n    used()\n}\n")
-    (tmp_path / "crates/one/must-fail/gone.edit").write_text("file: src/lib.rt\nold: another text\nnew: a text\n")
-    done = subprocess.run([str(tmp_path / "tools" / "dead_names")], capture_output=True, text=True)
-    found = ["crates/one/src/lib.rt:5: unused is mentioned nowhere else"]
-    found += ["crates/one/src/lib.rt: four is imported and not used"]
-    found += [f"crates/one/must-fail/gone.edit: not once in {tmp_path}/crates/one/src/lib.rt: another text"]
-    assert (done.returncode, done.stdout.splitlines()[:-1]) == (1, found)
+def test_missing_tool(repository: Path, tmp_path: Path) -> None:
+    """It counts as a failure, although everything else passes."""
+    for name in ("python3", "git", "pyflakes3", "shellcheck", "mandoc"):
+        (tmp_path / name).symlink_to(shutil.which(name) or name)
+    status, printed = lint(repository, str(tmp_path))
+    assert (status, printed.count("mypy is not installed\n")) == (1, 4)
+    assert printed.endswith("\nlint: 5 passed, 4 failed\n"), printed

@@ -5,9 +5,9 @@ that they need. `make test` names missing packages, and leaves out no test.
 """
 
 import re
-import runpy
 import shutil
-import subprocess
+import sys
+import textwrap
 from pathlib import Path
 
 import pytest
@@ -17,10 +17,8 @@ from lib.paths import ROOT
 from lib.processes import run_text
 from lib.scripts import searched_first, write_script
 
-GATE = "its own lines\nrt: vault_aes proved\nrt: vault_kdf proved\n"
 # Variables that a run of these tests may have set.
 OURS = ("REQUIRE_ALL", "PARTIAL", "DEBIAN_FRONTEND")
-PROGRESS = str(ROOT / "tools" / "progress.py")
 
 
 def with_tools(folder: Path) -> dict[str, str]:
@@ -28,37 +26,33 @@ def with_tools(folder: Path) -> dict[str, str]:
     return {name: value for name, value in searched_first(folder).items() if name not in OURS}
 
 
+# Runs the script with a tenth of a second in place of a minute.
+FASTER = """\
+import runpy, subprocess, sys
+wait = subprocess.Popen.wait
+subprocess.Popen.wait = lambda process, seconds: wait(process, seconds / 600)
+sys.argv = sys.argv[1:]
+runpy.run_path(sys.argv[0], run_name="__main__")"""
+GATE = "its own lines\ncrate vault_aes: modules 3\nrt: vault_aes proved\nrt: vault_kdf proved\n"
 # How a command ends, its status, which is negative for a signal, and its last line.
 ENDS = [("exit 0", 0, "12 passed, 0 failed\n"), ("exit 2", 2, "11 passed, 1 failed\n"), ("kill -9 $$", -9, "")]
 
 
 @pytest.mark.parametrize("end, status, count", ENDS)
 def test_progress(tmp_path: Path, end: str, status: int, count: str) -> None:
-    """The log is kept, and printed if the command fails. Its counts appear once on a line of their own, at the end."""
-    log = tmp_path / "log"
-    done = run_text([PROGRESS, str(log), "sh", "-c", f"printf '{GATE}{count}'; {end}"])
+    """The log is kept, and printed if the command fails. Its counts appear once on a line of their own, at the end. The
+    command runs until its lines are reported."""
+    log, printed = tmp_path / "log", tmp_path / "printed"
+    command = f"printf '{GATE}{count}'; until grep -q vault_kdf '{printed}'; do sleep 0.05; done; {end}"
+    words = [sys.executable, "-c", FASTER, str(ROOT / "tools" / "progress.py"), str(log), "sh", "-c", command]
+    with printed.open("w") as output:
+        done = run_text(words, stdout=output)
     assert (done.returncode, done.stderr, log.read_text()) == (status % 256, "", GATE + count)
-    assert ("    its own lines\n" in done.stdout) == bool(status)
-    assert done.stdout.endswith(f"    0 min  {'FAILED' if status else 'done'}; the whole log is {log}\n{count}")
-    assert done.stdout.splitlines().count(count.strip()) == bool(count)
-
-
-def test_progress_each_minute(tmp_path: Path, capsys: pytest.CaptureFixture[str]) -> None:
-    """The command runs until its lines are reported, within a shorter minute."""
-    log, seen = tmp_path / "log", tmp_path / "seen"
-    tool = runpy.run_path(PROGRESS)
-
-    def state(text: str) -> str:
-        if "vault_kdf" in text:
-            seen.touch()
-        return str(tool["state"](text))
-
-    tool["main"].__globals__.update(PAUSE=0.1, state=state)
-    command = f"printf '{GATE}'; until [ -e '{seen}' ]; do sleep 0.05; done"
-    assert tool["main"]([str(log), "sh", "-c", command]) == 0
-    *_, reported, last = capsys.readouterr().out.splitlines()
-    assert reported == "    0 min  2 crates are proved; vault_kdf proved"
-    assert last == f"    0 min  done; the whole log is {log}"
+    *reports, last = re.split(r"    0 min  (.*)\n", printed.read_text())
+    assert "2 crates are proved; vault_kdf proved" in reports
+    shown = textwrap.indent(GATE + count, "    ") if status else ""
+    assert reports[-2:] == [shown, f"{'FAILED' if status else 'done'}; the whole log is {log}"]
+    assert last == count
 
 
 BY_GOAL = "rt: must-fail vault_aes/one.edit: refused, as it must be: note: src/laws.rt:58:1: it is not proved\n"
@@ -93,13 +87,24 @@ skipped: tests/a.py::test_zsh: without zsh
 1 failed, 8 passed, 1 skipped in 0.10s
 """
 GATE_FAILS = "    11 passed, 1 failed\n  0:01  FAILED\n11 passed, 1 failed\n"
-# What `make check` prints, its status, whether packages can be installed, and how .ci/run ends.
+# Takes the place of dpkg-query: some packages are not known, and another was removed, but not purged.
+QUERY = r"""
+format=${{2#*=}}; shift 2
+for package; do
+    state=installed
+    case $package in {missing}) continue ;; {removed}) state=config-files ;; esac
+    printf "$(printf %s "$format" | sed "s/\${{Package}}/$package/; s/\${{db:Status-Status}}/$state/")"
+done"""
+NONE, ZSH_AND_ACL = QUERY.format(missing="''", removed="''"), QUERY.format(missing="zsh", removed="acl")
+ALL = QUERY.format(missing="*", removed="*")
+# What `make check` prints, its status, which packages are missing, whether they can be installed, and how .ci/run ends.
 RUNS = {
-    "all pass": (CHECK.format(failed=0), 0, True, (0, "20 passed, 0 failed, 1 skipped")),
-    "a test fails": (CHECK.format(failed=2), 2, True, (2, "20 passed, 2 failed, 1 skipped")),
-    "the gate fails": (GATE_FAILS, 2, True, (2, "11 passed, 1 failed, 0 skipped")),
-    "nothing is tested": ("0 passed, 0 failed, 0 skipped\n", 0, True, (1, "0 passed, 1 failed, 0 skipped")),
-    "nothing is installed": (CHECK.format(failed=0), 0, False, (1, "20 passed, 1 failed, 1 skipped")),
+    "all pass": (CHECK.format(failed=0), 0, ZSH_AND_ACL, True, (0, "20 passed, 0 failed, 1 skipped")),
+    "a test fails": (CHECK.format(failed=2), 2, ZSH_AND_ACL, True, (2, "20 passed, 2 failed, 1 skipped")),
+    "the gate fails": (GATE_FAILS, 2, ZSH_AND_ACL, True, (2, "11 passed, 1 failed, 0 skipped")),
+    "nothing is tested": ("0 passed, 0 failed\n", 0, ZSH_AND_ACL, True, (1, "0 passed, 1 failed, 0 skipped")),
+    "nothing is installed": (CHECK.format(failed=0), 0, ZSH_AND_ACL, False, (1, "20 passed, 1 failed, 1 skipped")),
+    "nothing is missing": (CHECK.format(failed=0), 0, NONE, False, (0, "20 passed, 0 failed, 1 skipped")),
 }
 # Finds packages only after an update of the lists.
 APT = """\
@@ -108,35 +113,24 @@ if [ -e '{lists}' ] && [ "$2 $DEBIAN_FRONTEND" = "-y noninteractive" ] && {insta
 echo "E: no package: $*"; exit 100"""
 
 
-def run_ci(folder: Path, check: str, status: int, installs: bool, query: str) -> subprocess.CompletedProcess[str]:
-    """Run .ci/run with stand-ins for `make`, `apt-get` and `dpkg-query`."""
+@pytest.mark.parametrize("check, status, query, installs, end", RUNS.values(), ids=RUNS)
+def test_ci(tmp_path: Path, check: str, status: int, query: str, installs: bool, end: tuple[int, str]) -> None:
+    """Stand-ins take the place of `make`, `apt-get` and `dpkg-query`."""
     for path in (".ci/run", "tools/missing_packages"):
-        (folder / path).parent.mkdir(exist_ok=True)
-        shutil.copy(ROOT / path, folder / path)
-    tools = folder / "stand-ins"
+        (tmp_path / path).parent.mkdir(exist_ok=True)
+        shutil.copy(ROOT / path, tmp_path / path)
+    tools, lists = tmp_path / "stand-ins", tmp_path / "lists"
     make = f"echo \"REQUIRE_ALL is ${{REQUIRE_ALL-}}, and the words $*\"; printf '{check}'; exit {status}"
     write_script(tools / "make", make)
-    write_script(tools / "apt-get", APT.format(lists=folder / "lists", installs=str(installs).lower()))
+    write_script(tools / "apt-get", APT.format(lists=lists, installs=str(installs).lower()))
     write_script(tools / "dpkg-query", query)
-    return run_text([str(folder / ".ci" / "run")], env=with_tools(tools))
-
-
-@pytest.mark.parametrize("check, status, installs, end", RUNS.values(), ids=RUNS)
-def test_ci(tmp_path: Path, check: str, status: int, installs: bool, end: tuple[int, str]) -> None:
-    done = run_ci(tmp_path, check, status, installs, "echo gcc installed; exit 1")
+    done = run_text([str(tmp_path / ".ci" / "run")], env=with_tools(tools))
     first = "REQUIRE_ALL is 1, and the words check CPU= PARTIAL=yes"
     assert done.stdout.splitlines()[0] == first, "all is required, of every processor"
     assert (done.returncode, done.stdout.splitlines()[-1]) == end
-    assert ("E: no package" in done.stdout) == (not installs), "the reason is printed"
-    asked = (tmp_path / "bin" / "install.log").read_text().split()
-    assert "fish" in asked and "gcc" not in asked, "only what is missing is installed"
-
-
-def test_ci_with_all_installed(tmp_path: Path) -> None:
-    """Nothing is installed then, since that takes root and a network."""
-    done = run_ci(tmp_path, CHECK.format(failed=0), 0, False, 'shift 2; for each; do echo "$each installed"; done')
-    assert (done.returncode, done.stdout.splitlines()[-1]) == (0, "20 passed, 0 failed, 1 skipped")
-    assert not (tmp_path / "lists").exists()
+    asked = "E: no package: install -y acl zsh\n" * (query != NONE)
+    assert (tmp_path / "bin" / "install.log").read_text() == asked * (1 if installs else 2), "what is installed"
+    assert (lists.exists(), asked in done.stdout) == (query != NONE, not installs), "the reason is printed"
 
 
 # The packages of the programs that tests ask for, if they have other names, or every system has them.
@@ -149,7 +143,7 @@ OTHERS += "python3-pytest python3-pytest-subtests python3-pytest-timeout python3
 
 def test_packages(tmp_path: Path) -> None:
     """What the tests need is installed, and nothing else."""
-    write_script(tmp_path / "dpkg-query", "exit 1")
+    write_script(tmp_path / "dpkg-query", ALL)
     listed = run_text([str(ROOT / "tools" / "missing_packages")], env=with_tools(tmp_path)).stdout.split()
     texts = "\n".join(path.read_text() for path in ROOT.glob("tests/**/*.py"))
     asked = re.findall(r'"([\w-]+)"', " ".join(re.findall(r"\bneeds\((.*)\)", texts)))
@@ -157,20 +151,10 @@ def test_packages(tmp_path: Path) -> None:
     assert {*listed} == {*OTHERS.split(), *needed}
 
 
-# Knows every package but zsh; acl was removed, but not purged.
-QUERY = r"""
-format=${2#*=}; shift 2
-for package; do
-    state=installed
-    case $package in zsh) continue ;; acl) state=config-files ;; esac
-    printf "$(printf %s "$format" | sed "s/\${Package}/$package/; s/\${db:Status-Status}/$state/")"
-done"""
-
-
 @pytest.mark.parametrize("goal", ["test", "check"])
 def test_missing_packages(program: str, tmp_path: Path, goal: str) -> None:
     """One line names them before any proof or test. With PARTIAL=yes, there is no such line."""
-    write_script(tmp_path / "dpkg-query", QUERY)
+    write_script(tmp_path / "dpkg-query", ZSH_AND_ACL)
     (tmp_path / "rt").symlink_to("/bin/false")
     done = run_make(program, goal, "PYTEST=true", env=with_tools(tmp_path))
     wanted = "The tests need packages: apt-get install acl zsh   (PARTIAL=yes skips what uses them)"

@@ -146,17 +146,14 @@ REFUSED = {
     "the password file is missing": "view --vault-password-file missing vault",
     "the input file is missing": "view --vault-password-file right missing",
 }
+VAULT = seal(RIGHT, b"a: 1\n")
+# The files that the commands name.
+FILES = {"right": RIGHT, "wrong": NEW, "empty": b"", "plain": b"a: 1\n", "vault": VAULT, "cut": VAULT[:200]}
+FILES["odd"] = VAULT.partition(b"\n")[0] + b"\nxyz\n"
 # Messages about a vault itself. Later releases of Ansible's tool name its file, and word one of them differently.
 OF_A_VAULT = {"the password is wrong", "the input is not a vault", "the vault is cut off"}
 OF_A_VAULT |= {"the vault is not hexadecimal"}
 SAID_LATER = {"the input is not a vault": "Input is not vault encrypted data..."}
-
-
-def refused_files() -> dict[str, bytes]:
-    vault = seal(RIGHT, b"a: 1\n")
-    passwords = {"right": RIGHT, "wrong": NEW, "empty": b""}
-    odd = vault.partition(b"\n")[0] + b"\nxyz\n"
-    return passwords | {"plain": b"a: 1\n", "vault": vault, "cut": vault[:200], "odd": odd}
 
 
 def message_rows() -> dict[str, list[tuple[str, int]]]:
@@ -182,7 +179,7 @@ def said_by_ansible(what: str, text: str) -> str:
 @pytest.mark.parametrize("tool", [0, 1], ids=["theirs", "ours"])
 def test_messages(cases: Cases, tool: int, what: str) -> None:
     both = Both(cases, needs_ansible(), "")
-    for name, content in refused_files().items():
+    for name, content in FILES.items():
         (cases.folder / name).write_bytes(content)
     text, status = message_rows()[what][tool]
     said = said_by_ansible(what, text) if tool == 0 else f"ERROR! {text}"

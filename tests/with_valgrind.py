@@ -10,7 +10,7 @@ from pathlib import Path
 import pytest
 
 from lib.needs import needs
-from model.answers import SALT_LENGTH, Answer
+from model.answers import SALT_LENGTH
 from model.compared import differences, expected
 from model.faults import Fault
 from model.options import OPTIONS
@@ -23,44 +23,23 @@ SEED = "memcheck"
 REQUESTS = 4_000
 # Larger requests take long under memcheck.
 WORDS, BYTES = 14, 1 << 14
-# Valgrind has its own allocator, which never fails; `failed_allocations` refuses memory without Valgrind.
-WITHOUT_A_RUN = {Fault.MEMORY}
+# How a run ends: a command succeeds, or with a fault or a text of the parser's. Valgrind has its own allocator, which
+# never fails; `failed_allocations` refuses memory without Valgrind.
+FAULTS = {fault.line: fault.name for fault in Fault if fault is not Fault.MEMORY}
+NOT_PARSED = "not parsed"
+ENDS = [*OPTIONS, *FAULTS.values(), NOT_PARSED]
 READS_BESIDE = b"#include <stdlib.h>\nint main(void) { volatile char *room = malloc(1); return room[1]; }\n"
 
 
-def is_small(case: Case, answered: Answer) -> bool:
+def end_of(case: Case) -> str:
+    message = expected(case, bytes(SALT_LENGTH)).message
+    return NOT_PARSED if message is None else FAULTS.get(message, case.words[0])
+
+
+def is_small(case: Case, end: str) -> bool:
     content = [case.stdin, *filter(None, case.files.values())]
-    few = len(case.words) <= WORDS or answered.message == Fault.TOO_MANY_SECRETS.line
+    few = len(case.words) <= WORDS or end == Fault.TOO_MANY_SECRETS.name
     return few and all(len(part) <= BYTES for part in content)
-
-
-def name_of(case: Case, answered: Answer) -> str:
-    if answered.message is None:
-        return "no command line"
-    return answered.message.decode().strip() or f"{case.words[0]} succeeds"
-
-
-# The names of each command's success, of each refusal, and of an invalid command line.
-WANTED = {f"{command} succeeds" for command in OPTIONS} | {"no command line"}
-WANTED |= {fault.line.decode().strip() for fault in set(Fault) - WITHOUT_A_RUN}
-
-
-def one_of_each() -> dict[str, Case]:
-    """Return the first small request for each answer, and long ones."""
-    by_file, right = ["--vault-password-file", "right"], {"right": b"right\n"}
-    ciphertext = serialized(bytes(32), bytes(32), bytes(CIPHERTEXT_LIMIT + 1))
-    found = {
-        Fault.TOO_LONG.line.decode().strip(): Case(["encrypt", *by_file], {**right}, bytes(PLAINTEXT_LIMIT + 1)),
-        Fault.CIPHER_TOO_LONG.line.decode().strip(): Case(["view", *by_file], {**right}, ciphertext),
-    }
-    for number in range(REQUESTS):
-        case = make(f"{SEED}-{number}")
-        answered = expected(case, bytes(SALT_LENGTH))
-        if is_small(case, answered):
-            found.setdefault(name_of(case, answered), case)
-        if found.keys() == WANTED:
-            return found
-    raise LookupError(f"no request is answered by {WANTED - found.keys()}")
 
 
 def memcheck(program: str, case: Case) -> list[str]:
@@ -74,13 +53,26 @@ def memcheck(program: str, case: Case) -> list[str]:
 
 @pytest.fixture(scope="module")
 def requests() -> dict[str, Case]:
+    """Return the first small request for each end, and long ones."""
     needs("valgrind")
-    return one_of_each()
+    by_file, right = ["--vault-password-file", "right"], {"right": b"right\n"}
+    ciphertext = serialized(bytes(32), bytes(32), bytes(CIPHERTEXT_LIMIT + 1))
+    found = {
+        Fault.TOO_LONG.name: Case(["encrypt", *by_file], {**right}, bytes(PLAINTEXT_LIMIT + 1)),
+        Fault.CIPHER_TOO_LONG.name: Case(["view", *by_file], {**right}, ciphertext),
+    }
+    for case in (make(f"{SEED}-{number}") for number in range(REQUESTS)):
+        end = end_of(case)
+        if is_small(case, end):
+            found.setdefault(end, case)
+        if found.keys() == {*ENDS}:
+            break
+    return found
 
 
-@pytest.mark.parametrize("name", sorted(WANTED))
-def test_memcheck(program: str, requests: dict[str, Case], name: str) -> None:
-    case = requests[name]
+@pytest.mark.parametrize("end", ENDS)
+def test_memcheck(program: str, requests: dict[str, Case], end: str) -> None:
+    case = requests[end]
     assert memcheck(program, case) == [], shlex.join(case.words)
 
 

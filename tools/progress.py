@@ -25,37 +25,34 @@ COUNT = re.compile(r"\d+ passed, \d+ failed\Z")
 def state(log: str) -> str:
     """Return how many crates are proved, and the last line of the prover itself."""
     said = SAID.findall(log) or ["nothing is said yet"]
-    proved = {of_gate or of_build for of_gate, of_build in PROVED.findall(log)}
-    return f"{len(proved)} crates are proved; {said[-1]}"
+    return f"{len({''.join(names) for names in PROVED.findall(log)})} crates are proved; {said[-1]}"
 
 
-def main(words: list[str]) -> int:
-    path, command, begun = Path(words[0]), words[1:], time.monotonic()
-
-    def read() -> str:
-        return path.read_text(errors="replace")
+def main(log: Path, command: list[str]) -> int:
+    begun = time.monotonic()
 
     def report(text: str) -> None:
         print(f"{(time.monotonic() - begun) / 60:5.0f} min  {text}", flush=True)
 
-    with open(path, "w") as log:
+    with open(log, "w") as output:
         try:
-            process = subprocess.Popen(command, stdout=log, stderr=subprocess.STDOUT)
+            process = subprocess.Popen(command, stdout=output, stderr=subprocess.STDOUT)
         except (FileNotFoundError, PermissionError):
             sys.exit(f"{command[0]} is not on PATH; it comes with the Rattle kit")
-        while True:
-            try:
-                status = process.wait(PAUSE)
-                break
-            except subprocess.TimeoutExpired:
-                report(state(read()))
+    while True:
+        try:
+            status = process.wait(PAUSE)
+            break
+        except subprocess.TimeoutExpired:
+            report(state(log.read_text(errors="replace")))
+    text = log.read_text(errors="replace")
     if status:
-        print(textwrap.indent(read(), "    "), end="")
-    report(f"{'FAILED' if status else 'done'}; the whole log is {path}")
-    if found := COUNT.search(read().rstrip()):
+        print(textwrap.indent(text, "    "), end="")
+    report(f"{'FAILED' if status else 'done'}; the whole log is {log}")
+    if found := COUNT.search(text.rstrip()):
         print(found[0])
     return status
 
 
 if __name__ == "__main__":
-    sys.exit(main(sys.argv[1:]))
+    sys.exit(main(Path(sys.argv[1]), sys.argv[2:]))

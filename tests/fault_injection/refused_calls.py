@@ -14,6 +14,7 @@ from typing import NamedTuple
 from fault_injection import OWNER_ONLY, Left, Scenario, Target, run
 from lib.system_calls import Call, own_calls, tracing
 from model.faults import Fault
+from watched import STAND_IN, STDERR
 
 # All calls that allocate memory fail from this one on: after a single failure, another one would succeed.
 NO_MORE_MEMORY = "ENOMEM from then on"
@@ -38,9 +39,6 @@ OTHERS = ("rt_sigaction", "getrandom", "munmap", "exit_group")
 MEMORY = ("mmap", "mremap", "brk")
 # The library may try these again if they are interrupted.
 TRIED_AGAIN = ("openat", "fchmod", "ftruncate", "fsync")
-# The directory that takes the numbers of closed streams.
-STAND_IN = "/"
-STDERR = 2
 # The faults of the files that options name, and of FILE or standard input.
 SECRET = Fault.SECRET_NOT_OPENED, Fault.SECRET_NOT_READ
 ROLES = dict.fromkeys(("--vault-password-file", "--vault-id", "--new-vault-id"), SECRET)
@@ -79,10 +77,8 @@ def refusals(program: str, scenario: Scenario) -> Iterator[Refusal]:
     written, mode, message_length = None, scenario.first_mode(), 0
     for call in own:
         name, creates = call.name, "O_CREAT" in call.args
-        about: str | int | None = None
-        if name == "openat":
-            about = call.path
-        elif name not in (*MEMORY, *OTHERS):
+        about: str | int | None = call.path if name == "openat" else None
+        if name not in ("openat", *MEMORY, *OTHERS):
             about = paths.get(call.fd, call.fd)
         numbers = {each: counts[each] + 1 for each in (name, *MEMORY)}
         for error in CREATING if creates else ERRORS.get(name, []):
