@@ -1,5 +1,5 @@
-"""Streams in other states: pipes that give few bytes, do not block, or lose their reader; and a full device. And what
-one write contains, so that the lines of several runs do not mix, and `head -n 1` gets its line.
+"""Streams in other states: pipes that give few bytes, do not block, or lose their reader; a full device; files that are
+too long. And what one write contains, so that the lines of several runs do not mix, and `head -n 1` gets its line.
 
 Closed streams are in `closed_streams.py`. `with_strace.py` shows that a run does not ask what a stream is, such as a
 terminal.
@@ -13,14 +13,26 @@ from typing import Any
 
 import pytest
 
-from lib.cases import TEXT, Cases, answer_of, by_file
+from lib.cases import TEXT, Cases, answer_of, by_file, refusal
 from lib.limits import SECONDS
 from lib.needs import needs
 from lib.processes import read_to_end, run, started
 from lib.samples import each_command, sample_of
 from model.faults import Fault
+from model.vaults import ENVELOPE_LIMIT, HEADER, PLAINTEXT_LIMIT
 
 LARGE = 1 << 20
+
+
+@each_command
+def test_bounded_reading(cases: Cases, command: str) -> None:
+    """From a file that is too long, a run reads one byte more than the limit."""
+    sample, is_plain = sample_of(cases, command), command.startswith("encrypt")
+    limit, start = (PLAINTEXT_LIMIT, b"") if is_plain else (ENVELOPE_LIMIT, HEADER + b"\n")
+    with open(cases.file(start), "r+b") as stdin:
+        stdin.truncate(limit + 10_000)
+        assert answer_of(cases.done(sample.words, stdin)) == refusal(Fault.TOO_LONG)
+        assert os.lseek(stdin.fileno(), 0, os.SEEK_CUR) == limit + 1
 
 
 @pytest.mark.parametrize("is_named", (False, True))
