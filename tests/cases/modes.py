@@ -1,7 +1,6 @@
 """The mode of the output: a new file, an existing one, links, devices. `closed_streams.py` writes to pipes by name."""
 
 import os
-import subprocess
 from pathlib import Path
 
 import pytest
@@ -14,30 +13,25 @@ from lib.subtests import SubTests
 from model.faults import Fault
 
 
-def under(cases: Cases, umask: str, sample: Sample, path: str) -> subprocess.CompletedProcess[bytes]:
-    script = f'umask {umask}; exec "$0" "$@"'
-    return run(["sh", "-c", script, cases.program, *sample.words, "--output", path], sample.stdin)
+def check_written(cases: Cases, umask: int, sample: Sample, path: str, wanted: str) -> None:
+    done = cases.done([*sample.words, "--output", path], sample.stdin, umask=umask)
+    assert (*answer_of(done), Path(path).read_bytes(), mode(path)) == (0, b"", b"", sample.output, wanted)
 
 
-def check_written(cases: Cases, umask: str, sample: Sample, path: str, wanted: str) -> None:
-    assert answer_of(under(cases, umask, sample, path)) == (0, b"", b"")
-    assert (Path(path).read_bytes(), mode(path)) == (sample.output, wanted)
-
-
-@pytest.mark.parametrize("umask", ("000", "077", "277"))
+@pytest.mark.parametrize("umask", (0, 0o077, 0o277))
 @each_to_output
-def test_new_files(cases: Cases, command: str, umask: str) -> None:
+def test_new_files(cases: Cases, command: str, umask: int) -> None:
     """The umask restricts the mode, except for plaintext, whose mode is set explicitly."""
     sample = sample_of(cases, command)
     target, link = cases.path(), cases.path()
     os.symlink(target, link)
     for path in (cases.path(), link):
-        check_written(cases, umask, sample, path, oct(0o400 if umask == "277" and command != "decrypt" else 0o600))
+        check_written(cases, umask, sample, path, oct(0o400 if umask == 0o277 and command != "decrypt" else 0o600))
 
 
-@pytest.mark.parametrize("umask", ("000", "077"))
+@pytest.mark.parametrize("umask", (0, 0o077))
 @each_to_output
-def test_old_files(cases: Cases, subtests: SubTests, command: str, umask: str) -> None:
+def test_old_files(cases: Cases, subtests: SubTests, command: str, umask: int) -> None:
     """By name; through a link, which stays; and by one of two names, which both stay."""
     sample = sample_of(cases, command)
     for old in (0o600, 0o644, 0o666, 0o755):
@@ -53,8 +47,8 @@ def test_old_files(cases: Cases, subtests: SubTests, command: str, umask: str) -
 
 @each_to_output
 def test_devices(cases: Cases, command: str) -> None:
-    path = cases.device("null")
-    done = under(cases, "022", sample_of(cases, command), path)
+    sample, path = sample_of(cases, command), cases.device("null")
+    done = cases.done([*sample.words, "--output", path], sample.stdin)
     assert (*answer_of(done), mode(path)) == (0, b"", b"", oct(0o666))
 
 

@@ -1,12 +1,20 @@
-"""Command lines: help, the version, and invalid ones."""
+"""Command lines: help, the version, and invalid ones. Only the parser's messages contain words of the command line; all
+others are fixed lines.
+"""
 
+import itertools
 import os
+import re
 
 import pytest
+from hypothesis import given, settings
+from hypothesis import strategies as st
 
 from lib.cases import Cases
-from lib.texts import MISTAKES, PROGRAM, Mistake, help_path, stored_mistakes
 from lib.paths import version
+from lib.processes import run
+from lib.samples import COMMANDS
+from lib.texts import MISTAKES, PROGRAM, Mistake, help_path, stored_mistakes
 
 
 @pytest.mark.parametrize("words", (["--help"], ["-h"], ["--help", "--loud"], ["-h", "--version"]), ids=" ".join)
@@ -35,3 +43,31 @@ def test_mistakes(cases: Cases, name: str, mistake: Mistake) -> None:
 
 def test_not_utf8(cases: Cases) -> None:
     cases.run(["view", os.fsdecode(b"\xff")], status=2, err=b"error: an argument is not UTF-8\n")
+
+
+# Control characters, zero-width spaces and joiners, separators, and characters that set the direction of text.
+UNPRINTABLE = re.compile("[\0-\x1f\x7f-\x9f\u200b-\u200f\u2028-\u202e\u2066-\u2069]")
+# All of them except 0, which no argument can contain.
+CONTROLS = [*filter(UNPRINTABLE.match, map(chr, itertools.chain(range(1, 0xA0), range(0x200B, 0x206A))))]
+# Their neighbours, and other characters that are shown unchanged.
+PRINTABLE = " ~\xa0\xe9\u200a\u2010\u2027\u202f\u2065\u206a\U0001f600"
+# Command lines with a word that the parser names in its message, in place of `{}`.
+LINES = ["{}", "--{}", "-{}", "view --require-id-match={}"]
+LINES += [f"{command} {rest}" for command in COMMANDS for rest in ("--{}", "--{}=x", "x {}", "-{}", "--vault-id{} y")]
+
+
+def message_of(program: str, line: str, word: str) -> tuple[int, bytes, str]:
+    done = run([program, *(each.format(word) for each in line.split())])
+    return done.returncode, done.stdout, done.stderr.decode()
+
+
+@pytest.mark.parametrize("line", LINES)
+@settings(max_examples=40, deadline=None)
+@given(word=st.text(st.sampled_from(CONTROLS) | st.sampled_from(PRINTABLE), min_size=1).map(lambda word: f"a{word}b"))
+def test_in_words(program: str, line: str, word: str) -> None:
+    """The message is the same as for the word with its unprintable characters escaped, and contains none."""
+    assert len(CONTROLS) == 80
+    escaped = UNPRINTABLE.sub(lambda found: f"\\u{{{ord(found[0]):x}}}", word)
+    found = message_of(program, line, word)
+    assert found == message_of(program, line, escaped)
+    assert found[:2] == (2, b"") and not UNPRINTABLE.search(found[2].replace("\n", ""))

@@ -34,8 +34,7 @@ PASSWORDS = {name: f"the password {name}".encode() for name in ("old", "new", "d
 CHANGED = TEXT.replace(b"correct", b"wrong")
 CHANGE = 'sed -i s/correct/wrong/ "$1"'
 ABOVE_EDITOR = "$(cut -d ' ' -f 4 /proc/$PPID/stat)"
-# Match the digits of an envelope, and a whole envelope.
-DIGITS = re.compile(rb"(?m)^( *)[0-9a-fA-F]{20,}(?=\r?$)")
+# Matches a whole envelope.
 FOUND = re.compile(rb"(?m)^ *\$ANSIBLE_VAULT;1.*(?:\n *[0-9a-fA-F]+\r?$)+")
 ENCRYPTED = re.compile(r"; what you saved is encrypted in (.+)\n")
 # Notes what other processes can see of a run of the program, and its limit for core dumps.
@@ -244,7 +243,7 @@ def lines_of(envelope: bytes, spaces: int, end: bytes = b"\n") -> bytes:
 
 
 def without_digits(data: bytes) -> bytes:
-    return DIGITS.sub(rb"\1digits", data)
+    return re.sub(rb"(?m)^( *)[0-9a-fA-F]{20,}(?=\r?$)", rb"\1digits", data)
 
 
 def texts(data: bytes, password: str) -> list[bytes | None]:

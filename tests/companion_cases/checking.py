@@ -1,14 +1,19 @@
-"""ansible-vault-check; and every companion's help, version, invalid command lines and refused secrets."""
+"""ansible-vault-check; every companion's help, invalid command lines and refused secrets; and how companions recognise
+the same password in another file, a script, the tool behind links, and its faults.
+"""
+
+import os
+import re
 
 import pytest
 
 from ansible_vault_companions import program
-from companion_cases import CHECK, COMPANIONS, EDIT, HOOK, MERGE, ROTATE, TEXT, TEXTCONV, WITH, Place, block, ended
-from companion_cases import sealed
-from lib.paths import version
+from ansible_vault_companions.tool.faults import KINDS
+from companion_cases import CHECK, EDIT, HOOK, MERGE, PASSWORDS, ROTATE, TEXT, TEXTCONV, WITH, Place, block, ended
+from companion_cases import sealed, summary
+from lib.option_sets import companion_help
+from lib.paths import COMPANIONS, ROOT
 from model.vaults import seal
-
-ALL = sorted(each.name for each in COMPANIONS.glob("ansible-vault-*"))
 
 
 def test_labels_and_secrets(place: Place) -> None:
@@ -17,10 +22,11 @@ def test_labels_and_secrets(place: Place) -> None:
     place.put("b.yml", sealed("prod", label="prod"))
     place.put("c.yml", b"x: 1\n" + block("dev", label="dev") + block("prod", name='"\x1b[2J"'))
     place.put("d.yml", sealed("old", label="default"))
+    place.put("e.yml", block("new", label="stage"))
+    place.put("header.yml", b"$ANSIBLE_VAULT\x1b[31m;1.1\n")
     secrets = [*place.by_file("prod"), *place.by_id("dev", "dev"), *place.by_id("prod", "prod"), *place.by_file("old")]
-    before = place.files()
-    done = place.run(CHECK, *secrets, ".")
-    default, dev, prod, old = secrets[1::2]
+    before, (default, dev, prod, old) = place.files(), secrets[1::2]
+    done = place.run(CHECK, *secrets, ".", "missing")
     line = 3 + block("dev", label="dev").count(b"\n")
     wanted = [
         f"./a.yml: default: decrypted by {old}",
@@ -28,21 +34,13 @@ def test_labels_and_secrets(place: Place) -> None:
         f"./c.yml:3: secret: dev: decrypted by {dev}",
         f"./c.yml:{line}: '\\x1b[2J': default: decrypted by {default}",
         f"./d.yml: default: decrypted by {old}",
-        "5 decrypted, 0 not",
+        "5 decrypted, 3 not",
     ]
-    assert (done.returncode, done.stdout.splitlines(), done.stderr) == (0, wanted, ""), "labels and secrets"
-    assert place.files() == before, "nothing is written"
-
-
-def test_what_cannot_be_decrypted(place: Place) -> None:
-    place.put("a.yml", sealed("old"))
-    place.put("b.yml", block("dev", label="dev"))
-    place.put("header.yml", b"$ANSIBLE_VAULT\x1b[31m;1.1\n")
-    done = place.run(CHECK, *place.by_file("old"), ".", "missing")
-    tried = f"(label dev; tried {place.secret('old')}): name its secret with --vault-id dev@FILE"
-    whys = [f"b.yml:2: secret: dev: no secret decrypts this vault {tried}\n", "header.yml: no label: vault header"]
-    ended("all but one", done, 1, *(f"{CHECK}: ./{why}" for why in whys), "missing: No such file or directory\n")
-    assert done.stdout == f"./a.yml: default: decrypted by {place.secret('old')}\n1 decrypted, 3 not\n"
+    found = done.stdout.splitlines(), len(done.stderr.splitlines()), place.files()
+    assert found == (wanted, 3, before), "what is decrypted, and nothing is written"
+    tried = f"(label stage; tried {dev}, {prod}, {default}, {old}): name its secret with --vault-id stage@FILE\n"
+    parts = [f"./e.yml:2: secret: stage: no secret decrypts this vault {tried}", "./header.yml: no label: vault header"]
+    ended("what is not", done, 1, *(f"{CHECK}: {part}" for part in (*parts, "missing: No such file or directory\n")))
 
 
 def test_slow_tool(place: Place) -> None:
@@ -52,27 +50,21 @@ def test_slow_tool(place: Place) -> None:
     ended("a long vault", place.run(CHECK, *place.by_file("old"), "a.yml"), 0, "1 decrypted, 0 not")
 
 
+# It would control the terminal, and begin a line that looks like a message.
+HOSTILE = "\x1b]0;owned\a\x9b\nansible-vault:fine"
 OLD, NEW = "--vault-password-file ../secrets/old", "--new-vault-password-file ../secrets/new"
 INVALID = {
     CHECK: [OLD],
     EDIT: [OLD, f"{OLD} --new-vault-id x@y a.yml", f"{OLD} --vault-i x a.yml"],
     HOOK: ["--all --install", "--since"],
+    MERGE: [OLD],
     ROTATE: [
         *(f"{OLD} .", f"{NEW} .", f"{OLD} {NEW}", f"{OLD} {NEW} --new-vault-password-file ../secrets/dev ."),
         *(f"{OLD} {NEW} --jobs {number} ." for number in ("0", "many")),
     ],
     TEXTCONV: ["", "--vault-password-file a.yml"],
 }
-
-
-@pytest.mark.parametrize("name, line", [(name, line) for name, lines in INVALID.items() for line in lines])
-def test_invalid_command_lines(place: Place, name: str, line: str) -> None:
-    place.put("a.yml", sealed("old"))
-    ended("it is refused", place.run(name, *line.split()), 2, f"usage: {name}")
-
-
-# It would control the terminal, and begin a line that looks like a message.
-HOSTILE = "\x1b]0;owned\a\x9b\nansible-vault:fine"
+LINES = [(name, line) for name, lines in INVALID.items() for line in (*lines, f"--{HOSTILE} a.yml")]
 
 
 def check_printable(text: str) -> None:
@@ -81,16 +73,17 @@ def check_printable(text: str) -> None:
     assert not any(line.startswith("ansible-vault:fine") for line in lines), "and no line is forged"
 
 
+@pytest.mark.parametrize("name, line", LINES)
+def test_invalid_command_lines(place: Place, name: str, line: str) -> None:
+    place.put("a.yml", sealed("old"))
+    done = place.run(name, *filter(None, line.split(" ")))
+    ended("it is refused", done, 2, f"usage: {name}")
+    check_printable(done.stderr)
+
+
 def test_control_characters_in_messages(capsys: pytest.CaptureFixture[str]) -> None:
     program.write_error("one\x1b[2J\ntwo\x9b")
     assert capsys.readouterr().err == "one\\x1b[2J\ntwo\\x9b\n"
-
-
-@pytest.mark.parametrize("name", ALL)
-def test_control_characters_in_options(place: Place, name: str) -> None:
-    done = place.run(name, *place.by_file("old"), f"--{HOSTILE}")
-    assert done.returncode == (1 if name == TEXTCONV else 2), "it is refused"
-    check_printable(done.stderr)
 
 
 LONG = b"p" * 4097
@@ -135,14 +128,70 @@ def test_longest_password(place: Place) -> None:
     ended("4096 bytes", place.run(CHECK, "--vault-password-file=../long", "a.yml"), 0, "1 decrypted, 0 not")
 
 
-@pytest.mark.parametrize("word", ("--help", "-h", "--version", "-V"))
-@pytest.mark.parametrize("name", ALL)
-def test_help_and_version(place: Place, name: str, word: str) -> None:
-    done = place.run(name, word)
-    if word in ("--version", "-V"):
-        assert (done.returncode, done.stdout, done.stderr) == (0, f"{name} {version()}\n", "")
-        return
-    says = ["git runs no hook with --no-verify"] if name == HOOK else []
-    ended("help", done, 0, f"usage: {name}", *says, "Companions are tested, not proved. They leave ")
-    wide = [line for line in done.stdout.splitlines() if len(line) > 80]
-    assert (wide, done.stderr) == ([], ""), "it is no wider than a terminal"
+@pytest.mark.parametrize("name", COMPANIONS)
+def test_help(name: str) -> None:
+    """It is no wider than a terminal."""
+    text, says = companion_help(name), ["git runs no hook with --no-verify"] if name == HOOK else []
+    assert [each for each in (*says, "Companions are tested, not proved. They leave ") if each not in text] == []
+    assert [line for line in text.splitlines() if len(line) > 80] == []
+
+
+def test_same_password_in_another_file(place: Place) -> None:
+    """Ansible strips the white space around a password, so this file contains the same secret."""
+    place.put("a.yml", sealed("dev", label="dev"))
+    before = place.files()
+    (place.secrets / "again").write_bytes(b" \t%s \r\n\n" % PASSWORDS["dev"])
+    done = place.run(ROTATE, *place.by_id("dev", "dev"), *place.by_id("dev", "again", "new-"), ".")
+    assert (done.returncode, done.stdout, done.stderr) == (0, f"{summary(0, 1)}\n", "")
+    assert place.files() == before
+
+
+@pytest.mark.parametrize("mode", (0o700, 0o610, 0o601))
+def test_script_that_somebody_may_execute(place: Place, mode: int) -> None:
+    """As with Ansible, a password file is a script if its owner, its group or others may execute it."""
+    place.put("a.yml", sealed("dev"))
+    os.chmod(place.script("cat ../secrets/dev"), mode)
+    done = place.run(CHECK, "--vault-password-file", "../script", "a.yml")
+    if mode & 0o100 or os.geteuid() == 0:
+        ended("it is run", done, 0, "1 decrypted, 0 not")
+    else:
+        ended("it is no password", done, 1, "this script cannot be run: Permission denied")
+
+
+FOLDERS = ["first", "second", "third", "last"]
+
+
+@pytest.mark.parametrize("holder", FOLDERS)
+def test_chain_of_links(place: Place, holder: str) -> None:
+    """The tool is found beside the companion, or beside any link that leads to it, relative or absolute."""
+    place.put("a.yml", sealed("old"))
+    links = [place.path / name / CHECK for name in FOLDERS]
+    for link in links:
+        link.parent.mkdir()
+    for link, target in zip(links, links[1:]):
+        link.symlink_to(target if link.parent.name == "second" else os.path.relpath(target, link.parent))
+    links[-1].symlink_to(os.readlink(place.tools / CHECK))
+    (place.path / holder / "ansible-vault").symlink_to(place.program)
+    (place.tools / "ansible-vault").unlink()
+    place.script('echo "ansible-vault [core 2.14.18]"', "tools/ansible-vault")
+    ended("the check", place.run(str(links[0]), *place.by_file("old"), "."), 0, "1 decrypted, 0 not")
+
+
+def test_named_as_the_tool(place: Place) -> None:
+    """For scripts that call `ansible-vault`, a link of that name leads to the companion."""
+    place.put("a.yml", sealed("old"))
+    (link := place.tree / "ansible-vault").symlink_to(place.tools / WITH)
+    done = place.run(str(link), "view", *place.by_file("old"), "a.yml")
+    assert (done.returncode, done.stdout, done.stderr) == (0, TEXT.decode(), "")
+
+
+def test_texts_of_faults() -> None:
+    """The companions know only texts of the table of faults, and every text about a secret."""
+    table = (ROOT / "docs" / "formats.md").read_text()
+    texts = re.findall(r"^ +(?:\d+  \d)?  +([a-z-].+)$", table, re.MULTILINE)
+    assert len(texts) > 30, texts
+    of_secrets = {text for text in texts if re.match("a password|a vault id label|asking for a password", text)}
+    kinds = {text: kind.__name__ for text, kind in KINDS.items()}
+    others = {"no secret decrypts this vault": "NotDecrypted", "input is not vault encrypted data": "NotVault"}
+    assert kinds == dict.fromkeys(of_secrets, "SecretRefused") | others
+    assert others.keys() <= set(texts), "these are in the table, too"

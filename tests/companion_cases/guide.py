@@ -8,7 +8,7 @@ from typing import NamedTuple
 import pytest
 
 from companion_cases import PASSWORDS, TEXT, WITH, Companions, Described, Place, described, sealed
-from companion_cases.both import for_ansible, line_for_ansible
+from companion_cases.both import FOR_ANSIBLE
 from companion_cases.terminal import Session, ask
 from lib.ansible import ansible_release
 from lib.needs import needs, needs_ansible
@@ -18,8 +18,6 @@ FILES = {"a_password_file": "dev", "multi_password_file": "prod", "ppold": "old"
 NAMES = ["foo.yml", "bar.yml", "baz.yml"]
 ALL = " ".join(NAMES)
 DEV = "--vault-id dev@a_password_file"
-# Ansible's tool asks for strings through its standard streams.
-AT_TERMINAL = "--output new.yml < /dev/tty > /dev/tty 2>&1"
 OLD, NEW, AGAIN = "Vault password: ", "New Vault password: ", "Confirm New Vault password: "
 VARIABLE = "Variable name (enter for no name): "
 STRING, SHOWN_STRING = "String to encrypt (hidden): ", "String to encrypt:"
@@ -69,39 +67,22 @@ ROWS = [
     Row(f"encrypt_string {DEV} --stdin-name 'db_password' --output new.yml <<< letmein", since=(2, 14)),
     Row(f"encrypt_string {DEV} 'first' --output new.yml", since=(2, 14)),
     Row(
-        f"encrypt_string {DEV} -p 'second' --name two {AT_TERMINAL}",
-        typed=[(VARIABLE, "one"), (STRING, "first")],
+        f"encrypt_string {DEV} -p 'second' --name two --output new.yml",
+        typed=[(VARIABLE, "one"), (STRING, " first ")],
         since=(2, 14),
     ),
     Row(
-        f"encrypt_string {DEV} --prompt --show-input 'second' {AT_TERMINAL}",
-        typed=[(VARIABLE, ""), (SHOWN_STRING, "first")],
+        f"encrypt_string {DEV} --prompt --show-input 'second' --output new.yml",
+        typed=[(VARIABLE, ""), (SHOWN_STRING, " first ")],
         since=(2, 14),
     ),
     # Ansible's tool asks for the name, too.
-    Row(f"encrypt_string {DEV} --prompt --name one {AT_TERMINAL}", typed=[(STRING, "first")], since=NONE),
+    Row(f"encrypt_string {DEV} --prompt --name one --output new.yml", typed=[(STRING, "first")], since=NONE),
 ]
-
-
-def run(place: Place, tool: str, line: str, row: Row) -> Session:
-    for name, password in FILES.items():
-        place.put(name, PASSWORDS[password] + b"\n", 0o600)
-    for number, name in enumerate(NAMES):
-        place.put(name, sealed(row.password, TEXT * number) if row.password else TEXT * number)
-    text = f"shopt -s expand_aliases\nalias ansible-vault={tool}\nansible-vault {line}\n"
-    answers = [(question, PASSWORDS.get(typed, typed.encode()) + b"\n") for question, typed in row.typed]
-    editor = place.script('echo more >> "$1"', "editor")
-    return ask(place, "bash", "-c", text, answers=answers, EDITOR=editor)
 
 
 # The first line of a block, or an empty line for other text; and the described content.
 Block = tuple[bytes, Described]
-
-
-def outcome(place: Place, session: Session) -> tuple[bool, list[Block], dict[str, list[Block]]]:
-    """Return whether the run succeeded, the blocks of its output, and those of each file except password files."""
-    files = {name: blocks(data) for name, data in place.files().items() if name not in FILES}
-    return session.returncode == 0, blocks(session.stdout.strip().encode()), files
 
 
 def blocks(data: bytes) -> list[Block]:
@@ -110,26 +91,34 @@ def blocks(data: bytes) -> list[Block]:
     return [(part.partition(b"\n")[0] if b"!vault" in part else b"", described(part)) for part in parts if part]
 
 
+def outcome(
+    place: Place, row: Row, tool: str, line: str, **variables: str
+) -> tuple[tuple[bool, list[Block], dict[str, list[Block]]], Session]:
+    """Return whether the run succeeded, the blocks of its output, and those of each file except password files; and the
+    session."""
+    for name, password in FILES.items():
+        place.put(name, PASSWORDS[password] + b"\n", 0o600)
+    for number, name in enumerate(NAMES):
+        place.put(name, sealed(row.password, TEXT * number) if row.password else TEXT * number)
+    text = f"shopt -s expand_aliases\nalias ansible-vault={tool}\nansible-vault {line}\n"
+    answers = [(question, PASSWORDS.get(typed, typed.encode()) + b"\n") for question, typed in row.typed]
+    editor = place.script('echo more >> "$1"', "editor")
+    session = ask(place, "bash", "-c", text, answers=answers, EDITOR=editor, **variables)
+    files = {name: blocks(data) for name, data in place.files().items() if name not in FILES}
+    return (session.returncode == 0, blocks(session.stdout.strip().encode()), files), session
+
+
 @pytest.mark.parametrize("row", ROWS, ids=[row.line for row in ROWS])
 def test_lines(cases: Companions, row: Row) -> None:
+    """Questions are asked at the terminal, although no standard stream is one."""
     needs("bash")
-    place = cases.place()
-    session = run(place, WITH, row.line, row)
-    ours = outcome(place, session)
+    ours, session = outcome(cases.place(), row, WITH, row.line)
     assert ours[0] is True, f"status ({session.stderr} {session.shown})"
     ansible = needs_ansible()
-    if ansible_release() < row.since:
-        return
-    place = cases.place()
-    with for_ansible(place):
-        session = run(place, ansible, line_for_ansible(row.line), row)
-    assert ours == outcome(place, session), f"as Ansible's tool ({session.stderr})"
-
-
-def test_prompt_beside_the_streams(place: Place) -> None:
-    """Questions are asked at the terminal, even if no standard stream is one."""
-    place.put("a_password_file", PASSWORDS["dev"], 0o600)
-    answers = [(VARIABLE, b"one\n"), (STRING, b" first \n")]
-    session = ask(place, WITH, "encrypt_string", *DEV.split(), "--prompt", answers=answers)
-    found = blocks(session.stdout.strip().encode())
-    assert found == [(b"one: !vault |", (b"$ANSIBLE_VAULT;1.2;AES256;dev", ("dev", b" first ")))], session
+    if ansible_release() >= row.since:
+        # Since 2.19, Ansible's tool creates a file only at a terminal, or with this option.
+        line = re.sub("^create", "create --skip-tty-check", row.line) if ansible_release() >= (2, 19) else row.line
+        # It asks for strings through its standard streams.
+        line += " < /dev/tty > /dev/tty 2>&1" if row.typed and "--output" in line else ""
+        theirs, session = outcome(cases.place(), row, ansible, line, **FOR_ANSIBLE)
+        assert ours == theirs, f"as Ansible's tool ({session.stderr})"

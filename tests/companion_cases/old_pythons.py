@@ -7,7 +7,7 @@ from pathlib import Path
 
 import pytest
 
-from lib.paths import COMPANIONS, ROOT
+from lib.paths import COMPANIONS, ROOT, version
 
 # Runs a program as another Python would. The parts of the standard library imported here see the real version.
 AS_OTHER = """\
@@ -22,8 +22,8 @@ runpy.run_path(sys.argv[0], run_name="__main__")"""
 
 
 def run_as(name: str, path: Path) -> tuple[int, str, str]:
-    version = (*map(int, name.split(".")), "final", 0)
-    text = AS_OTHER.format(version=version, name=name, folder=str(path.parent), path=str(path))
+    number = (*map(int, name.split(".")), "final", 0)
+    text = AS_OTHER.format(version=number, name=name, folder=str(path.parent), path=str(path))
     done = subprocess.run([sys.executable, "-ESBc", text], capture_output=True, text=True)
     return done.returncode, done.stdout, done.stderr
 
@@ -31,16 +31,14 @@ def run_as(name: str, path: Path) -> tuple[int, str, str]:
 @pytest.mark.parametrize("name", COMPANIONS)
 def test_refused(name: str) -> None:
     path = COMPANIONS[name]
-    for version in ("3.6.8", "3.8.20"):
-        line = f"{name}: Python 3.9 or newer is needed, and the python3 that is first on PATH is {version} "
-        assert run_as(version, path) == (1, "", f"{line}({sys.executable})\n")
-    status, output, errors = run_as("3.9.0", path)
-    assert (status, output.split()[0], errors) == (0, name, ""), "the oldest"
+    for number in ("3.6.8", "3.8.20"):
+        line = f"{name}: Python 3.9 or newer is needed, and the python3 that is first on PATH is {number} "
+        assert run_as(number, path) == (1, "", f"{line}({sys.executable})\n")
+    assert run_as("3.9.0", path) == (0, f"{name} {version()}\n", ""), "the oldest"
 
 
 def test_what_it_reads() -> None:
     """Python 3.6, which has no `from __future__ import annotations`, can parse all that it needs to print that line."""
     for path in (*COMPANIONS.values(), ROOT / "companions/ansible_vault_companions/__init__.py"):
         tree = ast.parse(path.read_text(), feature_version=(3, 6))
-        imported = {each.module for each in ast.walk(tree) if isinstance(each, ast.ImportFrom)}
-        assert "__future__" not in imported, path
+        assert "__future__" not in {each.module for each in ast.walk(tree) if isinstance(each, ast.ImportFrom)}, path

@@ -9,8 +9,6 @@ from lib.needs import needs, needs_pyyaml
 
 # Notes the command if there is any input to derive a key for. A run that only checks a secret has none.
 NOTED = 'cat > "$0.$$"; [ -s "$0.$$" ] && echo "$1" >> ../runs; exec < "$0.$$"; rm "$0.$$"'
-# The same value twice, and another one.
-VALUES = block("old", b"one", name="a") + block("old", b"one", name="b") + block("old", b"two", name="c")
 
 
 def derivations(place: Place, *words: str, status: int = 0, part: str = "", **variables: str) -> list[int]:
@@ -23,53 +21,37 @@ def derivations(place: Place, *words: str, status: int = 0, part: str = "", **va
     return [found.count("view"), found.count("encrypt")]
 
 
-def put_copies(place: Place) -> None:
-    """Write three envelopes in seven places: two are vaults, and the third is a block, also within one of them."""
+def test_copies(place: Place) -> None:
+    """Four envelopes are in eight places: three are vaults, and the fourth is a block, also within one of them. Equal
+    texts in different envelopes get different envelopes, so that nobody can see that they are equal."""
     place.put("a.yml", sealed("old", block("old", b"one")))
     place.put("b.yml", place.get("a.yml"))
     place.put("c.yml", block("old", b"one") + block("old", b"one", name="b"))
     place.put("d.yml", sealed("old"))
-
-
-def test_check(place: Place) -> None:
-    put_copies(place)
-    for names, count in ((["old"], 3), (["new", "old"], 6)):
+    place.put("e.yml", sealed("old", label="default"))
+    for names, count in ((["old"], 4), (["new", "old"], 8)):
         words = [CHECK, *(word for name in names for word in place.by_file(name)), "."]
-        assert derivations(place, *words, part="7 decrypted, 0 not") == [count, 0], names
-
-
-def test_rotate(place: Place) -> None:
-    put_copies(place)
-    to_be = summary(7).replace("rotated", "to be rotated")
-    assert derivations(place, ROTATE, "--dry-run", *to_new(place), ".", status=1, part=to_be) == [3, 0]
-    assert derivations(place, ROTATE, *to_new(place), ".", part=summary(7)) == [3, 3]
+        assert derivations(place, *words, part="8 decrypted, 0 not") == [count, 0], names
+    to_be = summary(8).replace("rotated", "to be rotated")
+    assert derivations(place, ROTATE, "--dry-run", *to_new(place), ".", status=1, part=to_be) == [4, 0]
+    assert derivations(place, ROTATE, *to_new(place), ".", part=summary(8)) == [4, 4]
     assert place.get("a.yml") == place.get("b.yml"), "a copy stays a copy"
+    assert place.get("d.yml").split()[1:] != place.get("e.yml").split()[1:], "equal texts"
 
 
-def test_equal_texts(place: Place) -> None:
-    """Equal texts in different envelopes get different envelopes, so that nobody can see that they are equal."""
-    place.put("a.yml", sealed("old"))
-    place.put("b.yml", sealed("old", label="default"))
-    assert derivations(place, ROTATE, *to_new(place), ".", part=summary(2)) == [2, 2]
-    assert place.get("a.yml").split()[1:] != place.get("b.yml").split()[1:]
-
-
-def test_shown(place: Place) -> None:
+def test_values(place: Place) -> None:
     needs_pyyaml()
+    editor = place.script('sed -i s/two/three/ "$1"; echo "d: !vault four" >> "$1"', "editor")
+    # The same value twice, and another one.
+    values = block("old", b"one", name="a") + block("old", b"one", name="b") + block("old", b"two", name="c")
+    words = [*place.by_file("old"), "a.yml"]
     # With a tab, it is not YAML.
-    for text in (VALUES, VALUES + b"d: 1\n\te: 2\n"):
+    for text in (values + b"d: 1\n\te: 2\n", values):
         place.put("a.yml", text)
-        assert derivations(place, TEXTCONV, *place.by_file("old"), "a.yml") == [2, 0], text
-
-
-def test_edit(place: Place) -> None:
-    needs_pyyaml()
-    place.put("a.yml", VALUES)
-    editor = place.script("sed -i s/two/three/ \"$1\"; echo 'd: !vault four' >> \"$1\"", "editor")
-    words = [EDIT, *place.by_file("old"), "a.yml"]
-    assert derivations(place, *words, EDITOR=editor) == [2, 2], "a value is changed, and one is new"
+        assert derivations(place, TEXTCONV, *words) == [2, 0], text
+    assert derivations(place, EDIT, *words, EDITOR=editor) == [2, 2], "a value is changed, and one is new"
     place.put("a.yml", sealed("old"))
-    assert derivations(place, *words, EDITOR=place.script('echo >> "$1"', "editor")) == [1, 1], "a vault"
+    assert derivations(place, EDIT, *words, EDITOR=editor) == [1, 1], "a vault"
 
 
 def test_merge(place: Place) -> None:

@@ -5,49 +5,33 @@ import os
 import pytest
 
 from companion_cases import CHANGE, CHANGED, CHECK, EDIT, MERGE, ROTATE, TEXT, TEXTCONV, WITH
-from companion_cases import Done, Place, decrypted, ended, sealed, silent, summary, to_new, versions
+from companion_cases import Place, decrypted, ended, sealed, silent, summary, to_new, versions
 from lib.needs import needs
 
-UNWRITTEN = "standard output cannot be written: {}\n"
 # Command lines that write to standard output, and others whose output is a file.
 OLD, NEW = "--vault-password-file ../secrets/old", "--new-vault-password-file ../secrets/new"
 WRITING = [f"{ROTATE} {OLD} {NEW} --dry-run a.yml", f"{CHECK} {OLD} a.yml", f"{TEXTCONV} {OLD} a.yml"]
 REPLACING = [f"{WITH} decrypt {OLD} a.yml", f"{MERGE} {OLD} a.yml a.yml a.yml a.yml"]
+# Where standard output goes, and why it cannot be written.
+OUTPUTS = {">&-": "Bad file descriptor", "> /dev/full": "No space left on device", "| :": "Broken pipe"}
 
 
-def check_words(done: Done) -> None:
-    assert [each for each in ("Traceback", "Exception") if each in done.stderr] == [], "no word of Python"
-
-
-@pytest.mark.parametrize(
-    "redirection, why", ((">&-", "Bad file descriptor"), ("> /dev/full", "No space left on device"))
-)
+@pytest.mark.parametrize("redirection", OUTPUTS)
 @pytest.mark.parametrize("line", (*WRITING, f"{EDIT} --help", f"{WITH} --help"))
-def test_outputs_that_fail(place: Place, line: str, redirection: str, why: str) -> None:
+def test_outputs_that_fail(place: Place, line: str, redirection: str) -> None:
     place.put("a.yml", sealed("old"))
-    done = place.shell(f"{line} {redirection}")
-    ended("it says why", done, 1, UNWRITTEN.format(why))
-    check_words(done)
-
-
-@pytest.mark.parametrize("line", WRITING)
-def test_readers_that_go(place: Place, line: str) -> None:
-    needs("bash")
-    place.put("a.yml", sealed("old"))
-    done = place.shell(f"{{ {line}; echo $? >&2; }} | :", "bash")
-    assert done.stderr == f"{line.split()[0]}: {UNWRITTEN.format('Broken pipe')}1\n"
+    done = place.shell(f"{{ {line}; echo $? >&2; }} {redirection}")
+    assert done.stderr == f"{line.split()[0]}: standard output cannot be written: {OUTPUTS[redirection]}\n1\n"
 
 
 @pytest.mark.parametrize("redirection", ("2>&-", "2> /dev/full", ">&- 2>&-"))
 @pytest.mark.parametrize("line", (*WRITING, *REPLACING))
 def test_messages_that_fail(place: Place, line: str, redirection: str) -> None:
     place.put("a.yml", sealed("dev"))
-    done = place.shell(f"{line} {redirection}")
-    assert done.returncode == 1, "the status"
-    check_words(done)
+    assert place.shell(f"{line} {redirection}").returncode == 1
 
 
-@pytest.mark.parametrize("streams", ("", "<&-", "<&- >&- 2>&-", ">&-"))
+@pytest.mark.parametrize("streams", ("<&-", ">&-", "<&- >&- 2>&-"))
 def test_closed_streams(place: Place, streams: str) -> None:
     """Neither the password in memory nor a file gets the number of a closed stream."""
     needs("bash")
@@ -57,8 +41,8 @@ def test_closed_streams(place: Place, streams: str) -> None:
     typed = "--vault-password-file <(cat ../secrets/old)"
     for line in (f"{EDIT} {typed} a.yml", f"{WITH} decrypt {typed} a.yml", f"{MERGE} {typed} {merge}"):
         silent(line, place.shell(f"{line} {streams}", "bash"))
-    assert place.get("a.yml") == CHANGED, "it is edited and decrypted"
-    assert decrypted("old", place.get("b.yml")) == CHANGED, "it is merged"
+    found = place.get("a.yml"), decrypted("old", place.get("b.yml"))
+    assert found == (CHANGED, CHANGED), "it is edited and decrypted, and it is merged"
 
 
 def test_ignored_children(place: Place) -> None:

@@ -6,8 +6,6 @@ from companion_cases import CHANGE, CHANGED, CHECK, MERGE, ROTATE, TEXTCONV, WIT
 from companion_cases import sealed, silent, summary, texts, to_new, versions
 from lib.needs import needs
 
-PACKAGE = "python3-yaml"
-
 
 def hide_pyyaml(place: Place) -> None:
     """Replace the companions by copies beside a module `yaml` that cannot be imported."""
@@ -19,33 +17,28 @@ def hide_pyyaml(place: Place) -> None:
         (place.tools / companion.name).symlink_to(companion)
 
 
-def test_vaults(place: Place) -> None:
+def test_without_pyyaml(place: Place) -> None:
+    """Vaults need no PyYAML, nor does finding blocks by their headers, but editing or merging blocks does."""
+    needs("git")
     hide_pyyaml(place)
-    old = place.by_file("old")
+    old, content, package = place.by_file("old"), block("old", b"one"), "python3-yaml"
     place.put("all.yml", sealed("old"))
     silent("edit", edit(place, CHANGE, *old, "all.yml"))
     assert decrypted("old", place.get("all.yml")) == CHANGED, "it is edited"
     for command in ([TEXTCONV], [WITH, "view"]):
         done = place.run(*command, *old, "all.yml")
         assert (done.returncode, done.stdout, done.stderr) == (0, CHANGED.decode(), ""), command
-    needs("git")
     base, ours, theirs = (sealed("old", text) for text in (b"a: 1\n\nb: 1\n", b"a: 2\n\nb: 1\n", b"a: 1\n\nb: 2\n"))
-    ended("merge", place.run(MERGE, *old, *versions(place, "a.yml", base, ours, theirs)), 0)
+    silent("merge", place.run(MERGE, *old, *versions(place, "a.yml", base, ours, theirs)))
     assert decrypted("old", place.get("a.yml")) == b"a: 2\n\nb: 2\n", "it is merged"
-
-
-def test_blocks(place: Place) -> None:
-    """Finding blocks by their headers needs no PyYAML, but editing them does."""
-    hide_pyyaml(place)
-    old, content = place.by_file("old"), block("old", b"one")
     words = versions(place, "vars.yml", content, content, content)
     done = edit(place, "touch ../started", *old, "vars.yml")
-    ended("edit", done, 1, "vars.yml: PyYAML, which reads YAML, is missing", PACKAGE)
+    ended("edit", done, 1, "vars.yml: PyYAML, which reads YAML, is missing", package)
     assert not (place.path / "started").exists(), "no editor is started"
     done = place.run(TEXTCONV, *old, "vars.yml")
-    ended("textconv", done, 0, "secret: !vault |\n          one\n", PACKAGE)
-    ended("merge", place.run(MERGE, *old, *words), 1, PACKAGE)
+    ended("textconv", done, 0, "secret: !vault |\n          one\n", package)
+    ended("merge", place.run(MERGE, *old, *words), 1, package)
     assert place.get("vars.yml") == content, "ours stays"
-    ended("check", place.run(CHECK, *old, "."), 0, "1 decrypted, 0 not")
-    ended("rotate", place.run(ROTATE, *to_new(place), "."), 0, summary(1))
+    ended("check", place.run(CHECK, *old, "."), 0, "3 decrypted, 0 not")
+    ended("rotate", place.run(ROTATE, *to_new(place), "."), 0, summary(3))
     assert texts(place.get("vars.yml"), "new") == [b"one"], "it is rotated"
