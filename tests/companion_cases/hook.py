@@ -1,12 +1,17 @@
 """ansible-vault-hook: what git may commit, also as the pre-commit framework runs it, and with files as arguments."""
 
 import os
+from collections import Counter
+from itertools import product
+from pathlib import Path
 
 import pytest
 
-from companion_cases import AWKWARD, CHANGE, COMPANIONS, HOOK, TEXT, WITH, Done, Place, block, edit, ended, run_changed
-from companion_cases import sealed, silent
-from companion_cases.repository import GONE, WHOLE, add_and_commit, again, commit, fork, leaked, meant, refused, staged
+from ansible_vault_companions.git.contents import LINK_MODE
+from ansible_vault_companions.git.links import target
+from companion_cases import AWKWARD, CHANGE, HOOK, TEXT, WITH, Done, Place, block, edit, ended, run_changed, sealed
+from companion_cases import silent
+from companion_cases.repository import GONE, WHOLE, add_and_commit, again, commit, fork, leaked, refused, staged
 from companion_cases.repository import under_git, unmarking, with_hooks
 from lib.needs import needs_pyyaml
 from lib.paths import ROOT
@@ -17,17 +22,19 @@ ATTRIBUTES = "*.vault.yml diff=ansible-vault\nsecrets/** ansible-vault\n"
 
 
 def test_what_is_staged(place: Place) -> None:
-    """The content and the attributes that are staged count, not the files in the directory."""
+    """The content and the attributes that are staged count, not the files in the directory. Neither the current
+    directory nor settings of git matter."""
     with_hooks(place, ATTRIBUTES)
-    place.put("a.vault.yml", TEXT, 0o755)
+    place.shell("git config diff.relative true && git config diff.renames copies && git config core.quotePath true")
+    place.put("inner/a.vault.yml", TEXT, 0o755)
     place.shell("git add -A")
-    place.put("a.vault.yml", sealed("old"))
-    refused("plaintext is staged", commit(place), "a.vault.yml")
+    place.put("inner/a.vault.yml", sealed("old"))
+    refused("plaintext is staged", place.run(HOOK, folder="inner"), "inner/a.vault.yml")
     place.shell("git add -A")
-    place.put("a.vault.yml", TEXT)
+    place.put("inner/a.vault.yml", TEXT)
     silent("a vault is staged", commit(place))
-    refused("a path", commit(place, "a.vault.yml"), "a.vault.yml")
-    place.shell("git checkout -q . && git rm -q a.vault.yml")
+    refused("a path", commit(place, "inner/a.vault.yml"), "inner/a.vault.yml")
+    place.shell("git checkout -q . && git rm -q inner/a.vault.yml")
     silent("a removal", commit(place))
     place.put(".gitattributes", b"")
     place.put("b.vault.yml", TEXT)
@@ -44,31 +51,23 @@ def test_leftovers(place: Place) -> None:
     killed = "os.replace = lambda *_: os.kill(os.getpid(), 9)"
     assert run_changed(place, WITH, killed, ["decrypt", *place.by_file("old"), "inner/a.yml"]).returncode == -9
     ended("an edit", edit(place, f"{CHANGE}; exit 1", *place.by_file("old"), "inner/a.yml"), 1, "is encrypted in")
-    names = sorted(name for name in place.files() if "/.ansible-vault-" in name)
-    assert sorted(place.get(name) == TEXT for name in names) == [False, True], "one in plaintext, one encrypted"
+    place.put(".ansible-vault-saved-$(touch pwned)", TEXT)
+    names = sorted(name for name in place.files() if ".ansible-vault-" in name)
+    assert sorted(place.get(name) == TEXT for name in names) == [False, True, True], "one is encrypted"
     done = add_and_commit(place)
-    lines = [line for name in names for line in leftover(name)]
-    assert (done.returncode, done.stderr.splitlines()) == (1, lines), "they are refused"
-    marks = [line.rpartition(": ")[2] for line in lines[2::3]]
-    silent("with the attributes", staged(place, ".gitattributes", "\n".join(marks).encode()))
+    whys, removing, marks = (done.stderr.splitlines()[first::3] for first in range(3))
+    wanted = [f"{HOOK}: {name} was left behind by a failed companion, and may be plaintext" for name in names]
+    assert (done.returncode, whys) == (1, wanted), "they are refused"
+    attributes = "\n".join(line.rpartition(": ")[2] for line in marks).replace("PATTERN", "/.ansible-vault-saved-*")
+    silent("with the attributes", staged(place, ".gitattributes", attributes.encode()))
     place.put(".gitattributes", b"")
-    for line in lines[1::3]:
+    for line in removing:
         assert place.shell(" && ".join(line.split("`")[1::2])).returncode == 0, "they are removed as the message says"
-    for name in (".ansible-vault-pass", ".ansible-vault-me.py", "ansible-vault-saved-x", ".ansible-vault-abcdefgh.py"):
+    others = [".ansible-vault-abcdefgh.py", ".ansible-vault-me.py", ".ansible-vault-pass", "ansible-vault-saved-x"]
+    for name in others:
         place.put(name, TEXT)
     silent("files with other names", add_and_commit(place))
-    place.put(".ansible-vault-saved-$(touch pwned)", TEXT)
-    removing = add_and_commit(place).stderr.splitlines()[1].split("`")[1::2]
-    place.shell(" && ".join(removing))
-    assert [name for name in place.names() if "saved-$" in name or "pwned" in name] == [], "names are quoted"
-
-
-def leftover(name: str) -> list[str]:
-    return [
-        f"{HOOK}: {name} was left behind by a failed companion, and may be plaintext",
-        f"  look at its content, and remove it with `git rm --cached {name}` and `rm {name}`",
-        meant(name),
-    ]
+    assert [*place.files()] == [*others[:3], ".gitattributes", others[3], "inner/a.yml"], "names are quoted"
 
 
 def test_awkward_names(place: Place) -> None:
@@ -86,26 +85,14 @@ def test_awkward_names(place: Place) -> None:
     assert "'secrets/a\\nline.yml' is not" in done.stderr, "a line end is spelled out"
 
 
-def test_where_it_runs(place: Place) -> None:
-    """It does not depend on the directory, nor on settings of git."""
-    under_git(place, ATTRIBUTES)
-    place.put("inner/a.vault.yml", TEXT)
-    place.shell("git config diff.relative true && git config diff.renames copies && git config core.quotePath true")
-    refused("it", place.shell(f"git add -A && {HOOK}", folder="inner"), "inner/a.vault.yml")
-
-
-DIGITS = sealed("old").partition(b"\n")[2]
 LINES = block("old").splitlines(keepends=True)
 TAGGED = "has plaintext with the tag `!vault` in line {}"
-# What a marked file may not contain, and why.
+# What a marked file may not contain, and why. `spellings` has other headers.
 CONTENTS = {
     "empty": (b"", "is not encrypted"),
-    "a bare header": (b"$ANSIBLE_VAULT;1.1;AES256\n", "is a damaged vault"),
     "plaintext below": (sealed("old") + TEXT, "is a damaged vault"),
-    "a word after the label": (b"$ANSIBLE_VAULT;1.2;AES256;prod;pw=plain\n" + DIGITS, "is a damaged vault"),
     "digits of a text": (b"$ANSIBLE_VAULT;1.1;AES256\n" + TEXT.hex().encode() + b"\n", "is a damaged vault"),
-    "another version": (b"$ANSIBLE_VAULT;2.0;AES256\n" + DIGITS, "is a damaged vault"),
-    "a part of the digits": (sealed("old")[:200], "is a damaged vault"),
+    "without the last line": (sealed("old").rstrip().rpartition(b"\n")[0], "is a damaged vault"),
     "plaintext in a block": (b"".join([*LINES[:3], b" " * 10 + TEXT, *LINES[3:]]), "has a damaged block in line 2"),
     "plaintext below a block": (block("old") + b" " * 10 + TEXT, "has a damaged block in line 2"),
     "a block that ends early": (b"".join([*LINES[:3], b"b: 1\n"]), "has a damaged block in line 2"),
@@ -116,20 +103,18 @@ CONTENTS = {
 }
 
 
-@pytest.mark.parametrize("content, why", CONTENTS.values(), ids=CONTENTS)
-def test_refused_content(place: Place, content: bytes, why: str) -> None:
+def test_marked_content(place: Place) -> None:
     """A marked file needs the digits of an envelope, without conflict markers or plaintext between them."""
     needs_pyyaml()
     under_git(place, ATTRIBUTES)
-    refused("the hook", staged(place, "a.vault.yml", content), "a.vault.yml", why=why)
-
-
-def test_marked_content(place: Place) -> None:
-    with_hooks(place, ATTRIBUTES)
-    silent("blocks", again(place, "a.vault.yml", block("old") + b"x: 1\n\n" + block("old", name="b") + b"\n"))
-    silent("a vault", again(place, "secrets/a.yml", sealed("old").replace(b"\n", b"\r\n")))
-    done = again(place, "secrets/b.yml", block("old"))
-    refused("blocks where a vault has to be", done, "secrets/b.yml", hint=unmarking("secrets/b.yml"))
+    place.put("blocks/a.vault.yml", block("old") + b"x: 1\n\n" + block("old", name="b") + b"\n")
+    place.put("secrets/a.yml", sealed("old").replace(b"\n", b"\r\n"))
+    for what, (content, _) in CONTENTS.items():
+        place.put(f"{what}/a.vault.yml", content)
+    done = staged(place, "secrets/b.yml", block("old"))
+    lines = [f"{HOOK}: {what}/a.vault.yml {why}" for what, (_, why) in CONTENTS.items()]
+    lines += [f"{HOOK}: secrets/b.yml is not encrypted", unmarking("secrets/b.yml")]
+    assert (done.returncode, sorted(done.stderr.splitlines())) == (1, sorted(lines))
 
 
 def test_plain_beside_vaults(place: Place) -> None:
@@ -154,59 +139,43 @@ def test_merges(place: Place) -> None:
     ended("a clean merge", place.shell("git merge --no-edit -q theirs"), 1, f"{HOOK}: vars.yml {WHOLE}\n")
 
 
-@pytest.mark.parametrize("words", (["--all"], ["--since", "HEAD"], ["--install"], []))
-def test_outside_of_git(place: Place, words: list[str]) -> None:
-    ended("no repository", place.run(HOOK, *words), 1, f"{HOOK}: git rev-parse failed")
-
-
-# The keys of the hook that say how pre-commit runs it, and those that do not.
-ARGUMENTS = ["--"]
-RUN_AS = {
-    "entry": f"companions/{HOOK}",
-    "args": ARGUMENTS,
-    "language": "script",
-    "always_run": True,
-    "require_serial": True,
-    "stages": ["pre-commit", "pre-merge-commit"],
-}
-OTHERS = {"id", "name", "description", "minimum_pre_commit_version"}
-
-
-def test_definition() -> None:
+def test_pre_commit(place: Place) -> None:
+    """The framework runs it in the top directory, with the files of the commit that are not links."""
     needs_pyyaml()
     import yaml
 
     [hook] = yaml.safe_load((ROOT / ".pre-commit-hooks.yaml").read_text())
-    assert {key: value for key, value in hook.items() if key not in OTHERS} == RUN_AS
+    others = {"id", "name", "description", "minimum_pre_commit_version", "entry", "args"}
+    stages = ["pre-commit", "pre-merge-commit"]
+    wanted = {"language": "script", "always_run": True, "require_serial": True, "stages": stages}
+    assert {key: hook[key] for key in hook.keys() - others} == wanted
 
+    def by_framework() -> Done:
+        listed = place.shell("git diff --staged --name-only --no-ext-diff -z --diff-filter=ACMRTUXB").stdout
+        files = [name for name in listed.split("\0")[:-1] if not os.path.islink(place.tree / name)]
+        return place.run(str(ROOT / hook["entry"]), *hook.get("args", []), *files)
 
-def by_framework(place: Place) -> Done:
-    """Run it as pre-commit does, in the top directory, with the files of the commit."""
-    listed = place.shell("git diff --staged --name-only --no-ext-diff -z --diff-filter=ACMRTUXB").stdout
-    files = [name for name in listed.split("\0")[:-1] if not os.path.islink(place.tree / name)]
-    return place.run(str(COMPANIONS / HOOK), *ARGUMENTS, *files)
-
-
-def test_pre_commit(place: Place) -> None:
     under_git(place, ATTRIBUTES)
     place.put("a.yml", sealed("old"))
     place.put("b.yml", sealed("new"))
     place.put("-c d.yml", block("old"))
     place.shell("git add -A")
-    silent("vaults", by_framework(place))
+    silent("vaults", by_framework())
     add_and_commit(place)
     place.put("a.yml", TEXT)
     place.shell("git add -A")
-    leaked("plaintext", by_framework(place), {"a.yml": WHOLE})
+    leaked("plaintext", by_framework(), {"a.yml": WHOLE})
     place.shell("git rm -qf a.yml b.yml && ln -s c.yml b.yml")
     place.put("c.yml", TEXT)
     place.shell("git add -A")
     link = f"b.yml points to c.yml, and {WHOLE}"
-    ended("a link, which pre-commit does not name", by_framework(place), 1, link, f"c.yml {GONE.format('a.yml')}")
+    ended("a link, which pre-commit does not name", by_framework(), 1, link, f"c.yml {GONE.format('a.yml')}")
 
 
 def test_files(place: Place) -> None:
     """Files that the commit does not change are checked if they are named."""
+    for line in (HOOK, f"{HOOK} --install"):
+        ended("no repository", place.shell(line), 1, f"{HOOK}: git rev-parse failed")
     under_git(place, ATTRIBUTES)
     for name in ("a.vault.yml", "inner/b.vault.yml", "plain.yml"):
         place.put(name, TEXT)
@@ -222,3 +191,76 @@ def test_files(place: Place) -> None:
         ended("no file of the index", place.run(HOOK, *words), 1, "git ls-files failed", words[-1])
     for option in (["--all"], ["--since", "HEAD"], ["--install"], ["--uninstall"]):
         ended("an option", place.run(HOOK, *option, "plain.yml"), 2, "FILE cannot be used with an option")
+
+
+def test_links_in_place_of_vaults(place: Place) -> None:
+    """A link in place of a vault is refused if it leads to plaintext."""
+    with_hooks(place)
+    place.put("deep/plain.yml", TEXT)
+    place.put("deep/vault.yml", sealed("new"))
+    (place.tree / "folder").symlink_to("deep")
+    targets = ["../folder/../deep/plain.yml", f"{place.tree}/deep/plain.yml", "vault.yml", "nowhere.yml"]
+    for number in range(len(targets)):
+        place.put(f"deep/{number}.yml", sealed("old"))
+    silent("at first", add_and_commit(place))
+    for number, path in enumerate(targets):
+        (place.tree / f"deep/{number}.yml").unlink()
+        (place.tree / f"deep/{number}.yml").symlink_to(path)
+    whys = {f"deep/{number}.yml": f"points to deep/plain.yml, and {WHOLE}" for number in (0, 1)}
+    leaked("the hook", place.shell(f"git add -A && {HOOK}"), whys)
+
+
+# Files and links below a directory, and files beside it. A link to the first of the chain leads through 40 links, which
+# is as many as the system follows.
+FILES = ["plain.yml", "..data/plain.yml", ".../..plain", "deep/er/plain.yml", "../plain.yml", "../topmost/plain.yml"]
+LINKS = {"across": "deep/er", "..data/back": "..", "one": "..two", "..two": "across/../../.../..plain", "loop": "loop"}
+CHAIN = {f"chain{each}": f"chain{each + 1}" for each in range(1, 39)} | {"chain39": "plain.yml"}
+# The parts of a target: where it begins, namely at the link, at the directory as seen from there, or at the root; two
+# detours, some of them by another link; and where it ends.
+STARTS = ["", "{above}", "{top}/", "/"]
+DETOURS = ["", ".", "..", "deep/..", "..data/..", "../top", "across/..", "..data/back", ".../.", "loop/.."]
+ENDS = [*FILES, "..plain", "er/plain.yml", "one", "..two", "loop", "chain1", "nowhere", "..", "deep"]
+
+
+def by_system(top: Path, name: str) -> str:
+    """Return the file below the directory that a link points to; "" if it is elsewhere, "nowhere" if there is none."""
+    try:
+        os.stat(top / name)
+    except OSError:
+        return "nowhere"
+    path = os.path.realpath(top / name)
+    return os.path.relpath(path, top) if os.path.isfile(path) and path.startswith(f"{top}/") else ""
+
+
+def by_hook(top: Path, name: str) -> str:
+    def entry(name: bytes) -> tuple[str, str]:
+        """Return an entry as git has it. Directories are not entries."""
+        path = top / os.fsdecode(name)
+        if path.is_symlink():
+            return LINK_MODE, os.readlink(path)
+        return ("100644", "plain") if name and path.is_file() else ("", "")
+
+    found, blob = target(os.fsencode(name), os.fsencode(top), entry, os.fsencode)
+    assert bool(found) == (blob == "plain")
+    return os.fsdecode(found)
+
+
+def test_links_as_the_system(tmp_path: Path) -> None:
+    """Links are followed to the same files as by the system."""
+    top = tmp_path.resolve() / "top"
+    for name in FILES:
+        (top / name).parent.mkdir(parents=True, exist_ok=True)
+        (top / name).write_bytes(TEXT)
+    for name, text in (LINKS | CHAIN).items():
+        (top / name).symlink_to(text)
+    counts: Counter[str] = Counter()
+    for folder, start, *parts in product(("", "..data", "deep/er"), STARTS, DETOURS, DETOURS, ENDS):
+        above = "../" * len(Path(folder).parts)
+        link = top / folder / "link"
+        link.symlink_to(start.format(top=top, above=above) + "/".join(parts))
+        found, known = by_hook(top, os.path.join(folder, "link")), by_system(top, os.path.join(folder, "link"))
+        # A target that is missing here may exist in another clone.
+        assert found == known or known == "nowhere", (folder, os.readlink(link))
+        counts["nowhere" if known == "nowhere" else "below" if known else "elsewhere"] += 1
+        link.unlink()
+    assert min(counts["below"], counts["elsewhere"], counts["nowhere"]) > 1000, counts

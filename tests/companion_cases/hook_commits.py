@@ -1,10 +1,12 @@
-"""ansible-vault-hook in a pipeline (--all, --since)."""
+"""ansible-vault-hook in a pipeline (--all, --since), and with ansible-vault-check in every kind of clone."""
+
+import os
 
 import pytest
 
-from companion_cases import HOOK, TEXT, Place, block, ended, sealed, silent
-from companion_cases.repository import GONE, IN_PART, WHOLE, committed, leaked, meant, refused, under_git, unmarking
-from lib.subtests import SubTests
+from companion_cases import CHECK, HOOK, TEXT, Place, block, ended, sealed, silent
+from companion_cases.repository import GONE, IN_PART, WHOLE, committed, leaked, meant, refused, staged, under_git
+from companion_cases.repository import unmarking
 
 pytestmark = pytest.mark.usefixtures("git")
 
@@ -14,6 +16,8 @@ ATTRIBUTES = "*.vault.yml diff=ansible-vault\n"
 def test_every_file(place: Place) -> None:
     """A pipeline checks commits that no hook saw. Only the commit counts, not the index or the files."""
     under_git(place, ATTRIBUTES)
+    # A note that a full disk cut off is ignored.
+    place.put(".git/ansible-vault-conflicts", b"1" * 40 + b" " + b"2" * 40 + b" 7")
     (place.tree / "link.vault.yml").symlink_to("other.yml")
     place.put("other.yml", TEXT)
     place.put("deep/a.vault.yml", block("old"))
@@ -34,13 +38,22 @@ def test_every_file(place: Place) -> None:
 
 
 def test_each_commit(place: Place) -> None:
-    """A leak counts even if a later commit takes it back, since history keeps it."""
+    """A leak counts even if a later commit takes it back, or says that it is meant, since history keeps it."""
     under_git(place, ATTRIBUTES)
+    committed(place, "a.yml", sealed("old"))
     first = committed(place, "vars.yml", sealed("old"))
+    for name in ("nowhere", "--all"):
+        done = place.run(HOOK, f"--since={name}")
+        ended("no commit", done, 1, f"{HOOK}: {name} is not a commit in this clone", "`git fetch`")
     silent("nothing since", place.run(HOOK, "--since", "HEAD"))
+    place.shell("git mv a.yml b.yml")
+    place.put("b.yml", TEXT)
     leak = committed(place, "vars.yml", TEXT)
+    committed(place, ".gitattributes", f"{ATTRIBUTES}/b.yml -ansible-vault\n/vars.yml -ansible-vault\n".encode())
+    place.shell("git rm -q b.yml")
     committed(place, "vars.yml", sealed("new"))
-    leaked("taken back", place.run(HOOK, "--since", first), {f"{leak[:10]}: vars.yml": WHOLE})
+    leaks = {f"{leak[:10]}: vars.yml": WHOLE, f"{leak[:10]}: b.yml": GONE.format("a.yml")}
+    leaked("taken back", place.run(HOOK, "--since", first), leaks)
     silent("--all sees it no more", place.run(HOOK, "--all"))
     silent("and neither what came before", place.run(HOOK, "--since", leak))
     marked = committed(place, "a.vault.yml", TEXT)
@@ -51,25 +64,32 @@ def test_each_commit(place: Place) -> None:
     ended("a first commit", done, 1, "a.vault.yml is not encrypted")
 
 
-@pytest.mark.parametrize("name", ("nowhere", "--all"))
-def test_no_commit(place: Place, name: str) -> None:
+def test_several_commits(place: Place) -> None:
+    """One commit removes vaults and values, and a later one adds their plaintext. --since compares it with each merge
+    base, and --all with every earlier commit."""
     under_git(place, "")
-    committed(place, "a.yml", TEXT)
-    done = place.run(HOOK, f"--since={name}")
-    ended("no commit", done, 1, f"{HOOK}: {name} is not a commit in this clone", "`git fetch`")
-
-
-def test_attributes_of_each_commit(place: Place) -> None:
-    """Each commit says itself which plaintext is meant."""
-    under_git(place, "")
-    committed(place, "a.yml", sealed("old"))
-    first = committed(place, "c.yml", sealed("new"))
-    place.shell("git mv a.yml b.yml")
-    place.put("c.yml", TEXT)
-    leak = committed(place, "b.yml", TEXT)[:10]
-    committed(place, ".gitattributes", b"*.yml -ansible-vault\n")
-    leaks = {f"{leak}: c.yml": WHOLE, f"{leak}: b.yml": GONE.format("a.yml")}
-    leaked("it is meant later", place.run(HOOK, "--since", first), leaks)
+    root = committed(place, "x.txt", b"1\n")
+    one = committed(place, "one.yml", sealed("old"))
+    place.shell(f"git checkout -q {root}")
+    two = committed(place, "two.yml", block("new"))
+    place.shell(f"git merge -q --no-edit {one} && git branch first && git checkout -q {one}")
+    place.shell(f"git merge -q --no-commit {two}; git rm -qf one.yml two.yml && git commit -qm removed")
+    silent("nothing comes", place.run(HOOK, "--since", "first"))
+    place.put("one.yml", TEXT)
+    silent("the hook sees one commit", staged(place, "two.yml", b"secret: plain\n"))
+    head = committed(place, "x.txt", b"2\n")[:10]
+    bases = place.shell("git merge-base --all first HEAD").stdout.split()
+    whys = {one: ("one.yml", WHOLE), two: ("two.yml", IN_PART.format("secret"))}
+    assert sorted(bases) == sorted(whys)
+    leaks = {f"{head}: {whys[base][0]}": whys[base][1].replace("the parent commit", base[:10]) for base in bases}
+    leaked("each is compared", place.run(HOOK, "--since", "first"), leaks)
+    committed(place, "other.yml", b"a: 1\n")
+    leaked("--all", place.run(HOOK, "--all"), {"one.yml": WHOLE.replace("the parent", "an earlier")})
+    committed(place, ".gitattributes", b"/one.yml -ansible-vault\n")
+    silent("--all, where plaintext is meant", place.run(HOOK, "--all"))
+    committed(place, ".gitattributes", b"")
+    committed(place, "one.yml", sealed("new"))
+    silent("--all, encrypted again", place.run(HOOK, "--all"))
 
 
 def test_merge_of_several_branches(place: Place) -> None:
@@ -82,32 +102,30 @@ def test_merge_of_several_branches(place: Place) -> None:
         place.shell("git checkout -q -")
     place.shell("git merge -q --no-commit one two")
     place.put("one.yml", TEXT)
-    place.put("two.yml", TEXT)
-    done = place.shell(f"git add -A && {HOOK}")
+    done = staged(place, "two.yml", TEXT)
     ended("what is staged", done, 1, f"{HOOK}: one.yml {WHOLE}\n", f"{HOOK}: two.yml {WHOLE}\n")
     merged = committed(place, "vars.yml", b"a: 1\n")[:10]
     done = place.run(HOOK, "--since", first)
     leaked("the commit", done, {f"{merged}: one.yml": WHOLE, f"{merged}: two.yml": WHOLE})
 
 
-def test_shallow_clones(place: Place, subtests: SubTests) -> None:
+def test_shallow_clones(place: Place) -> None:
     """Pipelines often use shallow clones, which lack the earlier commits to compare with."""
     under_git(place, ATTRIBUTES)
     committed(place, "a.yml", sealed("old"))
     committed(place, "a.yml", TEXT)
     committed(place, "b.yml", TEXT)
     place.shell("git clone -q --depth 1 file://$PWD ../shallow")
-    for words in (["--all"], ["--since", "HEAD"], ["--since", "nowhere"]):
-        with subtests.test(" ".join(words)):
-            done = place.run(HOOK, *words, folder="../shallow")
-            ended("the hook", done, 1, "this clone is shallow", "`git fetch --unshallow`", "fetch-depth: 0")
+    for words in (["--all"], ["--since", "nowhere"]):
+        done = place.run(HOOK, *words, folder="../shallow")
+        ended(words[0], done, 1, "this clone is shallow", "`git fetch --unshallow`", "fetch-depth: 0")
     place.put("../shallow/b.vault.yml", TEXT)
     refused("what is staged", place.shell(f"git add -A && {HOOK}", folder="../shallow"), "b.vault.yml")
     done = place.shell(f"git fetch -q --unshallow && {HOOK} --all", folder="../shallow")
     ended("no longer shallow", done, 1, "a.yml is not a vault, but was one in an earlier commit")
 
 
-def test_partial_clones(place: Place, subtests: SubTests) -> None:
+def test_partial_clones(place: Place) -> None:
     """Missing objects are not fetched, since the clone's own settings name the source and the program."""
     under_git(place, ATTRIBUTES)
     for text in (b"one\n", b"two\n"):
@@ -116,7 +134,44 @@ def test_partial_clones(place: Place, subtests: SubTests) -> None:
     place.shell("git clone -q --filter=blob:none file://$PWD ../partial")
     place.put("../partial/a.yml", TEXT)
     leaked("what is staged", place.shell(f"git add -A && {HOOK}", folder="../partial"), {"a.yml": WHOLE})
-    for line in (f"{HOOK} --all", f"{HOOK} --since HEAD", f"git reset -q --soft HEAD~1 && {HOOK}"):
-        with subtests.test(line):
-            done = place.shell(line, folder="../partial")
-            ended("contents are missing", done, 1, "this is a partial clone", "clone again without --filter")
+    for line in (f"{HOOK} --all", f"git reset -q --soft HEAD~1 && {HOOK}"):
+        done = place.shell(line, folder="../partial")
+        ended(line, done, 1, "this is a partial clone", "clone again without --filter")
+
+
+# The commands that make each kind of clone at `../clone`, from the repository.
+CLONES = {
+    "a separate folder for git": "git clone -q --separate-git-dir=../kept . ../clone",
+    "a submodule": "git init -q ../outer && cd ../outer && "
+    "git -c protocol.file.allow=always submodule --quiet add {tree} inner && ln -s outer/inner ../clone",
+    "a worktree of a bare clone": "git clone -q --bare . ../bare && git -C ../bare worktree add -q --detach ../clone",
+}
+
+
+@pytest.mark.parametrize("line", CLONES.values(), ids=CLONES)
+def test_kinds_of_clones(place: Place, line: str) -> None:
+    under_git(place, ATTRIBUTES)
+    place.put("deep/a.vault.yml", sealed("old"))
+    place.put("deep/b.vault.yml", TEXT)
+    done = place.shell(f"git add -A && git commit -qm one && {line.format(tree=place.tree)}")
+    assert done.returncode == 0, done.stderr
+    clone = os.path.realpath(place.path / "clone")
+    done = place.run(CHECK, *place.by_file("old"), ".", folder=clone)
+    ended("the check finds plaintext that is marked", done, 1, f"{CHECK}: ./deep/b.vault.yml: is not encrypted\n")
+    place.put(f"{clone}/deep/c.vault.yml", TEXT)
+    done = place.shell(f"git add -A && {HOOK}", folder=clone)
+    refused("and the hook", done, "deep/c.vault.yml", hint=unmarking("deep/c.vault.yml"))
+    place.put(f"{clone}/deep/a.vault.yml", TEXT)
+    place.put(f"{clone}/.gitattributes", b"")
+    ended("unmarked", place.shell(f"git add -A && {HOOK}", folder=clone), 1, f"deep/a.vault.yml {WHOLE}")
+
+
+def test_sparse(place: Place) -> None:
+    """Attributes count even in a directory that is not checked out."""
+    under_git(place, "")
+    place.put("deep/.gitattributes", ATTRIBUTES.encode())
+    place.put("deep/a.vault.yml", TEXT)
+    place.put("other/x.yml", b"x: 1\n")
+    place.shell("git add -A && git commit -qm one && git sparse-checkout set other")
+    assert "deep" not in place.names()
+    refused("the hook", place.run(HOOK, "--all"), "deep/a.vault.yml")

@@ -63,38 +63,31 @@ def test_installed(place: Place, which: str, file: str) -> None:
 
 
 def test_other_hooks(place: Place) -> None:
-    """An existing hook stays. The message contains the line to add to it."""
-    under_git(place, ATTRIBUTES)
-    hook = place.tree / ".git/hooks/pre-commit"
-    place.put(".git/hooks/pre-commit", b"#!/bin/sh\nexit 0\n", 0o755)
-    line = f"{HOOK} || exit 1"
-    done = place.run(HOOK, "--install")
-    ended("a hook that is there", done, 1, f"{hook} exists already; add this line to it: {line}\n")
-    assert hook.read_text() == "#!/bin/sh\nexit 0\n", "it stays"
-    assert (hook.parent / "pre-merge-commit").is_symlink(), "the other is installed"
-    hook.write_text(f"#!/bin/sh\n{line}\nexit 0\n")
-    refused("the line works", again(place, "a.vault.yml", TEXT), "a.vault.yml")
-    ended("it is left", place.run(HOOK, "--uninstall"), 0, f"{hook}: left alone, since --install did not make it\n")
-    assert hook.read_text() == f"#!/bin/sh\n{line}\nexit 0\n", "it stays"
-
-
-def test_moved_programs(place: Place) -> None:
-    """git ignores a hook that is a broken link. A link to an earlier location of this program is replaced."""
+    """A link to an earlier location of this program is replaced. git ignores it if it is broken. Another link or hook
+    stays. The message contains the line to add to a hook."""
     under_git(place, ATTRIBUTES)
     hooks, old = place.tree / ".git/hooks", place.path / "old" / HOOK
+    hook, line = hooks / "pre-commit", f"{HOOK} || exit 1"
     hooks.mkdir(exist_ok=True)
     for name in NAMES:
         (hooks / name).symlink_to(old)
     silent("git runs no hook", again(place, "a.vault.yml", TEXT))
     installs("repaired", place.run(HOOK, "--install"), hooks, f"installed in place of a link to {old}")
     refused("git runs it", again(place, "a.vault.yml", TEXT * 2), "a.vault.yml")
-    (hooks / "pre-commit").unlink()
-    (hooks / "pre-commit").symlink_to("/nowhere/else")
+    hook.unlink()
+    hook.symlink_to("/nowhere/else")
     done = place.run(HOOK, "--install")
-    ended("somebody else's link", done, 1, f"{hooks}/pre-commit points to /nowhere/else, which does not exist")
-    left = f"{hooks}/pre-commit: left alone, since --install did not make it\n{hooks}/pre-merge-commit: removed\n"
+    ended("somebody else's link", done, 1, f"{hook} points to /nowhere/else, which does not exist")
+    left = f"{hook}: left alone, since --install did not make it\n{hooks}/pre-merge-commit: removed\n"
     ended("it is left", place.run(HOOK, "--uninstall"), 0, left)
-    assert os.readlink(hooks / "pre-commit") == "/nowhere/else", "it stays"
+    assert os.readlink(hook) == "/nowhere/else", "it stays"
+    hook.unlink()
+    place.put(".git/hooks/pre-commit", f"#!/bin/sh\n{line}\nexit 0\n".encode(), 0o755)
+    done = place.run(HOOK, "--install")
+    ended("a hook that is there", done, 1, f"{hook} exists already; add this line to it: {line}\n")
+    refused("the line works", again(place, "a.vault.yml", TEXT * 3), "a.vault.yml")
+    ended("it and the other", place.run(HOOK, "--uninstall"), 0, left)
+    assert hook.read_text() == f"#!/bin/sh\n{line}\nexit 0\n", "it stays"
 
 
 def test_drivers(place: Place) -> None:
@@ -141,7 +134,6 @@ REFUSED = [
     ("--install", "--vault-password-file=pass", "has to begin with / or ~"),
     ("--install", "--vault-id=dev@pass", "has to begin with / or ~"),
     ("--all", "--vault-id=/pass", "only --install takes secrets"),
-    ("--uninstall", "--vault-id=/pass", "only --install takes secrets"),
 ]
 
 

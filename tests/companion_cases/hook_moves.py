@@ -2,9 +2,8 @@
 
 import pytest
 
-from companion_cases import HOOK, TEXT, Done, Place, block, sealed, silent
-from companion_cases.repository import GONE, IN_PART, WHOLE, add_and_commit, again, committed, leaked, under_git
-from companion_cases.repository import with_hooks
+from companion_cases import HOOK, TEXT, Done, Place, block, sealed
+from companion_cases.repository import GONE, IN_PART, WHOLE, add_and_commit, leaked, under_git
 from companion_cases.without_pyyaml import hide_pyyaml
 from lib.needs import needs_pyyaml
 
@@ -42,75 +41,64 @@ ANCHOR = b"x: &x plain\n"
 VAULT, OTHER = sealed("old"), sealed("new")
 # Vaults that the tool does not read.
 CUT, AES = VAULT[:-100], b"$ANSIBLE_VAULT;1.0;AES\n" + b"61" * 40 + b"\n"
-# The contents of a file before and after a change, and the paths in the message. Without any, it was a vault.
-LEAKS = {
-    "a_list_item": (b"f:\n- " + block("old", name=""), b"f:\n- plain\n", "f[]"),
-    "a_mapping_for_a_block": (block("old", name="db"), b"db: {password: x}\n", "db"),
-    "a_text_for_its_mapping": (A, b"a: plain\n", "a.password"),
-    "below_another_key": (A, B_PLAIN, "password"),
-    "beside_another_that_stays": (A + B, A_PLAIN + B, "a.password"),
-    "both": (A + PASSWORD, b"a:\n  'password': |\n    plain\n" + PLAIN, "a.password, password"),
-    "by_a_merged_mapping": (A, b"a:\n  <<: {password: plain}\n", "a.password"),
-    "by_an_alias": (ANCHOR + A, ANCHOR + b"a:\n  password: *x\n", "a.password"),
-    "in_a_list": (ITEM + PLAIN_ITEM, b"users:\n- password: y\n" + PLAIN_ITEM, "users[].password"),
-    "no_YAML": (b"{% if x %}\n" + PASSWORD, b"{% if x %}\n" + PLAIN, "password"),
-    "vault": (VAULT, TEXT, ""),
-    "vault_of_another_format": (AES, TEXT, ""),
-    "vault_that_is_cut": (VAULT, CUT, ""),
-    "vault_that_was_cut": (CUT, TEXT, ""),
-    "vault_with_plaintext_below": (VAULT, VAULT + TEXT, ""),
-    "while_a_plain_one_goes": (A + B_PLAIN, A_PLAIN, "a.password"),
-    "within_a_text": (WITHIN_TEXT, b"a: |\n  password: plain\n", "password"),
-}
-HARMLESS = {
-    "one that goes": (A + B_PLAIN, B_PLAIN),
-    "one that goes from a list": (ITEM + PLAIN_ITEM, b"users:\n" + PLAIN_ITEM),
-    "one that goes from a text": (WITHIN_TEXT, b"a: |\n  x: 1\n"),
-    "one under another secret": (A + B_PLAIN, A_ANEW + B_PLAIN),
-    "one that moves": (A, below("c", PASSWORD) + B_PLAIN),
-    "one that is emptied": (block("old", name="c"), b"d: ''\n"),
-    "a plain one beside it": (A, A + b"b:\n  other: 1\n"),
-    "a vault under another secret": (VAULT, OTHER),
-    "a vault that is emptied": (VAULT, b"\n"),
-    "another part of a vault": (CUT, CUT[:-1]),
+plain = IN_PART.format
+BOTH = plain("a.password, password").replace(" was ", " were ")
+# The contents of a file before and after a change, and why it is refused, if it is.
+CONTENTS = {
+    "a_list_item": (b"f:\n- " + block("old", name=""), b"f:\n- plain\n", plain("f[]")),
+    "a_mapping_for_a_block": (block("old", name="db"), b"db: {password: x}\n", plain("db")),
+    "a_text_for_its_mapping": (A, b"a: plain\n", plain("a.password")),
+    "below_another_key": (A, B_PLAIN, plain("password")),
+    "beside_another_that_stays": (A + B, A_PLAIN + B, plain("a.password")),
+    "both": (A + PASSWORD, b"a:\n  'password': |\n    plain\n" + PLAIN, BOTH),
+    "by_a_merged_mapping": (A, b"a:\n  <<: {password: plain}\n", plain("a.password")),
+    "by_an_alias": (ANCHOR + A, ANCHOR + b"a:\n  password: *x\n", plain("a.password")),
+    "in_a_list": (ITEM + PLAIN_ITEM, b"users:\n- password: y\n" + PLAIN_ITEM, plain("users[].password")),
+    "no_YAML": (b"{% if x %}\n" + PASSWORD, b"{% if x %}\n" + PLAIN, plain("password")),
+    "vault": (VAULT, TEXT, WHOLE),
+    "vault_of_another_format": (AES, TEXT, WHOLE),
+    "vault_that_is_cut": (VAULT, CUT, WHOLE),
+    "while_a_plain_one_goes": (A + B_PLAIN, A_PLAIN, plain("a.password")),
+    "within_a_text": (WITHIN_TEXT, b"a: |\n  password: plain\n", plain("password")),
+    # The others are harmless.
+    "another_part_of_a_vault": (CUT, CUT[:-1], ""),
+    "one_that_goes": (A + B_PLAIN, B_PLAIN, ""),
+    "one_that_goes_from_a_list": (ITEM + PLAIN_ITEM, b"users:\n" + PLAIN_ITEM, ""),
+    "one_that_goes_from_a_text": (WITHIN_TEXT, b"a: |\n  x: 1\n", ""),
+    "one_that_is_emptied": (block("old", name="c"), b"d: ''\n", ""),
+    "one_that_moves": (A, below("c", PASSWORD) + B_PLAIN, ""),
+    "one_under_another_secret": (A + B_PLAIN, A_ANEW + B_PLAIN, ""),
+    "a_plain_one_beside_it": (A, A + b"b:\n  other: 1\n", ""),
+    "a_vault_that_is_emptied": (VAULT, b"\n", ""),
+    "a_vault_under_another_secret": (VAULT, OTHER, ""),
 }
 
 
 def test_values(place: Place) -> None:
     needs_pyyaml()
-    whys = {f"{what}.yml": IN_PART.format(path) if path else WHOLE for what, (_, _, path) in LEAKS.items()}
-    whys["both.yml"] = whys["both.yml"].replace(" was ", " were ")
-    before = {f"{what}.yml": content for what, (content, _, _) in LEAKS.items()}
-    after = {f"{what}.yml": content for what, (_, content, _) in LEAKS.items()}
-    leaked("each is refused", after_change(place, before, after), dict(sorted(whys.items())))
-
-
-def test_harmless_values(place: Place) -> None:
-    needs_pyyaml()
-    before = {f"{what}.yml": content for what, (content, _) in HARMLESS.items()}
-    after = {f"{what}.yml": content for what, (_, content) in HARMLESS.items()}
-    silent("none is refused", after_change(place, before, after))
+    before = {f"{what}.yml": content for what, (content, _, _) in CONTENTS.items()}
+    after = {f"{what}.yml": content for what, (_, content, _) in CONTENTS.items()}
+    whys = {f"{what}.yml": why for what, (_, _, why) in sorted(CONTENTS.items()) if why}
+    leaked("all but the harmless", after_change(place, before, after), whys)
 
 
 def test_without_pyyaml(place: Place) -> None:
     """Without PyYAML, the variables of each name are counted."""
     hide_pyyaml(place)
-    with_hooks(place)
-    silent("at first", again(place, "vars.yml", A + B))
-    for what, content in {
-        "one of two": A_PLAIN + B,
-        "within braces": b"a: {x: 1, password: plain}\n" + B,
-        "the tag stays": b"a:\n  password: !vault |\n    plain\n" + B,
-    }.items():
-        leaked(what, again(place, "vars.yml", content), {"vars.yml": IN_PART.format("password")})
-    silent("one that goes", again(place, "vars.yml", B))
-    silent("all", again(place, "vars.yml", TEXT))
+    leaks = {
+        "one_of_two.yml": A_PLAIN + B,
+        "the_tag_stays.yml": b"a:\n  password: !vault |\n    plain\n" + B,
+        "within_braces.yml": b"a: {x: 1, password: plain}\n" + B,
+    }
+    after = leaks | {"all.yml": TEXT, "one_that_goes.yml": B}
+    done = after_change(place, dict.fromkeys(after, A + B), after)
+    leaked("the change", done, dict.fromkeys(leaks, plain("password")))
 
 
 X, Y = b"x: 1\n", b"y: 1\n"
 # The lengths of texts around those that fit the ciphertext of a vault.
 SHORT, LONG = (b"#" * (len(TEXT) // 16 * 16 + count) for count in (-1, 16))
-FROM_A, PASSWORD_OF_A = (IN_PART.format(f"{path} of a.yml") for path in ("a.password", "password"))
+FROM_A, PASSWORD_OF_A = plain("a.password of a.yml"), plain("password of a.yml")
 MOVING = {"a.yml": PASSWORD + X, "b.yml": PLAIN}
 # The files before and after a change, and why they are refused.
 CHANGES: dict[str, tuple[Files, Files, dict[str, str]]] = {
@@ -144,25 +132,3 @@ def test_changes(place: Place, what: str) -> None:
     if any("in plaintext" in why for why in whys.values()):
         needs_pyyaml()
     leaked(what, after_change(place, before, after), whys)
-
-
-def test_in_two_commits(place: Place) -> None:
-    """One commit removes a vault, and a later one adds its plaintext."""
-    with_hooks(place)
-    place.put("vars.yml", A)
-    first = committed(place, "all.yml", sealed("old"))
-    place.shell("git rm -q all.yml vars.yml && git commit -qm none")
-    silent("nothing comes", place.run(HOOK, "--since", first))
-    place.put("vars.yml", A_PLAIN)
-    silent("the hook sees one commit", again(place, "all.yml", TEXT))
-    head = place.shell("git rev-parse HEAD").stdout[:10]
-    whys = {"all.yml": WHOLE, "vars.yml": IN_PART.format("a.password")}
-    since = {f"{head}: {name}": why.replace("the parent commit", first[:10]) for name, why in whys.items()}
-    leaked("--since", place.run(HOOK, "--since", first), since)
-    committed(place, "other.yml", b"a: 1\n")
-    leaked("--all", place.run(HOOK, "--all"), {"all.yml": WHOLE.replace("the parent", "an earlier")})
-    committed(place, ".gitattributes", b"/all.yml -ansible-vault\n")
-    silent("--all, where plaintext is meant", place.run(HOOK, "--all"))
-    committed(place, ".gitattributes", b"")
-    committed(place, "all.yml", sealed("new"))
-    silent("--all, encrypted again", place.run(HOOK, "--all"))

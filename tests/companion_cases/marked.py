@@ -5,7 +5,8 @@ import pytest
 from ansible_vault_companions.files import finding
 from companion_cases import CHECK, TEXT, Place, block, ended, sealed
 from companion_cases.repository import under_git
-from lib.needs import needs_pyyaml
+
+pytestmark = pytest.mark.usefixtures("git")
 
 ATTRIBUTES = """\
 *.vault.yml diff=ansible-vault
@@ -13,14 +14,11 @@ secrets/** ansible-vault
 *.vault.md diff=ansible-vault
 both.vault.yml ansible-vault
 """
-TAGGED = f"has plaintext with the tag `!vault` in line {block('old').count(10) + 1}"
 MERGE = b"<<<<<<< HEAD\na: 1\n=======\na: 2\n>>>>>>> branch\n"
 
 
-@pytest.mark.usefixtures("git")
 def test_marked_files(place: Place) -> None:
-    """A marked file that is not a vault is a failure, even if it contains no envelope."""
-    needs_pyyaml()
+    """A marked file that is not a vault is a failure, even if it contains no envelope. `hook` has other contents."""
     under_git(place, ATTRIBUTES)
     place.put("ok.vault.yml", sealed("old"))
     place.put("ok.vault.md", block("old"))
@@ -31,10 +29,8 @@ def test_marked_files(place: Place) -> None:
     faults = {
         "a.vault.yml": (TEXT, "is not encrypted"),
         "both.vault.yml": (block("old"), "is not encrypted"),
-        "c.vault.yml": (block("old") + MERGE, "has git's conflict markers"),
         "d.yml": (MERGE + block("old"), "has git's conflict markers"),
         "notes.vault.md": (TEXT, "is not encrypted"),
-        "tagged.vault.yml": (block("old") + b"b: !vault text\n", TAGGED),
         "secrets/deep/vars.yml": (block("old"), "is not encrypted"),
     }
     for name, (content, _) in faults.items():
@@ -46,7 +42,6 @@ def test_marked_files(place: Place) -> None:
         assert done.stdout.endswith(f" decrypted, {len(faults)} not\n")
 
 
-@pytest.mark.usefixtures("git")
 def test_marked_links(place: Place) -> None:
     """A link is marked by its own name, and by that of the file that it points to."""
     under_git(place, ATTRIBUTES)
@@ -57,7 +52,6 @@ def test_marked_links(place: Place) -> None:
         ended(name, done, 1, f"{name}: is not encrypted\n")
 
 
-@pytest.mark.usefixtures("git")
 def test_several_repositories(place: Place) -> None:
     """Only a file's own repository marks it. A file outside of any repository is not marked. If git fails, so does the
     check, but this does not count as a vault, and git's own message is shown."""

@@ -1,5 +1,5 @@
-"""ansible-vault-merge as git runs it: two branches change a vault, or values of YAML that are vaults. And all merges
-under a few secrets, without a process for each envelope.
+"""ansible-vault-merge as git runs it: two branches change a vault, or values of YAML that are vaults. Conflicts that
+git leaves without it, or if it fails. And all merges under a few secrets, without a process for each envelope.
 """
 
 import itertools
@@ -12,14 +12,15 @@ import pytest
 from ansible_vault_companions.merging.lines import merged_lines
 from ansible_vault_companions.merging.texts import merged
 from ansible_vault_companions.program import Refused
-from companion_cases import CHECK, EDIT, HOOK, MERGE, PASSWORDS, TEXT, Done, Place, block, decrypted, edit
-from companion_cases import ended, lines_of, sealed, silent, texts, versions
+from companion_cases import CHECK, EDIT, HOOK, MERGE, PASSWORDS, TEXT, Done, Place, block, decrypted, edit, ended
+from companion_cases import lines_of, sealed, silent, texts, versions
 from companion_cases.random_merges import LABELS, SIMPLE, Merge, Model, Value, blocks_of, check_new
 from companion_cases.repository import BASE, BOTH, NOT_MERGED, OURS, SALTS, THEIRS, add_and_commit, commit, fork
 from companion_cases.repository import repository, set_driver, under_git
-from lib.needs import needs, needs_pyyaml
-from lib.subtests import SubTests
-from model.vaults import seal
+from lib.needs import needs_pyyaml
+from model.vaults import seal, yaml_block
+
+pytestmark = pytest.mark.usefixtures("git")
 
 ATTRIBUTES = "*.yml merge=ansible-vault\n"
 TAKE_THEIRS = "sed -i '/^<<<</,/^====/d; /^>>>>/d' \"$1\""
@@ -95,16 +96,22 @@ def test_rotated_and_moved(place: Place, what: str, are_exchanged: bool) -> None
 
 
 OLD, PROD = ([sealed(name, text) for text in (BASE, OURS, THEIRS)] for name in ("old", "prod"))
-# Versions whose lines git would merge: lines that together are not YAML, and digits of an envelope within a text.
+# Versions whose lines git would merge, although together they are not YAML.
 QUOTED = block("old") + b"a: 1\nb: 1\nc: 1\nd: 1\ne: 1\n"
 BROKEN = [QUOTED, QUOTED.replace(b"a: 1", b'a: "1').replace(b"e: 1", b'e: 1"'), QUOTED.replace(b"c: 1", b'c: "1"')]
-WITHIN = [b"text: |\n  a: %s |\n%s\n" % (tag, lines_of(sealed("old", BASE), 4)) for tag in (b"!vault", b"vault")]
 NO_SIDE = "git can merge its lines, but the result has a value"
+
+
+def within(tag: bytes) -> Sequence[bytes]:
+    """Return versions of a text with an envelope, in which both sides change digits."""
+    text = b"text: |\n  a: %s |\n%s\n" % (tag, lines_of(sealed("old", BASE), 4))
+    return text, text.replace(b"AES256\n    3", b"AES256\n    4"), text[:-2] + b"0\n"
+
+
 # Versions that are not merged, and why.
 REFUSED: dict[str, Sequence[bytes]] = {
     "base: no secret decrypts this vault (no label; ": [sealed("dev2"), *OLD[1:]],
     "theirs: no secret decrypts this vault (no label; ": [*OLD[:2], sealed("dev2", THEIRS)],
-    "theirs: vault header line is malformed": [*OLD[:2], b"$ANSIBLE_VAULT;1.1\n"],
     "one side is a vault and the other is not": [*OLD[:2], THEIRS],
     "both sides changed its secret, and the new secrets differ": [sealed(name) for name in ("old", "new", "prod2")],
     "git merge-file cannot merge it; it may be binary": [sealed("old", b"\0%d" % number) for number in range(3)],
@@ -112,15 +119,12 @@ REFUSED: dict[str, Sequence[bytes]] = {
     "secrets with different labels decrypt the two sides: prod ours, dev theirs": [*PROD[:2], sealed("dev", b"x")],
     # The secret of another label decrypts a side.
     "ours: its label is prod, but dev@": [sealed(name, TEXT, "prod") for name in ("prod", "dev", "prod")],
-    "theirs: its label is prod, but dev@": [sealed(name, TEXT, "prod") for name in ("prod", "prod", "dev")],
     "theirs: line 1: secret: its label is prod, but dev@": [
         block(name, text, "prod") for name, text in (("prod", b"old"), ("prod", b"new"), ("dev", b"old"))
     ],
     "git can merge its lines, but the result is not valid YAML (line ": BROKEN,
-    **{
-        why: (text, text.replace(b"AES256\n    3", b"AES256\n    4"), text[:-2] + b"0\n")
-        for why, text in zip((f"{NO_SIDE} that", NO_SIDE), WITHIN)
-    },
+    f"{NO_SIDE} that": within(b"!vault"),
+    NO_SIDE: within(b"vault"),
 }
 NOT_DONE = f"{MERGE}: a.yml: not merged, so ours stays as it was: "
 NEXT = "  correct that and run `git checkout --merge a.yml`, or take what you need from theirs: `git show :3:a.yml`"
@@ -139,55 +143,156 @@ def test_those_that_fail(place: Place, why: str) -> None:
     assert place.files() == {"a.yml": ours}, "ours stays"
 
 
-def test_what_fails(place: Place, subtests: SubTests) -> None:
+def test_what_fails(place: Place) -> None:
     """A file is missing, or the tool fails."""
     words = [*place.by_file("old"), *versions(place, "a.yml", *OLD)]
-    for number in range(2, 5):
-        with subtests.test(f"{words[number]} is missing"):
-            names = [*words[:number], "../missing", *words[number + 1 :]]
-            ended("the merge", place.run(MERGE, *names), 1, "is missing")
+    ended("no base", place.run(MERGE, *words[:2], "../missing", *words[3:]), 1, "is missing")
     place.wrap_tool('[ "$1" != encrypt ] || exit 4')
     ended("the tool fails", place.run(MERGE, *words), 1, "ansible-vault ended with status 4")
     assert place.files() == {"a.yml": OLD[1]}, "ours stays"
 
 
+# Makes changes that the driver cannot merge. Each operation meets them.
+FORK = """
+seal() { cp ../$1.yml a.yml && git add -A && git commit -qm change; }
+seal base && git branch base && git checkout -qb ours
+seal undone && git checkout -qb side && seal base && git checkout -q ours && git merge -q --no-ff --no-edit side
+git tag undone && seal ours && git checkout -qb theirs base && echo b: 1 > b.yml && git add -A && git commit -qm b
+seal theirs && git checkout -q ours
+"""
+OPERATIONS = {
+    "merge": "git merge theirs",
+    "cherry-pick of two": "git cherry-pick theirs~1 theirs",
+    "revert": "git revert --no-edit undone^2",
+    "rebase": "git checkout -q theirs && git rebase -q ours",
+    "am": "git format-patch -q -1 --output-directory .. theirs && git am -q -3 ../0001*",
+    "stash": "git checkout -q base && cp ../theirs.yml a.yml && git stash -q && git checkout -q ours; git stash pop",
+}
+BY_OLD = "--vault-password-file ../secrets/old"
+# Why the driver fails: its secret, if any, which does not decrypt theirs, and what its tool does first.
+FAILURES = itertools.cycle([("", ":"), (BY_OLD, "kill -9 $PPID"), (BY_OLD, ":")])
 AGAIN = "  `git checkout --merge a.yml` merges it, or says why not; to keep ours, commit with --no-verify"
 
 
-@pytest.mark.parametrize("secret, tool", (("", ":"), ("--vault-password-file ../secrets/old", "kill -9 $PPID")))
-def test_not_merged(place: Place, secret: str, tool: str) -> None:
-    """The hook and the check refuse a file that the driver could not merge. git would commit ours without theirs.
-    Then the text is under the secret that the other side has changed to."""
+@pytest.mark.parametrize("line, failure", zip(OPERATIONS.values(), FAILURES), ids=OPERATIONS)
+def test_failed_drivers(place: Place, line: str, failure: tuple[str, str]) -> None:
+    """git would commit ours without theirs. The hook and the check refuse that until the user resets the file, merges
+    it or commits on purpose. The merged text is under the secret that the other side has changed to."""
+    secret, tool = failure
     under_git(place, ATTRIBUTES)
     # If a signal ended the driver itself, newer versions of git would give up the whole merge.
     place.run("git", "config", "merge.ansible-vault.driver", f"{MERGE} {secret} %O %A %B %P || exit 1")
     place.wrap_tool(tool)
-    fork(place, *({"a.yml": each} for each in (OLD[0], OLD[1], sealed("new", THEIRS))))
-    ended("the driver fails", place.shell("git merge --no-edit theirs"), 1, "Merge conflict in a.yml")
+    for name, content in zip(("base", "ours"), OLD):
+        place.put(f"../{name}.yml", content)
+    for name, salt in zip(("theirs", "undone"), SALTS):
+        place.put(f"../{name}.yml", seal(PASSWORDS["new"], THEIRS, b"", salt))
+    place.shell(f"{FORK}{line}")
     assert place.get("a.yml") == OLD[1], "ours stays"
     place.run(HOOK, "--install")
     place.wrap_tool(":")
     both = [*place.by_file("old"), *place.by_file("new")]
-    done = place.run(CHECK, *both, ".")
-    assert (done.returncode, done.stderr) == (1, f"{CHECK}: ./a.yml: {NOT_MERGED}\n"), "the check"
+    check = [CHECK, *both, "a.yml"]
+    ended("the check", place.run(*check), 1, f"{CHECK}: a.yml: {NOT_MERGED}\n")
     for done in (commit(place, "-a"), add_and_commit(place)):
         assert (done.returncode, done.stderr.splitlines()) == (1, [f"{HOOK}: a.yml {NOT_MERGED}", AGAIN]), "the hook"
+    ended("the check of what is staged", place.run(*check), 1, f"{CHECK}: a.yml: {NOT_MERGED}\n")
     set_driver(place, *both)
-    place.shell("git checkout --merge -- a.yml")
-    ended("the check again", place.run(CHECK, *both, "."), 0)
-    silent("the commit", add_and_commit(place))
-    assert decrypted("new", place.get("a.yml")) == BOTH, "both changes are there"
+    place.shell("cp -r . ../given-up && cd ../given-up && git reset -q --hard")
+    place.shell("cp -r . ../merged && cd ../merged && git checkout --merge -- a.yml")
+    place.shell("git commit -qm meant --no-verify --allow-empty")
+    for folder in (".", "../given-up", "../merged"):
+        done = place.shell(f"echo c: 1 > c.yml; git add -A; {HOOK} && {' '.join(check)}", folder=folder)
+        assert (done.returncode, done.stderr) == (0, ""), f"afterwards in {folder}"
+    assert decrypted("new", place.get("../merged/a.yml")) == BOTH, "both changes are there"
 
 
-@pytest.mark.parametrize("count", (0, 1, 127, 128, 256))
+TORN = "has git's conflict markers within an envelope, since it was merged without ansible-vault-merge"
+COMMAND = "git checkout --merge a.yml"
+SET_UP = (
+    f"set up the merge driver (see `ansible-vault-merge --help`), and run `{COMMAND}`; if a commit has these markers, "
+    "`man ansible-vault-merge` says how to merge the file again"
+)
+
+
+def envelopes(*labels: str) -> list[bytes]:
+    rows = zip((BASE, OURS, THEIRS), labels, SALTS)
+    return [seal(PASSWORDS["old"], text, label.encode(), salt) for text, label, salt in rows]
+
+
+def blocks(*labels: str) -> list[bytes]:
+    return [b"z: 1\n" + yaml_block(each, b"a") + b"y: 1\n" for each in envelopes(*labels)]
+
+
+# Base, ours and theirs of a file, and what it is made of after the merge by the driver.
+TORN_FILES = {
+    "a vault": (envelopes("", "", ""), [BOTH]),
+    "values of two labels": (blocks("", "dev", "prod"), [OURS, THEIRS]),
+    "CR LF": ([each.replace(b"\n", b"\r\n") for each in blocks("", "", "")], [OURS, THEIRS]),
+}
+
+
+@pytest.mark.parametrize("contents, wanted", TORN_FILES.values(), ids=TORN_FILES)
+@pytest.mark.parametrize("style", ("merge", "diff3"))
+def test_without_driver(place: Place, style: str, contents: list[bytes], wanted: list[bytes]) -> None:
+    """Each companion prints the command that merges the file."""
+    secrets = [*place.by_file("old"), *place.by_id("dev", "old"), *place.by_id("prod", "old")]
+    under_git(place, ATTRIBUTES)
+    place.run("git", "config", "merge.conflictStyle", style)
+    fork(place, *({"a.yml": content} for content in contents))
+    ended("git alone", place.shell("git merge --no-edit theirs"), 1, "Merge conflict in a.yml")
+    for name in (EDIT, CHECK):
+        done = place.run(name, *secrets, "a.yml", EDITOR="touch ../s")
+        ended(name, done, 1, f"a.yml: {TORN}; {SET_UP}\n")
+    assert not (place.path / "s").exists(), "no editor is started"
+    done = place.shell(f"git add -A; {HOOK}")
+    assert (done.returncode, done.stderr) == (1, f"{HOOK}: a.yml {TORN}\n  {SET_UP}\n"), "the hook"
+    set_driver(place, *secrets)
+    done = place.shell(COMMAND)
+    assert done.stderr.count(": 1 conflict; resolve with") == len(wanted) - 1, "the driver merges it"
+    content = place.get("a.yml")
+    found = texts(content, "old") if b"!vault" in content else [decrypted("old", content)]
+    assert [text for text in found if text != BASE] == wanted, "all that it is made of is whole"
+    edit(place, 'cp "$1" ../seen', *secrets, "a.yml")
+    seen = (place.path / "seen").read_bytes().split()
+    assert {*seen} >= {*b" ".join(wanted).split()}, "the editor shows it in plaintext"
+
+
+NAME = "deep/er/a.yml"
+ENDS = [("", b"\n"), ("*.yml text eol=crlf\n", b"\r\n"), ("*.yml -text\n", b"\r\n")]
+
+
+@pytest.mark.parametrize("attributes, end", ENDS)
+def test_edited(place: Place, attributes: str, end: bytes) -> None:
+    """A vault saved with git's conflict markers is noted, and the hook refuses it until they are gone; whether or not
+    git converts the line ends."""
+    markers = "printf '<<<<<<< ours\\nx: 1\\n=======\\nx: 2\\n>>>>>>> theirs\\n'"
+    still = f"{NAME}: it still has git's conflict markers; edit it again to remove them\n"
+    words, vault = [*place.by_file("old"), NAME], sealed("old").replace(b"\n", end)
+    place.put(NAME, vault)
+    ended("in no repository", edit(place, f'{markers} > "$1"', *words), 0, still)
+    assert "fatal" not in edit(place, "true", *words).stderr, "git says nothing of it"
+    under_git(place, attributes)
+    place.put(NAME, vault)
+    add_and_commit(place)
+    for redirection in (">", ">>"):
+        ended("markers", edit(place, f'{markers} {redirection} "$1"', *words), 0, still)
+        assert place.get(NAME).count(b"\n") == place.get(NAME).count(end), "the ends of lines stay"
+        ended("are refused", place.shell(f"git add -A && {HOOK}"), 1, f"{NAME} has git's conflict markers\n")
+    (place.tree / ".git/ansible-vault-conflicts").unlink()
+    ended("an edit without a change", edit(place, "true", *words), 0, "nothing was changed")
+    ended("notes them again", place.shell(f"git add -A && {HOOK}"), 1, f"{NAME} has git's conflict markers\n")
+    ended("no markers", edit(place, 'echo "x: 1" > "$1"', *words), 0)
+    silent("are not refused", place.shell(f"git add -A && {HOOK}"))
+
+
+@pytest.mark.parametrize("count", (1, 127, 128, 256))
 def test_counts(count: int) -> None:
     """The exit status of git counts up to 127 conflicts, and tells them from a failure."""
     lines = b"%d %s\n" + b"between\n" * 5
     sides = [b"".join(lines % (number, side) for number in range(count)) for side in SIDES]
     found = merged_lines(*sides)
     assert (found.conflicts, found.content.count(b"\n=======\n")) == (min(count, 127), count)
-    with pytest.raises(Refused, match="it may be binary"):
-        merged_lines(*(b"\0" + each for each in sides))
 
 
 # Vaults by their labels and passwords.
@@ -212,7 +317,6 @@ def wanted_password(before: Value, ours: Value, theirs: Value) -> str | None:
 
 def test_secrets_of_vaults(tmp_path: Path, monkeypatch: pytest.MonkeyPatch) -> None:
     """A text is encrypted with the password of its side, or if all versions have one label, with the changed one."""
-    needs("git")
     monkeypatch.chdir(repository(tmp_path / "diff3", "diff3"))
     plaintexts = [b"the base\n", b"our text\n", b"their text\n"]
     # Both sides change the text, or one of them.
@@ -240,7 +344,6 @@ def test_secrets_of_vaults(tmp_path: Path, monkeypatch: pytest.MonkeyPatch) -> N
 
 def test_secrets_of_values() -> None:
     """We change a text, and they encrypt it again. It gets their secret if all three versions have one label."""
-    needs("git")
     needs_pyyaml()
     made = 0
     for their_text, vaults in itertools.product((b"text", b"their text"), itertools.product(VAULTS, repeat=3)):

@@ -216,21 +216,17 @@ def random_value(draw: st.DrawFn, key: str) -> Value:
     return Value(key, text, label, password, salt, draw(st.sampled_from(INDENTATIONS)))
 
 
-def rekeyed(value: Value) -> Value:
-    """Return the value under another secret of its label, if there is one."""
-    others = [name for name, label in LABELS.items() if label == LABELS.get(value.password) and name != value.password]
-    return value._replace(password=others[0] if others else value.password)
-
-
 def changed(kind: str, value: Value, new: Value) -> list[Value]:
     """Return what replaces a value."""
     anew = value._replace(salt=(value.salt + 1) % len(SALTS))
     added = new._replace(key=value.key and f"{value.key}{new.text[:1].decode()}", text=value.text)
+    own = LABELS.get(value.password)
+    others = [name for name, label in LABELS.items() if label == own and name != value.password]
     ways: dict[str, list[Value]] = {
         "": [value],
         "text": [anew._replace(text=new.text)],
         "encrypted anew": [anew],
-        "rekeyed": [rekeyed(value)],
+        "rekeyed": [value._replace(password=others[0] if others else value.password)],
         "removed": [],
         "indented": [value._replace(indentation=new.indentation)],
         "added": [added, value],
