@@ -150,6 +150,15 @@ def test_commands() -> None:
     assert (unknown, tried > 30) == ([], True)
 
 
+def test_commands_of_git() -> None:
+    """The commands of git that the pages name for a path are suggested in messages of the companions."""
+    named = {each.replace(" Ns ", "") for each in re.findall(r"^\.Ql (git .*)Ar path", TEXT, re.MULTILINE)}
+    code = "".join(path.read_text() for path in (ROOT / "companions").rglob("*.py"))
+    code += "".join(path.read_text() for path in COMPANIONS.values())
+    assert len(named) > 1
+    assert [each for each in named if f"`{each}{{" not in code] == []
+
+
 # Variables that documents set, but that are none of make's.
 OF_PROGRAMS = {"EDITOR", "IFS", "REQUIRE_ALL", "VISUAL"}
 

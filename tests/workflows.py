@@ -140,6 +140,8 @@ RECIPES = {
         {".gitattributes": b""},
         printed=f"{VAULT}: diff: ansible-vault\nhost_vars/web1/secrets.yml: diff: ansible-vault\n"
         f"{BLOCKS}: diff: ansible-vault\ngroup_vars/all/vars.yml: diff: unspecified\n",
+        after="git check-attr diff group_vars/prod/vault/db.yml roles/a/vars/b.vault.yml",
+        left="*: diff: ansible-vault\n*: diff: ansible-vault\n",
     ),
     # At first the file is not encrypted, then it is under the old password, then under the new one.
     "See differences in git": Recipe(

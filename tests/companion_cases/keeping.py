@@ -121,6 +121,9 @@ def test_earlier_copies(tmp_path: Path, monkeypatch: pytest.MonkeyPatch) -> None
     elsewhere.touch()
     assert sorted(replacing.copies(target)) == sorted([copy, left, str(elsewhere)])
     assert replacing.copies(target, copies.OF) == [copy, str(elsewhere)]
+    monkeypatch.chdir(temporary)
+    monkeypatch.setenv("TMPDIR", "")
+    assert replacing.copies(target, copies.OF) == [copy], "if it is empty, that is not the current directory"
 
 
 # A program that the editor leaves running may write while the directory is removed.

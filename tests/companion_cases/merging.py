@@ -41,11 +41,13 @@ def values(a: bytes, b: bytes) -> bytes:
 
 
 SIDES = (b"base", b"ours", b"theirs")
+LINES, QUOTED = b"a: 1\nb: 1\nc: 1\n", b'q: !vault "%s"\n' % sealed("old").replace(b"\n", b"\\n")
 # Base, ours and theirs of each file.
 FILES = {
     "vault.yml": [sealed("old", text, "prod") for text in (BASE, OURS, THEIRS)],
     "values.yml": [values(b"a", b"b"), values(b"A", b"b"), values(b"a", b"B")],
     "same.yml": [sealed("old", BASE), sealed("old", OURS), seal(PASSWORDS["old"], BASE, b"", SALTS[1])],
+    "quoted.yml": [LINES, LINES.replace(b"1", b"2", 1), LINES + QUOTED],
     "torn.yml": [sealed("old", b"x: %s\n1\n2\n3\n4\ny: %s\n" % (side, side)) for side in SIDES],
     "torn_values.yml": [values(side, b"b") for side in SIDES],
 }
@@ -62,6 +64,7 @@ def test_branches(place: Place) -> None:
     assert decrypted("old", place.get("vault.yml")) == BOTH, "both changes are in the vault"
     assert place.get("values.yml") == values(b"A", b"B"), "values keep the envelopes of their sides"
     assert place.get("same.yml") == ours["same.yml"]
+    assert place.get("quoted.yml") == ours["quoted.yml"] + QUOTED, "values in quotes are merged, too"
     marked = decrypted("old", place.get("torn.yml")) or b""
     markers = b"<<<<<<< ours\nx: ours\n=======\nx: theirs\n>>>>>>> theirs\n"
     assert marked == b"%s1\n2\n3\n4\n%s" % (markers, markers.replace(b"x", b"y")), "the markers are within"
@@ -97,8 +100,8 @@ def test_rotated_and_moved(place: Place, what: str, are_exchanged: bool) -> None
 
 OLD, PROD = ([sealed(name, text) for text in (BASE, OURS, THEIRS)] for name in ("old", "prod"))
 # Versions whose lines git would merge, although together they are not YAML.
-QUOTED = block("old") + b"a: 1\nb: 1\nc: 1\nd: 1\ne: 1\n"
-BROKEN = [QUOTED, QUOTED.replace(b"a: 1", b'a: "1').replace(b"e: 1", b'e: 1"'), QUOTED.replace(b"c: 1", b'c: "1"')]
+FIVE = block("old") + b"a: 1\nb: 1\nc: 1\nd: 1\ne: 1\n"
+BROKEN = [FIVE, FIVE.replace(b"a: 1", b'a: "1').replace(b"e: 1", b'e: 1"'), FIVE.replace(b"c: 1", b'c: "1"')]
 NO_SIDE = "git can merge its lines, but the result has a value"
 
 

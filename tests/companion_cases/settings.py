@@ -55,6 +55,7 @@ STRANGE: dict[str, tuple[dict[str, str], dict[str, str], bool]] = {
     "a list": ({"ansible.cfg": LIST.format("old@./script, ./script")}, {}, False),
     "a variable with a relative path": ({}, {"ANSIBLE_VAULT_PASSWORD_FILE": "script"}, False),
     "a list with a relative path": ({}, {"ANSIBLE_VAULT_IDENTITY_LIST": "old@../tree/script"}, False),
+    "a relative path with an @": ({}, {"ANSIBLE_VAULT_IDENTITY_LIST": "old@at@/script"}, False),
     "$PWD": ({}, {"ANSIBLE_VAULT_IDENTITY_LIST": "$PWD/script, ${PWD}/script"}, False),
     "$PWD in the user's own file": ({"../.ansible.cfg": FILE.format("$PWD/script")}, {}, False),
     "${PWD} in the user's own file": ({"../.ansible.cfg": FILE.format("${PWD}/script")}, {}, False),
@@ -85,7 +86,9 @@ def test_what_is_not_trusted(place: Place, subtests: SubTests, what: str) -> Non
     ]
     for name, content in files.items():
         place.put(name, content.encode())
-    place.script("touch ../ran; cat ../secrets/prod", "tree/script")
+    (place.tree / "at@").mkdir()
+    for path in ("tree/script", "tree/at@/script"):
+        place.script("touch ../ran; cat ../secrets/prod", path)
     for line in lines:
         place.put("a.yml", sealed("old"))
         place.put("plain.yml", TEXT)
