@@ -80,9 +80,8 @@ def pytest_sessionstart(session: pytest.Session) -> None:
 
 
 def pytest_collection_modifyitems(items: list[pytest.Item]) -> None:
-    """Run newcomer.py first, since its proofs take longest, and targets.py, which needs the same ones, last."""
-    order = {"newcomer.py": 0, "targets.py": 2}
-    items.sort(key=lambda item: order.get(item.path.name, 1))
+    """Run newcomer.py first, since its proofs take longest."""
+    items.sort(key=lambda item: item.path.name != "newcomer.py")
 
 
 def missing_tool(raised: pytest.ExceptionInfo[BaseException] | None) -> str | None:

@@ -1,21 +1,45 @@
-"""What somebody types who has only a clone: the README's commands, in order. `rt` is the real one, and nothing is
-copied into the clone, which these tests use one after the other. The other targets are in targets.py.
+"""What somebody types who has only a clone: the README's commands, in order, and then each other target of the Makefile
+and each script that it runs, at a small size. `rt` is the real one, and nothing is copied into the clone, which these
+tests use one after the other.
 """
 
+import os
+import re
 from pathlib import Path
 
 import pytest
 
 from lib.clone import PROVING, cloned, git, typed
 from lib.installed import PREFIX_FILES, files_below
-from lib.paths import README
+from lib.needs import is_confined
+from lib.paths import README, ROOT
 from lib.readme import commands, steps
 from lib.scripts import searched_first
+from makefile import GOALS
 
 pytestmark = [pytest.mark.newcomer, pytest.mark.timeout(PROVING)]
 
 # A command of the README that no test types, since it runs these tests.
 GATE = ".ci/run"
+# The targets that no command here names: the gate, prerequisites of other targets, and what is run before a release.
+RUN_BY_OTHERS = {"all", "check", "test", "packages", "portable", "fresh-machine", "releases"}
+# How many of ten planted faults are caught at least. For some, the test takes root.
+CAUGHT = "10" if os.geteuid() == 0 and not is_confined() else "([5-9]|10)"
+# Commands that show that a target works, and what each leaves or prints.
+SMALL = {
+    "make CPU=x86-64-v3 bin/ansible-vault && bin/ansible-vault --version": r"ansible-vault \d+\.\d+\.\d+\n\Z",
+    "make CPU= planted PLANTED='--sample 10 --seed {seed}'": rf"\nplant_faults: {CAUGHT} caught, 0 failed, ",
+    "make CPU= coverage COVERED=tests/companion_cases/textconv.py LEAST_COVERED=20": r"\nTOTAL +\d+ +\d+ +[2-9]\d%\n",
+    "make CPU= mutants MUTANTS=vault_aes/wrong_rotation": r"\n1 passed, 0 failed\n\Z",
+    "make CPU= bench QUICK=yes CHART=bin/speed.svg && tail -n 1 bin/speed.svg": r"</svg>\n\Z",
+    "make CPU= fuzz SECONDS=5": r"\n[1-9]\d* passed, 0 failed, 0 skipped\n",
+    "make CPU= faults SHARE=2000": r"\n[1-9]\d* passed, 0 failed, 0 skipped\n",
+    "make CPU= dist && cd bin/dist && sha256sum --check SHA256SUMS": r"^(ansible-vault-.*\.tar\.gz: OK\n){2}\Z",
+    "tools/write_documents && git diff --stat": r"^\Z",
+    "tools/pictures.py && git checkout docs": r"^\Z|^Updated \d paths? from the index\n\Z",
+    "tests/store_texts bin/ansible-vault && git diff --stat": r"^\Z",
+    "make lint": r"\nlint: [1-9] passed, 0 failed\n\Z",
+}
 
 
 @pytest.fixture(scope="module")
@@ -47,8 +71,25 @@ def test_session(clone: Path, prefix: Path, tmp_path: Path) -> None:
     assert len(found) > 5
 
 
+@pytest.mark.parametrize("command, wanted", SMALL.items(), ids=SMALL)
+def test_target(clone: Path, request: pytest.FixtureRequest, command: str, wanted: str) -> None:
+    printed = typed(command.format(seed=request.config.getoption("--seed")), clone)
+    assert re.search(wanted, printed), printed
+
+
 def test_uninstall_and_clean(clone: Path, prefix: Path) -> None:
     typed("make uninstall", clone, PREFIX=str(prefix))
     assert files_below(prefix) == set()
     typed("make clean", clone)
     assert git("status", "--short", "--ignored", at=clone) == "", "only what git tracks is left"
+
+
+def test_all_are_typed() -> None:
+    """Some test runs each target of the Makefile, and something runs each script."""
+    typed_words = " ".join([*commands(README.read_text()), *SMALL, "make uninstall make clean"])
+    assert {goal for goal in GOALS if not re.search(rf"(?<![-\w]){goal}\b", typed_words)} == RUN_BY_OTHERS
+    scripts = [path for folder in ("tools", "bench") for path in (ROOT / folder).iterdir() if path.is_file()]
+    callers = [ROOT / "Makefile", ROOT / ".ci" / "run", *scripts, *ROOT.glob("tests/*.py")]
+    for script in scripts:
+        texts = [typed_words, *(path.read_text() for path in callers if path != script)]
+        assert any(re.search(rf"\b{re.escape(script.stem)}\b", text) for text in texts), f"nothing runs {script}"
