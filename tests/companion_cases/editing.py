@@ -130,6 +130,8 @@ MISREAD = {
     "b: !vault\n  a\n": "line 1: b is below its tag",
     "b: !vault [a]\n": "line 1: b is a list, a mapping or a key, not a string",
     "b: !vault {{ a }}\n": "line 1: b is a list, a mapping or a key, not a string",
+    "? [!vault a]\n: b\n": "line 1: this value is a list, a mapping or a key, not a string",
+    "? {a: !vault b}\n: c\n": "line 1: this value is a list, a mapping or a key, not a string",
     "b: !vault |-\n  a\x01\n": "line 1: b has control characters",
     'b: !vault "\\q"\n': "line 1: it cannot be read as YAML: found unknown escape character",
     "b: !vault |-\n  x\ny\n": "line 3: it cannot be read as YAML: could not find expected ':'",

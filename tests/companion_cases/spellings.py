@@ -15,7 +15,8 @@ import pytest
 from ansible_vault_companions.files.envelopes import has_valid_header, mentions_envelope
 from ansible_vault_companions.git import damage, leaks
 from ansible_vault_companions.yaml.hidden import envelopes
-from companion_cases import BODY, CHECK, ROTATE, Place, block, ended, sealed, summary, to_new
+from companion_cases import BODY, CHECK, ROTATE, Place, block, ended, sealed, silent, summary, to_new
+from companion_cases.repository import IN_PART, again, leaked, staged, with_hooks
 from lib.needs import needs_pyyaml
 
 LINE = sealed("old").decode().replace("\n", "\\n")
@@ -217,6 +218,17 @@ def test_headers(place: Place, header: str) -> None:
     label = (header.split(";")[3:] or ["default"])[0]
     secrets = [*place.by_id(label, "old"), *place.by_id(label, "new", "new-")]
     ended("rotate", place.run(ROTATE, *secrets, "."), 0, summary(2))
+
+
+def test_moves(place: Place) -> None:
+    """The hook refuses plaintext in another file, even if the value began with an escape, but not the value itself."""
+    needs_pyyaml()
+    with_hooks(place)
+    value = b'secret: !vault "\\x24ANSIBLE_VAULT;1.1;AES256\\n%s"\n' % DIGITS.encode()
+    silent("the hook", again(place, "a.yml", b"x: 1\n" + value))
+    place.put("a.yml", b"x: 1\n")
+    leaked("plaintext", staged(place, "b.yml", b"secret: plain\n"), {"b.yml": IN_PART.format("secret of a.yml")})
+    silent("the value", again(place, "b.yml", value))
 
 
 def test_valid_headers(place: Place, pytestconfig: pytest.Config) -> None:

@@ -20,6 +20,7 @@ NO_SECRET, NO_VAULT = f"{AS_IT_IS}no secret decrypts this vault", f": {AS_IT_IS}
 CONTENTS = {
     "a vault": (sealed("old", b"\x00\xff", "prod"), b"\x00\xff", ""),
     "blocks": (BLOCKS, SHOWN, ""),
+    "a list": (b"a:\n- " + block("old", b"one", name=""), b"a:\n- !vault |-\n  one\n", ""),
     "one of two blocks": (MIXED, OTHER + b"secret: !vault |2+\n   shown\n\n", f":2: {NO_SECRET} (label x; tried "),
     "another vault": (sealed("dev"), sealed("dev"), f": {NO_SECRET} (no label; tried "),
     "a malformed header": (MALFORMED, MALFORMED, f": {AS_IT_IS}vault header line is malformed"),

@@ -33,7 +33,7 @@ UNREADABLE = "\0\f\x9f\ufffe\udcff"
 LINE_ENDS = ["\n"] * 3 + ["\r\n", "\r", "\x85"]
 KEYS = ["a", "b c", "'q: ''x'", '"\\u00e9\\t"', "größe", "&k c", "!!str 1", "? d\n{}", "? [e, f]\n{}", "<<"]
 SCALARS = ["", "word", "'it''s'", '"a\\tb"', "two\n{}  words", "|\n{}  text\n\n{}   more", "{{a: 'x', b: [1, 2]}}"]
-SCALARS += ["word # no !vault", "&x 1", "~", ">-\n{}  folded\n{}  lines", "!other 1", "[]", "'!vault'"]
+SCALARS += ["word # no !vault", "&x 1", "~", ">-\n{}  folded\n{}  lines", "!other 1", "[&w {{}}, *w]", "'!vault'"]
 # Each way in which a text can begin and end.
 PLAINTEXTS = ["", "x", "x\n", "x\n\n", "\n", "\n\n", " x", " x\ny", "\n x\n", "\tx", "x\n\ny", "x ", " ", "x\n  "]
 PLAINTEXTS += ["# x", "x: 'y", "größe\n", "- a\n- b\n", "<<<<<<< x\n", "---\n", "\n\n x\n\n\n", "!vault |\n  x"]
@@ -193,6 +193,14 @@ def encrypted(showing: inline.Showing, text: bytes) -> bytes | str:
         return inline.encrypted(showing, text, Hexadecimal(), Choice([SECRET], None))
     except Refused as fault:
         return str(fault)
+
+
+@pytest.mark.parametrize("text", (b"a: !vault new\n            # a comment\n", b"a: !vault new\xe2\x80\xa8b: 1"))
+def test_no_place(text: bytes) -> None:
+    """A text that would not be read as intended is not written."""
+    needs_pyyaml()
+    data = b"a: !vault |\n  " + envelope(b"old").replace(b"\n", b"\n  ") + b"\n"
+    assert encrypted(inline.showing(data, decrypt, with_notes=True), text) == inline.NO_PLACE
 
 
 def test_conflicts() -> None:
