@@ -15,7 +15,7 @@ from pathlib import Path
 
 import pytest
 
-from companion_cases import Done, ended
+from companion_cases import Done, ended, oracle
 from lib.ansible import ansible_vault
 from lib.cases import Cases
 from lib.installed import VERSION
@@ -81,6 +81,14 @@ def test_each_part_is_looked_for() -> None:
     for parts in (["one", "three"], ["three", "two"], ["one\n"], [" two"]):
         with pytest.raises(AssertionError):
             ended("one of two", done, 0, *parts)
+
+
+def test_oracle() -> None:
+    """It takes the passwords of dev for a block in a vault, and sees which label is false."""
+    block = oracle.block(b"b", oracle.make("dev2", b"text-0001", "", 0), b"  ")
+    vaults = [oracle.make("dev", block, "dev", 0), oracle.make("prod", b"text-0002", "dev", 1)]
+    assert [oracle.visible(each) for each in vaults] == [{b"text-0001"}, set()]
+    assert [oracle.is_false(each) for each in vaults] == [False, True]
 
 
 def test_dead_links(tmp_path: Path) -> None:
