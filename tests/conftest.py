@@ -31,10 +31,9 @@ OUTCOMES = "outcomes"
 # (OUTCOMES counts the tests without a marker listed here); and the tests must record at least the amounts in LEAST.
 # Subtests count as one of these amounts.
 FLOORS = {OUTCOMES: 1800, "fuzz": 4, "faults": 44, "allocations": 40, "valgrind": 65, "newcomer": 16}
-ROWS = "subtests"
 Report = pytest.TestReport | pytest.CollectReport
 HAS_FAILED = pytest.StashKey[bool]()
-LEAST = {ROWS: 550, "random requests": 200, "refused calls": 700, "signals": 36, "refused allocations": 1200}
+LEAST = {"subtests": 550, "random requests": 200, "refused calls": 700, "signals": 36, "refused allocations": 1200}
 
 
 def seed_of_commit() -> int:
@@ -162,7 +161,7 @@ def too_few(config: pytest.Config) -> list[str]:
         return []
     made, _ = amounts(ends)
     made.update(part_of(each) for each in ends if not each.skipped)
-    made[ROWS] = len(reports_of(config, "subtests passed"))
+    made["subtests"] = len(reports_of(config, "subtests passed"))
     low = [f"{part}: {made[part]}, so raise its floor" for part, least in FLOORS.items() if made[part] > least * 1.2]
     floors = FLOORS | LEAST
     return low + [f"{what}: {made[what]}, of at least {least}" for what, least in floors.items() if made[what] < least]

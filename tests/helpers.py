@@ -15,7 +15,7 @@ from pathlib import Path
 
 import pytest
 
-from companion_cases import Done, ended
+from companion_cases import Done, ended, oracle
 from lib.ansible import ansible_vault
 from lib.cases import Cases
 from lib.installed import VERSION
@@ -83,6 +83,14 @@ def test_each_part_is_looked_for() -> None:
             ended("one of two", done, 0, *parts)
 
 
+def test_oracle() -> None:
+    """It takes the passwords of dev for a block in a vault, and sees which label is false."""
+    block = oracle.block(b"b", oracle.make("dev2", b"text-0001", "", 0), b"  ")
+    vaults = [oracle.make("dev", block, "dev", 0), oracle.make("prod", b"text-0002", "dev", 1)]
+    assert [oracle.visible(each) for each in vaults] == [{b"text-0001"}, set()]
+    assert [oracle.is_false(each) for each in vaults] == [False, True]
+
+
 def test_dead_links(tmp_path: Path) -> None:
     page, dead = tmp_path / "page.md", ["#code", "page.md#gone", "h.md", "no-file", "no file's.md#a", "größe", "<a>*"]
     links = "".join(f"[x]({link})" for link in ["#a-title", "page.md#a-title", "https://x-y.z", *dead])
@@ -128,17 +136,8 @@ def test_ansible_that_fails(
         ansible_vault()
 
 
-# The start of a file of tests, and one of its tests.
-HEAD = """\
-import os, subprocess, threading, time
-import conftest, pytest
-from lib.needs import TAKES_ROOT
-
-"""
-TEST = """\
-def test_{}(record_property, subtests, tmp_path):
-    {}
-"""
+# The start of a file of tests.
+IMPORTS = "import os, subprocess, threading, time, conftest, pytest\nfrom lib.needs import TAKES_ROOT\n"
 NO_TOOL = "subprocess.run(['no-such-tool'])"
 THREAD = "thread = threading.Thread(target=lambda: 1 / 0); thread.start(); thread.join()"
 FOR_ROOT = "os.geteuid = lambda: {user}; pytest.skip(TAKES_ROOT)"
@@ -155,11 +154,13 @@ BODIES = {
 }
 
 
-def run_sample(folder: Path, program: str, text: str, *options: str) -> subprocess.CompletedProcess[str]:
-    """Run pytest on a file of tests, in a copy of ours."""
+def run_sample(folder: Path, program: str, bodies: dict[str, str], options: list[str]) -> Done:
+    """Run pytest on tests with these names and bodies, in a copy of ours."""
     shutil.copytree(ROOT / "tests", folder / "tests")
     shutil.copy(ROOT / "pytest.ini", folder)
-    (folder / "tests" / "sample.py").write_text(HEAD + text)
+    fixtures = "record_property, subtests, tmp_path"
+    tests = [f"def test_{name}({fixtures}):\n    {body}\n" for name, body in bodies.items()]
+    (folder / "tests" / "sample.py").write_text("".join([IMPORTS, *tests]))
     ours = {name: value for name, value in os.environ.items() if not name.startswith(("PYTEST_", "REQUIRE_ALL"))}
     words = ["pytest", f"--program={program}", *options, "tests/sample.py"]
     return run_text([sys.executable, "-B", "-m", *words], cwd=folder, env=ours | {"TMPDIR": str(folder)})
@@ -167,8 +168,7 @@ def run_sample(folder: Path, program: str, text: str, *options: str) -> subproce
 
 @pytest.mark.parametrize("options, column", [([], 1), (["--require-all"], 2)], ids=["some", "all"])
 def test_outcomes(program: str, tmp_path: Path, options: list[str], column: int) -> None:
-    text = "".join(TEST.format(name, body) for name, (body, *_) in BODIES.items())
-    done = run_sample(tmp_path, program, text, "--verbose", *options)
+    done = run_sample(tmp_path, program, {name: row[0] for name, row in BODIES.items()}, ["--verbose", *options])
     wanted = {name: row[column] for name, row in BODIES.items()}
     assert dict(re.findall(r"^tests/sample\.py::test_(\w+) ([A-Z]+)", done.stdout, re.MULTILINE)) == wanted, done.stdout
     counts = Counter(wanted.values())
@@ -187,17 +187,16 @@ ENOUGH = """\
 conftest.FLOORS['fuzz'] = -1
     for row in range(1000):
         with subtests.test(): record_property("random requests", (row < 200, 1))"""
-ENOUGH_AND_A_SKIP = TEST.format("enough", ENOUGH) + TEST.format("for_root", FOR_ROOT.format(user=1))
-# A file of tests, pytest's options, its exit status, and the line of counts.
-FILES = {
-    "rows do not end": (TEST.format("rows", ENDLESS), ["--timeout=1"], 1, "1 passed, 3 failed, 0 skipped"),
-    "no tool on import": (NO_TOOL, ["--require-all"], 2, "0 passed, 1 failed, 0 skipped"),
-    "too few are run": (ENOUGH_AND_A_SKIP, ["--floors"], 1, "1 passed, 9 failed, 1 skipped"),
-    "one is left out": (TEST.format("left_out", NO_TOOL), ["--floors"], 0, "0 passed, 0 failed, 1 skipped"),
+# The bodies of tests, pytest's option, its exit status, and the line of counts.
+ENDINGS = {
+    "rows do not end": ([ENDLESS], "--timeout=1", 1, "1 passed, 3 failed, 0 skipped"),
+    "no tool on import": ([f"pass\n{NO_TOOL}"], "--require-all", 2, "0 passed, 1 failed, 0 skipped"),
+    "too few are run": ([ENOUGH, FOR_ROOT.format(user=1)], "--floors", 1, "1 passed, 9 failed, 1 skipped"),
+    "one is left out": ([NO_TOOL], "--floors", 0, "0 passed, 0 failed, 1 skipped"),
 }
 
 
-@pytest.mark.parametrize("text, options, status, counts", FILES.values(), ids=FILES)
-def test_endings(program: str, tmp_path: Path, text: str, options: list[str], status: int, counts: str) -> None:
-    done = run_sample(tmp_path, program, text, *options)
+@pytest.mark.parametrize("bodies, option, status, counts", ENDINGS.values(), ids=ENDINGS)
+def test_endings(program: str, tmp_path: Path, bodies: list[str], option: str, status: int, counts: str) -> None:
+    done = run_sample(tmp_path, program, {str(number): body for number, body in enumerate(bodies)}, [option])
     assert (done.returncode, f"\n{counts}\n" in done.stdout) == (status, True), done.stdout

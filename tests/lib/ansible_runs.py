@@ -8,10 +8,10 @@ import importlib
 import json
 import os
 import runpy
-import subprocess
 import sys
 import tempfile
 from pathlib import Path
+from subprocess import PIPE, Popen
 from typing import Any
 
 
@@ -23,9 +23,7 @@ class AnsibleRuns:
         interpreter = Path(ansible).resolve().read_bytes().partition(b"\n")[0].decode().removeprefix("#!").split()
         environment = {"HOME": str(home), "PATH": os.environ["PATH"], "LC_ALL": "C.UTF-8"}
         words = [*interpreter, "-B", __file__, ansible]
-        self.process = subprocess.Popen(
-            words, env=environment, cwd=home, text=True, stdin=subprocess.PIPE, stdout=subprocess.PIPE
-        )
+        self.process = Popen(words, env=environment, cwd=home, text=True, stdin=PIPE, stdout=PIPE)
         assert self.process.stdin and self.process.stdout
         self.requests, self.answers = self.process.stdin, self.process.stdout
 

@@ -7,6 +7,8 @@ import subprocess
 import tempfile
 from pathlib import Path
 
+from lib.processes import run_text
+
 # The programs that the maintainer scripts run.
 TOOLS = ["/bin/sh", "/usr/bin/dpkg-divert"]
 FOLDERS = ["usr/bin", "var/lib/dpkg/updates", "var/lib/dpkg/info", "var/log", "etc", "tmp"]
@@ -73,12 +75,11 @@ class Root:
         shutil.copy(path, copy)
 
     def dpkg(self, *words: str) -> subprocess.CompletedProcess[str]:
-        command = ["dpkg", f"--root={self.path}", *words]
-        return subprocess.run(command, capture_output=True, text=True, env={**os.environ, "LC_ALL": "C"})
+        return run_text(["dpkg", f"--root={self.path}", *words], env=os.environ | {"LC_ALL": "C"})
 
     def run(self, *words: str) -> str:
         """Run a program in this root, and return everything it prints."""
-        done = subprocess.run(["chroot", str(self.path), *words], capture_output=True, text=True)
+        done = run_text(["chroot", str(self.path), *words])
         return done.stdout + done.stderr
 
     def read(self, path: str) -> str | None:
@@ -95,5 +96,4 @@ class Root:
 
 
 def libraries(program: str) -> list[str]:
-    output = subprocess.run(["ldd", program], capture_output=True, text=True, check=True).stdout
-    return re.findall(r"(/\S+) \(0x", output)
+    return re.findall(r"(/\S+) \(0x", run_text(["ldd", program], check=True).stdout)

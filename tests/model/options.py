@@ -134,13 +134,6 @@ def secret_files(matches: Matches) -> list[SecretFile]:
     return [vault_id(text) for text in ids] + [SecretFile(DEFAULT_LABEL, path) for path in paths]
 
 
-def chosen_label(matches: Matches) -> str | None:
-    label = matches.one("--encrypt-vault-id")
-    if label is not None and not is_label(label):
-        raise Refused(Fault.BAD_LABEL)
-    return label
-
-
 def new_secret(matches: Matches) -> SecretFile | None:
     if matches.command != "rekey":
         return None
@@ -175,7 +168,9 @@ def salts(matches: Matches) -> tuple[str | None, str | None]:
 def settle(matches: Matches) -> Request:
     positional = next((each for each in matches.positionals if each != "-"), None)
     secrets = secret_files(matches)
-    choice = chosen_label(matches)
+    choice = matches.one("--encrypt-vault-id")
+    if choice is not None and not is_label(choice):
+        raise Refused(Fault.BAD_LABEL)
     new = new_secret(matches)
     name = variable_name(matches, positional)
     output = matches.one("--output")
