@@ -1,7 +1,7 @@
 """Random merges of YAML, without a process for each envelope.
 
 There are only a few texts, so many values are equal. The result must be git's merge of the plaintexts, in each style of
-conflicts and with each kind of line end. `merging` and `attacked` show what becomes of other people's secrets.
+conflicts and with each kind of line end. `merging` shows what becomes of other people's secrets.
 """
 
 import functools
