@@ -158,7 +158,7 @@ def test_pre_commit(place: Place) -> None:
     under_git(place, ATTRIBUTES)
     place.put("a.yml", sealed("old"))
     place.put("b.yml", sealed("new"))
-    place.put("-c d.yml", block("old"))
+    place.put("--all", block("old"))
     place.shell("git add -A")
     silent("vaults", by_framework())
     add_and_commit(place)
