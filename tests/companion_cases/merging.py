@@ -1,5 +1,5 @@
 """ansible-vault-merge as git runs it: two branches change a vault, or values of YAML that are vaults. Conflicts that
-git leaves without it, or if it fails. And all merges under a few secrets, without a process for each envelope.
+git leaves without it, or if it fails. All merges and edits under a few secrets, without a process for each envelope.
 """
 
 import itertools
@@ -12,9 +12,12 @@ import pytest
 from ansible_vault_companions.merging.lines import merged_lines
 from ansible_vault_companions.merging.texts import merged
 from ansible_vault_companions.program import Refused
+from ansible_vault_companions.yaml import inline
+from ansible_vault_companions.yaml.matching import Choice
 from companion_cases import CHECK, EDIT, HOOK, MERGE, PASSWORDS, TEXT, Done, Place, block, decrypted, edit, ended
 from companion_cases import lines_of, sealed, silent, texts, versions
-from companion_cases.random_merges import LABELS, SIMPLE, Merge, Model, Value, blocks_of, check_new
+from companion_cases.random_merges import ITEM, LABELS, SIMPLE, Merge, Model, Value, blocks_of, check_new, document
+from companion_cases.random_merges import secret_of
 from companion_cases.repository import BASE, BOTH, NOT_MERGED, OURS, SALTS, THEIRS, add_and_commit, commit, fork
 from companion_cases.repository import repository, set_driver, under_git
 from lib.needs import needs_pyyaml
@@ -122,6 +125,7 @@ REFUSED: dict[str, Sequence[bytes]] = {
     "secrets with different labels decrypt the two sides: prod ours, dev theirs": [*PROD[:2], sealed("dev", b"x")],
     # The secret of another label decrypts a side.
     "ours: its label is prod, but dev@": [sealed(name, TEXT, "prod") for name in ("prod", "dev", "prod")],
+    "theirs: its label is prod, but dev@": [sealed(name, TEXT, "prod") for name in ("prod", "prod", "dev")],
     "theirs: line 1: secret: its label is prod, but dev@": [
         block(name, text, "prod") for name, text in (("prod", b"old"), ("prod", b"new"), ("dev", b"old"))
     ],
@@ -364,3 +368,19 @@ def test_secrets_of_values() -> None:
                 check_new(merge, tool.made[found.envelope], found.key)
                 made += 1
     assert made == 6, "those under another secret"
+
+
+def test_secrets_of_edits() -> None:
+    """An edit of a value, in a list or not, keeps its secret, its label and everything else."""
+    needs_pyyaml()
+    choice = Choice([*map(secret_of, LABELS)], None)
+    for pair, number in itertools.product(itertools.product(VAULTS, repeat=2), range(4)):
+        values = [Value(key, b"same", *vault, 0, 10) for key, vault in zip(("a", "b", ITEM, ITEM), pair * 2)]
+        tool = Model()
+        shown = inline.showing(document(values, [each.block() for each in values]), tool.opened, with_notes=True)
+        parts = shown.text().split(b"same")
+        text = b"same".join(parts[: number + 1]) + b"changed" + b"same".join(parts[number + 1 :])
+        after = inline.encrypted(shown, text, tool, choice)
+        [made] = tool.made.values()
+        values[number] = values[number]._replace(text=b"changed", salt=made.salt)
+        assert after == document(values, [each.block() for each in values]), (pair, number)

@@ -1,7 +1,7 @@
 """Random merges of YAML, without a process for each envelope.
 
 There are only a few texts, so many values are equal. The result must be git's merge of the plaintexts, in each style of
-conflicts and with each kind of line end. `merging` and `attacked` show what becomes of other people's secrets.
+conflicts and with each kind of line end. `merging` shows what becomes of other people's secrets.
 """
 
 import functools
@@ -295,7 +295,8 @@ def check_new(merge: Merge, made: Value, key: str) -> None:
 
 def could_take_back(merge: Merge) -> bool:
     """Return whether one side has put a value under another secret, and the other side has its old digits under another
-    label or key, or in a list. Without a conflict, only these digits would be left of the value."""
+    label or key, or in a list. Without a conflict, only these digits would be left of the value. What is done to bring
+    one about may also avoid another one."""
     for side, other in ((merge.ours, merge.theirs), (merge.theirs, merge.ours)):
         digits = {(each.text, each.password, each.salt) for each in other}
         for value, before in itertools.product(side, merge.base):
@@ -318,10 +319,10 @@ def check_merge(folder: Path, merge: Merge, layout: Layout) -> list[str]:
     for each in new:
         check_new(merge, tool.made[each.envelope], each.key)
     kinds = ["conflicts" if result.conflicts else "merged", *(["under a new secret"] if new else [])]
-    if result.conflicts and could_take_back(merge):
-        return kinds
     known = tool.made | {value.envelope(): value for values in merge for value in values}
     text, conflicts, possible = wanted(folder, merge, layout)
+    if could_take_back(merge) and (result.conflicts or conflicts):
+        return kinds
     assert (in_plaintext(result.content, known), result.conflicts) == (text, conflicts), "the merge by git"
     if not result.conflicts:
         yaml.load(result.content, Loader=yaml.BaseLoader)
