@@ -321,11 +321,12 @@ def check_merge(folder: Path, merge: Merge, layout: Layout) -> list[str]:
     kinds = ["conflicts" if result.conflicts else "merged", *(["under a new secret"] if new else [])]
     known = tool.made | {value.envelope(): value for values in merge for value in values}
     text, conflicts, possible = wanted(folder, merge, layout)
+    if not result.conflicts:
+        yaml.load(result.content, Loader=yaml.BaseLoader)
     if could_take_back(merge) and (result.conflicts or conflicts):
         return kinds
     assert (in_plaintext(result.content, known), result.conflicts) == (text, conflicts), "the merge by git"
     if not result.conflicts:
-        yaml.load(result.content, Loader=yaml.BaseLoader)
         pairs = zip(found, possible, strict=True)
         assert all(each in new or each.block in sides for each, sides in pairs), "the value of the side that changed it"
     return [*kinds, *(["equal items"] if any(map(any, numbered(merge))) else [])]
