@@ -22,7 +22,6 @@ COMBINATIONS = [set(each) for count in range(4) for each in itertools.combinatio
 # The stream that each value of `--output` means.
 STREAMS = {"-": 1, "/dev/stdin": 0, "/dev/stdout": 1, "/dev/stderr": 2, "/dev/fd/1": 1}
 NEW_FILE, OLD_FILE = "new", "old"
-SIZE_LIMIT = 100
 # The first of these that can be opened takes the number of a closed stream.
 DIRECTORIES = ["/", "/proc", "/dev", "."]
 
@@ -94,7 +93,7 @@ def test_every_combination(cases: Cases, command: str) -> None:
 def limited() -> None:
     """Limit the size of files, and ignore the signal for a file above the limit."""
     signal.signal(signal.SIGXFSZ, signal.SIG_IGN)
-    resource.setrlimit(resource.RLIMIT_FSIZE, (SIZE_LIMIT, SIZE_LIMIT))
+    resource.setrlimit(resource.RLIMIT_FSIZE, (100, 100))
 
 
 def refusing(directories: list[str]) -> list[str]:
