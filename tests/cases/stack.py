@@ -1,6 +1,6 @@
 """If the stack is too small, a signal ends a run before it opens a file, so each file stays as it was.
 
-Arguments are on the stack, too. Each run has the file that it replaces as its FILE.
+Arguments are on the stack, too. The output of each run, if it has one, replaces its FILE, or a file with its STRING.
 """
 
 import errno
@@ -10,9 +10,10 @@ from pathlib import Path
 
 import pytest
 
+from cases import named
 from lib.cases import TEXT, Cases, answer_of, by_file
 from lib.processes import run
-from lib.samples import Sample, each_command, sample_of
+from lib.samples import each_command, sample_of
 
 PAGE = resource.getpagesize()
 # What a run needs at most, besides its arguments.
@@ -27,16 +28,6 @@ def limit_stack(size: int) -> None:
     resource.setrlimit(resource.RLIMIT_STACK, (size, resource.RLIM_INFINITY))
 
 
-def in_place(program: str, sample: Sample, path: str) -> list[str]:
-    """Return the words of a run whose output, if it has one, replaces its FILE, or a file with its STRING."""
-    words = [program, *sample.words]
-    if sample.command == "encrypt_string":
-        words = ["--name" if word == "--stdin-name" else word for word in words] + [sample.stdin.decode()]
-    else:
-        words.append(path)
-    return words if sample.command == "view" else [*words, "--output", path]
-
-
 @pytest.mark.parametrize("count", (1, MOST_FILES))
 @each_command
 def test_small_stacks(cases: Cases, command: str, count: int) -> None:
@@ -44,7 +35,7 @@ def test_small_stacks(cases: Cases, command: str, count: int) -> None:
     sample = sample_of(cases, command, TEXT * (400 if count == 1 else 1))
     path, right = Path(cases.file(b"")), Path(cases.file(b"right\n"))
     padding = "/." * ((LONGEST_PATH - len(str(right))) // 2)
-    words = in_place(cases.program, sample, str(path))
+    words = [cases.program, *named(sample, str(path), str(path))]
     words += by_file(f"{right.parent}{padding}/{right.name}") * (count - 1)
     words += ["--encrypt-vault-id", "default"] if command.startswith("encrypt") else []
     after = sample.stdin if command == "view" else sample.output
