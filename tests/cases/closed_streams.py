@@ -10,6 +10,7 @@ from collections.abc import Sequence
 from pathlib import Path
 from typing import Any, NamedTuple
 
+from cases import named
 from lib.cases import TEXT, Cases
 from lib.needs import needs
 from lib.processes import run
@@ -22,7 +23,6 @@ COMBINATIONS = [set(each) for count in range(4) for each in itertools.combinatio
 # The stream that each value of `--output` means.
 STREAMS = {"-": 1, "/dev/stdin": 0, "/dev/stdout": 1, "/dev/stderr": 2, "/dev/fd/1": 1}
 NEW_FILE, OLD_FILE = "new", "old"
-SIZE_LIMIT = 100
 # The first of these that can be opened takes the number of a closed stream.
 DIRECTORIES = ["/", "/proc", "/dev", "."]
 
@@ -41,13 +41,8 @@ def run_closed(
 ) -> Left:
     """Run a sample in a directory with some files, under the words of a tool. Its input has a name or is standard
     input, and the other two streams are pipes."""
-    words = [cases.program, *sample.words]
-    if by_name and sample.command == "encrypt_string":
-        words = ["--name" if word == "--stdin-name" else word for word in words] + [sample.stdin.decode()]
-    elif by_name:
-        words.append("given")
-    if sample.command != "view":
-        words += ["--output", output]
+    to_output = [] if sample.command == "view" else ["--output", output]
+    words = named(sample, "given", output) if by_name else [*sample.words, *to_output]
     files = {OLD_FILE: b"what stood here before\n", "given": sample.stdin}
     files["stdin"] = b"not asked" if by_name else sample.stdin
     closings = " ".join(f"{stream}>&-" for stream in closed)
@@ -56,7 +51,8 @@ def run_closed(
         for path, content in files.items():
             (folder / path).write_bytes(content)
         with open(folder / "stdin", "rb") as stdin:
-            done = run([*under, "sh", "-c", f'exec "$@" {closings}', "sh", *words], stdin, cwd=folder, **others)
+            command = [*under, "sh", "-c", f'exec "$@" {closings}', "sh", cases.program, *words]
+            done = run(command, stdin, cwd=folder, **others)
         after = contents(folder)
     changed = {path: after.get(path) for path in files | after if files.get(path) != after.get(path)}
     return Left(done.returncode, done.stdout, done.stderr, changed)
@@ -94,7 +90,7 @@ def test_every_combination(cases: Cases, command: str) -> None:
 def limited() -> None:
     """Limit the size of files, and ignore the signal for a file above the limit."""
     signal.signal(signal.SIGXFSZ, signal.SIG_IGN)
-    resource.setrlimit(resource.RLIMIT_FSIZE, (SIZE_LIMIT, SIZE_LIMIT))
+    resource.setrlimit(resource.RLIMIT_FSIZE, (100, 100))
 
 
 def refusing(directories: list[str]) -> list[str]:

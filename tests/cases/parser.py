@@ -24,12 +24,9 @@ def test_helps(cases: Cases, name: str, words: list[str]) -> None:
     cases.run([*([] if name == PROGRAM else [name]), *words], out=help_path(name).read_bytes())
 
 
-VERSIONS = ["--version"], ["-V"], ["--version", "--loud"], ["-V", "--help"], ["-Vh"]
-
-
-@pytest.mark.parametrize("words", VERSIONS, ids=" ".join)
-def test_versions(cases: Cases, words: list[str]) -> None:
-    cases.run(words, out=f"ansible-vault {version()}\n".encode())
+@pytest.mark.parametrize("line", ("--version", "-V", "--version --loud", "-V --help", "-Vh"))
+def test_versions(cases: Cases, line: str) -> None:
+    cases.run(line.split(), out=f"ansible-vault {version()}\n".encode())
 
 
 @pytest.mark.parametrize("name, mistake", [(name, each) for name in MISTAKES for each in MISTAKES[name]], ids=str)

@@ -1,16 +1,16 @@
 """If the stack is too small, a signal ends a run before it opens a file, so each file stays as it was.
 
-Arguments are on the stack, too. Each run has the file that it replaces as its FILE.
+Arguments are on the stack, too. The output of each run, if it has one, replaces its FILE, or a file with its STRING.
 """
 
 import errno
 import resource
 from functools import partial
 from pathlib import Path
-from typing import NamedTuple
 
 import pytest
 
+from cases import named
 from lib.cases import TEXT, Cases, answer_of, by_file
 from lib.processes import run
 from lib.samples import each_command, sample_of
@@ -28,51 +28,33 @@ def limit_stack(size: int) -> None:
     resource.setrlimit(resource.RLIMIT_STACK, (size, resource.RLIM_INFINITY))
 
 
-class Run(NamedTuple):
-    """A command with its arguments, and the file that it replaces."""
-
-    words: list[str]
-    path: Path
-    before: bytes
-    after: bytes
-
-    def outcome(self, stack: int) -> str:
-        """Return whether the run succeeded, or a signal ended it with the file as it was; otherwise, what it left."""
-        self.path.write_bytes(self.before)
-        try:
-            status = run(self.words, env={}, preexec_fn=partial(limit_stack, stack)).returncode
-        except OSError as error:
-            # The system does not start a program whose arguments do not fit.
-            status = -1 if error.errno == errno.E2BIG else 1
-        left = self.path.read_bytes()
-        if (status, left) == (0, self.after):
-            return "whole"
-        return "untouched" if status < 0 and left == self.before else f"status {status}, {left[:80]!r}"
-
-
-def in_place(cases: Cases, command: str, text: bytes) -> Run:
-    """Return a run whose output, if it has one, replaces its FILE, or a file with its STRING."""
-    sample, path = sample_of(cases, command, text), Path(cases.file(b""))
-    words = [cases.program, *sample.words]
-    if command == "encrypt_string":
-        words = ["--name" if word == "--stdin-name" else word for word in words] + [sample.stdin.decode()]
-    else:
-        words.append(str(path))
-    if command == "view":
-        return Run(words, path, sample.stdin, sample.stdin)
-    return Run([*words, "--output", str(path)], path, sample.stdin, sample.output)
-
-
 @pytest.mark.parametrize("count", (1, MOST_FILES))
 @each_command
 def test_small_stacks(cases: Cases, command: str, count: int) -> None:
     """A run has one password file, or as many as are allowed, at long paths."""
-    run, right = in_place(cases, command, TEXT * (400 if count == 1 else 1)), Path(cases.file(b"right\n"))
+    sample = sample_of(cases, command, TEXT * (400 if count == 1 else 1))
+    path, right = Path(cases.file(b"")), Path(cases.file(b"right\n"))
     padding = "/." * ((LONGEST_PATH - len(str(right))) // 2)
-    run.words.extend(by_file(f"{right.parent}{padding}/{right.name}") * (count - 1))
-    run.words.extend(["--encrypt-vault-id", "default"] if command.startswith("encrypt") else [])
-    least = STACK + sum(len(word) + 1 + POINTER for word in run.words)
-    found = {stack: run.outcome(stack) for stack in range(PAGE, least + STACK, PAGE)}
+    words = [cases.program, *named(sample, str(path), str(path))]
+    words += by_file(f"{right.parent}{padding}/{right.name}") * (count - 1)
+    words += ["--encrypt-vault-id", "default"] if command.startswith("encrypt") else []
+    after = sample.stdin if command == "view" else sample.output
+
+    def outcome(stack: int) -> str:
+        """Return whether the run succeeded, or a signal ended it with the file as it was; otherwise, what it left."""
+        path.write_bytes(sample.stdin)
+        try:
+            status = run(words, env={}, preexec_fn=partial(limit_stack, stack)).returncode
+        except OSError as error:
+            # The system does not start a program whose arguments do not fit.
+            status = -1 if error.errno == errno.E2BIG else 1
+        left = path.read_bytes()
+        if (status, left) == (0, after):
+            return "whole"
+        return "untouched" if status < 0 and left == sample.stdin else f"status {status}, {left[:80]!r}"
+
+    least = STACK + sum(len(word) + 1 + POINTER for word in words)
+    found = {stack: outcome(stack) for stack in range(PAGE, least + STACK, PAGE)}
     assert {*found.values()} == {"whole", "untouched"}
     assert {found[stack] for stack in found if stack >= least} == {"whole"}
 

@@ -13,6 +13,7 @@ from typing import Any
 
 import pytest
 
+from cases import named
 from lib.cases import TEXT, Cases, answer_of, by_file, refusal
 from lib.limits import SECONDS
 from lib.needs import needs
@@ -42,11 +43,9 @@ def test_bytes_read_alone(cases: Cases, command: str, is_named: bool) -> None:
     program ends early, so does the writing."""
     sample = sample_of(cases, command)
     reader, writer = os.pipe2(os.O_DIRECT)
-    words, stdin = [cases.program, *sample.words], reader
-    if is_named and command != "encrypt_string":
-        words += [f"/dev/fd/{reader}", *([] if command == "view" else ["--output", "-"])]
-        stdin = subprocess.DEVNULL
-    with started(words, stdin=stdin, stdout=subprocess.PIPE, pass_fds=[reader]) as child:
+    words = named(sample, f"/dev/fd/{reader}", "-") if is_named else sample.words
+    stdin = subprocess.DEVNULL if is_named else reader
+    with started([cases.program, *words], stdin=stdin, stdout=subprocess.PIPE, pass_fds=[reader]) as child:
         os.close(reader)
         with contextlib.suppress(BrokenPipeError), open(writer, "wb", buffering=0) as pipe:
             for byte in sample.stdin:

@@ -10,7 +10,6 @@ from lib.subtests import SubTests
 from model.faults import Fault
 from model.vaults import seal
 
-CONFIG = "[defaults]\nvault_password_file = {}\nvault_id_match = True\n"
 # The functions and variables of the C library that give a program its environment.
 READERS = {"getenv", "secure_getenv", "environ", "__environ", "_environ"}
 
@@ -38,7 +37,7 @@ def test_environments(cases: Cases, subtests: SubTests) -> None:
         "ANSIBLE_VAULT_IDENTITY_LIST": f"dev@{right}",
         "ANSIBLE_VAULT_ENCRYPT_IDENTITY": "dev",
         "ANSIBLE_VAULT_ID_MATCH": "True",
-        "ANSIBLE_CONFIG": cases.file(CONFIG.format(right).encode()),
+        "ANSIBLE_CONFIG": cases.file(f"[defaults]\nvault_password_file = {right}\nvault_id_match = True\n".encode()),
     }
     runs = [
         (["view"], vault, refusal(Fault.NO_SECRET_FITS)),

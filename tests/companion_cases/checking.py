@@ -43,13 +43,6 @@ def test_labels_and_secrets(place: Place) -> None:
     ended("what is not", done, 1, *(f"{CHECK}: {part}" for part in (*parts, "missing: No such file or directory\n")))
 
 
-def test_slow_tool(place: Place) -> None:
-    """An input that does not fit into a pipe is written completely, even if the tool reads it late."""
-    place.put("a.yml", sealed("old", TEXT * 20_000))
-    place.wrap_tool("sleep 1.5")
-    ended("a long vault", place.run(CHECK, *place.by_file("old"), "a.yml"), 0, "1 decrypted, 0 not")
-
-
 # It would control the terminal, and begin a line that looks like a message.
 HOSTILE = "\x1b]0;owned\a\x9b\nansible-vault:fine"
 OLD, NEW = "--vault-password-file ../secrets/old", "--new-vault-password-file ../secrets/new"
@@ -123,8 +116,10 @@ def test_refused_secrets(place: Place, name: str, option: str, line: str, conten
 
 
 def test_longest_password(place: Place) -> None:
-    place.put("a.yml", seal(LONG[:-1], TEXT))
+    """An input that does not fit into a pipe is written completely, even if the tool reads it late."""
+    place.put("a.yml", seal(LONG[:-1], TEXT * 20_000))
     place.put("../long", LONG[:-1])
+    place.wrap_tool("sleep 1.5")
     ended("4096 bytes", place.run(CHECK, "--vault-password-file=../long", "a.yml"), 0, "1 decrypted, 0 not")
 
 

@@ -73,7 +73,6 @@ def test_folder_that_cannot_be_read(place: Place) -> None:
     assert done.returncode == 0, done.stderr
     lines = place.get("../temporary/trace").decode().splitlines()
     assert [line.split()[1].partition("(")[0] for line in lines if line.endswith("= 0")] == ["rename", "sync"]
-    (place.tree / "folder").chmod(0o755)
     assert decrypted("new", place.get("folder/a.yml")) == TEXT, "it did its work"
 
 
@@ -163,7 +162,6 @@ def test_what_cannot_be_replaced(place: Place) -> None:
     done = place.as_nobody(ROTATE, *to_new(place), "--dry-run", ".")
     ended("it is refused", done, 1, "a.yml: it has 2 names (hard links)", "closed/b.yml: Permission denied")
     assert place.files() == before, "they stay, and no other file is there"
-    (place.tree / "closed").chmod(0o755)
 
 
 def test_named_paths(place: Place) -> None:
@@ -178,7 +176,6 @@ def test_named_paths(place: Place) -> None:
     parts = [f"{name}: it is neither a file nor a directory" for name in ("pipe", "/dev/null")]
     parts += ["tree/link.yml: Permission denied", "tree/file.yml: Not a directory", "1 decrypted, 4 not"]
     ended("the check", done, 1, *parts)
-    (place.tree / "closed").chmod(0o755)
 
 
 # What happens to the vault while a run encrypts or decrypts it. The run with a prompt only checks the command line.
