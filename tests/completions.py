@@ -31,6 +31,7 @@ OFFERED = {
     "ansible-vault-with -J encrypt one.yml tw": {"two.yml"},
     "ansible-vault-with encrypt_string --sh": {"--show-input"},
     "ansible-vault-with view -- one.yml -": {"-dash.yml"},
+    "ansible-vault-rotate folder/": {"folder/inner.yml"},
     "ansible-vault-rotate --new-vault-id dev@one.p": {"dev@one.pass"},
     "ansible-vault-check one.yml -- -": {"-dash.yml"},
     "ansible-vault-check --ask-vault-pass tw": {"two.yml"},
