@@ -33,7 +33,8 @@ wait = subprocess.Popen.wait
 subprocess.Popen.wait = lambda process, seconds: wait(process, seconds / 600)
 sys.argv = sys.argv[1:]
 runpy.run_path(sys.argv[0], run_name="__main__")"""
-GATE = "its own lines\ncrate vault_aes: modules 3\nrt: vault_aes proved\nrt: vault_kdf proved\n"
+# Three crates are proved: one says so twice.
+GATE = "its own lines\ncrate vault_aes: modules 3\nrt: vault_aes proved\ncrate sha2: modules 1\nrt: vault_kdf proved\n"
 # How a command ends, its status, which is negative for a signal, and its last line.
 ENDS = [("exit 0", 0, "12 passed, 0 failed\n"), ("exit 2", 2, "11 passed, 1 failed\n"), ("kill -9 $$", -9, "")]
 
@@ -43,13 +44,14 @@ def test_progress(tmp_path: Path, end: str, status: int, count: str) -> None:
     """The log is kept, and printed if the command fails. Its counts appear once on a line of their own, at the end. The
     command runs until its lines are reported."""
     log, printed = tmp_path / "log", tmp_path / "printed"
-    command = f"printf '{GATE}{count}'; until grep -q vault_kdf '{printed}'; do sleep 0.05; done; {end}"
+    waiting = f"for each in $(seq 1000); do grep -q vault_kdf '{printed}' && break; sleep 0.05; done"
+    command = f"printf '{GATE}{count}'; {waiting}; {end}"
     words = [sys.executable, "-c", FASTER, str(ROOT / "tools" / "progress.py"), str(log), "sh", "-c", command]
     with printed.open("w") as output:
         done = run_text(words, stdout=output)
     assert (done.returncode, done.stderr, log.read_text()) == (status % 256, "", GATE + count)
     *reports, last = re.split(r"    0 min  (.*)\n", printed.read_text())
-    assert "2 crates are proved; vault_kdf proved" in reports
+    assert "3 crates are proved; vault_kdf proved" in reports
     shown = textwrap.indent(GATE + count, "    ") if status else ""
     assert reports[-2:] == [shown, f"{'FAILED' if status else 'done'}; the whole log is {log}"]
     assert last == count

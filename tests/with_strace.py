@@ -9,15 +9,15 @@ reading. The runs are in `watched`.
 import os
 import re
 from collections import Counter
-from itertools import groupby
+from pathlib import Path
 
 import pytest
 
 from lib.cases import Cases
 from lib.needs import needs
 from lib.package_root import libraries
-from watched import STAND_IN, STDERR, STDIN, STDOUT, Run, Watched, opened_by, watch
-from watched.runs import LIMITS, RUNS, SIZES, write_files
+from lib.system_calls import Call, Traced, trace
+from watched import LIMITS, RUNS, SIZES, STAND_IN, STDERR, STDIN, STDOUT, Run, write_files
 
 OF_FILES = {"openat", "read", "write", "close", "statx", "fchmod", "ftruncate", "fsync"}
 OF_MEMORY = {"brk", "mmap", "munmap", "mremap"}
@@ -28,34 +28,92 @@ READING, CREATING = {"O_RDONLY"}, {"O_WRONLY", "O_CREAT"}
 HARMLESS = {"O_NOCTTY", "O_CLOEXEC", "O_LARGEFILE", "O_DIRECTORY"}
 OWNER_ALONE = "0600"
 
+# A call that opens or changes a file: its name; the path or the descriptor; the other flags, the mode or the length.
+Step = tuple[str, str | int, object, object]
 
-def check_loading(program: str, watched: Watched) -> None:
+
+def watch(program: str, run: Run, folder: Path) -> Traced:
+    words = ["sh", "-c", f'cd "$0" && exec "$@" {run.closings()}', str(folder), program, *run.words()]
+    return trace(words, folder / "log", 2, b"not asked for" if run.stdin is None else run.stdin)
+
+
+def opening(call: Call) -> Step:
+    flags, _, mode = call.args.rpartition('", ')[2].partition(", ")
+    return call.name, call.path, {*flags.split("|")} - HARMLESS, mode
+
+
+def check_loading(program: str, traced: Traced) -> None:
     """Check the loader's calls, which the other checks skip."""
     allowed = {"/etc/ld.so.cache", "/etc/ld.so.preload", *(os.path.normpath(path) for path in libraries(program))}
-    opens = [opened_by(call) for call in watched.traced.loading if call.name == "openat"]
-    others = [each for each in opens if os.path.normpath(each.path) not in allowed or each.flags - HARMLESS != READING]
+    opens = [opening(call) for call in traced.loading if call.name == "openat"]
+    others = [each for each in opens if os.path.normpath(str(each[1])) not in allowed or each[2] != READING]
     assert others == [], "what else the loader opens"
-    assert watched.traced.own != [], "the program makes calls of its own"
+    assert traced.own != [], "the program makes calls of its own"
 
 
-def check_opens(run: Run, watched: Watched) -> None:
-    created = [(run.created, CREATING, OWNER_ALONE)] if run.created else []
-    opened = [(each.path, each.flags - HARMLESS, each.mode) for each in watched.files]
-    assert opened == [*((path, READING, "") for path in run.read.split()), *created], "what is opened"
-    assert [each.path for each in watched.files if 0 <= each.fd <= STDERR] == [], "no file takes a stream's number"
-    taken = [(each.path, each.fd, each.flags - HARMLESS) for each in watched.stand_ins]
-    assert taken == [(STAND_IN, stream, READING) for stream in run.closed], "closed streams are replaced"
+def steps(own: list[Call]) -> list[Step]:
+    """Return the calls that open or change a file, with the bytes of consecutive writes added up."""
+    found: list[Step] = []
+    length = 0
+    for call in own:
+        if call.name == "openat":
+            found.append(opening(call))
+        elif call.name == "write" and found and found[-1][:2] == (call.name, call.fd):
+            length += call.result
+            found[-1] = (call.name, call.fd, "", length)
+        elif call.name == "write":
+            length = call.result
+            found.append((call.name, call.fd, "", length))
+        elif call.name in ("fchmod", "ftruncate", "fsync"):
+            found.append((call.name, call.fd, "", call.args.partition(", ")[2]))
+    return found
 
 
-def check_reads(run: Run, watched: Watched) -> None:
+def check_files(run: Run, traced: Traced) -> None:
+    """Closed streams are replaced, and files are opened in order. After all reading, the output's file is opened, made
+    private, only then emptied, written, and finally synced."""
+    opens = [call for call in traced.own if call.name == "openat"]
+    stand_ins, files = opens[: len(run.closed)], opens[len(run.closed) :]
+    assert [call.result for call in stand_ins] == [*run.closed], "the numbers of closed streams"
+    assert [call.path for call in files if 0 <= call.result <= STDERR] == [], "no file takes a stream's number"
+    wanted: list[Step] = [("openat", STAND_IN, READING, "") for _ in run.closed]
+    wanted += [("openat", path, READING, "") for path in run.read.split()]
+    target, written, message = STDOUT, run.written, len(run.fault.line) if run.fault else 0
+    if written is None:
+        written, message = (0, len(traced.message or b"")) if run.status else (len(traced.output or b""), 0)
+    if run.created:
+        target = files[-1].result
+        wanted.append(("openat", run.created, CREATING, OWNER_ALONE))
+        wanted += [("fchmod", target, "", OWNER_ALONE)] * run.line.startswith("decrypt")
+        wanted.append(("ftruncate", target, "", "0"))
+        assert "read" not in {call.name for call in traced.own[traced.own.index(files[-1]) :]}, "what is read then"
+    wanted += [("write", fd, "", length) for fd, length in [(target, written), (STDERR, message)] if length]
+    wanted += [("fsync", target, "", "")] if run.created else []
+    assert steps(traced.own) == wanted, "what is opened and written"
+    if run.fault:
+        assert traced.message == run.fault.line, "message"
+
+
+def check_reads(run: Run, own: list[Call]) -> None:
+    """Every source is read to its end or its limit, and no further. Standard input is only read if it is needed."""
+    reads: dict[str, list[tuple[int, int]]] = {}
+    paths: dict[int, str] = {}
+    for call in own:
+        if call.name == "openat":
+            paths[call.result] = call.path
+        elif call.name == "close":
+            paths.pop(call.fd, None)
+        elif call.name == "read":
+            asked = int(call.args.rsplit(", ", 1)[1])
+            reads.setdefault(paths.get(call.fd, str(call.fd)), []).append((asked, call.result))
     wanted, stdin = Counter({path: SIZES.get(path, 0) for path in run.read.split()}), str(STDIN)
     if run.stdin is not None:
         wanted[stdin] = len(run.stdin)
-    given = {source: sum(max(got, 0) for _, got in reads) for source, reads in watched.reads.items()}
+    given = {source: sum(max(got, 0) for _, got in each) for source, each in reads.items()}
     assert +Counter(given) == +wanted, "what is read"
-    assert (stdin in watched.reads) == (run.stdin is not None), "standard input is asked"
+    assert (stdin in reads) == (run.stdin is not None), "standard input is asked"
     limits = LIMITS | {stdin: LIMITS["vault"]}
-    others = {source: reads for source, reads in watched.reads.items() if not to_end(reads, limits.get(source, 0))}
+    others = {source: each for source, each in reads.items() if not to_end(each, limits.get(source, 0))}
     assert others == {}, "what is not asked to its end or its limit, or past it"
 
 
@@ -69,41 +127,7 @@ def to_end(reads: list[tuple[int, int]], limit: int) -> bool:
     return most <= limit and (ends == [len(reads)] or not ends and given == limit)
 
 
-def check_writes(run: Run, watched: Watched) -> None:
-    """After all reading, a file is opened, made private, only then emptied, written, and finally synced."""
-    own, calls, target = watched.traced.own, watched.writes, STDOUT
-    if run.created:
-        first, *others = calls
-        target = first.result
-        names = [name for name, _ in groupby(call.name for call in others)]
-        private, writing = ["fchmod"] * run.line.startswith("decrypt"), ["write"] * bool(run.written)
-        assert [first.name, *names] == ["openat", *private, "ftruncate", *writing, "fsync"], "how the file is written"
-        assert {call.fd for call in others} == {target}, "nothing else is written"
-        values = [call.args.partition(", ")[2] for call in others if call.name in ("fchmod", "ftruncate")]
-        assert values == [OWNER_ALONE] * len(private) + ["0"], "its mode, and the length to which it is cut"
-        assert "read" not in {call.name for call in own[own.index(first) :]}, "what is read once it is there"
-    else:
-        assert {call.name for call in calls} <= {"write"}, "no file is written"
-    check_lengths(run, watched, target)
-
-
-def check_lengths(run: Run, watched: Watched, target: int) -> None:
-    """Check how many bytes go where."""
-    traced = watched.traced
-    lengths, wanted = Counter[int](), Counter({target: run.written or 0})
-    for call in watched.writes:
-        if call.name == "write":
-            lengths[call.fd] += max(call.result, 0)
-    if run.written is None:
-        wanted[STDERR if run.status else STDOUT] = len((traced.message if run.status else traced.output) or b"")
-    if run.fault:
-        wanted[STDERR] = len(run.fault.line)
-        assert traced.message == run.fault.line, "message"
-    assert +lengths == +wanted, "how many bytes go where"
-
-
-def check_others(watched: Watched) -> None:
-    own = watched.traced.own
+def check_others(own: list[Call]) -> None:
     assert {call.name for call in own} - OF_FILES - OF_MEMORY - OTHERS == set(), "other calls"
     signals = {call.args.partition(",")[0] for call in own if call.name == "rt_sigaction"}
     assert signals - {"SIGPIPE"} == set(), "other signals"
@@ -120,10 +144,9 @@ def check_others(watched: Watched) -> None:
 def test_calls(cases: Cases, run: Run) -> None:
     needs("strace")
     write_files(cases.folder)
-    watched = watch(cases.program, run, cases.folder)
-    assert watched.traced.status == (run.fault.status if run.fault else run.status)
-    check_loading(cases.program, watched)
-    check_opens(run, watched)
-    check_reads(run, watched)
-    check_writes(run, watched)
-    check_others(watched)
+    traced = watch(cases.program, run, cases.folder)
+    assert traced.status == (run.fault.status if run.fault else run.status)
+    check_loading(cases.program, traced)
+    check_files(run, traced)
+    check_reads(run, traced.own)
+    check_others(traced.own)

@@ -3,6 +3,8 @@ docs/verification-reference.md, and the programs in docs/library.md.
 """
 
 import re
+from collections.abc import Callable
+from functools import partial
 from pathlib import Path
 
 from contracts import CRATES, IMPORT, code, crates, declared_in, needed
@@ -128,10 +130,5 @@ def listing(found: re.Match[str]) -> str:
     return f"{path}`:\n\n```rust\n{(ROOT / path).read_text()}```"
 
 
-def written_library(page: str) -> str:
-    """Return docs/library.md, with the programs up to date."""
-    return LISTING.sub(listing, page)
-
-
 # The function that updates each page.
-WRITTEN = {PAGE: written, REFERENCE: written, LIBRARY: written_library}
+WRITTEN: dict[Path, Callable[[str], str]] = {PAGE: written, REFERENCE: written, LIBRARY: partial(LISTING.sub, listing)}

@@ -1,16 +1,44 @@
-"""Runs whose system calls are watched, and these calls, sorted."""
+"""The runs that are watched. Contracts say what a run opens and in which order, and what it writes, if the methods that
+make the calls are right; so each way to read, to write and to end has one run here, and each preparation one that is
+refused.
+"""
 
-import tempfile
-from itertools import takewhile
 from pathlib import Path
 from typing import NamedTuple
 
-from lib.system_calls import Call, Traced, trace
+from lib.cases import TEXT
 from model.faults import Fault
+from model.vaults import ENVELOPE_LIMIT, HEADER, PLAINTEXT_LIMIT, SALT, seal, yaml_block
 
 STDIN, STDOUT, STDERR = 0, 1, 2
 # This takes the numbers of closed streams.
 STAND_IN = "/"
+RANDOM = "/dev/urandom"
+# The most bytes that a run asks for: from a password file, from a salt.
+PASSWORD_LIMIT, SALT_LENGTH = 4_097, 32
+VAULT, VOID = seal(b"one", TEXT), seal(b"one", b"")
+# The files, with the most bytes of each that may be asked for.
+FILES = {
+    "one": (b"one\n", PASSWORD_LIMIT),
+    "two": (b"two\n", PASSWORD_LIMIT),
+    "empty": (b"", PASSWORD_LIMIT),
+    "salt": (SALT + b"more", SALT_LENGTH),
+    "short": (b"short", SALT_LENGTH),
+    "plain": (TEXT, PLAINTEXT_LIMIT + 1),
+    "vault": (VAULT, ENVELOPE_LIMIT + 1),
+    "void": (VOID, ENVELOPE_LIMIT + 1),
+    "unread": (VAULT, 0),
+    "old": (b"old" * 1_000, 0),
+}
+# Files that are longer than may be asked for: how they begin.
+LONG = {
+    "long-plain": (b"", PLAINTEXT_LIMIT + 1),
+    "long-vault": (HEADER + b"\n", ENVELOPE_LIMIT + 1),
+    "long-password": (b"k" * 5_000, PASSWORD_LIMIT),
+}
+LIMITS = {RANDOM: SALT_LENGTH} | {name: limit for name, (_, limit) in (FILES | LONG).items()}
+# How many bytes each gives if it is read to its end or its limit.
+SIZES = LIMITS | {name: min(len(content), limit) for name, (content, limit) in FILES.items()}
 
 
 class Run(NamedTuple):
@@ -38,46 +66,58 @@ class Run(NamedTuple):
         return " ".join(f"{number}>&-" for number in self.closed)
 
 
-class Opened(NamedTuple):
-    path: str
-    fd: int
-    flags: set[str]
-    mode: str
+TO_FILES = [
+    Run("encrypt @one --output=new plain", f"one {RANDOM} plain", "new", len(VAULT)),
+    Run("encrypt @one --output=old plain", f"one {RANDOM} plain", "old", len(VAULT)),
+    Run("encrypt_string @one --output=new text", f"one {RANDOM}", "new", len(yaml_block(seal(b"one", b"text")))),
+    Run(
+        "rekey @one --new-vault-id=b@two --salt-file=salt --output=old vault",
+        "one two salt vault",
+        "old",
+        len(seal(b"two", TEXT, b"b")),
+    ),
+    Run("decrypt @two @one --output=new vault", "two one vault", "new", len(TEXT)),
+    Run("decrypt @two @one --output=old vault", "two one vault", "old", len(TEXT)),
+    Run("decrypt @two @one --output=old void", "two one void", "old", 0),
+]
+TO_STREAMS = [
+    Run("encrypt @one", f"one {RANDOM}", written=len(VAULT), stdin=TEXT),
+    Run("view @one vault", "one vault", written=len(TEXT)),
+    Run("view @one", "one", written=len(TEXT), stdin=VAULT),
+    Run("view --help", written=None),
+    Run("--version", written=None),
+    Run("view --loud", written=None, status=2),
+]
+# Nothing is created. Bad passwords and salts are refused before FILE or standard input is read.
+REFUSED = [
+    Run("encrypt @one plain", fault=Fault.OUTPUT_NEEDED),
+    Run("view @one @missing @two vault", "one missing", fault=Fault.SECRET_NOT_OPENED),
+    Run("decrypt @two --output=new vault", "two vault", fault=Fault.NO_SECRET_FITS),
+    Run("encrypt --output=new", RANDOM, fault=Fault.NO_ENCRYPT_SECRET),
+    Run("encrypt @one --salt-file=short --output=new unread", "one short unread", fault=Fault.SALT_SHORT),
+    Run(
+        "rekey @one --new-vault-id=b@two --salt-file=short --output=new unread",
+        "one two short unread",
+        fault=Fault.SALT_SHORT,
+    ),
+    Run("view @one @empty unread", "one empty unread", fault=Fault.SECRET_EMPTY),
+    # These ask for one byte more than the limit at most.
+    Run("encrypt @one --salt=s --output=new long-plain", "one long-plain", fault=Fault.TOO_LONG),
+    Run("view @one long-vault", "one long-vault", fault=Fault.TOO_LONG),
+    Run("view @long-password unread", "long-password unread", fault=Fault.SECRET_TOO_LONG),
+]
+# The numbers of closed streams are taken before any file is opened, and nothing that takes them is read or written.
+SALTED = len(seal(b"one", TEXT, salt=b"s"))
+CLOSED = [
+    Run("encrypt @one --salt=s --output=new plain", "one plain", "new", SALTED, closed=closed)
+    for closed in ((0,), (1,), (2,), (0, 1), (0, 2), (1, 2), (0, 1, 2))
+]
+RUNS = [*TO_FILES, *TO_STREAMS, *REFUSED, *CLOSED]
 
 
-def opened_by(call: Call) -> Opened:
-    flags, _, mode = call.args.rpartition('", ')[2].partition(", ")
-    return Opened(call.path, call.result, set(flags.split("|")), mode)
-
-
-class Watched:
-    """The calls of a program itself, by what they concern."""
-
-    def __init__(self, traced: Traced) -> None:
-        self.traced = traced
-        opened: list[Opened] = []
-        # How many bytes each read asked for and got, in order, by path or number of a stream.
-        self.reads: dict[str, list[tuple[int, int]]] = {}
-        # The calls that create a file or write, in order.
-        self.writes: list[Call] = []
-        paths: dict[int, str] = {}
-        for call in traced.own:
-            if call.name == "openat":
-                opened.append(opened_by(call))
-                paths[call.result] = call.path
-            if call.name == "close":
-                paths.pop(call.fd, None)
-            if call.name == "read":
-                asked = int(call.args.rsplit(", ", 1)[1])
-                self.reads.setdefault(paths.get(call.fd, str(call.fd)), []).append((asked, call.result))
-            if call.name in ("write", "fchmod", "ftruncate", "fsync") or "O_CREAT" in call.args:
-                self.writes.append(call)
-        # The files that were opened first, to take the numbers of closed streams, and all others.
-        self.stand_ins = [*takewhile(lambda each: each.path == STAND_IN, opened)]
-        self.files = opened[len(self.stand_ins) :]
-
-
-def watch(program: str, run: Run, folder: Path) -> Watched:
-    words = ["sh", "-c", f'cd "$0" && exec "$@" {run.closings()}', str(folder), program, *run.words()]
-    with tempfile.NamedTemporaryFile() as log:
-        return Watched(trace(words, Path(log.name), 2, b"not asked for" if run.stdin is None else run.stdin))
+def write_files(folder: Path) -> None:
+    for name, (content, limit) in (FILES | LONG).items():
+        with open(folder / name, "wb") as file:
+            file.write(content)
+            if name in LONG:
+                file.truncate(limit + 10_000)
