@@ -8,7 +8,7 @@ import re
 import pytest
 
 from companion_cases import AWKWARD, CHANGE, CHANGED, EDIT, ENCRYPTED, TEXT, Done, Place, block, decrypted, edit, ended
-from companion_cases import sealed, silent, texts
+from companion_cases import envelope_of, sealed, silent, texts
 
 
 @pytest.mark.parametrize("name", AWKWARD)
@@ -93,6 +93,20 @@ def test_what_cannot_be_removed(place: Place) -> None:
     done = place.as_nobody(EDIT, *place.by_file("old"), "new.yml")
     ended("a folder that cannot be removed", done, 1, f"plaintext is left in {place.runtime}/ansible-vault-")
     assert decrypted("old", place.get("new.yml")) == b"a\n", "but the vault is made"
+
+
+def test_labels(place: Place) -> None:
+    """The result is encrypted with the secret that decrypted the vault, under the vault's label. A message says if that
+    secret has another label."""
+    place.put("all.yml", sealed("prod", label="prod"))
+    place.put("vars.yml", block("prod", label="prod"))
+    words = [*place.by_id("prod", "dev"), *place.by_id("dev", "prod"), "all.yml", "vars.yml"]
+    done = edit(place, CHANGE, *words)
+    why = f"its label is prod, but dev@{place.secret('prod')}, a secret"
+    ended("the edit", done, 0, f"{EDIT}: all.yml: {why}", f"{EDIT}: vars.yml: line 1: secret: {why}")
+    for envelope in (envelope_of(place.get(name)) or b"" for name in ("all.yml", "vars.yml")):
+        assert envelope.startswith(b"$ANSIBLE_VAULT;1.2;AES256;prod\n"), "the label stays"
+        assert decrypted("prod", envelope) == CHANGED, "the password stays"
 
 
 @pytest.mark.parametrize("visual", ("'{}' --wait \"two words\"", ""))
