@@ -15,7 +15,8 @@ from pathlib import Path
 
 import pytest
 
-from companion_cases import Done, ended, oracle
+from companion_cases import Done, ended, silent, wait_until
+from fault_injection import OLD, OLD_MODE, OUTPUT, Left, Scenario, Target, run
 from lib.ansible import ansible_vault
 from lib.cases import Cases
 from lib.installed import VERSION
@@ -69,6 +70,18 @@ def test_each_part_of_an_answer(tmp_path: Path, check: Callable[[Cases], None]) 
             check(Cases(write_script(tmp_path / "program", wrong), tmp_path))
 
 
+@pytest.mark.parametrize("command", ["view", "decrypt"])
+def test_both_commands_that_read(tmp_path: Path, command: str) -> None:
+    with pytest.raises(AssertionError):
+        Cases(write_script(tmp_path / command, f'[ "$1" = {command} ]'), tmp_path).decrypts([], b"", b"")
+
+
+def test_what_faulty_runs_leave(tmp_path: Path) -> None:
+    scenario = Scenario("x", ["decrypt"], "/dev/null", b"", Target.OLD)
+    script = write_script(tmp_path / "script", "echo 1; echo 2 >&2; echo 3 > .other; exit 4")
+    assert run(scenario, [script]) == Left(4, b"1\n", b"2\n", {OUTPUT: (OLD, OLD_MODE), ".other": (b"3\n", 0o644)})
+
+
 def test_each_line_of_strace_is_a_call() -> None:
     others = ["7 [00007f] read(0,  <unfinished ...>", "7 --- SIGTERM ---"]
     log = "\n".join(['7 [00007f] read(0, ""..., 9) = 3', *others, "7 [???] +++ exited with 0 +++"])
@@ -83,12 +96,17 @@ def test_each_part_is_looked_for() -> None:
             ended("one of two", done, 0, *parts)
 
 
-def test_oracle() -> None:
-    """It takes the passwords of dev for a block in a vault, and sees which label is false."""
-    block = oracle.block(b"b", oracle.make("dev2", b"text-0001", "", 0), b"  ")
-    vaults = [oracle.make("dev", block, "dev", 0), oracle.make("prod", b"text-0002", "dev", 1)]
-    assert [oracle.visible(each) for each in vaults] == [{b"text-0001"}, set()]
-    assert [oracle.is_false(each) for each in vaults] == [False, True]
+def test_silent() -> None:
+    silent("nothing", Done([], 0, "", ""))
+    for other in (Done([], 1, "", ""), Done([], 0, "x", ""), Done([], 0, "", "x")):
+        with pytest.raises(AssertionError):
+            silent("one of three", other)
+
+
+def test_waits() -> None:
+    answers = [True, False, False]
+    wait_until(answers.pop, "the last answer")
+    assert answers == []
 
 
 def test_dead_links(tmp_path: Path) -> None:

@@ -66,29 +66,33 @@ def about(package: Path) -> str:
     return "<br/>".join(textwrap.wrap(docstring.partition("\n")[0].strip("."), 46))
 
 
-def node(name: str, colour: str, text: str | None = None) -> str:
-    """Return a round node with a text, or a square one without."""
-    style, lines = ("", f"<br/>{text}" * bool(text)) if text is not None else ("style=filled, ", "")
-    return f'    "{name}" [{style}fillcolor="{colour}", label=<<b>{name}</b>{lines}>];'
+def node(name: str, text: str, colour: str) -> str:
+    lines = f"<br/>{text}" if text else ""
+    return f'    "{name}" [fillcolor="{colour}", label=<<b>{name}</b>{lines}>];'
 
 
-def draw(picture: str, title: str, nodes: Iterable[str], uses: Uses) -> None:
-    """Draw a picture. A direct use gets no arrow if it is also an indirect one."""
+def program_node(name: str) -> str:
+    return f'    "{name}" [style=filled, fillcolor="{TESTED}", label=<<b>{name}</b>>];'
+
+
+def drawn(title: str, nodes: Iterable[str], uses: Uses) -> str:
+    """Return the picture. A direct use gets no arrow if it is also an indirect one."""
     edges = (f'    "{user}" -> "{name}";' for user in uses for name in sorted(uses[user]))
     source = "\n".join(["digraph {", f'    label="{title}";{STYLE}', *nodes, *edges, "}"])
-    for command in (["tred"], ["dot", "-Tsvg"]):
-        source = subprocess.run(command, input=source, capture_output=True, text=True, check=True).stdout
-    (ROOT / "docs" / picture).write_text(source)
+    reduced = subprocess.run(["tred"], input=source, capture_output=True, text=True, check=True).stdout
+    return subprocess.run(["dot", "-Tsvg"], input=reduced, capture_output=True, text=True, check=True).stdout
 
 
 def main() -> None:
     uses = crates()
-    nodes = [node(crate, COLOURS.get(crate, PROVED), ABOUT[crate]) for crate in uses]
-    draw("crates.svg", "An arrow leads to what is used. Green: proved. Yellow: trusted.", nodes, uses)
-    links, named = companions(), {path.name: about(path) for path in packages()}
-    nodes = [node(name, TESTED, named.get(name)) for name in links]
+    nodes = [node(crate, ABOUT[crate], COLOURS.get(crate, PROVED)) for crate in uses]
+    title = "An arrow leads to what is used. Green: proved. Yellow: trusted."
+    (ROOT / "docs" / "crates.svg").write_text(drawn(title, nodes, uses))
+    links = companions()
+    named = {path.name: about(path) for path in packages()}
+    nodes = [node(name, named[name], TESTED) if name in named else program_node(name) for name in links]
     title = "An arrow leads to what is used. Square: programs. Round: packages. Blue: tested, not proved."
-    draw("companions.svg", title, nodes, links)
+    (ROOT / "docs" / "companions.svg").write_text(drawn(title, nodes, links))
 
 
 if __name__ == "__main__":
