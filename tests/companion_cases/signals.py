@@ -224,6 +224,17 @@ def test_half_a_save(place: Place) -> None:
     check_edit(place, done.stderr, b"half")
 
 
+def test_signals_to_all(place: Place) -> None:
+    """Signals to the companion and to the program that encrypts do not stop them from keeping the text."""
+    words = tree(place)[EDIT]
+    signals = "kill -HUP $PPID; kill -TERM $PPID; kill -TERM $$; kill -HUP $$; kill -INT $$"
+    place.wrap_tool(f'[ "$1" != encrypt ] || {{ {signals}; }}')
+    done = place.run(*words)
+    assert decrypted("old", place.get("a.yml")) == TEXT, "the vault stays"
+    assert done.returncode in (-signal.SIGTERM, -signal.SIGHUP) and "Traceback" not in done.stderr, done.stderr
+    check_edit(place, done.stderr)
+
+
 @pytest.mark.parametrize("pause, least, most", ((0.1, 0, 4), (SECONDS, 4, 60)))
 def test_stubborn_programs(place: Place, pause: float, least: float, most: float) -> None:
     """A program that does not end by a signal is killed at the next signal, after a pause, or after some seconds."""
