@@ -138,8 +138,9 @@ def test_ci(tmp_path: Path, check: str, status: int, query: str, installs: bool,
 # The packages of the programs that tests ask for, if they have other names, or every system has them.
 PACKAGES = dict.fromkeys(["awk", "bash", "dpkg-deb", "rt", "stty"], "") | dict.fromkeys(["cc", "nm"], "build-essential")
 PACKAGES |= {"dh": "debhelper", "groff": "groff-base", "localedef": "locales", "man": "man-db", "setfacl": "acl"}
+PACKAGES |= {"ansible-playbook": "ansible-core"}
 # Those of the modules and of the other programs that they use.
-OTHERS = "ansible-core bash-completion fish graphviz python3-coverage python3-hypothesis python3-matplotlib "
+OTHERS = "bash-completion fish graphviz openssl python3-coverage python3-hypothesis python3-matplotlib "
 OTHERS += "python3-pytest python3-pytest-subtests python3-pytest-timeout python3-pytest-xdist python3-yaml"
 
 

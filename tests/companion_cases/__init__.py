@@ -227,16 +227,6 @@ def edit(place: Place, editor: str, *words: str, **variables: str) -> Done:
     return place.run(EDIT, *words, EDITOR=place.script(editor, "editor"), **variables)
 
 
-def use_everywhere(place: Place, secrets: list[str], new: list[str], checked: str) -> None:
-    """Check, show, edit and rotate the vault `a.yml` with these options for secrets. An edit appends a line."""
-    ended("check", place.run(CHECK, *secrets, "."), 0, f"a.yml: {checked}\n", "1 decrypted")
-    for words in ([TEXTCONV], [WITH, "view"]):
-        done = place.run(*words, *secrets, "a.yml")
-        assert (done.returncode, done.stdout, done.stderr) == (0, TEXT.decode(), ""), words
-    silent("edit", edit(place, 'echo more >> "$1"', *secrets, "a.yml"))
-    ended("rotate", place.run(ROTATE, *secrets, *new, "a.yml"), 0, "1 rotated")
-
-
 def lines_of(envelope: bytes, spaces: int, end: bytes = b"\n") -> bytes:
     """Return an indented envelope, without a final newline."""
     return end.join(b" " * spaces + line for line in envelope.splitlines())

@@ -13,14 +13,10 @@ SALT_TEXT = b"a salt"
 SALT_WORDS = ["--salt", SALT_TEXT.decode()]
 
 COMMANDS = [*OPTIONS]
-# The commands with an option --output, those with a FILE, and those with both.
+# Those with an option --output.
 TO_OUTPUT = [each for each in COMMANDS if "--output" in OPTIONS[each]]
-OF_FILE = [each for each in COMMANDS if each != "encrypt_string"]
-IN_PLACE = [each for each in TO_OUTPUT if each in OF_FILE]
 each_command = pytest.mark.parametrize("command", COMMANDS)
 each_to_output = pytest.mark.parametrize("command", TO_OUTPUT)
-each_of_file = pytest.mark.parametrize("command", OF_FILE)
-each_in_place = pytest.mark.parametrize("command", IN_PLACE)
 
 
 class Sample(NamedTuple):
@@ -49,10 +45,6 @@ def sample_of(cases: Cases, command: str, text: bytes = TEXT) -> Sample:
             words = ["rekey", *given, "--new-vault-id", f"prod@{new}", *SALT_WORDS]
             return Sample(words, vault(), seal(b"new", text, b"prod", SALT_TEXT))
     return Sample(["encrypt_string", *given, *SALT_WORDS, "--stdin-name", "k"], text, yaml_block(sealed(), b"k"))
-
-
-def samples(cases: Cases, text: bytes = TEXT) -> list[Sample]:
-    return [sample_of(cases, command, text) for command in COMMANDS]
 
 
 def wanted_mode(sample: Sample, old: int) -> str:
