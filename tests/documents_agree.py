@@ -224,10 +224,13 @@ def test_sizes() -> None:
 
 
 def test_releases() -> None:
-    """docs/coming-from-ansible.md has the releases of Debian whose Ansible was tried."""
+    """docs/coming-from-ansible.md has the releases of Debian whose Ansible was tried, with tests that exist."""
+    tool = runpy.run_path(str(ROOT / "tools" / "releases"))
     page = (ROOT / "docs" / "coming-from-ansible.md").read_text()
     named = re.findall(r"\d+\.\d+\.\d+(?:b\d)? \((\w+)\)", page)
-    assert [*dict.fromkeys(named)] == [*runpy.run_path(str(ROOT / "tools" / "releases"))["RELEASES"]]
+    assert [*dict.fromkeys(named)] == [*tool["RELEASES"]]
+    folder = ROOT / "tests" / "companion_cases"
+    assert [name for name in tool["COMPARING"] if not (folder / f"{name}.py").is_file()] == []
 
 
 # Paths that the documents give as examples.

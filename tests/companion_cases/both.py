@@ -17,5 +17,12 @@ def theirs(place: Place, ansible: str, *words: str, **variables: str) -> Done:
     return place.run("setsid", "--wait", ansible, *words, **FOR_ANSIBLE, **variables)
 
 
+def written_by_theirs(place: Place, ansible: str, *words: str) -> str:
+    """Return the output of a run, which must succeed."""
+    done = theirs(place, ansible, *words)
+    assert done.returncode == 0, f"{ansible} {words[0]}: {done.stderr}"
+    return done.stdout
+
+
 def theirs_at_terminal(place: Place, ansible: str, words: list[str], answers: list[tuple[str, bytes]]) -> Session:
     return ask(place, ansible, *words, answers=answers, **FOR_ANSIBLE)
