@@ -179,7 +179,11 @@ def what_counts(case: Case) -> Case | None:
     if case.command[0].startswith("encrypt") and not is_clear(case._replace(variables=variables, file=file)):
         return None
     if ansible_release() < (2, 14):
-        # These releases do not skip a missing secret beside others.
+        # These releases do not skip a missing secret beside others. A list in a variable overrides that of the file,
+        # even if all of its secrets are missing.
+        identities = [] if variables.identities else file.identities
+        password_files = [] if variables.password_files else file.password_files
+        file = file._replace(identities=identities, password_files=password_files)
         variables, file = variables.only(Named.is_usable), file.only(Named.is_usable)
     return case._replace(variables=variables, file=file)
 
