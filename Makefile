@@ -223,5 +223,7 @@ fresh-machine:
 releases: all
 	PYTEST_PROCESSES=$(PYTEST_PROCESSES) tools/releases "$(PROGRAM)" $(RELEASES)
 
+# Also remove what Python compiled.
 clean:
 	rm -rf bin crates/*/out
+	find . -name __pycache__ -prune -exec rm -rf {} +
