@@ -1,5 +1,5 @@
-"""Count the keys that a run derives by its instructions under Valgrind: one for each secret that it tries, and one for
-each envelope that it writes.
+"""Count the keys that a run derives by its instructions under Valgrind: one derivation for the secret that matches, a
+third of one for each other secret that it tries, and one for each envelope that it writes.
 
 Nothing else in a run costs as much: reading the other password files is far below one derivation.
 """
@@ -22,9 +22,11 @@ LEAST_DERIVATION = 10_000 * 6 * 64 * 10
 # What everything else in a run may cost, in derivations.
 TOLERANCE = 0.02
 MOST_SECRETS = 16
+# What a secret that does not match costs: the key of the tag.
+WRONG = 1 / 3
 
 # The words, standard input and number of derivations of a run, and its status and output.
-Run = tuple[list[str], bytes, int, tuple[int, bytes]]
+Run = tuple[list[str], bytes, float, tuple[int, bytes]]
 
 
 def runs(cases: Cases) -> dict[str, Run]:
@@ -38,11 +40,13 @@ def runs(cases: Cases) -> dict[str, Run]:
     to_new = ["--new-vault-password-file", new, *SALT_WORDS]
     chosen = ["--encrypt-vault-id", "dev", *SALT_WORDS]
     most = MOST_SECRETS - 1
+    third = [*others(2), *by_id(right, "x"), *others(1)]
     return {
         "no vault": (["view", *by_file(right), *others(most)], b"", 0, no_vault),
         "one secret": (["view", *by_id(right)], vault, 1, (0, TEXT)),
         "the last has the label": (["decrypt", *others(most), *by_id(right)], vault, 1, (0, TEXT)),
-        "the third of four fits": (["view", *others(2), *by_id(right, "x"), *others(1)], vault, 3, (0, TEXT)),
+        "the third of four fits": (["view", *third], vault, 1 + 2 * WRONG, (0, TEXT)),
+        "none fits": (["view", *others(MOST_SECRETS)], vault, MOST_SECRETS * WRONG, refused),
         "none may be tried": (["view", "--require-id-match", *others(most)], vault, 0, refused),
         "a wrong padding": (["view", *by_id(right), *others(most)], unpadded, 1, bad_padding),
         "a choice of all": (["encrypt", *others(most), *by_id(right, "dev"), *chosen], TEXT, 1, (0, sealed)),
@@ -63,4 +67,4 @@ def test_derivations(cases: Cases) -> None:
     assert one > LEAST_DERIVATION, f"a derivation takes {one} instructions"
     found = {name: (count - base) / one for name, count in instructions.items()}
     assert found == pytest.approx({name: wanted for name, (_, _, wanted, _) in every.items()}, abs=TOLERANCE)
-    assert found != pytest.approx({name: wanted + 1 for name, (_, _, wanted, _) in every.items()}, abs=TOLERANCE)
+    assert found != pytest.approx({name: wanted + WRONG for name, (_, _, wanted, _) in every.items()}, abs=TOLERANCE)

@@ -9,7 +9,7 @@ ghost use Rattle.vault_core.specs.Secrets.{tried_order};
 use crate::secrets::{Secret, Secrets};
 use crate::tag::tags_equal;
 use vault_fault::LabelRule;
-use vault_kdf::{Keys, Meter, derive, hmac};
+use vault_kdf::{Derivation, Keys, Meter, hmac};
 use vault_text::{Label, Payload};
 
 /// The secrets of a list that have the label of an envelope, or the ones that have another.
@@ -27,8 +27,8 @@ pub(crate) struct Search {
     pub keys: Option<Keys>,
 }
 
-/// Tries secrets in the tried order, up to the first that matches the payload. Keys are derived
-/// for a secret only when its turn comes.
+/// Tries secrets in the tried order, up to the first that matches the payload. The key of a
+/// secret's tag is derived only when its turn comes, and its other keys only if it matches.
 pub(crate) fn find_match(secrets: &Secrets, payload: &Payload, meter: &mut Meter) -> Search
     requires { meter.old < 2 ^ 62 }
     ensures keys { result.keys ≡ option_map (keys_of payload.now)
@@ -95,9 +95,9 @@ fn keys_if_match(secret: &Secret, payload: &Payload, meter: &mut Meter) -> Optio
         ≡ if matches payload.now secret.now then Some (keys_of payload.now secret.now) else None }
     ensures counted { meter.new ≡ meter.old + 1 }
 {
-    let keys = derive(secret.password, payload.salt().as_bytes(), meter);
-    if tags_equal(&hmac(&keys.mac, payload.cipher()), payload.tag()) {
-        Some(keys)
+    let derivation = Derivation::begin(secret.password, payload.salt().as_bytes(), meter);
+    if tags_equal(&hmac(derivation.mac(), payload.cipher()), payload.tag()) {
+        Some(derivation.finish())
     } else {
         None
     }

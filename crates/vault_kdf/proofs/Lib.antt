@@ -1,4 +1,5 @@
 pub mod HmacLemmas
+pub mod KeysLemmas
 pub mod Pbkdf2Lemmas
 pub mod Vectors
 pub mod XorLemmas

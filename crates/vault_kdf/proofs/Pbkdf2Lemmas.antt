@@ -4,9 +4,10 @@ use Rattle.std.proofs.Common.{arith, add-one, zero, suc, ◌-◌, ◌*◌, ◌<�
 use Rattle.std.proofs.lemmas.List.FromFn.{length-map-range_with_len, map-range_with_len_more}
 use Rattle.std.specs.Int.{to_be_bytes, w32, div_ceil}
 use Rattle.vault_kdf.specs.Hmac.{hmac, xor}
-use Rattle.vault_kdf.specs.Pbkdf2.{block, iterate, iterates, blocks, pbkdf2, xor_all}
+use Rattle.vault_kdf.specs.Pbkdf2.{block, iterate, iterates, xor_all}
 use Rattle.vault_kdf.proofs.XorLemmas.{xor_all_push, length-xor}
-use Rattle.std.specs.List.{concat}
+use Rattle.std.specs.List.{concat, range_with_len}
+use Rattle.std.specs.Prelude.{map}
 use Rattle.std.proofs.lemmas.List.{append-nil, length-append, length-drop, length-take-le, take_all}
 use Rattle.std.proofs.lemmas.List.{take_at, nil_from_length}
 use Rattle.std.proofs.lemmas.List.Folds.{concat-append}
@@ -92,48 +93,46 @@ length-block password salt c i some =
     whole
     ∙ length-sum password (salt ++ to_be_bytes w32 i) (c - 1)
 
-pub concat-blocks_more : (password salt : List ℕ) (c i : ℕ)
-    → concat (blocks password salt c (i + 1))
-    ≡ concat (blocks password salt c i) ++ block password salt c (i + 1)
-unfolding blocks
-concat-blocks_more password salt c i =
-    ap concat (map-range_with_len_more (block password salt c) 1 i (i + 1) (omega arith))
-    ∙ concat-append (blocks password salt c i) (block password salt c (i + 1) ∷ [])
-    ∙ ap (λ (last : List ℕ). concat (blocks password salt c i) ++ last)
-    (append-nil (block password salt c (i + 1)))
+-- the blocks from an index on
+abbrev pub blocks_from : List ℕ → List ℕ → ℕ → ℕ → ℕ → List (List ℕ)
+blocks_from password salt c first l = map (block password salt c) (range_with_len first l)
 
-length-concat-no_blocks : (password salt : List ℕ) (c : ℕ)
-    → length (concat (blocks password salt c 0)) ≡ 0
-unfolding blocks
-length-concat-no_blocks password salt c = refl
+concat-blocks_more : (password salt : List ℕ) (c first i : ℕ)
+    → concat (blocks_from password salt c first (i + 1))
+    ≡ concat (blocks_from password salt c first i) ++ block password salt c (first + i)
+concat-blocks_more password salt c first i =
+    ap concat (map-range_with_len_more (block password salt c) first i (first + i) (omega arith))
+    ∙ concat-append (blocks_from password salt c first i) (block password salt c (first + i) ∷ [])
+    ∙ ap (λ (last : List ℕ). concat (blocks_from password salt c first i) ++ last)
+    (append-nil (block password salt c (first + i)))
 
-pub length-concat-blocks : (password salt : List ℕ) (c l : ℕ) → 1 ≤ c
-    → length (concat (blocks password salt c l)) ≡ l * 32
-length-concat-blocks password salt c zero some = length-concat-no_blocks password salt c
-length-concat-blocks password salt c (suc l) some =
-    let joined : concat (blocks password salt c (suc l))
-    ≡ concat (blocks password salt c l) ++ block password salt c (suc l) =
-    rw add-one at (concat-blocks_more password salt c l) in
+length-concat-blocks : (password salt : List ℕ) (c first l : ℕ) → 1 ≤ c
+    → length (concat (blocks_from password salt c first l)) ≡ l * 32
+length-concat-blocks password salt c first zero some = refl
+length-concat-blocks password salt c first (suc l) some =
+    let joined : concat (blocks_from password salt c first (suc l))
+    ≡ concat (blocks_from password salt c first l) ++ block password salt c (first + l) =
+    rw add-one at (concat-blocks_more password salt c first l) in
     ap length joined
-    ∙ length-append (concat (blocks password salt c l)) (block password salt c (suc l))
+    ∙ length-append (concat (blocks_from password salt c first l))
+    (block password salt c (first + l))
     ∙ omega (
       arith,
-      length-concat-blocks password salt c l some,
-      length-block password salt c (suc l) some,
+      length-concat-blocks password salt c first l some,
+      length-block password salt c (first + l) some,
     )
 
--- the first i blocks stand in the output, as far as it reaches
-abbrev pub HasBlocks : List ℕ → List ℕ → ℕ → List ℕ → ℕ → Type 0
-HasBlocks password salt c out i =
-    take (i * 32) out ≡ take (length out) (concat (blocks password salt c i))
+-- the first i of them stand in the output, as far as it reaches
+abbrev pub HasBlocks : List ℕ → List ℕ → ℕ → ℕ → List ℕ → ℕ → Type 0
+HasBlocks password salt c first out i =
+    take (i * 32) out ≡ take (length out) (concat (blocks_from password salt c first i))
 
-pub HasBlocks_none : (password salt : List ℕ) (c : ℕ) (out : List ℕ)
-    → HasBlocks password salt c out 0
-unfolding blocks
-HasBlocks_none password salt c out = sym (take_all (length out) [] (omega arith))
+pub HasBlocks_none : (password salt : List ℕ) (c first : ℕ) (out : List ℕ)
+    → HasBlocks password salt c first out 0
+HasBlocks_none password salt c first out = sym (take_all (length out) [] (omega arith))
 
 -- a prefix of a list that ends past its first part
-take_past : (n m k : ℕ) (xs ys : List ℕ) → length xs ≡ m → n ≡ m + k
+pub take_past : (n m k : ℕ) (xs ys : List ℕ) → length xs ≡ m → n ≡ m + k
     → take n (xs ++ ys) ≡ xs ++ take k ys
 take_past n m k xs ys len is_n =
     let at : n ≡ length xs + k = omega arith in
@@ -156,18 +155,20 @@ take_part n k next rest len is_k is_rest = elim (cases_lt n 32) [
       )
 ]
 
-pub HasBlocks_more : (password salt : List ℕ) (c : ℕ) (out next written : List ℕ) (i end : ℕ)
-    → 1 ≤ c → HasBlocks password salt c out i → i < div_ceil (length out) 32
-    → next ≡ block password salt c (i + 1) → length next ≡ 32 → end ≡ min (length out) (i * 32 + 32)
+pub HasBlocks_more : (password salt : List ℕ) (c first : ℕ) (out next written : List ℕ)
+    (i end : ℕ)
+    → 1 ≤ c → HasBlocks password salt c first out i → i < div_ceil (length out) 32
+    → next ≡ block password salt c (first + i) → length next ≡ 32
+    → end ≡ min (length out) (i * 32 + 32)
     → written ≡ take (end - i * 32) next
-    → HasBlocks password salt c (put_mid (i * 32) (end - i * 32) out written) (i + 1)
-HasBlocks_more password salt c out next written i end some so_far within is_next len is_end
+    → HasBlocks password salt c first (put_mid (i * 32) (end - i * 32) out written) (i + 1)
+HasBlocks_more password salt c first out next written i end some so_far within is_next len is_end
     is_written =
-    let before : List ℕ = concat (blocks password salt c i) in
-    let len_before : length before ≡ i * 32 = length-concat-blocks password salt c i some in
+    let before : List ℕ = concat (blocks_from password salt c first i) in
+    let len_before : length before ≡ i * 32 = length-concat-blocks password salt c first i some in
     let rest : List ℕ = drop (end - i * 32) (drop (i * 32) out) in
-    let joined : concat (blocks password salt c (i + 1)) ≡ before ++ next =
-    rw is_next (concat-blocks_more password salt c i) in
+    let joined : concat (blocks_from password salt c first (i + 1)) ≡ before ++ next =
+    rw is_next (concat-blocks_more password salt c first i) in
     let starts : i * 32 < length out = omega arith in
     let prefix : take (i * 32) out ≡ before = so_far ∙ take_all (length out) before (omega arith) in
     let len_written : length written ≡ end - i * 32 =
@@ -197,11 +198,11 @@ HasBlocks_more password salt c out next written i end some so_far within is_next
     take_past (length out) (i * 32) left before next len_before (omega arith) in
     filled ∙ sym (rw (len_out, joined) wanted)
 
-pub HasBlocks_all : (password salt : List ℕ) (c : ℕ) (out : List ℕ) (i : ℕ)
-    → HasBlocks password salt c out i → i ≡ div_ceil (length out) 32
-    → out ≡ pbkdf2 password salt c (length out)
-unfolding pbkdf2
-HasBlocks_all password salt c out i so_far all =
+pub HasBlocks_all : (password salt : List ℕ) (c first : ℕ) (out : List ℕ) (i : ℕ)
+    → HasBlocks password salt c first out i → i ≡ div_ceil (length out) 32
+    → out
+    ≡ take (length out) (concat (blocks_from password salt c first (div_ceil (length out) 32)))
+HasBlocks_all password salt c first out i so_far all =
     let past : length out ≤ i * 32 = omega arith in
     sym (take_all (i * 32) out past) ∙ so_far
-    ∙ ap (λ (l : ℕ). take (length out) (concat (blocks password salt c l))) all
+    ∙ ap (λ (l : ℕ). take (length out) (concat (blocks_from password salt c first l))) all

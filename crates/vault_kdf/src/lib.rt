@@ -20,7 +20,7 @@ mod pbkdf2_hmac;
 mod xor;
 
 pub use hmac_sha256::Hmac;
-pub use keys::{Keys, derive};
+pub use keys::{Derivation, Keys, derive};
 pub use meter::Meter;
 pub use one_shot::hmac;
 pub use pbkdf2_hmac::pbkdf2;

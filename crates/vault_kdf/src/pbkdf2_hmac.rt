@@ -1,5 +1,7 @@
 //! PBKDF2 (RFC 8018, section 5.2).
-ghost use Rattle.std.specs.Prelude.{◌≡◌, ℕ, List, [], ◌≤◌, length};
+ghost use Rattle.std.specs.Prelude.{◌≡◌, ℕ, List, [], ◌≤◌, length, map, take};
+ghost use Rattle.std.specs.Int.{div_ceil};
+ghost use Rattle.std.specs.List.{concat, range_with_len};
 ghost use Rattle.vault_kdf.specs.Pbkdf2.{block, pbkdf2};
 ghost use Rattle.vault_kdf.specs.Hmac.{HasRead};
 
@@ -25,6 +27,26 @@ fn block(keyed: &Hmac, salt: &[u8], rounds: u32, index: u32) -> [u8; DIGEST_LEN]
     sum
 }
 
+/// Fills `out` with the bytes of the blocks from the index `first` on. `keyed` has the password and
+/// no message. `rounds` must be at least 1; `first` may be up to 1,024, as may the length of `out`.
+// The only caller of `block`: in this loop, LLVM inlines what a round calls. Calling `block` outside
+// a loop made a derivation 3.5% slower.
+pub(crate) fn fill_from(keyed: &Hmac, salt: &[u8], rounds: u32, first: u32, out: &mut [u8])
+    requires rounds { 1 ≤ rounds }
+    requires first { first ≤ 1024 }
+    requires length { length out.old ≤ 1024 }
+    ensures { (password : List ℕ) → HasRead keyed.now password []
+        → out.new ≡ take (length out.old) (concat (map (block password salt.now rounds)
+        (range_with_len first (div_ceil (length out.old) 32)))) }
+{
+    for i in 0..out.len().div_ceil(DIGEST_LEN) {
+        let start = i * DIGEST_LEN;
+        let end = out.len().min(start + DIGEST_LEN);
+        let bytes = block(keyed, salt, rounds, first + i as u32);
+        out[start..end].copy_from_slice(&bytes[..end - start]);
+    }
+}
+
 /// Fills `out` with the key that PBKDF2 with HMAC-SHA-256 derives (RFC 8018, section 5.2). `rounds`
 /// must be at least 1; `out` may have up to 1,024 bytes.
 pub fn pbkdf2(password: &[u8], salt: &[u8], rounds: u32, out: &mut [u8])
@@ -32,11 +54,5 @@ pub fn pbkdf2(password: &[u8], salt: &[u8], rounds: u32, out: &mut [u8])
     requires length { length out.old ≤ 1024 }
     ensures { out.new ≡ pbkdf2 password.now salt.now rounds (length out.old) }
 {
-    let keyed = Hmac::new(password);
-    for i in 0..out.len().div_ceil(DIGEST_LEN) {
-        let start = i * DIGEST_LEN;
-        let end = out.len().min(start + DIGEST_LEN);
-        let bytes = block(&keyed, salt, rounds, i as u32 + 1);
-        out[start..end].copy_from_slice(&bytes[..end - start]);
-    }
+    fill_from(&Hmac::new(password), salt, rounds, 1, out);
 }
