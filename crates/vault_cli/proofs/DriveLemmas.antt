@@ -15,14 +15,13 @@ use Rattle.vault_fault.specs.declared.fault.Fault.TheVariants.{Memory, Read}
 use Rattle.vault_fault.specs.declared.fault.Role.TheVariants.{Input}
 use Rattle.vault_request.specs.Request.{Request}
 use Rattle.vault_request.specs.Settled.{Settles}
-use Rattle.vault_cli.specs.Access.{access_of, output_access}
+use Rattle.vault_cli.specs.Access.{output_access}
 use Rattle.vault_cli.specs.Call.{FilesCall, SinkCall, SourceCall, files_from}
 use Rattle.vault_cli.specs.Drive.{Ends, to_path}
-use Rattle.vault_cli.specs.Drive.Ends.{Ran, Stopped}
+use Rattle.vault_cli.specs.Drive.Ends.{Declined, Ran, Stopped}
 use Rattle.vault_cli.specs.Explained.Explains.{MemoryLacked}
 use Rattle.vault_cli.specs.Loaded.{ContentsFound, RefusedBy, SaltFound}
-use Rattle.vault_cli.specs.Program.{Files, answer_to, can_open_input, input_from, output_path}
-use Rattle.vault_cli.specs.Program.{unless_file}
+use Rattle.vault_cli.specs.Program.{Files, can_open_input, input_from, unless_file}
 use Rattle.vault_cli.specs.runs.Answer.{input_limit, input_needed, input_needed_by, output_of}
 use Rattle.vault_cli.specs.runs.Answer.{prepared, ready_by, run_answer, run_answer_within}
 use Rattle.vault_cli.specs.runs.FileContents.{AtPath, file_fault, file_prefix, request_paths}
@@ -102,7 +101,7 @@ memory-or-not DeviceFailed = inr (λ is. cc)
 module _ {D R W S K E : Type 0} (files : FilesCall D R W) (src : SourceCall S) (out : SinkCall K)
     (err : SinkCall E) (result : Status) where
   abbrev RequestDrives : Option (Result Request Fault) → Type 0
-  RequestDrives requested = Ends files src out err result [] requested (answer_to requested)
+  RequestDrives requested = Ends files src out err result [] requested
 
   -- ---- a run of a request
 
@@ -141,8 +140,8 @@ module _ {D R W S K E : Type 0} (files : FilesCall D R W) (src : SourceCall S) (
         let same = task-found request found contents salt gave has_salt opens in
         let ends_so = subst
         (λ (task : Result Task Fault). EndsWith request.string input task) (sym same) ends in
-        Ran refl found (secrets_found, salt_found, input_found) opened (rw (all, has_salt) went)
-        ends_so
+        Ran refl request refl found (secrets_found, salt_found, input_found) opened
+        (rw (all, has_salt) went) ends_so
 
     -- of standard input
     pub drives-stdin : (reads : List ℕ → R → Type 0) → AtPath reads request.input None
@@ -274,35 +273,23 @@ module _ {D R W S K E : Type 0} (files : FilesCall D R W) (src : SourceCall S) (
 
   module _ (same_out : out.new ≡ out.old) (kept : src.new ≡ src.old) (fault : Fault)
       (status : result ≡ status_of fault) (line : Reports err (line_of fault)) where
-    reported-alone : (requested : Option (Result Request Fault)) (opened : D)
-        → files.new ≡ opened → result ≢ OutOfMemory
-        → (needed : Option ℕ) (answers : List ℕ → Result (List ℕ) Fault) → needed ≡ None
-        → answers [] ≡ Err fault
-        → RunEnds src (to_path (files_from opened files) out (output_path requested)
-        (access_of requested)) err result needed answers
-    reported-alone requested opened same_files suffices needed answers none is =
-        HasRefused (record {
-          input = [];
-          reads = rw none (kept, refl);
-          fault = fault;
-          answer = is;
-          status = status;
-          memory_suffices = suffices;
-          output = path-alone (files_from opened files) out (access_of requested)
-              (output_path requested) same_files same_out;
-          message = line;
-        })
-
     -- the files refuse it
     pub drives-refused : (request : Request) → fault ≢ Memory
         → RefusedBy (files.finds files.old)
         (λ paths. Opens files.executes files.old paths files.new) request fault
         → RequestDrives (Some (Ok request))
     drives-refused request suffices (found, seen, refused_so, went) =
-        Ran refl found seen files.new went
-        (reported-alone (Some (Ok request)) files.new refl
-        (λ memory. suffices (memory-alone fault (sym status ∙ memory))) _ _
-        (rw refused_so (unless_file-none found.input)) (rw refused_so refl))
+        Ran refl request refl found seen files.new went (HasRefused (record {
+          input = [];
+          reads = rw (refused_so, unless_file-none found.input) (kept, refl);
+          fault = fault;
+          answer = rw refused_so refl;
+          status = status;
+          memory_suffices = λ memory. suffices (memory-alone fault (sym status ∙ memory));
+          output = path-alone (files_from files.new files) out (output_access request.command)
+              request.output refl same_out;
+          message = line;
+        }))
 
     -- there was no memory
     pub drives-without : files.new ≡ files.old → fault ≡ Memory
@@ -314,24 +301,29 @@ module _ {D R W S K E : Type 0} (files : FilesCall D R W) (src : SourceCall S) (
     }))
 
     -- the options are refused, or there was no memory for the request
-    pub drives-unsettled : files.new ≡ files.old → Opens files.executes files.old [] files.old
+    pub drives-unsettled : files.new ≡ files.old
         → (requested : Option (Result Request Fault)) → is_some requested ≡ true
         → IfSome requested (λ settled. Settles settled (Err fault))
         → RequestDrives requested
-    drives-unsettled same_files none None is settles = absurd cc
-    drives-unsettled same_files none (Some (Ok request)) is (inl e) = absurd cc
-    drives-unsettled same_files none (Some (Ok request)) is (inr e) =
+    drives-unsettled same_files None is settles = absurd cc
+    drives-unsettled same_files (Some (Ok request)) is (inl e) = absurd cc
+    drives-unsettled same_files (Some (Ok request)) is (inr e) =
         let memory : fault ≡ Memory = cc in drives-without same_files memory (Some (Ok request))
-    drives-unsettled same_files none (Some (Err other)) is settles =
+    drives-unsettled same_files (Some (Err other)) is settles =
         elim (memory-or-not result) [
           | inl memory ↦
               drives-without same_files (memory-alone fault (sym status ∙ memory))
               (Some (Err other))
           | inr suffices ↦
               let same : other ≡ fault = cc in
-              Ran refl (record { secrets = []; salt = None; input = None }) tt files.old none
-              (reported-alone (Some (Err other)) files.old same_files suffices _ _ refl
-              (ap Err same))
+              Declined refl same_files kept (record {
+                fault = fault;
+                refused = rw same refl;
+                status = status;
+                memory_suffices = suffices;
+                output = same_out;
+                message = line;
+              })
         ]
 
   -- ---- a request that was settled

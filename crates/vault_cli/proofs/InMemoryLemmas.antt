@@ -1,7 +1,7 @@
 -- How the program ends over files, an input and sinks in memory, from how it ends over any.
 use Rattle.std.proofs.Common.{◌≡◌, ◌⊎◌, ◌≤◌, ◌<◌, ℕ, ◌+◌, ◌-◌, ◌^◌, inl, inr, List, [], ◌++◌}
 use Rattle.std.proofs.Common.{length, take, drop, Bool, true, false, Option, Some, None, IsTrue}
-use Rattle.std.proofs.Common.{◌≢◌, Result, refl, sym, arith, ◌∙◌, append_assoc}
+use Rattle.std.proofs.Common.{◌≢◌, Result, Ok, Err, refl, sym, arith, ◌∙◌, append_assoc}
 use Rattle.std.specs.Prelude.{IfSome, min}
 use Rattle.std.proofs.lemmas.Bool.{false≢true}
 use Rattle.std.proofs.lemmas.Bool.Decides.{eqb_tells}
@@ -28,16 +28,16 @@ use Rattle.vault_files.specs.declared.memory.store.TheConstants.{PATH_LIMIT}
 use Rattle.vault_files.specs.declared.system.System.{Ghosts as SystemTerms}
 use Rattle.vault_fault.specs.declared.fault.Fault.{Fault}
 use Rattle.vault_request.specs.Request.{Request}
-use Rattle.vault_cli.specs.Access.{access_of}
+use Rattle.vault_cli.specs.Access.{output_access}
 use Rattle.vault_cli.specs.Call.{SinkCall, SourceCall, sink, source, system}
 use Rattle.vault_cli.specs.Drive.{Ends, to_path}
-use Rattle.vault_cli.specs.Drive.Ends.{Ran, Stopped}
+use Rattle.vault_cli.specs.Drive.Ends.{Declined, Ran, Stopped}
 use Rattle.vault_cli.specs.Explained.Explains.{MemoryLacked, HelpShown, HelpFailed, Rejected}
 use Rattle.vault_cli.specs.OpenedPaths.{opened_paths}
-use Rattle.vault_cli.specs.Program.{Files, answer_to, output_path, stdin_needed}
+use Rattle.vault_cli.specs.Program.{program, stdin_needed}
 use Rattle.vault_cli.specs.InMemory as in_memory
 use Rattle.vault_cli.specs.InMemory.{Change, EndsInMemory, Holds, HoldsPrefix, IsCut, IsKept}
-use Rattle.vault_cli.specs.InMemory.{IsSynced, Received, Stands, Taken, files_at, stands_after}
+use Rattle.vault_cli.specs.InMemory.{IsSynced, Received, Stands, Taken, found_in, stands_after}
 use Rattle.vault_cli.specs.runs.Reports.{Reports}
 use Rattle.vault_cli.specs.runs.Run.{OutputEnd, Reads, RunEnds}
 use Rattle.vault_cli.specs.runs.Run.RunEnds.{Succeeded, HasRefused, OutputFailed, InputFailed}
@@ -359,24 +359,27 @@ module _ (W : Type 0) (result : Status) (files : Change StoreState) (log : Optio
 
 -- ---- how the program ends over files in memory
 
+-- arguments make one request
+requests-same : (requested : Option (Result Request Fault)) (one other : Request)
+    → requested ≡ Some (Ok one) → requested ≡ Some (Ok other) → one ≡ other
+requests-same requested one other is also = cc
+
 module _ (W : Type 0) (result : Status) (files : Change StoreState)
     (src : Change MemSourceState) (out err : Change MemSinkState)
     (none : files.old.created ≡ None) (not_ended : src.old.ended ≡ false)
-    (requested : Option (Result Request Fault)) where
-  abbrev found : Files
-  found = files_at (file_at files.old.entries) requested
-
+    (requested : Option (Result Request Fault)) (request : Request)
+    (is_request : requested ≡ Some (Ok request)) where
   -- it ends as the answer to all of its input; where it did not run out of memory, what it needed
   -- of that was taken, and these paths were opened
   pub ends-in_memory : (kinds : Kinds) → kinds ≡ []
       → Ends (system (memory_terms {W = W}) files.old files.new)
       (memory_source src) (memory_sink out) (memory_sink err) result kinds requested
-      (answer_to requested)
-      → EndsInMemory result files out err (output_path requested)
-      (answer_to requested found src.old.left)
+      → EndsInMemory result files out err request.output
+      (program request (found_in files.old request) src.old.left)
       × (result ≢ OutOfMemory
-      → Taken (stdin_needed requested found) src
-      × (files.new.log ≡ logged files.old.log (opened_paths requested found)))
+      → Taken (stdin_needed request (found_in files.old request)) src
+      × (files.new.log
+      ≡ logged files.old.log (opened_paths request (found_in files.old request))))
   ends-in_memory kinds parses (Stopped same unread (MemoryLacked m)) = (
     in_memory.EndsInMemory.MemoryLacked (record {
       status = m.status;
@@ -392,16 +395,16 @@ module _ (W : Type 0) (result : Status) (files : Change StoreState)
       absurd (rw parses at h.is_among)
   ends-in_memory kinds parses (Stopped same unread (Rejected r)) =
       absurd (rw parses at r.is_among)
-  ends-in_memory kinds parses (Ran _ seen all_found later went ends) =
-      let at = file_at files.old.entries in
-      let (so, taken, stays) = at-paths at requested seen all_found
-      (λ paths needed answers. IsOfPrefix needed answers
-      → EndsInMemory result files out err (output_path requested) (answers src.old.left)
-      × Taken needed src × (files.new.log ≡ logged files.old.log paths))
-      (λ same.
-      let logs = opens-logged files.old later (opened_paths requested seen) went.calls
-      went.are_opens went.executed in
-      ends-run W result files (logged files.old.log (opened_paths requested seen)) out err none
-      (access_of requested) (output_path requested) src not_ended _ _ same (rw logs at ends))
-      (answer-prefix requested found) in
+  ends-in_memory kinds parses (Declined _ same unread d) =
+      let never : Some (Ok request) ≡ Some (Err d.fault) = sym is_request ∙ d.refused in absurd cc
+  ends-in_memory kinds parses (Ran _ other is seen all_found later went ends) =
+      let same : other ≡ request = requests-same requested other request is is_request in
+      let found = at-paths (file_at files.old.entries) request seen (rw same at all_found) in
+      let opens = rw (same, found) at went in
+      let paths = opened_paths request (found_in files.old request) in
+      let logs = opens-logged files.old later paths opens.calls opens.are_opens opens.executed in
+      let (so, taken, stays) =
+      ends-run W result files (logged files.old.log paths) out err none
+      (output_access request.command) request.output src not_ended _ _
+      (answer-prefix request (found_in files.old request)) (rw (same, found, logs) at ends) in
       (so, λ fits. (taken, stays))

@@ -1,5 +1,5 @@
 -- Which paths are opened of files that can be read.
-use Rattle.std.proofs.Common.{◌≡◌, ℕ, ◌+◌, List, [], ◌∷◌, ◌++◌, Some, Ok, refl, append_assoc}
+use Rattle.std.proofs.Common.{◌≡◌, ℕ, ◌+◌, List, [], ◌∷◌, ◌++◌, Ok, refl, append_assoc}
 use Rattle.std.specs.Prelude.{option_to_list}
 use Rattle.vault_files.specs.File.{FileState, Found}
 use Rattle.vault_fault.specs.declared.fault.Role.TheVariants.{Secret}
@@ -27,7 +27,7 @@ opened-secrets finds (path ∷ paths) (file ∷ files) contents found e =
 pub opened_paths-found : (finds : List ℕ → FileState → Type 0) (request : Request) (files : Files)
     (contents : List (List ℕ)) → Found finds (secret_paths request) files.secrets
     → contents_of files.secrets ≡ Ok contents
-    → opened_paths (Some (Ok request)) files
+    → opened_paths request files
     ≡ (secret_paths request ++ option_to_list request.salt_path)
     ++ unless_refused (file_salt files.salt) (option_to_list request.input)
 opened_paths-found finds request files contents found read =

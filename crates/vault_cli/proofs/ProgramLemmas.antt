@@ -12,10 +12,9 @@ use Rattle.vault_request.specs.Request.{Request}
 use Rattle.vault_cli.specs.runs.FileContents.{AtPath, contents_of, secret_paths}
 use Rattle.vault_cli.specs.Program.{Files, can_open_input, file_salt, task_over}
 use Rattle.vault_cli.specs.InMemory.{files_at}
-use Rattle.vault_cli.specs.Program.{answer_to, stdin_needed}
+use Rattle.vault_cli.specs.Program.{program, stdin_needed}
 use Rattle.vault_cli.specs.runs.Task.{task_of, Task}
 use Rattle.vault_cli.specs.Drive.{AllFound}
-use Rattle.vault_cli.specs.OpenedPaths.{opened_paths}
 use Rattle.vault_cli.specs.runs.Answer.{input_limit, input_needed_by, output_of, ready_by}
 use Rattle.vault_cli.specs.runs.Answer.{task_limit}
 use Rattle.vault_cli.proofs.AnswerLemmas.{steps-ok}
@@ -71,18 +70,16 @@ task-prefix limit amount (Ok task) None has = λ ended text prefix left parts la
 
 file-prefix : (request : Request) (secrets : List FileState) (salt input : Option FileState)
     → IsOfPrefix
-    (stdin_needed (Some (Ok request)) (record { secrets = secrets; salt = salt; input = input }))
-    (answer_to (Some (Ok request)) (record { secrets = secrets; salt = salt; input = input }))
+    (stdin_needed request (record { secrets = secrets; salt = salt; input = input }))
+    (program request (record { secrets = secrets; salt = salt; input = input }))
 file-prefix request secrets salt (Some file) = λ input. refl
 file-prefix request secrets salt None =
     task-prefix PLAINTEXT_LIMIT (input_limit PLAINTEXT_LIMIT request.command) _ request.string
     (limit-over PLAINTEXT_LIMIT request (record { secrets = secrets; salt = salt; input = None }))
 
-pub answer-prefix : (requested : Option (Result Request Fault)) (found : Files)
-    → IsOfPrefix (stdin_needed requested found) (answer_to requested found)
-answer-prefix None found = λ input. refl
-answer-prefix (Some (Err fault)) found = λ input. refl
-answer-prefix (Some (Ok request)) found = file-prefix request found.secrets found.salt found.input
+pub answer-prefix : (request : Request) (found : Files)
+    → IsOfPrefix (stdin_needed request found) (program request found)
+answer-prefix request found = file-prefix request found.secrets found.salt found.input
 
 -- ---- where one file stands at each path
 
@@ -102,20 +99,12 @@ one-in at None (Some file) seen = absurd seen
 one-in at (Some path) None seen = absurd seen
 one-in at (Some path) (Some file) seen = ap Some seen
 
--- where one file is at each path, the files that are found may be taken for those
-pub at-paths : (at : List ℕ → FileState) (requested : Option (Result Request Fault))
-    (found : Files) → AllFound (λ path file. file ≡ at path) requested found
-    → (P : List (List ℕ) → Option ℕ → (List ℕ → Result (List ℕ) Fault) → Type 0)
-    → P (opened_paths requested found) (stdin_needed requested found) (answer_to requested found)
-    → P (opened_paths requested (files_at at requested))
-    (stdin_needed requested (files_at at requested)) (answer_to requested (files_at at requested))
-at-paths at None found seen P p = p
-at-paths at (Some (Err fault)) found seen P p = p
-at-paths at (Some (Ok request)) found seen P p =
-    let same : found ≡ files_at at (Some (Ok request)) =
+-- where one file is at each path, the files that are found are those
+pub at-paths : (at : List ℕ → FileState) (request : Request) (found : Files)
+    → AllFound (λ path file. file ≡ at path) request found → found ≡ files_at at request
+at-paths at request found seen =
     rw (
       ← all-in at (secret_paths request) found.secrets seen.0,
       ← one-in at request.salt_path found.salt seen.1,
       ← one-in at request.input found.input seen.2,
-    ) refl in
-    rw same at p
+    ) refl

@@ -1,9 +1,6 @@
 -- The permissions of the output.
-use Rattle.std.specs.Prelude.{Option, Some, None, Result, Ok, Err}
 use Rattle.vault_files.specs.declared.access.Access.{Access}
 use Rattle.vault_files.specs.declared.access.Access.TheVariants.{Kept, OwnerOnly}
-use Rattle.vault_fault.specs.declared.fault.Fault.{Fault}
-use Rattle.vault_request.specs.Request.{Request}
 use Rattle.vault_request.specs.declared.command_name.CommandName.{CommandName}
 use Rattle.vault_request.specs.declared.command_name.CommandName.TheVariants.{Decrypt, View}
 
@@ -12,9 +9,3 @@ abbrev pub output_access : CommandName → Access
 output_access Decrypt = OwnerOnly
 output_access View = OwnerOnly
 output_access _ = Kept
-
--- the same for a request
-abbrev pub access_of : Option (Result Request Fault) → Access
-access_of None = Kept
-access_of (Some (Err fault)) = Kept
-access_of (Some (Ok request)) = output_access request.command

@@ -7,21 +7,19 @@ use Rattle.vault_files.specs.Output.OutputState.{Chosen, Finished}
 use Rattle.vault_files.specs.System.{Opens, SystemCall}
 use Rattle.vault_files.specs.declared.access.Access.{Access}
 use Rattle.vault_fault.specs.declared.fault.Fault.{Fault}
-use Rattle.vault_cli.specs.Access.{access_of}
+use Rattle.vault_cli.specs.Access.{output_access}
 use Rattle.vault_cli.specs.Call.{FilesCall, SinkCall, SourceCall, files_from}
-use Rattle.vault_cli.specs.Explained.{Explains}
+use Rattle.vault_cli.specs.Explained.{Declines, Explains}
 use Rattle.vault_cli.specs.OpenedPaths.{opened_paths}
-use Rattle.vault_cli.specs.Program.{Files, output_path, stdin_needed}
+use Rattle.vault_cli.specs.Program.{Files, program, stdin_needed}
 use Rattle.vault_cli.specs.runs.FileContents.{AtPath, secret_paths}
 use Rattle.vault_cli.specs.runs.Run.{OutputEnd, RunEnds, to_sink}
 use Rattle.vault_request.specs.Request.{Request}
 use Rattle.vault_cli.specs.declared.runs.status.Status.{Status}
 
 -- files that may be found at the paths of the request
-abbrev pub AllFound : (List ℕ → FileState → Type 0) → Option (Result Request Fault) → Files → Type 0
-AllFound finds None files = Unit {0}
-AllFound finds (Some (Err fault)) files = Unit {0}
-AllFound finds (Some (Ok request)) files =
+abbrev pub AllFound : (List ℕ → FileState → Type 0) → Request → Files → Type 0
+AllFound finds request files =
     Found finds (secret_paths request) files.secrets × AtPath finds request.salt_path files.salt
     × AtPath finds request.input files.input
 
@@ -48,17 +46,20 @@ module _ {D R W K : Type 0} (since_opens : FilesCall D R W) (out : SinkCall K) w
 
 module _ {D R W S K E : Type 0} (files : FilesCall D R W) (src : SourceCall S) (out : SinkCall K)
     (err : SinkCall E) (result : Status) (kinds : Kinds)
-    (requested : Option (Result Request Fault))
-    (answers : Files → List ℕ → Result (List ℕ) Fault) where
+    (requested : Option (Result Request Fault)) where
   pub data Ends : Type 0 where
-    -- The arguments parse. The program opened the files at their paths, up to the first that it
-    -- cannot open or read, and then ran the request.
-    Ran : kinds ≡ []
-        → (found : Files) → AllFound (files.finds files.old) requested found
-        → (opened : D) → Opens files.executes files.old (opened_paths requested found) opened
-        → RunEnds src (to_path (files_from opened files) out (output_path requested)
-        (access_of requested)) err result (stdin_needed requested found) (answers found)
+    -- The arguments parse and make a request. The program opened the files at their paths, up to
+    -- the first that it cannot open or read, and then ran the request.
+    Ran : kinds ≡ [] → (request : Request) → requested ≡ Some (Ok request)
+        → (found : Files) → AllFound (files.finds files.old) request found
+        → (opened : D) → Opens files.executes files.old (opened_paths request found) opened
+        → RunEnds src (to_path (files_from opened files) out request.output
+        (output_access request.command)) err result (stdin_needed request found)
+        (program request found)
         → Ends
+    -- The arguments parse, but their options are refused. The program opened and read nothing.
+    Declined : kinds ≡ [] → files.new ≡ files.old → src.new ≡ src.old
+        → Declines out err result requested → Ends
     -- The program opened and read nothing: help was asked for, the arguments do not parse, or
     -- memory ran out.
     Stopped : files.new ≡ files.old → src.new ≡ src.old → Explains out err result kinds → Ends

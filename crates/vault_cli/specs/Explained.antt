@@ -1,14 +1,18 @@
 -- How the program ends before it loads a file: one record for each way.
 use Rattle.std.specs.Prelude.{◌≡◌, ◌≢◌, ◌⊎◌, ℕ, false, List, All, take}
+use Rattle.std.specs.Prelude.{Option, Some, Result, Err}
 use Rattle.clap.specs.Words.{IsAmong, Kinds}
 use Rattle.clap.specs.declared.error.kind.ErrorKind.{ErrorKind}
 use Rattle.clap.specs.declared.error.kind.ErrorKind.TheVariants.{DisplayHelp, DisplayVersion}
 use Rattle.clap.specs.declared.error.kind.ErrorKind.TheVariants as error
+use Rattle.vault_fault.specs.declared.fault.Fault.{Fault}
 use Rattle.vault_fault.specs.declared.fault.Fault.TheVariants.{Memory, Write}
 use Rattle.vault_request.specs.Refusal.{is_control}
+use Rattle.vault_request.specs.Request.{Request}
 use Rattle.vault_cli.specs.Call.{SinkCall}
 use Rattle.vault_cli.specs.runs.Reports.{Reports, line_of}
 use Rattle.vault_cli.specs.runs.Run.{to_sink}
+use Rattle.vault_cli.specs.runs.Status.{status_of}
 use Rattle.vault_cli.specs.declared.runs.status.Status.{Status}
 use Rattle.vault_cli.specs.declared.runs.status.Status.TheVariants.{DeviceFailed, OutOfMemory}
 use Rattle.vault_cli.specs.declared.runs.status.Status.TheVariants.{ParseFault, Success}
@@ -73,3 +77,15 @@ module _ {K E : Type 0} (out : SinkCall K) (err : SinkCall E) (result : Status)
     HelpShown : ShowsHelp → Explains
     HelpFailed : HelpFails → Explains
     Rejected : Rejects → Explains
+
+-- The arguments parse, and this is what they request.
+module _ {K E : Type 0} (out : SinkCall K) (err : SinkCall E) (result : Status)
+    (requested : Option (Result Request Fault)) where
+  -- The options are refused: their fault was reported.
+  pub record Declines : Type 0 where
+    pub fault : Fault
+    pub refused : requested ≡ Some (Err fault)
+    pub status : result ≡ status_of fault
+    pub memory_suffices : result ≢ OutOfMemory
+    pub output : out.new ≡ out.old
+    pub message : Reports err (line_of fault)

@@ -4,7 +4,6 @@ use Rattle.std.specs.Prelude.{map, take, drop, Bool, true, false, Option, Some, 
 use Rattle.std.specs.Prelude.{Result, Ok, Err}
 use Rattle.std.specs.Option.{option_map}
 use Rattle.std.specs.Str.{bytes_eq}
-use Rattle.clap.specs.Words.{Text}
 use Rattle.vault_text.specs.Failures.{HasRisen}
 use Rattle.vault_text.specs.Sink.{MemSinkState}
 use Rattle.vault_text.specs.Source as source
@@ -16,7 +15,6 @@ use Rattle.vault_files.specs.declared.memory.store.TheConstants.{PATH_LIMIT}
 use Rattle.vault_fault.specs.declared.fault.Fault.{Fault}
 use Rattle.vault_fault.specs.declared.fault.Fault.TheVariants.{Memory, Write}
 use Rattle.vault_request.specs.Request.{Request}
-use Rattle.vault_request.specs.Settled.{requested_by}
 use Rattle.vault_cli.specs.Program.{Files}
 use Rattle.vault_cli.specs.runs.FileContents.{secret_paths}
 use Rattle.vault_cli.specs.runs.Reports.{line_of}
@@ -26,18 +24,16 @@ use Rattle.vault_cli.specs.declared.runs.status.Status.TheVariants.{DeviceFailed
 use Rattle.vault_cli.specs.declared.runs.status.Status.TheVariants.{Success}
 
 -- the files at the paths of the request
-abbrev pub files_at : (List ℕ → FileState) → Option (Result Request Fault) → Files
-files_at at None = record { secrets = []; salt = None; input = None }
-files_at at (Some (Err fault)) = record { secrets = []; salt = None; input = None }
-files_at at (Some (Ok request)) = record {
+abbrev pub files_at : (List ℕ → FileState) → Request → Files
+files_at at request = record {
   secrets = map at (secret_paths request);
   salt = option_map at request.salt_path;
   input = option_map at request.input;
 }
 
--- the files at the paths of arguments
-abbrev pub found_by : StoreState → List Text → Files
-found_by files words = files_at (file_at files.entries) (requested_by words)
+-- the files at its paths in memory
+abbrev pub found_in : StoreState → Request → Files
+found_in files request = files_at (file_at files.entries) request
 
 -- a value in memory before a call and after it
 pub record Change (T : Type 0) : Type 0 where

@@ -36,5 +36,5 @@ SecretsRefuse finds opens paths fault = (files : List FileState) × Found finds 
 -- the same for files that may be found at the paths of a request
 abbrev pub RefusedBy : (List ℕ → FileState → Type 0) → (List (List ℕ) → Type 0)
     → Request → Fault → Type 0
-RefusedBy finds opens request fault = (files : Files) × AllFound finds (Some (Ok request)) files
-    × (task_over request files ≡ Err fault) × opens (opened_paths (Some (Ok request)) files)
+RefusedBy finds opens request fault = (files : Files) × AllFound finds request files
+    × (task_over request files ≡ Err fault) × opens (opened_paths request files)

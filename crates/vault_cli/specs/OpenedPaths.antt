@@ -1,6 +1,6 @@
 -- Which paths are opened, in order: up to and including the first that cannot be opened or read.
-use Rattle.std.specs.Prelude.{ℕ, ◌+◌, List, [], ◌∷◌, ◌++◌, option_to_list, Option, Some, None}
-use Rattle.std.specs.Prelude.{Result, Ok, Err}
+use Rattle.std.specs.Prelude.{ℕ, ◌+◌, List, [], ◌∷◌, ◌++◌, option_to_list, Result}
+use Rattle.std.specs.Prelude.{Ok, Err}
 use Rattle.vault_files.specs.File.{FileState}
 use Rattle.vault_fault.specs.declared.fault.Fault.{Fault}
 use Rattle.vault_fault.specs.declared.fault.Role.TheVariants.{Secret}
@@ -23,11 +23,9 @@ opened_secrets (path ∷ paths) (file ∷ files) =
     ∷ unless_refused (file_prefix Secret (PASSWORD_FILE_LIMIT + 1) file)
     (opened_secrets paths files)
 
--- the opened paths of all files of a request: none if the arguments did not make a request
-abbrev pub opened_paths : Option (Result Request Fault) → Files → List (List ℕ)
-opened_paths None files = []
-opened_paths (Some (Err fault)) files = []
-opened_paths (Some (Ok request)) files =
+-- the opened paths of all files of a request
+abbrev pub opened_paths : Request → Files → List (List ℕ)
+opened_paths request files =
     opened_secrets (secret_paths request) files.secrets
     ++ unless_refused (contents_of files.secrets) (option_to_list request.salt_path
     ++ unless_refused (file_salt files.salt) (option_to_list request.input))

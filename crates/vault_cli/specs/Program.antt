@@ -1,7 +1,6 @@
--- What the program answers, as a function of its arguments, the files that it finds, and its
--- standard input.
+-- What the program answers, as a function of a request, the files that it finds, and its standard
+-- input.
 use Rattle.std.specs.Prelude.{ℕ, ◌+◌, List, [], Option, Some, None, Result, Ok, Err}
-use Rattle.clap.specs.Words.{Text}
 use Rattle.vault_files.specs.File.{FileState}
 use Rattle.vault_files.specs.File.FileState.{Missing, Whole, Broken}
 use Rattle.vault_text.specs.Steps.{◌>>=◌}
@@ -13,7 +12,6 @@ use Rattle.vault_fault.specs.declared.fault.Role.TheVariants.{Input, Salt}
 use Rattle.vault_cli.specs.runs.FileContents.{contents_of, file_prefix}
 use Rattle.vault_cli.specs.runs.Answer.{input_limit, input_needed_by, output_of, ready_by}
 use Rattle.vault_request.specs.Request.{Request}
-use Rattle.vault_request.specs.Settled.{requested_by}
 use Rattle.vault_cli.specs.runs.Task.{Task, task_of}
 use Rattle.vault_cli.specs.declared.limits.TheConstants.{SEALING_SALT_LENGTH}
 
@@ -57,22 +55,9 @@ ready_of request files stdin =
     ready_by PLAINTEXT_LIMIT (task_over request files) request.string
     (input_from (input_limit PLAINTEXT_LIMIT request.command + 1) files.input stdin)
 
--- the answer to the request: the bytes to write, or a fault. Arguments that parse name a command,
--- which is a law, so the first case never occurs
-abbrev pub answer_to : Option (Result Request Fault) → Files → List ℕ → Result (List ℕ) Fault
-answer_to None files stdin = Ok []
-answer_to (Some (Err fault)) files stdin = Err fault
-answer_to (Some (Ok request)) files stdin = output_of (ready_of request files stdin)
-
--- the answer to arguments
-abbrev pub program : List Text → Files → List ℕ → Result (List ℕ) Fault
-program words files stdin = answer_to (requested_by words) files stdin
-
--- the path that the output goes to, unless that is standard output
-abbrev pub output_path : Option (Result Request Fault) → Option (List ℕ)
-output_path None = None
-output_path (Some (Err fault)) = None
-output_path (Some (Ok request)) = request.output
+-- the answer to a request: the bytes to write, or a fault
+abbrev pub program : Request → Files → List ℕ → Result (List ℕ) Fault
+program request files stdin = output_of (ready_of request files stdin)
 
 -- the limit on reading standard input, if there is no FILE
 abbrev pub unless_file : Option FileState → Option ℕ → Option ℕ
@@ -80,9 +65,7 @@ unless_file None limit = limit
 unless_file (Some file) limit = None
 
 -- the limit on reading standard input, if it is read: up to one byte more is requested
-abbrev pub stdin_needed : Option (Result Request Fault) → Files → Option ℕ
-stdin_needed None files = None
-stdin_needed (Some (Err fault)) files = None
-stdin_needed (Some (Ok request)) files =
+abbrev pub stdin_needed : Request → Files → Option ℕ
+stdin_needed request files =
     let limit = input_limit PLAINTEXT_LIMIT request.command in
     unless_file files.input (input_needed_by (task_over request files) request.string limit)

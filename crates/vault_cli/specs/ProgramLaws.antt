@@ -13,7 +13,7 @@ use Rattle.vault_cli.specs.runs.FileContents.{contents_of}
 use Rattle.vault_cli.specs.Laws.{UnsealsWith}
 use Rattle.vault_cli.specs.runs.Answer.{run_answer}
 use Rattle.vault_request.specs.Settled.{requested_by}
-use Rattle.vault_cli.specs.Program.{Files, output_path, program, file_salt}
+use Rattle.vault_cli.specs.Program.{Files, program, file_salt}
 use Rattle.vault_request.specs.Request.{Request}
 use Rattle.vault_cli.specs.runs.Task as task
 use Rattle.vault_cli.specs.runs.Task.{task_of}
@@ -41,21 +41,18 @@ pub record Run : Type 0 where
 
 -- the program's answer to a run
 abbrev pub answer : Run → Result (List ℕ) Fault
-answer run = program run.words run.files run.stdin
+answer run = program run.request run.files run.stdin
 
 -- the program's answer to a run is the answer to the run's request
 abbrev pub ProgramIsRun : Type 0
 ProgramIsRun = (run : Run) → answer run ≡ run_answer run.request run.contents run.salt run.input
 
--- what one run wrote to a path is read by another whose FILE is that path
+-- what one request wrote to a path is read by another whose FILE is that path
 abbrev pub WrittenIsRead : Type 0
 WrittenIsRead =
-    (before : List ℕ → FileState) (writing reading : List Text) (bytes path : List ℕ)
-    (request : Request)
-    → output_path (requested_by writing) ≡ Some path
-    → requested_by reading ≡ Some (Ok request) → request.input ≡ Some path
-    → (files_at (stands_after before (output_path (requested_by writing)) bytes)
-    (requested_by reading)).input ≡ Some (Whole bytes)
+    (before : List ℕ → FileState) (writing reading : Request) (bytes path : List ℕ)
+    → writing.output ≡ Some path → reading.input ≡ Some path
+    → (files_at (stands_after before writing.output bytes) reading).input ≡ Some (Whole bytes)
 
 -- `decrypt` and `view` give back what `encrypt` encrypted with a secret, if the first secret that
 -- they try has its password

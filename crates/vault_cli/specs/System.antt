@@ -10,7 +10,6 @@ use Rattle.vault_files.specs.declared.system.System.{Ghosts as SystemTerms}
 use Rattle.vault_request.specs.CommandLine.{vault_app}
 use Rattle.vault_cli.specs.Call.{sink, source, system}
 use Rattle.vault_cli.specs.Drive.{Ends}
-use Rattle.vault_cli.specs.Program.{program}
 use Rattle.vault_request.specs.Settled.{requested_by}
 use Rattle.vault_cli.specs.declared.runs.status.Status.{Status}
 
@@ -49,4 +48,3 @@ MayBeDriven {F} {R} {W} {S} {K} {E} terms old result words =
     (new : Devices F S K E) × Ends (system terms.files old.files new.files)
     (source terms.src old.src new.src) (sink terms.out old.out new.out)
     (sink terms.err old.err new.err) result (fault_of vault_app words) (requested_by words)
-    (program words)

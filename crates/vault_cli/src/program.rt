@@ -10,7 +10,6 @@ ghost use Rattle.vault_request.specs.Settled.{requested_by};
 ghost use Rattle.vault_cli.specs.Access.{output_access};
 ghost use Rattle.vault_cli.specs.Call.{sink, source, system};
 ghost use Rattle.vault_cli.specs.Drive.{Ends, to_path};
-ghost use Rattle.vault_cli.specs.Program.{answer_to, program};
 ghost use Rattle.vault_cli.specs.runs.Answer.{input_needed, run_answer};
 ghost use Rattle.vault_cli.specs.runs.Run.{RunEnds, RunsRequest};
 
@@ -42,7 +41,7 @@ pub fn drive_over<D: System, S: Source, K: Sink, E: Sink>(
     ensures { let texts = map string_bytes words.now in
         Ends (system D.System sys.old sys.new) (source S.Source src.old src.new)
         (sink K.Sink out.old out.new) (sink E.Sink err.old err.new) result
-        (fault_of vault_app texts) (requested_by texts) (program texts) }
+        (fault_of vault_app texts) (requested_by texts) }
 {
     match parse(alloc, words) {
         Ok(matches) => match settle(alloc, &matches) {
@@ -65,10 +64,9 @@ fn drive_request<D: System, S: Source, K: Sink, E: Sink>(
 ) -> Status
     requires out_unbegun { K.stage out.old ≡ Stage.Unbegun }
     requires err_unbegun { E.stage err.old ≡ Stage.Unbegun }
-    ensures { let requested = Some (Ok request.now) in
-        Ends (system D.System sys.old sys.new) (source S.Source src.old src.new)
-        (sink K.Sink out.old out.new) (sink E.Sink err.old err.new) result [] requested
-        (answer_to requested) }
+    ensures { Ends (system D.System sys.old sys.new) (source S.Source src.old src.new)
+        (sink K.Sink out.old out.new) (sink E.Sink err.old err.new) result []
+        (Some (Ok request.now)) }
 {
     let mut memory = match reserve(alloc, request) {
         Ok(memory) => memory,

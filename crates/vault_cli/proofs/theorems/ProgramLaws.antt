@@ -17,11 +17,11 @@ use Rattle.vault_cli.specs.Laws as run_answers
 use Rattle.vault_request.specs.Laws.{IsRequest, SettledRequests}
 use Rattle.vault_cli.specs.runs.Answer.{input_limit, output_of, prepared, ready_by}
 use Rattle.vault_cli.specs.runs.Answer.{run_answer, run_answer_within, task_limit}
-use Rattle.vault_cli.specs.Program.{input_from, can_open_input, output_path}
+use Rattle.vault_cli.specs.Program.{input_from, can_open_input}
 use Rattle.vault_cli.specs.ProgramLaws.{ProgramEncryptsThenDecrypts, IsInput, ProgramIsRun}
 use Rattle.vault_cli.specs.ProgramLaws.{ProgramKeepsThePlaintext, Run, WrittenIsRead, answer}
 use Rattle.vault_request.specs.Request.{Request}
-use Rattle.vault_request.specs.Settled.{requested_by, command_in, settled}
+use Rattle.vault_request.specs.Settled.{command_in, settled}
 use Rattle.vault_cli.specs.runs.Task.{Task, task_of}
 use Rattle.vault_request.specs.declared.command_name.CommandName.{CommandName}
 use Rattle.vault_cli.proofs.TaskSoundLemmas.{keeps-task_of}
@@ -64,7 +64,7 @@ unfolding run_answer_within
 program_is_run run =
     let found = task-found run.request run.files run.contents run.salt run.secrets run.salted
     (can_open-input run.files.input run.stdin run.input run.is_input) in
-    rw (run.requested, found)
+    rw found
     (ap output_of
     (ready_by-input PLAINTEXT_LIMIT (input_limit PLAINTEXT_LIMIT run.request.command)
     (task_of run.request run.contents run.salt) run.request.string run.files.input run.stdin
@@ -112,7 +112,7 @@ module _ (settles : SettledRequests) where
 -- ---- what was written stands at its path
 
 pub written_is_read : WrittenIsRead
-written_is_read before writing reading bytes path request written reads input =
-    let at = stands_after before (output_path (requested_by writing)) bytes in
+written_is_read before writing reading bytes path written reads =
+    let at = stands_after before writing.output bytes in
     let there : at path ≡ Whole bytes = rw (written, bytes_eq-same path) in
-    rw (reads, input, there)
+    rw (reads, there)

@@ -1,6 +1,5 @@
 use Rattle.std.proofs.Common.{refl}
 use Rattle.clap.specs.Words.{subcommand_rows_of}
-use Rattle.vault_files.specs.SystemProofs.{Opens-none}
 use Rattle.vault_request.specs.Settled.{requested}
 use Rattle.vault_cli.specs.Call.{sink, source, system}
 use Rattle.vault_cli.specs.Drive.Ends.{Stopped}
@@ -24,7 +23,6 @@ returns-in-Ok g c =
     (source g.S.Source c.args.src.now c.args.src.now)
     (sink g.K.Sink c.args.out.now c.args.out.now) _ _ refl refl c.in-Err-settle.fault
     c.report.ensures.status c.report.ensures.line refl
-    (Opens-none g.D.System.executes g.met.D.System.executes_none c.args.sys.now)
     (requested (subcommand_rows_of c.in-Ok.matches)) c.in-Ok.ensures.requested
     c.in-Err-settle.ensures in
     rw c.in-Ok.ensures.kinds (rw c.in-Ok.ensures.matches at drives)
