@@ -27,7 +27,8 @@ use Rattle.vault_cli.specs.runs.Answer.{prepared, ready_by, run_answer, run_answ
 use Rattle.vault_cli.specs.runs.FileContents.{AtPath, file_fault, file_prefix, request_paths}
 use Rattle.vault_cli.specs.runs.FileContents.{secret_paths}
 use Rattle.vault_cli.specs.runs.Reports.{Reports, line_of}
-use Rattle.vault_cli.specs.runs.Run.{InputFails, OutputEnd, Reads, RunEnds}
+use Rattle.vault_cli.specs.runs.OutputEnd.{OutputEnd}
+use Rattle.vault_cli.specs.runs.Run.{InputFails, Reads, RunEnds}
 use Rattle.vault_cli.specs.runs.Run.RunEnds.{Succeeded, HasRefused, OutputFailed, InputFailed}
 use Rattle.vault_cli.specs.runs.Status.{status_of}
 use Rattle.vault_cli.specs.runs.Task.{Task, task_of}
@@ -198,7 +199,6 @@ module _ {D R W S K E : Type 0} (files : FilesCall D R W) (src : SourceCall S) (
           bytes = f.bytes;
           answer = f.answer;
           status = f.status;
-          count = f.count;
           output = f.output;
           message = f.message;
         }),

@@ -1,10 +1,9 @@
 -- How the program ends over files, an input and sinks in memory, from how it ends over any.
-use Rattle.std.proofs.Common.{◌≡◌, ◌⊎◌, ◌≤◌, ◌<◌, ℕ, ◌+◌, ◌-◌, ◌^◌, inl, inr, List, [], ◌++◌}
+use Rattle.std.proofs.Common.{◌≡◌, ◌⊎◌, ◌≤◌, ◌<◌, ℕ, ◌+◌, inl, inr, List, [], ◌++◌}
 use Rattle.std.proofs.Common.{length, take, drop, Bool, true, false, Option, Some, None, IsTrue}
 use Rattle.std.proofs.Common.{◌≢◌, Result, Ok, Err, refl, sym, arith, ◌∙◌, append_assoc}
-use Rattle.std.specs.Prelude.{IfSome, min}
+use Rattle.std.specs.Prelude.{IfSome}
 use Rattle.std.proofs.lemmas.Bool.{false≢true}
-use Rattle.std.proofs.lemmas.Bool.Decides.{eqb_tells}
 use Rattle.std.proofs.lemmas.List.{append-nil, drop_all}
 use Rattle.std.proofs.Math.Seq.{drop-append_seam}
 use Rattle.clap.specs.Words.{Kinds}
@@ -39,7 +38,8 @@ use Rattle.vault_cli.specs.InMemory as in_memory
 use Rattle.vault_cli.specs.InMemory.{Change, EndsInMemory, Holds, HoldsPrefix, IsCut, IsKept}
 use Rattle.vault_cli.specs.InMemory.{IsSynced, Received, Stands, Taken, found_in, stands_after}
 use Rattle.vault_cli.specs.runs.Reports.{Reports}
-use Rattle.vault_cli.specs.runs.Run.{OutputEnd, Reads, RunEnds}
+use Rattle.vault_cli.specs.runs.OutputEnd.{OutputEnd}
+use Rattle.vault_cli.specs.runs.Run.{Reads, RunEnds}
 use Rattle.vault_cli.specs.runs.Run.RunEnds.{Succeeded, HasRefused, OutputFailed, InputFailed}
 use Rattle.vault_cli.specs.declared.runs.status.Status.{Status}
 use Rattle.vault_cli.specs.declared.runs.status.Status.TheVariants.{OutOfMemory}
@@ -65,11 +65,8 @@ memory_sink out =
 -- a line is held, or a prefix of it where the sink failed
 reported : (err : Change MemSinkState) (line : List ℕ) → Reports (memory_sink err) line
     → Holds err line ⊎ HoldsPrefix err line
-reported err line r =
-    elim (eqb_tells err.new.failures (min (err.old.failures + 1) (2 ^ 64 - 1))) [
-      | inl (_, risen) ↦ inr (risen, (r.prefix.0, r.prefix.1.0.appended))
-      | inr (_, stayed) ↦ let whole = r.whole stayed in inl (whole.0.0.appended, whole.1)
-    ]
+reported err line (inl (took, finished, unfailed)) = inl (took.0.appended, finished)
+reported err line (inr (count, took, risen)) = inr (risen, (count, took.0.appended))
 
 -- ---- the file that is created
 
@@ -273,12 +270,12 @@ module _ (W : Type 0) (result : Status) (files : Change StoreState) (log : Optio
   cut-early at bytes false is long = (inl (long refl, λ p. rw is refl), rw is refl)
   cut-early at bytes true is long = (inr (0, λ p. rw is refl), rw is refl)
 
-  cut : (path : Option (List ℕ)) (bytes : List ℕ) (n : ℕ) → (OutputAt path).cut (take n bytes)
+  cut : (path : Option (List ℕ)) (bytes : List ℕ) → (OutputAt path).cut bytes
       → IsCut result files out err path bytes × (files.new.log ≡ log)
-  cut None bytes n ((took, risen), same) =
+  cut None bytes ((n, took, risen), same) =
       let (stands, stays) = kept same in
       (((risen, (n, took.0.appended)), stands), stays)
-  cut (Some at) bytes n (same_out, (calls, executed, (state, is))) =
+  cut (Some at) bytes (same_out, (n, calls, executed, (state, is))) =
       elim (left-at at (take n bytes) calls 1 state executed is) [
         | inl left ↦ ((same_out, inr (n, λ p. rw left.is refl)), rw left.is refl)
         | inr unbegun ↦
@@ -344,7 +341,7 @@ module _ (W : Type 0) (result : Status) (files : Change StoreState) (log : Optio
         )
     ends-run needed answers same (OutputFailed f) =
         let (all, taken) = read-all needed answers same f.input f.reads in
-        let (output, stays) = cut path f.bytes f.count f.output in (
+        let (output, stays) = cut path f.bytes f.output in (
           in_memory.EndsInMemory.OutputFailed (record {
             bytes = f.bytes;
             answer = sym all ∙ f.answer;

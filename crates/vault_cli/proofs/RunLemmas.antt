@@ -14,7 +14,8 @@ use Rattle.vault_cli.specs.runs.Answer.{input_limit, input_needed, input_needed_
 use Rattle.vault_cli.specs.runs.Answer.{prepared, ready_by, run_answer_within, task_limit}
 use Rattle.vault_cli.specs.runs.Writes.{Writes}
 use Rattle.vault_cli.specs.runs.Reports.{Reports, line_of}
-use Rattle.vault_cli.specs.runs.Run.{RunEnds, Reads, RunsRequest, to_sink}
+use Rattle.vault_cli.specs.runs.OutputEnd.{to_sink}
+use Rattle.vault_cli.specs.runs.Run.{RunEnds, Reads, RunsRequest}
 use Rattle.vault_cli.specs.runs.Run.RunEnds.{Succeeded, HasRefused, OutputFailed, InputFailed}
 use Rattle.vault_cli.specs.runs.Status.{status_of}
 use Rattle.vault_cli.specs.runs.Task.{Task, task_of}
@@ -57,14 +58,13 @@ module _ {S K E : Type 0} (src : SourceCall S) (out : SinkCall K) (err : SinkCal
         output = received;
         message = silent;
       })
-  ends-written needed answers input reads (Ok ready) alone is (inr (status, (n, cut), line)) =
+  ends-written needed answers input reads (Ok ready) alone is (inr (status, cut, line)) =
       OutputFailed (record {
         input = input;
         reads = reads;
         bytes = ready.output;
         answer = is;
         status = status;
-        count = n;
         output = cut;
         message = line;
       })
@@ -122,7 +122,7 @@ module _ {S K E : Type 0} (src : SourceCall S) (out : SinkCall K) (err : SinkCal
         → HasRisen (src.failures src.old) (src.failures src.new)
         ⊎ HasRisen (out.failures out.old) (out.failures out.new)
     device-failed (Ok ready) string prepares (inl (status, received, silent)) failed = absurd cc
-    device-failed (Ok ready) string prepares (inr (status, (n, (took, risen)), line)) failed =
+    device-failed (Ok ready) string prepares (inr (status, (n, took, risen), line)) failed =
         inr risen
     device-failed (Err fault) (Some string) (unread, is) (status, unwritten, line) failed =
         let refused : status_of fault ≡ Refused =

@@ -1,5 +1,5 @@
 -- How a run ends over one output, carried over to another.
-use Rattle.std.proofs.Common.{◌≡◌, ℕ, List, Option, Some, None, Result, take, ap, ◌∙◌, refl, sym}
+use Rattle.std.proofs.Common.{◌≡◌, ℕ, List, Option, Some, None, Result, ap, ◌∙◌, refl, sym}
 use Rattle.std.proofs.Common.{arith}
 use Rattle.vault_text.specs.declared.sink.Stage.TheVariants as stage
 use Rattle.vault_files.specs.Output.{FileOutputState, FileTakes, OutputState, stage_of}
@@ -10,7 +10,8 @@ use Rattle.vault_files.specs.declared.system.System.{Ghosts as SystemTerms}
 use Rattle.vault_fault.specs.declared.fault.Fault.{Fault}
 use Rattle.vault_cli.specs.Call.{FilesCall, SinkCall, SourceCall, sink, system}
 use Rattle.vault_cli.specs.Drive.{to_path}
-use Rattle.vault_cli.specs.runs.Run.{RunEnds, OutputEnd, to_sink}
+use Rattle.vault_cli.specs.runs.OutputEnd.{OutputEnd, to_sink}
+use Rattle.vault_cli.specs.runs.Run.{RunEnds}
 use Rattle.vault_cli.specs.runs.Run.RunEnds.{Succeeded, HasRefused, OutputFailed, InputFailed}
 use Rattle.vault_cli.specs.declared.runs.status.Status.{Status}
 
@@ -49,8 +50,7 @@ module _ {S E : Type 0} (src : SourceCall S) (err : SinkCall E) (result : Status
     bytes = f.bytes;
     answer = f.answer;
     status = f.status;
-    count = f.count;
-    output = carries.cut (take f.count f.bytes) f.output;
+    output = carries.cut f.bytes f.output;
     message = f.message;
   })
   ends-carried there here carries (InputFailed f) = InputFailed (record {
@@ -110,7 +110,7 @@ module _ {D R W S E : Type 0} (terms : SystemTerms D R W) (file left : FileOutpu
   pub ends-same : EndsInFile → left.system.ghost_name ≡ file.system.ghost_name
   ends-same (Succeeded s) = let (took, finished, unfailed) = s.output in took.same_reference
   ends-same (HasRefused r) = ap (λ (s : FileOutputState D). s.system.ghost_name) r.output
-  ends-same (OutputFailed f) = let (took, failed) = f.output in took.same_reference
+  ends-same (OutputFailed f) = let (count, took, failed) = f.output in took.same_reference
   ends-same (InputFailed f) = ap (λ (s : FileOutputState D). s.system.ghost_name) f.output
 
   -- what was written to it is in the file at its path
@@ -136,10 +136,11 @@ module _ {D R W S E : Type 0} (terms : SystemTerms D R W) (file left : FileOutpu
                 rw (chosen, none, end) at took.are_of_output,
               ),
             );
-        cut = λ bytes (took, risen).
+        cut = λ bytes (count, took, risen).
             let one : took.failed ≡ 1 = omega (arith, took.failures, fresh, risen) in (
               alone,
               (
+                count,
                 took.calls,
                 rw (is_old, is_new) at took.executed,
                 (left.output, rw (chosen, one) at took.are_of_output),

@@ -1,5 +1,5 @@
 -- How the program ends over its files and its standard streams.
-use Rattle.std.specs.Prelude.{◌≡◌, ℕ, List, [], Option, Some, None, Result, Ok, Err}
+use Rattle.std.specs.Prelude.{◌≡◌, ℕ, List, [], take, Option, Some, None, Result, Ok, Err}
 use Rattle.clap.specs.Words.{Kinds}
 use Rattle.vault_files.specs.File.{FileState, Found}
 use Rattle.vault_files.specs.Output.{OutputCalls, OutputState}
@@ -13,7 +13,8 @@ use Rattle.vault_cli.specs.Explained.{Declines, Explains}
 use Rattle.vault_cli.specs.OpenedPaths.{opened_paths}
 use Rattle.vault_cli.specs.Program.{Files, program, stdin_needed}
 use Rattle.vault_cli.specs.runs.FileContents.{AtPath, secret_paths}
-use Rattle.vault_cli.specs.runs.Run.{OutputEnd, RunEnds, to_sink}
+use Rattle.vault_cli.specs.runs.OutputEnd.{OutputEnd, to_sink}
+use Rattle.vault_cli.specs.runs.Run.{RunEnds}
 use Rattle.vault_request.specs.Request.{Request}
 use Rattle.vault_cli.specs.declared.runs.status.Status.{Status}
 
@@ -40,8 +41,10 @@ module _ {D R W K : Type 0} (since_opens : FilesCall D R W) (out : SinkCall K) w
         × ((calls : List SystemCall) × since_opens.executes since_opens.old calls since_opens.new
         × OutputCalls (Chosen path access) calls bytes 0 Finished);
     cut = λ bytes. (out.new ≡ out.old)
-        × ((calls : List SystemCall) × since_opens.executes since_opens.old calls since_opens.new
-        × ((state : OutputState) × OutputCalls (Chosen path access) calls bytes 1 state));
+        × ((count : ℕ) × (calls : List SystemCall)
+        × since_opens.executes since_opens.old calls since_opens.new
+        × ((state : OutputState)
+        × OutputCalls (Chosen path access) calls (take count bytes) 1 state));
   }
 
 module _ {D R W S K E : Type 0} (files : FilesCall D R W) (src : SourceCall S) (out : SinkCall K)

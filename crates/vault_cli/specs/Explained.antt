@@ -1,5 +1,5 @@
 -- How the program ends before it loads a file: one record for each way.
-use Rattle.std.specs.Prelude.{◌≡◌, ◌≢◌, ◌⊎◌, ℕ, false, List, All, take}
+use Rattle.std.specs.Prelude.{◌≡◌, ◌≢◌, ◌⊎◌, ℕ, false, List, All}
 use Rattle.std.specs.Prelude.{Option, Some, Result, Err}
 use Rattle.clap.specs.Words.{IsAmong, Kinds}
 use Rattle.clap.specs.declared.error.kind.ErrorKind.{ErrorKind}
@@ -11,7 +11,7 @@ use Rattle.vault_request.specs.Refusal.{is_control}
 use Rattle.vault_request.specs.Request.{Request}
 use Rattle.vault_cli.specs.Call.{SinkCall}
 use Rattle.vault_cli.specs.runs.Reports.{Reports, line_of}
-use Rattle.vault_cli.specs.runs.Run.{to_sink}
+use Rattle.vault_cli.specs.runs.OutputEnd.{to_sink}
 use Rattle.vault_cli.specs.runs.Status.{status_of}
 use Rattle.vault_cli.specs.declared.runs.status.Status.{Status}
 use Rattle.vault_cli.specs.declared.runs.status.Status.TheVariants.{DeviceFailed, OutOfMemory}
@@ -55,9 +55,8 @@ module _ {K E : Type 0} (out : SinkCall K) (err : SinkCall E) (result : Status)
     pub is_among : IsAmong kind kinds
     pub help : IsHelp kind
     pub text : List ℕ
-    pub count : ℕ
     pub status : result ≡ DeviceFailed
-    pub output : (to_sink out).cut (take count text)
+    pub output : (to_sink out).cut text
     pub message : Reports err (line_of Write)
 
   -- The arguments are wrong. A text on standard error says so, without control bytes except LF.

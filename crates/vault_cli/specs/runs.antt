@@ -1,6 +1,7 @@
 pub mod FileContents
 pub mod Answer
 pub mod Writes
+pub mod OutputEnd
 pub mod Reports
 pub mod Run
 pub mod Status

@@ -1,18 +1,17 @@
 //! Writing the program's own texts: help, a mistake, or why a run failed.
-ghost use Rattle.std.specs.Prelude.{◌≡◌, ℕ, take, OnOk};
-ghost use Rattle.vault_text.specs.Failures.{CountsFailure};
+ghost use Rattle.std.specs.Prelude.{◌≡◌, OnErr, OnOk};
+ghost use Rattle.vault_cli.specs.Call.{sink};
+ghost use Rattle.vault_cli.specs.runs.OutputEnd.{to_sink};
 
 use vault_text::{Sink, SinkFailed, Stage, put_all};
 
 /// Begins the sink, puts the text at once and finishes.
-pub(crate) fn write_text<K: Sink>(text: &[u8], sink: &mut K) -> Result<(), SinkFailed>
-    requires { K.stage sink.old ≡ Stage.Unbegun }
-    ensures text { OnOk result (K.takes sink.old text.now sink.new) }
-    ensures finished { OnOk result (K.stage sink.new ≡ Stage.Finished) }
-    ensures prefix { (n : ℕ) × K.takes sink.old (take n text.now) sink.new }
-    ensures failed { CountsFailure (K.failures sink.old) (K.failures sink.new) result }
+pub(crate) fn write_text<K: Sink>(text: &[u8], out: &mut K) -> Result<(), SinkFailed>
+    requires { K.stage out.old ≡ Stage.Unbegun }
+    ensures received { OnOk result ((to_sink (sink K.Sink out.old out.new)).received text.now) }
+    ensures cut { OnErr result ((to_sink (sink K.Sink out.old out.new)).cut text.now) }
 {
-    sink.begin()?;
-    put_all(sink, text)?;
-    sink.finish()
+    out.begin()?;
+    put_all(out, text)?;
+    out.finish()
 }

@@ -1,8 +1,7 @@
 -- How the run of a request ends: one record for each way.
-use Rattle.std.specs.Prelude.{◌≡◌, ◌≢◌, ◌⊎◌, ℕ, ◌≤◌, List, [], length, take, is_some, true}
+use Rattle.std.specs.Prelude.{◌≡◌, ◌≢◌, ◌⊎◌, ℕ, ◌≤◌, List, [], length, is_some, true}
 use Rattle.std.specs.Prelude.{Option, Some, None, Result, Ok, Err}
 use Rattle.vault_text.specs.Failures.{HasRisen, IsSaturated}
-use Rattle.vault_text.specs.declared.sink.Stage.TheVariants.{Finished}
 use Rattle.vault_core.specs.Input.{ReadsInput}
 use Rattle.vault_fault.specs.declared.fault.Fault.{Fault}
 use Rattle.vault_fault.specs.declared.fault.Fault.TheVariants.{Read, Write}
@@ -10,28 +9,12 @@ use Rattle.vault_fault.specs.declared.fault.Role.TheVariants.{Input}
 use Rattle.vault_request.specs.Request.{Request}
 use Rattle.vault_cli.specs.Call.{SinkCall, SourceCall}
 use Rattle.vault_cli.specs.runs.Answer.{input_needed, run_answer_within}
+use Rattle.vault_cli.specs.runs.OutputEnd.{OutputEnd, to_sink}
 use Rattle.vault_cli.specs.runs.Reports.{Reports, line_of}
 use Rattle.vault_cli.specs.runs.Status.{status_of}
 use Rattle.vault_cli.specs.declared.runs.status.Status.{Status}
 use Rattle.vault_cli.specs.declared.runs.status.Status.TheVariants.{DeviceFailed, OutOfMemory}
 use Rattle.vault_cli.specs.declared.runs.status.Status.TheVariants.{Success}
-
--- What happened to an output: it was left alone; it received these bytes and was finished; or it
--- took these bytes and failed.
-pub record OutputEnd : Type 1 where
-  pub untouched : Type 0
-  pub received : List ℕ → Type 0
-  pub cut : List ℕ → Type 0
-
--- what happened to a sink
-abbrev pub to_sink : {K : Type 0} → SinkCall K → OutputEnd
-to_sink out = record {
-  untouched = out.new ≡ out.old;
-  received = λ bytes. out.takes out.old bytes out.new × (out.stage out.new ≡ Finished)
-      × (out.failures out.new ≡ out.failures out.old);
-  cut = λ bytes.
-      out.takes out.old bytes out.new × HasRisen (out.failures out.old) (out.failures out.new);
-}
 
 -- This was read from a source. If nothing is needed from it, it was left alone.
 abbrev pub Reads : {S : Type 0} → SourceCall S → Option ℕ → List ℕ → Type 0
@@ -70,8 +53,7 @@ module _ {S E : Type 0} (src : SourceCall S) (out : OutputEnd) (err : SinkCall E
     pub bytes : List ℕ
     pub answer : answers input ≡ Ok bytes
     pub status : result ≡ DeviceFailed
-    pub count : ℕ
-    pub output : out.cut (take count bytes)
+    pub output : out.cut bytes
     pub message : Reports err (line_of Write)
 
   -- The source failed after it gave this much of the needed input; the output was left alone.

@@ -21,7 +21,8 @@ pub returns-in-Ok : goal.returns-in-Ok
 returns-in-Ok g c =
     let drives = drives-unsettled (system g.D.System c.args.sys.now c.args.sys.now)
     (source g.S.Source c.args.src.now c.args.src.now)
-    (sink g.K.Sink c.args.out.now c.args.out.now) _ _ refl refl c.in-Err-settle.fault
+    (sink g.K.Sink c.args.out.now c.args.out.now)
+    (sink g.E.Sink c.args.err.now c.report.new.err) _ refl refl c.in-Err-settle.fault
     c.report.ensures.status c.report.ensures.line refl
     (requested (subcommand_rows_of c.in-Ok.matches)) c.in-Ok.ensures.requested
     c.in-Err-settle.ensures in

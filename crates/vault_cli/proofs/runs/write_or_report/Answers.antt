@@ -7,6 +7,6 @@ returns-in-Err-write_to-clause-writes g c =
     let (n, took) = c.write_to.ensures.prefix in
     rw c.in-Ok.is (inr (
       c.report.ensures.status ∙ ap status_of c.from.ensures,
-      (n, (took, c.in-Err-write_to.ensures.failed)),
+      (n, took, c.in-Err-write_to.ensures.failed),
       rw c.from.ensures at c.report.ensures.line,
     ))
