@@ -2,8 +2,8 @@
 use Rattle.std.proofs.Common.{◌≡◌, ◌⊎◌, ◌≤◌, ◌<◌, ℕ, ◌+◌, inl, inr, List, [], ◌++◌}
 use Rattle.std.proofs.Common.{length, take, drop, Bool, true, false, Option, Some, None, IsTrue}
 use Rattle.std.proofs.Common.{◌≢◌, Result, Ok, Err, refl, sym, arith, ◌∙◌, append_assoc}
+use Rattle.std.proofs.Common.{zero-add}
 use Rattle.std.specs.Prelude.{IfSome}
-use Rattle.std.proofs.lemmas.Bool.{false≢true}
 use Rattle.std.proofs.lemmas.List.{append-nil, drop_all}
 use Rattle.std.proofs.Math.Seq.{drop-append_seam}
 use Rattle.clap.specs.Words.{Kinds}
@@ -19,11 +19,10 @@ use Rattle.vault_files.specs.Output.FailsToBegin.{to_create, to_restrict, to_tru
 use Rattle.vault_files.specs.Output.OutputCalls.{no_steps, steps}
 use Rattle.vault_files.specs.Output.OutputState.{Chosen, Begun, Finished}
 use Rattle.vault_files.specs.Output.OutputStep.{begins, writes, finishes}
-use Rattle.vault_files.specs.Output.OutputStep.{fails_to_begin, fails_to_write, writes_nothing}
-use Rattle.vault_files.specs.Output.OutputStep.{fails_to_finish}
+use Rattle.vault_files.specs.Output.OutputStep.{fails_to_begin, fails_to_write, fails_to_finish}
 use Rattle.vault_files.specs.declared.access.Access.{Access}
 use Rattle.vault_files.specs.declared.access.Access.TheVariants.{Kept, OwnerOnly}
-use Rattle.vault_files.specs.declared.memory.store.TheConstants.{PATH_LIMIT}
+use Rattle.vault_files.specs.declared.limits.TheConstants.{PATH_LIMIT}
 use Rattle.vault_files.specs.declared.system.System.{Ghosts as SystemTerms}
 use Rattle.vault_fault.specs.declared.fault.Fault.{Fault}
 use Rattle.vault_request.specs.Request.{Request}
@@ -71,24 +70,28 @@ reported err line (inr (count, took, risen)) = inr (risen, (count, took.0.append
 -- ---- the file that is created
 
 module _ (entries : List Entry) (log : Option LogState) (path : List ℕ) where
+  -- the files before it was created
+  abbrev uncreated : StoreState
+  uncreated = record { entries = entries; created = None; log = log }
+
   -- the files once this was written to it
-  abbrev written_at : List ℕ → Bool → StoreState
-  written_at held synced = record {
+  abbrev written_at : List ℕ → Bool → Bool → StoreState
+  written_at held synced cut = record {
     entries = entries;
-    created = Some (record { path = path; bytes = held; synced = synced });
+    created = Some (record { path = path; bytes = held; synced = synced; cut = cut });
     log = log;
   }
 
-  -- the files before it was written: it was not created, or is empty
-  abbrev early : Bool → StoreState
-  early false = record { entries = entries; created = None; log = log }
-  early true = written_at [] false
-
-  -- it holds these bytes, and was synced if its output is finished
-  record Left (t : OutputState) (bytes : List ℕ) (u : StoreState) : Type 0 where
+  -- it holds these bytes, was synced if its output is finished, and was cut if a use of its output
+  -- failed, or if it was cut before
+  record Left (was_cut : Bool) (t : OutputState) (bytes : List ℕ) (failed : ℕ) (u : StoreState)
+      : Type 0 where
     pub synced : Bool
-    pub is : u ≡ written_at bytes synced
+    pub cut : Bool
+    pub is : u ≡ written_at bytes synced cut
     pub whole : t ≡ Finished → synced ≡ true
+    pub cut_if_failed : (failed ≡ 0) ⊎ (cut ≡ true)
+    pub stays_cut : was_cut ≡ true → cut ≡ true
 
   -- an output that has begun, and one that was finished, whose file was synced
   abbrev IsWritten : OutputState → Bool → Type 0
@@ -103,103 +106,78 @@ module _ (entries : List Entry) (log : Option LogState) (path : List ℕ) where
   synced-whole Finished synced b is = b
 
   holds : (s t : OutputState) (calls : List SystemCall) (bytes held : List ℕ) (n : ℕ)
-      (synced : Bool) (u : StoreState) → OutputCalls s calls bytes n t → IsWritten s synced
-      → StoreExecutes (written_at held synced) calls u → Left t (held ++ bytes) u
-  holds s _ _ _ held _ synced u (no_steps _) b e =
-      record { synced = synced; is = rw (append-nil held) e; whole = synced-whole s synced b }
-  holds _ t _ _ held _ synced u (steps _ _ _ _ more _ ys _ n (writes some) p) b e =
-      rw (append_assoc held some ys) at
-      (holds Begun t more ys (held ++ some) n false u p tt e)
-  holds _ t _ _ held _ synced u (steps _ _ _ _ more _ ys _ n finishes p) b e =
-      holds Finished t more ys held n true u p refl e
-  holds _ t _ _ held _ synced u (steps _ _ _ _ more _ ys _ n fails_to_write p) b e =
-      rw (append-nil held) at (holds Begun t more ys (held ++ []) n false u p tt e)
-  holds _ t _ _ held _ synced u (steps _ _ _ _ more _ ys _ n writes_nothing p) b e =
-      rw (append-nil held) at (holds Begun t more ys (held ++ []) n false u p tt e)
-  holds _ t _ _ held _ synced u (steps _ _ _ _ more _ ys _ n fails_to_finish p) b e =
-      holds Begun t more ys held n true u p tt e
-  holds _ t _ _ held _ synced u (steps _ _ _ _ more _ ys _ n (begins at access) p) b e = absurd b
-  holds _ t _ _ held _ synced u (steps _ _ _ _ more _ ys _ n (fails_to_begin at access calls fails)
-      p) b e = absurd b
+      (synced cut : Bool) (u : StoreState) → OutputCalls s calls bytes n t → IsWritten s synced
+      → StoreExecutes (written_at held synced cut) calls u → Left cut t (held ++ bytes) n u
+  holds s _ _ _ held _ synced cut u (no_steps _) b e = record {
+    synced = synced;
+    cut = cut;
+    is = rw (append-nil held) e;
+    whole = synced-whole s synced b;
+    cut_if_failed = inl refl;
+    stays_cut = λ was. was;
+  }
+  holds _ t _ _ held _ synced cut u (steps _ _ _ _ more _ ys _ n (writes some) p) b e =
+      rw (zero-add n, ← append_assoc held some ys)
+      (holds Begun t more ys (held ++ some) n false cut u p tt e)
+  holds _ t _ _ held _ synced cut u (steps _ _ _ _ more _ ys _ n finishes p) b e =
+      rw (zero-add n) (holds Finished t more ys held n true cut u p refl e)
+  holds _ t _ _ held _ synced cut u (steps _ _ _ _ more _ ys _ n fails_to_write p) b e =
+      let left = holds Begun t more ys held n synced true u p tt e in
+      record {
+        synced = left.synced;
+        cut = left.cut;
+        is = left.is;
+        whole = left.whole;
+        cut_if_failed = inr (left.stays_cut refl);
+        stays_cut = λ was. left.stays_cut refl;
+      }
+  holds _ t _ _ held _ synced cut u (steps _ _ _ _ more _ ys _ n fails_to_finish p) b e = absurd e
+  holds _ t _ _ held _ synced cut u (steps _ _ _ _ more _ ys _ n (begins at access) p) b e =
+      absurd b
+  holds _ t _ _ held _ synced cut u (steps _ _ _ _ more _ ys _ n (fails_to_begin at access calls
+      fails) p) b e = absurd b
 
-  -- an output that has begun is empty
-  started : (access : Access) (b : Bool) (more : List SystemCall) (u : StoreState)
-      → StoreExecutes (early b) (beginning path access ++ more) u
-      → StoreExecutes (early true) more u
-  started Kept false more u (inl e) = e
-  started Kept true more u (inl e) = e
-  started Kept b more u (inr (fails, long, e)) = absurd fails
-  started OwnerOnly false more u (inl e) = e
-  started OwnerOnly true more u (inl e) = e
-  started OwnerOnly b more u (inr (fails, long, e)) = absurd fails
+  -- an output that has begun is empty, and its path is short enough
+  started : (access : Access) (more : List SystemCall) (u : StoreState)
+      → StoreExecutes uncreated (beginning path access ++ more) u
+      → (length path ≤ PATH_LIMIT) × StoreExecutes (written_at [] false false) more u
+  started Kept more u e = e
+  started OwnerOnly more u e = e
 
-  -- one that failed to begin is empty, too, or could not be created
+  -- one that failed to begin could not be created
   failed : (access : Access) (calls : List SystemCall) → FailsToBegin path access calls
-      → (b : Bool) (more : List SystemCall) (u : StoreState)
-      → StoreExecutes (early b) (calls ++ more) u
-      → StoreExecutes (early true) more u
-      ⊎ ((PATH_LIMIT < length path) × StoreExecutes (early b) more u)
-  failed access _ to_create false more u (inl e) = inl e
-  failed access _ to_create true more u (inl e) = inl e
-  failed access _ to_create b more u (inr (fails, long, e)) = inr (long, e)
-  failed Kept _ to_restrict false more u (inl e) = inl e
-  failed Kept _ to_restrict true more u (inl e) = inl e
-  failed Kept _ to_restrict b more u (inr (fails, long, e)) = inr (long, e)
-  failed OwnerOnly _ to_restrict false more u (inl e) = inl e
-  failed OwnerOnly _ to_restrict true more u (inl e) = inl e
-  failed OwnerOnly _ to_restrict b more u (inr (fails, long, e)) = absurd fails
-  failed Kept _ to_truncate false more u (inl e) = inl e
-  failed Kept _ to_truncate true more u (inl e) = inl e
-  failed Kept _ to_truncate b more u (inr (fails, long, e)) = absurd fails
-  failed OwnerOnly _ to_truncate false more u (inl e) = inl e
-  failed OwnerOnly _ to_truncate true more u (inl e) = inl e
-  failed OwnerOnly _ to_truncate b more u (inr (fails, long, e)) = absurd fails
+      → (more : List SystemCall) (u : StoreState) → StoreExecutes uncreated (calls ++ more) u
+      → (PATH_LIMIT < length path) × StoreExecutes uncreated more u
+  failed access _ to_create more u e = e
+  failed access _ (to_restrict owner) more u e = absurd e.1
+  failed Kept _ to_truncate more u e = absurd e.1
+  failed OwnerOnly _ to_truncate more u e = absurd e.1
 
-  -- an output that was not begun has left the file so: if it was not created, nothing failed, or
-  -- its path is too long
-  record Unbegun (b : Bool) (n : ℕ) (t : OutputState) (u : StoreState) : Type 0 where
-    pub created : Bool
-    pub is : u ≡ early created
+  -- an output that was not begun has left the files alone; if it failed, its path is too long
+  record Unbegun (n : ℕ) (t : OutputState) (u : StoreState) : Type 0 where
+    pub is : u ≡ uncreated
     pub unfinished : t ≢ Finished
-    pub unless_long : created ≡ false → ((b ≡ false) × (n ≡ 0)) ⊎ (PATH_LIMIT < length path)
+    pub long_if_failed : (n ≡ 0) ⊎ (PATH_LIMIT < length path)
 
   -- what an output leaves that was chosen
   outcome : (access : Access) (t : OutputState) (calls : List SystemCall) (bytes : List ℕ) (n : ℕ)
-      (b : Bool) (u : StoreState) → OutputCalls (Chosen path access) calls bytes n t
-      → StoreExecutes (early b) calls u → Left t bytes u ⊎ Unbegun b n t u
-  outcome access _ _ _ _ b u (no_steps _) e = inr (record {
-    created = b;
-    is = e;
-    unfinished = λ never. cc;
-    unless_long = λ none. inl (none, refl);
-  })
-  outcome access t _ _ _ b u (steps _ _ _ _ more _ ys _ n (begins _ _) p) e =
-      inl (holds Begun t more ys [] n false u p tt (started access b more u e))
-  outcome access t _ _ _ b u (steps _ _ _ _ more _ ys _ n (fails_to_begin _ _ calls fails) p) e =
-      elim (failed access calls fails b more u e) [
-        | inl rest ↦
-            elim (outcome access t more ys n true u p rest) [
-              | inl left ↦ inl left
-              | inr early ↦ inr (record {
-                created = early.created;
-                is = early.is;
-                unfinished = early.unfinished;
-                unless_long = λ none. elim (early.unless_long none) [
-                  | inl (never, zero) ↦ absurd (false≢true (sym never))
-                  | inr long ↦ inr long
-                ];
-              })
-            ]
-        | inr (long, rest) ↦
-            elim (outcome access t more ys n b u p rest) [
-              | inl left ↦ inl left
-              | inr early ↦ inr (record {
-                created = early.created;
-                is = early.is;
-                unfinished = early.unfinished;
-                unless_long = λ none. inr long;
-              })
-            ]
+      (u : StoreState) → OutputCalls (Chosen path access) calls bytes n t
+      → StoreExecutes uncreated calls u
+      → ((length path ≤ PATH_LIMIT) × Left false t bytes n u) ⊎ Unbegun n t u
+  outcome access _ _ _ _ u (no_steps _) e =
+      inr (record { is = e; unfinished = λ never. cc; long_if_failed = inl refl })
+  outcome access t _ _ _ u (steps _ _ _ _ more _ ys _ n (begins _ _) p) e =
+      let (fits, executed) = started access more u e in
+      inl (fits, rw (zero-add n) (holds Begun t more ys [] n false false u p tt executed))
+  outcome access t _ _ _ u (steps _ _ _ _ more _ ys _ n (fails_to_begin _ _ calls fails) p) e =
+      let (long, rest) = failed access calls fails more u e in
+      elim (outcome access t more ys n u p rest) [
+        | inl (fits, left) ↦ absurd (omega (arith, fits, long))
+        | inr unbegun ↦ inr (record {
+          is = unbegun.is;
+          unfinished = unbegun.unfinished;
+          long_if_failed = inr long;
+        })
       ]
 
 -- what is left after an input that reaches to the end of a text, or to one byte past a limit
@@ -211,11 +189,10 @@ taken-left text input left limit ended e fits last (inl end) =
 taken-left text input left limit ended e fits last (inr exact) =
     rw (e, ← exact) (sym (drop-append_seam input left))
 
--- where a call failed and the file was not created, its path is too long
-long-path : (at : List ℕ) (failed : ℕ) → failed ≡ 1
-    → ((false ≡ false) × (failed ≡ 0)) ⊎ (PATH_LIMIT < length at) → PATH_LIMIT < length at
-long-path at failed one (inl (is, zero)) = absurd (omega (arith, one, zero))
-long-path at failed one (inr long) = long
+-- what holds if a use failed, where one did
+after-failure : {P : Type 0} (failed : ℕ) → failed ≡ 1 → (failed ≡ 0) ⊎ P → P
+after-failure failed one (inl none) = absurd (omega (arith, one, none))
+after-failure failed one (inr so) = so
 
 module _ (W : Type 0) (result : Status) (files : Change StoreState) (log : Option LogState)
     (out err : Change MemSinkState) (none : files.old.created ≡ None) (access : Access) where
@@ -241,12 +218,11 @@ module _ (W : Type 0) (result : Status) (files : Change StoreState) (log : Optio
   -- what the file at a path is after these calls of its output
   left-at : (at bytes : List ℕ) (calls : List SystemCall) (n : ℕ) (t : OutputState)
       → StoreExecutes opened calls files.new → OutputCalls (Chosen at access) calls bytes n t
-      → Left files.old.entries log at t bytes files.new
-      ⊎ Unbegun files.old.entries log at false n t files.new
+      → ((length at ≤ PATH_LIMIT) × Left files.old.entries log at false t bytes n files.new)
+      ⊎ Unbegun files.old.entries log at n t files.new
   left-at at bytes calls n t executed is =
-      let fresh : opened ≡ early files.old.entries log at false = rw none refl in
-      outcome files.old.entries log at access t calls bytes n false files.new is
-      (rw fresh at executed)
+      let fresh : opened ≡ uncreated files.old.entries log at = rw none refl in
+      outcome files.old.entries log at access t calls bytes n files.new is (rw fresh at executed)
 
   -- the answer is there whole
   received : (path : Option (List ℕ)) (bytes : List ℕ) → (OutputAt path).received bytes
@@ -258,18 +234,12 @@ module _ (W : Type 0) (result : Status) (files : Change StoreState) (log : Optio
       (stands, tt, (took.0.appended, finished), stays)
   received (Some at) bytes (same_out, (calls, executed, is)) =
       elim (left-at at bytes calls 0 Finished executed is) [
-        | inl left ↦
+        | inl (fits, left) ↦
             (λ p. rw left.is refl, rw left.is (left.whole refl), same_out, rw left.is refl)
         | inr unbegun ↦ absurd (unbegun.unfinished refl)
       ]
 
   -- or its first bytes
-  cut-early : (at bytes : List ℕ) (c : Bool) → files.new ≡ early files.old.entries log at c
-      → (c ≡ false → PATH_LIMIT < length at)
-      → in_memory.IsCutAt result files out err at bytes × (files.new.log ≡ log)
-  cut-early at bytes false is long = (inl (long refl, λ p. rw is refl), rw is refl)
-  cut-early at bytes true is long = (inr (0, λ p. rw is refl), rw is refl)
-
   cut : (path : Option (List ℕ)) (bytes : List ℕ) → (OutputAt path).cut bytes
       → IsCut result files out err path bytes × (files.new.log ≡ log)
   cut None bytes ((n, took, risen), same) =
@@ -277,12 +247,12 @@ module _ (W : Type 0) (result : Status) (files : Change StoreState) (log : Optio
       (((risen, (n, took.0.appended)), stands), stays)
   cut (Some at) bytes (same_out, (n, calls, executed, (state, is))) =
       elim (left-at at (take n bytes) calls 1 state executed is) [
-        | inl left ↦ ((same_out, inr (n, λ p. rw left.is refl)), rw left.is refl)
+        | inl (fits, left) ↦
+            let is_cut = after-failure 1 refl left.cut_if_failed in
+            ((same_out, inr (rw left.is is_cut, (n, λ p. rw left.is refl))), rw left.is refl)
         | inr unbegun ↦
-            let long = λ (none : unbegun.created ≡ false).
-            long-path at 1 refl (unbegun.unless_long none) in
-            let (is_cut, stays) = cut-early at bytes unbegun.created unbegun.is long in
-            ((same_out, is_cut), stays)
+            let long = after-failure 1 refl unbegun.long_if_failed in
+            ((same_out, inl (long, λ p. rw unbegun.is refl)), rw unbegun.is refl)
       ]
 
   module _ (path : Option (List ℕ)) (src : Change MemSourceState)

@@ -11,7 +11,7 @@ use Rattle.vault_text.specs.declared.sink.Stage.TheVariants.{Finished}
 use Rattle.vault_files.specs.File.{FileState}
 use Rattle.vault_files.specs.File.FileState.{Whole}
 use Rattle.vault_files.specs.Memory.{Created, StoreState, file_at, stands_at}
-use Rattle.vault_files.specs.declared.memory.store.TheConstants.{PATH_LIMIT}
+use Rattle.vault_files.specs.declared.limits.TheConstants.{PATH_LIMIT}
 use Rattle.vault_fault.specs.declared.fault.Fault.{Fault}
 use Rattle.vault_fault.specs.declared.fault.Fault.TheVariants.{Memory, Write}
 use Rattle.vault_request.specs.Request.{Request}
@@ -84,6 +84,11 @@ abbrev pub IsSynced : Option Created → Type 0
 IsSynced None = ⊥
 IsSynced (Some file) = file.synced ≡ true
 
+-- a file was created, and a write to it failed
+abbrev pub HasFailedWrite : Option Created → Type 0
+HasFailedWrite None = ⊥
+HasFailedWrite (Some file) = file.cut ≡ true
+
 module _ (result : Status) (files : Change StoreState) (out err : Change MemSinkState) where
   -- this is at each path
   abbrev pub Stands : (List ℕ → FileState) → Type 0
@@ -93,11 +98,12 @@ module _ (result : Status) (files : Change StoreState) (out err : Change MemSink
   abbrev pub IsKept : Type 0
   IsKept = Stands (file_at files.old.entries)
 
-  -- the first bytes of a file were written, or it was not created, because its path is too long
+  -- a file was not created, because its path is too long, or a write failed, and only the first
+  -- bytes were written
   abbrev pub IsCutAt : List ℕ → List ℕ → Type 0
   IsCutAt path bytes = ((PATH_LIMIT < length path) × IsKept)
-      ⊎ ((count : ℕ)
-      × Stands (stands_after (file_at files.old.entries) (Some path) (take count bytes)))
+      ⊎ (HasFailedWrite files.new.created × ((count : ℕ)
+      × Stands (stands_after (file_at files.old.entries) (Some path) (take count bytes))))
 
   -- the first bytes of the output were written
   abbrev pub IsCut : Option (List ℕ) → List ℕ → Type 0

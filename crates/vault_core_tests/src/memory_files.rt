@@ -2,7 +2,7 @@
 use crate::prefixes::assert_reads;
 use std::process::Abort;
 use std::test::Fail;
-use vault_files::{Access, FileFault, FileOutput, MemFile, MemFiles, PATH_LIMIT};
+use vault_files::{Access, FileFault, FileOutput, MemFile, MemFiles};
 use vault_text::{Sink, SinkFailed, put_all};
 
 #[test]
@@ -49,23 +49,6 @@ fn keeps_what_is_written(rt: HostRuntime) -> Result<(), Fail> {
     assert_content(&rt, &files, "one", Some(b"new"));
     assert_content(&rt, &files, "two", Some(b"de"));
     assert_content(&rt, &files, "none", None);
-    Ok(())
-}
-
-/// A file can be created at the longest path, but not at a longer one.
-#[test]
-fn creates_at_paths_up_to_a_limit(rt: HostRuntime) -> Result<(), Fail> {
-    let alloc = rt.alloc();
-    let mut path = String::new(alloc);
-    for _ in 0..PATH_LIMIT {
-        path.push('x')?;
-    }
-    let mut files = MemFiles::new(alloc, &[]);
-    write_new(&mut files, path.as_str())?;
-    assert_content(&rt, &files, path.as_str(), Some(b"new"));
-    path.push('x')?;
-    assert!(rt; write_new(&mut files, path.as_str()).is_err());
-    assert_content(&rt, &files, path.as_str(), None);
     Ok(())
 }
 

@@ -6,7 +6,7 @@ use Rattle.std.specs.Result.{is_ok}
 use Rattle.std.proofs.lemmas.Bool.{cases_lt, false≢true}
 use Rattle.std.proofs.lemmas.List.{append-nil}
 use Rattle.vault_text.specs.Failures.{HasRisen, IsSaturated, u64_max}
-use Rattle.vault_files.specs.System.{OpenCalls, SystemCall, if_failed}
+use Rattle.vault_files.specs.System.{OpenCalls, SystemCall, called}
 use Rattle.vault_files.specs.System.OpenCalls.{no_opens, opens, fails_to_open}
 use Rattle.vault_files.specs.System.SystemCall.{Open, Failed}
 use Rattle.vault_files.specs.Output.{FileOutputState, FileTakes, OutputCalls, OutputStep}
@@ -29,15 +29,15 @@ rises before after unstopped risen =
 
 -- one open, whatever it returned
 pub one_open : {T E : Type 0} (path : List ℕ) (r : Result T E)
-    → OpenCalls (path ∷ []) (Open path ∷ if_failed r)
+    → OpenCalls (path ∷ []) (called (Open path) r ∷ [])
 one_open path (Ok value) = opens path [] [] no_opens
 one_open path (Err error) = fails_to_open path [] [] no_opens
 
--- what comes after a call, by whether it returned Ok
-pub if_failed-is : {T E : Type 0} (r : Result T E)
-    → if_failed r ≡ (if is_ok r then [] else Failed ∷ [])
-if_failed-is (Ok value) = refl
-if_failed-is (Err error) = refl
+-- a call, by whether it returned Ok
+pub called-is : {T E : Type 0} (call : SystemCall) (r : Result T E)
+    → called call r ≡ (if is_ok r then call else Failed call)
+called-is call (Ok value) = refl
+called-is call (Err error) = refl
 
 -- one use of an output
 pub takes_by : {System : Type 0} (executes : System → List SystemCall → System → Type 0)

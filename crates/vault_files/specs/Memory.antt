@@ -1,5 +1,5 @@
 -- Files in memory.
-use Rattle.std.specs.Prelude.{◌≡◌, ◌⊎◌, ℕ, ◌<◌, ◌≤◌, Bool, if◌then◌else◌}
+use Rattle.std.specs.Prelude.{◌≡◌, ℕ, ◌<◌, ◌≤◌, Bool, if◌then◌else◌}
 use Rattle.std.specs.Prelude.{true, false, IsTrue, List, [], ◌∷◌, ◌++◌, length}
 use Rattle.std.specs.Prelude.{Option, Some, None}
 use Rattle.std.specs.Option.{option_map}
@@ -10,7 +10,7 @@ use Rattle.vault_files.specs.System.SystemCall.{Write, Sync, Failed}
 use Rattle.vault_files.specs.File.{FileState}
 use Rattle.vault_files.specs.File.FileState.{Missing, Whole, Broken}
 use Rattle.vault_files.specs.PathLog.{LogState, logged}
-use Rattle.vault_files.specs.declared.memory.store.TheConstants.{PATH_LIMIT}
+use Rattle.vault_files.specs.declared.limits.TheConstants.{PATH_LIMIT}
 
 -- a file in memory, under its path
 pub record Entry : Type 0 where
@@ -58,11 +58,13 @@ pub record Reads (old : ReaderState) (given : List ℕ) (new : ReaderState) : Ty
   pub break_is_real : old.failures < new.failures → IsAtBreak new
   pub failures_monotone : old.failures ≤ new.failures
 
--- a file that was created, and whether it was synced since it was last written
+-- a file that was created, whether it was synced since it was last written, and whether a write to
+-- it failed
 pub record Created : Type 0 where
   pub path : List ℕ
   pub bytes : List ℕ
   pub synced : Bool
+  pub cut : Bool
 
 -- files in memory, the one that was created last, and the log of the paths that were opened, if a
 -- log is kept and has room for all of them
@@ -75,45 +77,48 @@ pub record StoreState : Type 0 where
 abbrev pub new_store : List Entry → StoreState
 new_store entries = record { entries = entries; created = None; log = None }
 
--- the file that was created, after a call
+-- the files after a path was opened
+abbrev pub with_opened : List ℕ → StoreState → StoreState
+with_opened path s = record s { log = logged s.log (path ∷ []) }
+
+-- the files after an empty file was created
+abbrev pub with_created : List ℕ → StoreState → StoreState
+with_created path s =
+    record s { created = Some (record { path = path; bytes = []; synced = false; cut = false }) }
+
+-- the files after a call on the file that was created
 abbrev pub with_file : (Created → Created) → StoreState → StoreState
 with_file change s = record s { created = option_map change s.created }
 
--- the store after an empty file was created
-abbrev pub with_created : List ℕ → StoreState → StoreState
-with_created path s =
-    record s { created = Some (record { path = path; bytes = []; synced = false }) }
-
--- that file after it was truncated to zero bytes, took bytes, or was synced
+-- that file after it was truncated to zero bytes, took bytes, could not take bytes, or was synced
 abbrev pub emptied : Created → Created
 emptied file = record file { bytes = []; synced = false }
 
 abbrev pub with_bytes : List ℕ → Created → Created
 with_bytes bytes file = record file { bytes = file.bytes ++ bytes; synced = false }
 
+abbrev pub with_cut : Created → Created
+with_cut file = record file { cut = true }
+
 abbrev pub with_sync : Created → Created
 with_sync file = record file { synced = true }
 
--- the call before these failed
-abbrev pub HasFailed : List SystemCall → Type 0
-HasFailed (Failed ∷ calls) = Unit {0}
-HasFailed _ = ⊥
-
--- between two states these calls were made on the files, in this order. A file whose path is too
--- long was not created
+-- Between two states these calls were made on the files, in this order. Only three kinds of calls
+-- fail: an open, the creation of a file whose path is too long, and a write, for want of memory.
 abbrev pub StoreExecutes : StoreState → List SystemCall → StoreState → Type 0
 StoreExecutes s [] t = t ≡ s
-StoreExecutes s (Open path ∷ calls) t =
-    StoreExecutes (record s { log = logged s.log (path ∷ []) }) calls t
+StoreExecutes s (Open path ∷ calls) t = StoreExecutes (with_opened path s) calls t
 StoreExecutes s (Create path ∷ calls) t =
-    StoreExecutes (with_created path s) calls t
-    ⊎ (HasFailed calls × (PATH_LIMIT < length path) × StoreExecutes s calls t)
+    (length path ≤ PATH_LIMIT) × StoreExecutes (with_created path s) calls t
 StoreExecutes s (ChmodOwnerOnly ∷ calls) t = StoreExecutes s calls t
 StoreExecutes s (Truncate ∷ calls) t = StoreExecutes (with_file emptied s) calls t
-StoreExecutes s (Write bytes ∷ calls) t =
-    StoreExecutes (with_file (with_bytes bytes) s) calls t
+StoreExecutes s (Write bytes ∷ calls) t = StoreExecutes (with_file (with_bytes bytes) s) calls t
 StoreExecutes s (Sync ∷ calls) t = StoreExecutes (with_file with_sync s) calls t
-StoreExecutes s (Failed ∷ calls) t = StoreExecutes s calls t
+StoreExecutes s (Failed (Open path) ∷ calls) t = StoreExecutes (with_opened path s) calls t
+StoreExecutes s (Failed (Create path) ∷ calls) t =
+    (PATH_LIMIT < length path) × StoreExecutes s calls t
+StoreExecutes s (Failed (Write []) ∷ calls) t = StoreExecutes (with_file with_cut s) calls t
+StoreExecutes s (Failed call ∷ calls) t = ⊥
 
 -- what is at a path: the file that was created there, or else the one that was there before
 abbrev pub stands_over : Option Created → FileState → List ℕ → FileState

@@ -13,8 +13,8 @@ use Rattle.vault_files.specs.System.SystemCall.{Write, Sync, Failed}
 use Rattle.vault_files.specs.File.{FileState, prefix}
 use Rattle.vault_files.specs.File.FileState.{Missing, Whole, Broken}
 use Rattle.vault_files.specs.Memory.{IsAtBreak, IsAtEnd, IsReaderOf, ReaderState, Reads}
-use Rattle.vault_files.specs.Memory.{HasFailed, StoreExecutes, StoreState, emptied, new_reader}
-use Rattle.vault_files.specs.Memory.{with_bytes, with_created, with_file, with_sync}
+use Rattle.vault_files.specs.Memory.{StoreExecutes, StoreState, emptied, new_reader, with_bytes}
+use Rattle.vault_files.specs.Memory.{with_created, with_cut, with_file, with_opened, with_sync}
 use Rattle.vault_files.specs.PathLog.{logged}
 use Rattle.vault_files.specs.declared.fault.FileFault.TheVariants.{CannotRead}
 
@@ -107,32 +107,29 @@ break-given (Broken bytes) r t xs n e g short risen =
     let test : nat_lt (length bytes) n ≡ true = search (rules, tests, count) in
     rw test refl
 
--- calls that begin with a failure still do when others follow
-HasFailed-more : (xs ys : List SystemCall) → HasFailed xs → HasFailed (xs ++ ys)
-HasFailed-more [] ys h = absurd h
-HasFailed-more (Failed ∷ xs) ys h = tt
-HasFailed-more (Open path ∷ xs) ys h = absurd h
-HasFailed-more (Create path ∷ xs) ys h = absurd h
-HasFailed-more (ChmodOwnerOnly ∷ xs) ys h = absurd h
-HasFailed-more (Truncate ∷ xs) ys h = absurd h
-HasFailed-more (Write bytes ∷ xs) ys h = absurd h
-HasFailed-more (Sync ∷ xs) ys h = absurd h
-
 executes-append : (xs ys : List SystemCall) (t u s : StoreState)
     → StoreExecutes s xs t → StoreExecutes t ys u → StoreExecutes s (xs ++ ys) u
 executes-append [] ys t u s p q = rw p at q
 executes-append (Open path ∷ xs) ys t u s p q =
-    executes-append xs ys t u (record s { log = logged s.log (path ∷ []) }) p q
-executes-append (Create path ∷ xs) ys t u s (inl p) q =
-    inl (executes-append xs ys t u (with_created path s) p q)
-executes-append (Create path ∷ xs) ys t u s (inr (fails, long, p)) q =
-    inr (HasFailed-more xs ys fails, long, executes-append xs ys t u s p q)
+    executes-append xs ys t u (with_opened path s) p q
+executes-append (Create path ∷ xs) ys t u s (fits, p) q =
+    (fits, executes-append xs ys t u (with_created path s) p q)
 executes-append (ChmodOwnerOnly ∷ xs) ys t u s p q = executes-append xs ys t u s p q
 executes-append (Truncate ∷ xs) ys t u s p q = executes-append xs ys t u (with_file emptied s) p q
 executes-append (Write bytes ∷ xs) ys t u s p q =
     executes-append xs ys t u (with_file (with_bytes bytes) s) p q
 executes-append (Sync ∷ xs) ys t u s p q = executes-append xs ys t u (with_file with_sync s) p q
-executes-append (Failed ∷ xs) ys t u s p q = executes-append xs ys t u s p q
+executes-append (Failed (Open path) ∷ xs) ys t u s p q =
+    executes-append xs ys t u (with_opened path s) p q
+executes-append (Failed (Create path) ∷ xs) ys t u s (long, p) q =
+    (long, executes-append xs ys t u s p q)
+executes-append (Failed (Write []) ∷ xs) ys t u s p q =
+    executes-append xs ys t u (with_file with_cut s) p q
+executes-append (Failed (Write (byte ∷ bytes)) ∷ xs) ys t u s p q = absurd p
+executes-append (Failed ChmodOwnerOnly ∷ xs) ys t u s p q = absurd p
+executes-append (Failed Truncate ∷ xs) ys t u s p q = absurd p
+executes-append (Failed Sync ∷ xs) ys t u s p q = absurd p
+executes-append (Failed (Failed call) ∷ xs) ys t u s p q = absurd p
 
 pub StoreExecutes-more : (s t u : StoreState) (xs ys : List SystemCall)
     → StoreExecutes s xs t → StoreExecutes t ys u → StoreExecutes s (xs ++ ys) u
@@ -144,9 +141,9 @@ pub opens-logged : (s t : StoreState) (paths : List (List ℕ)) (calls : List Sy
     → t ≡ record s { log = logged s.log paths }
 opens-logged s t _ _ no_opens p = p
 opens-logged s t _ _ (opens path paths calls rest) p =
-    opens-logged (record s { log = logged s.log (path ∷ []) }) t paths calls rest p
+    opens-logged (with_opened path s) t paths calls rest p
 opens-logged s t _ _ (fails_to_open path paths calls rest) p =
-    opens-logged (record s { log = logged s.log (path ∷ []) }) t paths calls rest p
+    opens-logged (with_opened path s) t paths calls rest p
 
 -- so they do not change the files
 pub opens-entries : (s t : StoreState) (paths : List (List ℕ)) (calls : List SystemCall)

@@ -47,10 +47,11 @@ beginning path access = Create path ∷ restricting access ++ Truncate ∷ []
 
 -- the calls that begin an output, up to one that fails
 pub data FailsToBegin (path : List ℕ) (access : Access) : List SystemCall → Type 0 where
-  to_create : FailsToBegin path access (Create path ∷ Failed ∷ [])
-  to_restrict : FailsToBegin path access (Create path ∷ restricting access ++ Failed ∷ [])
+  to_create : FailsToBegin path access (Failed (Create path) ∷ [])
+  to_restrict : access ≡ OwnerOnly
+      → FailsToBegin path access (Create path ∷ Failed ChmodOwnerOnly ∷ [])
   to_truncate :
-      FailsToBegin path access (Create path ∷ restricting access ++ Truncate ∷ Failed ∷ [])
+      FailsToBegin path access (Create path ∷ restricting access ++ Failed Truncate ∷ [])
 
 -- one use of an output, which brings it from one state to another: the system calls that it makes,
 -- the bytes that it takes, and 1 if it fails
@@ -62,9 +63,8 @@ pub data OutputStep : OutputState → List SystemCall → List ℕ → ℕ → O
   fails_to_begin : (path : List ℕ) (access : Access) (calls : List SystemCall)
       → FailsToBegin path access calls
       → OutputStep (Chosen path access) calls [] 1 (Chosen path access)
-  fails_to_write : OutputStep Begun (Write [] ∷ Failed ∷ []) [] 1 Begun
-  writes_nothing : OutputStep Begun (Write [] ∷ []) [] 1 Begun
-  fails_to_finish : OutputStep Begun (Sync ∷ Failed ∷ []) [] 1 Begun
+  fails_to_write : OutputStep Begun (Failed (Write []) ∷ []) [] 1 Begun
+  fails_to_finish : OutputStep Begun (Failed Sync ∷ []) [] 1 Begun
 
 -- the same for any number of uses, one after the other, and how many of them failed
 pub data OutputCalls : OutputState → List SystemCall → List ℕ → ℕ → OutputState → Type 0 where

@@ -14,13 +14,13 @@ pub data SystemCall : Type 0 where
   Write : List ℕ → SystemCall
   -- the bytes it took are synced to its device
   Sync : SystemCall
-  -- the call before this one failed
-  Failed : SystemCall
+  -- this call failed
+  Failed : SystemCall → SystemCall
 
--- what follows a call with this result
-abbrev pub if_failed : {T E : Type 0} → Result T E → List SystemCall
-if_failed (Ok value) = []
-if_failed (Err error) = Failed ∷ []
+-- a call with this result
+abbrev pub called : {T E : Type 0} → SystemCall → Result T E → SystemCall
+called call (Ok value) = call
+called call (Err error) = Failed call
 
 -- the calls that open these paths, in this order, each of which may fail
 pub data OpenCalls : List (List ℕ) → List SystemCall → Type 0 where
@@ -28,7 +28,7 @@ pub data OpenCalls : List (List ℕ) → List SystemCall → Type 0 where
   opens : (path : List ℕ) (paths : List (List ℕ)) (calls : List SystemCall)
       → OpenCalls paths calls → OpenCalls (path ∷ paths) (Open path ∷ calls)
   fails_to_open : (path : List ℕ) (paths : List (List ℕ)) (calls : List SystemCall)
-      → OpenCalls paths calls → OpenCalls (path ∷ paths) (Open path ∷ Failed ∷ calls)
+      → OpenCalls paths calls → OpenCalls (path ∷ paths) (Failed (Open path) ∷ calls)
 
 -- between two states a system was asked to open these paths, in this order, and nothing else
 pub record Opens {System : Type 0} (executes : System → List SystemCall → System → Type 0)

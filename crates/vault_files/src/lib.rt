@@ -14,12 +14,15 @@
 
 mod access;
 mod fault;
+pub mod laws;
+mod limits;
 mod memory;
 mod output;
 mod system;
 
 pub use access::Access;
 pub use fault::FileFault;
-pub use memory::{MemFile, MemFileReader, MemFiles, MemWriter, PATH_LIMIT};
+pub use limits::PATH_LIMIT;
+pub use memory::{MemFile, MemFileReader, MemFiles, MemWriter};
 pub use output::FileOutput;
 pub use system::{System, open, read_prefix};

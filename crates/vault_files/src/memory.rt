@@ -4,4 +4,4 @@ mod path_log;
 mod store;
 
 pub use file::{MemFile, MemFileReader};
-pub use store::{MemFiles, MemWriter, PATH_LIMIT};
+pub use store::{MemFiles, MemWriter};

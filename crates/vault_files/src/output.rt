@@ -1,6 +1,8 @@
 //! Output that goes to a file of a system.
-ghost use Rattle.std.specs.Prelude.{◌≡◌, ◌++◌, List, MatchResult};
-ghost use Rattle.vault_files.specs.System.{SystemCall, if_failed};
+ghost use Rattle.std.specs.Prelude.{◌≡◌, List, [], ◌∷◌, MatchResult};
+ghost use Rattle.vault_files.specs.declared.access.Access.TheVariants.{OwnerOnly};
+ghost use Rattle.vault_files.specs.System.{SystemCall};
+ghost use Rattle.vault_files.specs.System.SystemCall.{ChmodOwnerOnly, Failed};
 ghost use Rattle.vault_files.specs.Output.{FailsToBegin, beginning, restricting};
 ghost use Rattle.vault_files.specs.Output.OutputState.{Chosen};
 
@@ -72,7 +74,10 @@ impl<'a, D: System> FileOutput<'a, D> {
 
 /// Restricts an open output to its owner, unless its permissions are kept.
 fn restrict<D: System>(system: &mut D, file: &D::Writer, access: Access) -> io::Result<()>
-    ensures { D.executes system.old (restricting access ++ if_failed result) system.new }
+    ensures { MatchResult result
+        (λ _. D.executes system.old (restricting access) system.new)
+        (λ error. (access ≡ OwnerOnly)
+        × D.executes system.old (Failed ChmodOwnerOnly ∷ []) system.new) }
 {
     match access {
         Access::Kept => Ok(()),
@@ -129,8 +134,8 @@ impl<'a, D: System> Sink for FileOutput<'a, D> {
             unreachable!()
         };
         match self.system.write(file, bytes) {
-            Ok(n) if n > 0 => Ok(n),
-            _ => self.failures.fail(SinkFailed),
+            Ok(n) => Ok(n),
+            Err(_) => self.failures.fail(SinkFailed),
         }
     }
 

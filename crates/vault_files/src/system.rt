@@ -5,7 +5,7 @@ ghost use Rattle.vault_text.specs.Failures.{HasRisen};
 ghost use Rattle.vault_text.specs.Sink.{taken};
 ghost use Rattle.vault_files.specs.File.{Answers, FileState};
 ghost use Rattle.vault_files.specs.File.FileState.{Missing};
-ghost use Rattle.vault_files.specs.System.{OpenCalls, Opens, SystemCall, if_failed};
+ghost use Rattle.vault_files.specs.System.{OpenCalls, Opens, SystemCall, called};
 ghost use Rattle.vault_files.specs.System.SystemCall.{Open, Create, ChmodOwnerOnly, Truncate};
 ghost use Rattle.vault_files.specs.System.SystemCall.{Write, Sync};
 ghost use Rattle.vault_files.specs.declared.fault.FileFault.TheVariants.{CannotOpen, CannotRead};
@@ -34,32 +34,34 @@ pub trait System {
 
     /// Opens a file for reading.
     fn open(&mut self, path: &str) -> io::Result<Self::Reader>
-        ensures executes { executes self.old (Open path.now ∷ if_failed result) self.new }
+        ensures executes { executes self.old (called (Open path.now) result ∷ []) self.new }
         ensures reader { IfOk result (λ reader. reader_at self.old path.now reader) }
         ensures missing { IfErr result (λ _. finds self.old path.now Missing) };
 
     /// Opens a file for writing, as it is. If there is none, it is created for its owner only, less
     /// the umask.
     fn create(&mut self, path: &str) -> io::Result<Self::Writer>
-        ensures { executes self.old (Create path.now ∷ if_failed result) self.new };
+        ensures { executes self.old (called (Create path.now) result ∷ []) self.new };
 
     /// Makes a regular file readable and writable by its owner only.
     fn chmod_owner_only(&mut self, file: &Self::Writer) -> io::Result<()>
-        ensures { executes self.old (ChmodOwnerOnly ∷ if_failed result) self.new };
+        ensures { executes self.old (called ChmodOwnerOnly result ∷ []) self.new };
 
     /// Truncates a regular file to zero bytes.
     fn truncate(&mut self, file: &Self::Writer) -> io::Result<()>
-        ensures { executes self.old (Truncate ∷ if_failed result) self.new };
+        ensures { executes self.old (called Truncate result ∷ []) self.new };
 
-    /// Writes a prefix of the bytes and returns its length.
+    /// Writes a prefix of the bytes and returns its length, which is not 0 if there are any bytes. A
+    /// failed call writes none.
     fn write(&mut self, file: &mut Self::Writer, bytes: &[u8]) -> io::Result<usize>
-        ensures executes { executes self.old (Write (taken result bytes.now) ∷ if_failed result)
-            self.new }
+        ensures executes { executes self.old
+            (called (Write (taken result bytes.now)) result ∷ []) self.new }
+        ensures progress { 0 < length bytes.now → IfOk result (λ n. 1 ≤ n) }
         ensures bound { IfOk result (λ n. n ≤ length bytes.now) };
 
     /// Syncs the bytes written to the file's device, if the device can be synced.
     fn sync(&mut self, file: &Self::Writer) -> io::Result<()>
-        ensures { executes self.old (Sync ∷ if_failed result) self.new };
+        ensures { executes self.old (called Sync result ∷ []) self.new };
 
     ghost executes_none: { (s : Self) → executes s [] s };
 

@@ -1,15 +1,14 @@
 //! Files in memory.
-ghost use Rattle.std.specs.Prelude.{◌≡◌, ◌<◌, ◌∷◌, Some, MatchOption, OnOk, OnErr, length, map};
+ghost use Rattle.std.specs.Prelude.{◌≡◌, Some, MatchOption, OnOk, OnErr, map};
 ghost use Rattle.std.specs.Option.{option_map};
 ghost use Rattle.std.specs.String.{string_bytes};
 ghost use Rattle.vault_files.specs.File.FileState.{Missing};
-ghost use Rattle.vault_files.specs.Memory.{StoreExecutes, bytes_of, file_at, new_store, stands_at};
+ghost use Rattle.vault_files.specs.Memory.{bytes_of, file_at, new_store, stands_at};
 ghost use Rattle.vault_files.specs.PathLog.{new_log};
-ghost use Rattle.vault_files.specs.System.{if_failed};
-ghost use Rattle.vault_files.specs.System.SystemCall.{Create};
 
 use super::file::{MemFile, MemFileReader};
 use super::path_log::PathLog;
+use crate::limits::PATH_LIMIT;
 use crate::system::System;
 use arrayvec::ArrayString;
 use std::alloc::{AllocError, Global};
@@ -17,15 +16,13 @@ use std::io;
 use std::io::ErrorKind;
 use std::marker::Model;
 
-/// The length of the longest path at which a file can be created in memory, as on Linux.
-pub const PATH_LIMIT: usize = 4_095;
-
-/// A file that was created.
+/// A file that was created. Only contracts use `synced` and `cut`.
 #[derive(Drop)]
 struct Created {
     path: ArrayString<PATH_LIMIT>,
     bytes: Vec<u8>,
     synced: bool,
+    cut: bool,
 }
 
 impl Model for Created {
@@ -37,6 +34,7 @@ impl Model for Created {
       path = f.path.bytes;
       bytes = f.bytes.items;
       synced = f.synced;
+      cut = f.cut;
     } };
 }
 
@@ -171,10 +169,7 @@ impl<'a> System for MemFiles<'a> {
         }
     }
 
-    fn create(&mut self, path: &str) -> io::Result<MemWriter>
-        ensures executes { StoreExecutes self.old (Create path.now ∷ if_failed result) self.new }
-        ensures only_long { OnErr result (PATH_LIMIT < length path.now) }
-    {
+    fn create(&mut self, path: &str) -> io::Result<MemWriter> {
         let Ok(path) = ArrayString::from(path) else {
             return Err(ErrorKind::InvalidInput.into());
         };
@@ -182,6 +177,7 @@ impl<'a> System for MemFiles<'a> {
             path,
             bytes: Vec::new(self.alloc),
             synced: false,
+            cut: false,
         });
         Ok(MemWriter)
     }
@@ -202,10 +198,15 @@ impl<'a> System for MemFiles<'a> {
         let Some(file) = &mut self.created else {
             return Err(ErrorKind::Other.into());
         };
-        file.synced = false;
         match file.bytes.extend_from_slice(bytes) {
-            Ok(()) => Ok(bytes.len()),
-            Err(_) => Err(ErrorKind::OutOfMemory.into()),
+            Ok(()) => {
+                file.synced = false;
+                Ok(bytes.len())
+            }
+            Err(_) => {
+                file.cut = true;
+                Err(ErrorKind::OutOfMemory.into())
+            }
         }
     }
 

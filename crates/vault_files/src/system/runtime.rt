@@ -68,7 +68,10 @@ impl<R: Files> System for &R {
     }
 
     fn write(&mut self, file: &mut R::File, bytes: &[u8]) -> io::Result<usize> {
-        file.write(bytes)
+        match file.write(bytes) {
+            Ok(0) => Err(ErrorKind::WriteZero.into()),
+            written => written,
+        }
     }
 
     fn sync(&mut self, file: &R::File) -> io::Result<()> {
