@@ -1,6 +1,6 @@
 //! The system calls that files make.
 ghost use Rattle.std.specs.Prelude.{◌≡◌, ℕ, ◌<◌, ◌≤◌, ◌⊎◌, List, [], ◌∷◌, ◌++◌, length, take};
-ghost use Rattle.std.specs.Prelude.{IsTrue, Ok, Err, IfOk, IfErr};
+ghost use Rattle.std.specs.Prelude.{IsTrue, Ok, Err, IfOk, IfErr, false};
 ghost use Rattle.vault_text.specs.Failures.{HasRisen};
 ghost use Rattle.vault_text.specs.Sink.{taken};
 ghost use Rattle.vault_files.specs.File.{Answers, FileState};
@@ -32,10 +32,12 @@ pub trait System {
     // Opening the path gives this reader.
     ghost reader_at: { Self → List ℕ → Self.Reader → Type 0 };
 
-    /// Opens a file for reading.
+    /// Opens a file for reading. Nothing has been read from it yet.
     fn open(&mut self, path: &str) -> io::Result<Self::Reader>
         ensures executes { executes self.old (called (Open path.now) result ∷ []) self.new }
         ensures reader { IfOk result (λ reader. reader_at self.old path.now reader) }
+        ensures unended { IfOk result (λ reader. Self.Reader.ended reader ≡ false) }
+        ensures unfailed { IfOk result (λ reader. Self.Reader.failures reader ≡ 0) }
         ensures missing { IfErr result (λ _. finds self.old path.now Missing) };
 
     /// Opens a file for writing, as it is. If there is none, it is created for its owner only, less
