@@ -29,8 +29,8 @@ fn block(keyed: &Hmac, salt: &[u8], rounds: u32, index: u32) -> [u8; DIGEST_LEN]
 
 /// Fills `out` with the bytes of the blocks from the index `first` on. `keyed` has the password and
 /// no message. `rounds` must be at least 1; `first` may be up to 1,024, as may the length of `out`.
-// The only caller of `block`: in this loop, LLVM inlines what a round calls. Calling `block` outside
-// a loop made a derivation 3.5% slower.
+// The only caller of `block`: in this loop, LLVM inlines what a round calls. Calling `block`
+// outside a loop made a derivation 3.5% slower.
 pub(crate) fn fill_from(keyed: &Hmac, salt: &[u8], rounds: u32, first: u32, out: &mut [u8])
     requires rounds { 1 ≤ rounds }
     requires first { first ≤ 1024 }
