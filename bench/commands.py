@@ -57,6 +57,7 @@ TABLE = {
     "view, 1 MiB": "`view`, 1 MiB",
     "view, 16 MiB": "`view`, 16 MiB",
     "encrypt, 1 MiB": "`encrypt`, 1 MiB",
+    "view, 1 KiB, the tenth password fits": "`view`, 1 KiB, nine wrong passwords and the right one",
 }
 TIMES = {CLOCK: "the clock", PROCESSOR: "processor time"}
 
@@ -77,9 +78,9 @@ class Rows:
         right = self.file("right", RIGHT + b"\n")
         self.new = self.file("new", b"the new one\n")
         self.alone = ["--vault-password-file", right]
-        wrong = [self.file(f"wrong{index}", b"wrong password %d\n" % index) for index in range(15)]
+        wrong = [self.file(f"wrong{index}", b"wrong password %d\n" % index) for index in range(9)]
         ids = [word for index, path in enumerate(wrong) for word in ("--vault-id", f"w{index}@{path}")]
-        self.last = [*ids, "--vault-id", f"right@{right}"]
+        self.tenth = [*ids, "--vault-id", f"right@{right}"]
 
     def file(self, name: str, content: bytes) -> str:
         (self.folder / name).write_bytes(content)
@@ -142,9 +143,8 @@ class Rows:
         makers: dict[str, Callable[[], Row]] = {}
         for name, size in sizes.items():
             makers[f"view, {name}"] = partial(self.view, name, size, self.alone)
-        makers["view, 1 KiB, the last of 16 secrets"] = partial(
-            self.view, "1 KiB, the last of 16 secrets", 1 << 10, self.last
-        )
+        tenth = "1 KiB, the tenth password fits"
+        makers[f"view, {tenth}"] = partial(self.view, tenth, 1 << 10, self.tenth)
         for kind, make in (("view FILE", self.view_file), ("encrypt", self.encrypt), ("rekey", self.rekey)):
             for name, size in sizes.items():
                 makers[f"{kind}, {name}"] = partial(make, name, size)

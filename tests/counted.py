@@ -32,7 +32,9 @@ TABLE = ROOT / "tests" / "counts.toml"
 SPEED = ROOT / "docs" / "speed.md"
 SIZES = {"1 KiB": 1 << 10, "1 MiB": 1 << 20, "16 MiB": 1 << 24}
 REFUSED = "view, refused as too long"
-RUNS = [*(f"{command}, {size}" for size in SIZES for command in COMMANDS), REFUSED]
+# How many wrong passwords are tried before the right one.
+WRONG = {"view, 1 KiB, one wrong password": 1, "view, 1 KiB, nine wrong passwords": 9}
+RUNS = [*(f"{command}, {size}" for size in SIZES for command in COMMANDS), *WRONG, REFUSED]
 # How far a count may differ from the table: by this fraction, or by how much the start of a process varies.
 TOLERANCE, SLACK = 0.01, 20_000
 
@@ -48,9 +50,10 @@ def run_of(cases: Cases, name: str) -> tuple[list[str], bytes, Done]:
         text = header + repeated(b"3" * 80 + b"\n", ENVELOPE_LIMIT + 1 - len(header))
         wanted = Done(Fault.TOO_LONG.status, b"", Fault.TOO_LONG.line)
         return ["view", *by_file(cases.file(b"right\n"))], text, wanted
-    command, _, size = name.partition(", ")
+    command, size, *_ = name.split(", ")
     sample = sample_of(cases, command, repeated(b"secret: value\n", SIZES[size]))
-    return sample.words, sample.stdin, Done(0, sample.output, b"")
+    wrong = by_file(cases.file(b"wrong\n")) * WRONG.get(name, 0)
+    return [command, *wrong, *sample.words[1:]], sample.stdin, Done(0, sample.output, b"")
 
 
 def of_each(cases: Cases) -> dict[str, Parts]:

@@ -1,7 +1,5 @@
-"""Count the keys that a run derives by its instructions under Valgrind: one derivation for the secret that matches, a
-third of one for each other secret that it tries, and one for each envelope that it writes.
-
-Nothing else in a run costs as much: reading the other password files is far below one derivation.
+"""Count the blocks of PBKDF2 that a run computes, by its SHA-256 compressions under Valgrind: three for the secret that
+matches, one for each other secret that it tries, and three for each envelope that it writes.
 """
 
 from collections.abc import Callable
@@ -9,7 +7,7 @@ from collections.abc import Callable
 import pytest
 
 from lib.cases import TEXT, Cases, by_file, by_id
-from lib.counts import count_instructions
+from lib.counts import PARTS, count_calls
 from lib.needs import needs
 from lib.samples import SALT_TEXT, SALT_WORDS
 from model.faults import Fault
@@ -17,16 +15,16 @@ from model.vaults import parts, seal, serialized
 
 pytestmark = pytest.mark.valgrind
 
-# Ten thousand rounds, each of six compressions with 64 steps, take more instructions than this.
-LEAST_DERIVATION = 10_000 * 6 * 64 * 10
-# What everything else in a run may cost, in derivations.
+# The compressions of a block: two in each of 10,000 rounds.
+BLOCK = 20_000
+# What every other compression in a run may add up to, in blocks.
 TOLERANCE = 0.02
 MOST_SECRETS = 16
-# What a secret that does not match costs: the key of the tag.
-WRONG = 1 / 3
+# The blocks of a vault's keys, and of the key of its tag alone.
+KEYS, TAG = 3, 1
 
-# The words, standard input and number of derivations of a run, and its status and output.
-Run = tuple[list[str], bytes, float, tuple[int, bytes]]
+# The words, standard input and number of blocks of a run, and its status and output.
+Run = tuple[list[str], bytes, int, tuple[int, bytes]]
 
 
 def runs(cases: Cases) -> dict[str, Run]:
@@ -43,28 +41,23 @@ def runs(cases: Cases) -> dict[str, Run]:
     third = [*others(2), *by_id(right, "x"), *others(1)]
     return {
         "no vault": (["view", *by_file(right), *others(most)], b"", 0, no_vault),
-        "one secret": (["view", *by_id(right)], vault, 1, (0, TEXT)),
-        "the last has the label": (["decrypt", *others(most), *by_id(right)], vault, 1, (0, TEXT)),
-        "the third of four fits": (["view", *third], vault, 1 + 2 * WRONG, (0, TEXT)),
-        "none fits": (["view", *others(MOST_SECRETS)], vault, MOST_SECRETS * WRONG, refused),
+        "one secret": (["view", *by_id(right)], vault, KEYS, (0, TEXT)),
+        "the last has the label": (["decrypt", *others(most), *by_id(right)], vault, KEYS, (0, TEXT)),
+        "the third of four fits": (["view", *third], vault, 2 * TAG + KEYS, (0, TEXT)),
+        "none fits": (["view", *others(MOST_SECRETS)], vault, MOST_SECRETS * TAG, refused),
         "none may be tried": (["view", "--require-id-match", *others(most)], vault, 0, refused),
-        "a wrong padding": (["view", *by_id(right), *others(most)], unpadded, 1, bad_padding),
-        "a choice of all": (["encrypt", *others(most), *by_id(right, "dev"), *chosen], TEXT, 1, (0, sealed)),
-        "another secret": (["rekey", *by_id(right), *others(most), *to_new], vault, 2, (0, rekeyed)),
+        "a wrong padding": (["view", *by_id(right), *others(most)], unpadded, KEYS, bad_padding),
+        "a choice of all": (["encrypt", *others(most), *by_id(right, "dev"), *chosen], TEXT, KEYS, (0, sealed)),
+        "another secret": (["rekey", *by_id(right), *others(most), *to_new], vault, 2 * KEYS, (0, rekeyed)),
     }
 
 
 def test_derivations(cases: Cases) -> None:
     needs("valgrind")
-    every, instructions = runs(cases), {}
+    every, found = runs(cases), {}
     for name, (words, stdin, _, answer) in every.items():
-        done, functions = count_instructions([cases.program, *words], stdin)
+        done, calls = count_calls([cases.program, *words], stdin)
         assert (done.status, done.output) == answer, name
-        instructions[name] = functions.total()
-    # Two runs give the cost of a start and of one derivation.
-    base = instructions["no vault"]
-    one = instructions["one secret"] - base
-    assert one > LEAST_DERIVATION, f"a derivation takes {one} instructions"
-    found = {name: (count - base) / one for name, count in instructions.items()}
-    assert found == pytest.approx({name: wanted for name, (_, _, wanted, _) in every.items()}, abs=TOLERANCE)
-    assert found != pytest.approx({name: wanted + WRONG for name, (_, _, wanted, _) in every.items()}, abs=TOLERANCE)
+        found[name] = sum(count for called, count in calls.items() if called.startswith(PARTS["SHA-256"])) / BLOCK
+    assert found == pytest.approx({name: blocks for name, (_, _, blocks, _) in every.items()}, abs=TOLERANCE)
+    assert found != pytest.approx({name: blocks + 1 for name, (_, _, blocks, _) in every.items()}, abs=TOLERANCE)

@@ -9,6 +9,8 @@ import re
 import sys
 import tempfile
 from collections import Counter
+from collections.abc import Callable
+from functools import partial
 from pathlib import Path
 from typing import Any, NamedTuple
 
@@ -68,13 +70,25 @@ def functions_of(profile: Path) -> Counter[str]:
     return counts
 
 
-def count_instructions(command: list[str], stdin: bytes) -> tuple[Done, Counter[str]]:
+def calls_of(profile: Path) -> Counter[str]:
+    """Count the calls of each function."""
+    counts: Counter[str] = Counter()
+    for name, count in re.findall(r"^cfn=(.*)\ncalls=(\d+) ", profile.read_text(errors="replace"), re.MULTILINE):
+        counts[name] += int(count)
+    return counts
+
+
+def counted(read: Callable[[Path], Counter[str]], command: list[str], stdin: bytes) -> tuple[Done, Counter[str]]:
     with tempfile.TemporaryDirectory() as folder:
         profile = Path(folder) / "profile"
         options = ["--compress-strings=no", "--compress-pos=no", f"--callgrind-out-file={profile}"]
         log = [f"--log-file={folder}/log"]
         done = run(["valgrind", "--tool=callgrind", *options, *log, *command], stdin, env=ENVIRONMENT)
-        return done, functions_of(profile)
+        return done, read(profile)
+
+
+count_instructions = partial(counted, functions_of)
+count_calls = partial(counted, calls_of)
 
 
 def parts_of(functions: Counter[str]) -> dict[str, int]:

@@ -3,7 +3,7 @@ ghost use Rattle.std.specs.Prelude.{◌≤◌};
 
 use std::process::Abort;
 use std::test::Fail;
-use vault_kdf::{Hmac, Keys, Meter, derive, hmac, pbkdf2};
+use vault_kdf::{Derivation, Hmac, Keys, Meter, derive, hmac, pbkdf2};
 
 /// Asserts that the message has this tag, given whole and one byte at a time.
 fn assert_tag(rt: &impl Abort, key: &[u8], message: &[u8], tag: [u8; 32]) {
@@ -262,13 +262,16 @@ fn keys_of_a_vault(rt: HostRuntime) {
     assert_eq!(rt; meter.count(), 2);
 }
 
-/// The three keys are one output of PBKDF2, of 80 bytes, cut after bytes 32 and 64.
+/// The three keys are one output of PBKDF2, of 80 bytes, cut after bytes 32 and 64. The key of the
+/// tag is there before the others.
 #[test]
 fn keys_are_cut_from_one_output(rt: HostRuntime) -> Result<(), Fail> {
     for (password, salt) in [(b"secret".as_slice(), b"salt".as_slice()), (b"", &[0; 32])] {
         let mut out = [0; 80];
         pbkdf2(password, salt, 10_000, &mut out);
-        let Keys { cipher, mac, iv } = derive(password, salt, &mut Meter::new());
+        let derivation = Derivation::begin(password, salt, &mut Meter::new());
+        assert_eq!(rt; derivation.mac().as_slice(), &out[32..64]);
+        let Keys { cipher, mac, iv } = derivation.finish();
         let mut joined = Vec::from_slice(rt.alloc(), &cipher)?;
         joined.extend_from_slice(&mac)?;
         joined.extend_from_slice(&iv)?;
