@@ -29,13 +29,13 @@ use Rattle.vault_cli.specs.runs.FileContents.{secret_paths}
 use Rattle.vault_cli.specs.runs.Reports.{Reports, line_of}
 use Rattle.vault_cli.specs.runs.OutputEnd.{OutputEnd}
 use Rattle.vault_cli.specs.runs.Run.{InputFails, Reads, RunEnds}
-use Rattle.vault_cli.specs.runs.Run.RunEnds.{Succeeded, HasRefused, OutputFailed, InputFailed}
+use Rattle.vault_cli.specs.runs.Run.RunEnds.{HasRefused}
 use Rattle.vault_cli.specs.runs.Status.{status_of}
 use Rattle.vault_cli.specs.runs.Task.{Task, task_of}
 use Rattle.vault_cli.specs.declared.runs.status.Status.{Status}
 use Rattle.vault_cli.specs.declared.runs.status.Status.TheVariants.{DeviceFailed, OutOfMemory}
 use Rattle.vault_cli.specs.declared.runs.status.Status.TheVariants.{ParseFault, Refused, Success}
-use Rattle.vault_cli.proofs.RunOutputLemmas.{path-alone}
+use Rattle.vault_cli.proofs.RunOutputLemmas.{EndsLike, carries-same, input-or-read, path-alone}
 use Rattle.vault_cli.proofs.OpenedPathsLemmas.{opened_paths-found}
 use Rattle.vault_cli.proofs.ProgramLemmas.{opening, task-found}
 
@@ -157,53 +157,13 @@ module _ {D R W S K E : Type 0} (files : FilesCall D R W) (src : SourceCall S) (
         (none : reader.gives reader.old [] reader.old)
         (prefix_law : PrefixLaw (files.finds files.old) reads reader)
         (break_law : BreakLaw (files.finds files.old) reads reader) where
-      -- it was read so far, or it failed
+      -- it failed, or it was read so far, and standard input was left alone
       kept-ends : (needed : Option ℕ) (answers : List ℕ → Result (List ℕ) Fault)
           → RunEnds reader SentTo err result needed answers
           → InputFails reader SentTo err result needed answers
           ⊎ ((input : List ℕ) × Reads reader needed input
-          × RunEnds src SentTo err result None (λ stdin. answers input))
-      kept-ends needed answers (Succeeded s) = inr (
-        s.input,
-        s.reads,
-        Succeeded (record {
-          input = [];
-          reads = (kept, refl);
-          bytes = s.bytes;
-          answer = s.answer;
-          status = s.status;
-          output = s.output;
-          message = s.message;
-        }),
-      )
-      kept-ends needed answers (HasRefused r) = inr (
-        r.input,
-        r.reads,
-        HasRefused (record {
-          input = [];
-          reads = (kept, refl);
-          fault = r.fault;
-          answer = r.answer;
-          status = r.status;
-          memory_suffices = r.memory_suffices;
-          output = r.output;
-          message = r.message;
-        }),
-      )
-      kept-ends needed answers (OutputFailed f) = inr (
-        f.input,
-        f.reads,
-        OutputFailed (record {
-          input = [];
-          reads = (kept, refl);
-          bytes = f.bytes;
-          answer = f.answer;
-          status = f.status;
-          output = f.output;
-          message = f.message;
-        }),
-      )
-      kept-ends needed answers (InputFailed f) = inl f
+          × EndsLike reader src err result SentTo SentTo (carries-same SentTo) needed answers input)
+      kept-ends = input-or-read reader src err result SentTo SentTo (carries-same SentTo)
 
       -- where it was not asked for, it was opened
       unread-ends : (answer : Result (List ℕ) Fault)
@@ -217,7 +177,8 @@ module _ {D R W S K E : Type 0} (files : FilesCall D R W) (src : SourceCall S) (
           refl) request.input at in
           elim (kept-ends None (λ input. answer) ends) [
             | inl f ↦ let never = f.is_needed in absurd cc
-            | inr (input, unread, done) ↦ (file, seen, opens, done)
+            | inr (input, unread, like) ↦
+                (file, seen, opens, like None (λ stdin. answer) [] (kept, refl) refl)
           ]
 
       -- the answer to what the file gives
@@ -254,12 +215,12 @@ module _ {D R W S K E : Type 0} (files : FilesCall D R W) (src : SourceCall S) (
                     message = f.message;
                   })),
                 )
-            | inr (input, read, done) ↦
+            | inr (input, read, like) ↦
                 let (file, seen, opens, same) = input-found (files.finds files.old) reads reader
                 (limit + 1) (Ok input) (λ missing. cc)
                 (λ path at. prefix_law path reader.old reader.new input (limit + 1) at read.gives
                 read.bounded read.whole read.unfailed) request.input at in
-                (file, seen, opens, rw same done)
+                (file, seen, opens, like None _ [] (kept, refl) (rw same refl))
           ]
 
       pub drives-file : SentFrom reader → RequestDrives (Some (Ok request))

@@ -3,11 +3,9 @@ use Rattle.std.proofs.Common.{◌≡◌, ◌⊎◌, ◌≤◌, ◌<◌, ℕ, ◌
 use Rattle.std.proofs.Common.{length, take, drop, Bool, true, false, Option, Some, None, IsTrue}
 use Rattle.std.proofs.Common.{◌≢◌, Result, Ok, Err, refl, sym, arith, ◌∙◌, append_assoc}
 use Rattle.std.proofs.Common.{zero-add}
-use Rattle.std.specs.Prelude.{IfSome}
 use Rattle.std.proofs.lemmas.List.{append-nil, drop_all}
 use Rattle.std.proofs.Math.Seq.{drop-append_seam}
 use Rattle.clap.specs.Words.{Kinds}
-use Rattle.vault_text.specs.Sink.{MemSinkState, MemoryTakes}
 use Rattle.vault_text.specs.Source.{MemSourceState, MemoryGives}
 use Rattle.vault_files.specs.Memory.{Entry, IsReaderOf, ReaderState, StoreExecutes, StoreState}
 use Rattle.vault_files.specs.Memory.{file_at}
@@ -23,49 +21,34 @@ use Rattle.vault_files.specs.Output.OutputStep.{fails_to_begin, fails_to_write, 
 use Rattle.vault_files.specs.declared.access.Access.{Access}
 use Rattle.vault_files.specs.declared.access.Access.TheVariants.{Kept, OwnerOnly}
 use Rattle.vault_files.specs.declared.limits.TheConstants.{PATH_LIMIT}
-use Rattle.vault_files.specs.declared.system.System.{Ghosts as SystemTerms}
 use Rattle.vault_fault.specs.declared.fault.Fault.{Fault}
 use Rattle.vault_request.specs.Request.{Request}
 use Rattle.vault_cli.specs.Access.{output_access}
-use Rattle.vault_cli.specs.Call.{SinkCall, SourceCall, sink, source, system}
+use Rattle.vault_cli.specs.Call.{FilesCall, SinkCall, SourceCall, source, system}
 use Rattle.vault_cli.specs.Drive.{Ends, to_path}
 use Rattle.vault_cli.specs.Drive.Ends.{Declined, Ran, Stopped}
 use Rattle.vault_cli.specs.Explained.Explains.{MemoryLacked, HelpShown, HelpFailed, Rejected}
 use Rattle.vault_cli.specs.OpenedPaths.{opened_paths}
-use Rattle.vault_cli.specs.Program.{program, stdin_needed}
-use Rattle.vault_cli.specs.InMemory as in_memory
-use Rattle.vault_cli.specs.InMemory.{Change, EndsInMemory, Holds, HoldsPrefix, IsCut, IsKept}
-use Rattle.vault_cli.specs.InMemory.{IsSynced, Received, Stands, Taken, found_in, stands_after}
-use Rattle.vault_cli.specs.runs.Reports.{Reports}
+use Rattle.vault_cli.specs.InMemory.{IsKept, RunsInMemory, Taken, files_at, to_memory}
 use Rattle.vault_cli.specs.runs.OutputEnd.{OutputEnd}
 use Rattle.vault_cli.specs.runs.Run.{Reads, RunEnds}
 use Rattle.vault_cli.specs.runs.Run.RunEnds.{Succeeded, HasRefused, OutputFailed, InputFailed}
 use Rattle.vault_cli.specs.declared.runs.status.Status.{Status}
 use Rattle.vault_cli.specs.declared.runs.status.Status.TheVariants.{OutOfMemory}
+use Rattle.vault_cli.proofs.RunOutputLemmas.{input-or-read}
 use Rattle.vault_cli.proofs.ProgramLemmas.{IsOfPrefix, answer-prefix, at-paths}
 
--- calls over a store, a source and a sink in memory
-abbrev pub memory_terms : {W : Type 0} → SystemTerms StoreState ReaderState W
-memory_terms = record {
+-- calls over files and a source in memory
+abbrev pub memory_files : {W : Type 0} → StoreState → StoreState → FilesCall StoreState ReaderState W
+memory_files old new = system (record {
   executes = StoreExecutes;
   finds = λ s path file. file ≡ file_at s.entries path;
   reader_at = λ s path reader. IsReaderOf (file_at s.entries path) reader;
-}
+}) old new
 
-abbrev pub memory_source : Change MemSourceState → SourceCall MemSourceState
-memory_source src =
-    source (record { gives = MemoryGives; ended = λ s. s.ended; failures = λ _. 0 }) src.old src.new
-
-abbrev pub memory_sink : Change MemSinkState → SinkCall MemSinkState
-memory_sink out =
-    sink (record { takes = MemoryTakes; stage = λ s. s.stage; failures = λ s. s.failures }) out.old
-    out.new
-
--- a line is held, or a prefix of it where the sink failed
-reported : (err : Change MemSinkState) (line : List ℕ) → Reports (memory_sink err) line
-    → Holds err line ⊎ HoldsPrefix err line
-reported err line (inl (took, finished, unfailed)) = inl (took.0.appended, finished)
-reported err line (inr (count, took, risen)) = inr (risen, (count, took.0.appended))
+abbrev pub memory_source : MemSourceState → MemSourceState → SourceCall MemSourceState
+memory_source old new =
+    source (record { gives = MemoryGives; ended = λ s. s.ended; failures = λ _. 0 }) old new
 
 -- ---- the file that is created
 
@@ -194,57 +177,52 @@ after-failure : {P : Type 0} (failed : ℕ) → failed ≡ 1 → (failed ≡ 0) 
 after-failure failed one (inl none) = absurd (omega (arith, one, none))
 after-failure failed one (inr so) = so
 
-module _ (W : Type 0) (result : Status) (files : Change StoreState) (log : Option LogState)
-    (out err : Change MemSinkState) (none : files.old.created ≡ None) (access : Access) where
+module _ (W : Type 0) (old new : StoreState) (log : Option LogState) {K : Type 0}
+    (out : SinkCall K) (none : old.created ≡ None) (access : Access) where
+  abbrev files : FilesCall StoreState ReaderState W
+  files = memory_files old new
+
   -- the files after the opens
   abbrev opened : StoreState
-  opened = record files.old { log = log }
+  opened = record old { log = log }
 
   abbrev OutputAt : Option (List ℕ) → OutputEnd
-  OutputAt path =
-      to_path (system (memory_terms {W = W}) opened files.new) (memory_sink out) path access
+  OutputAt path = to_path (memory_files {W = W} opened new) out path access
 
-  kept : files.new ≡ opened → IsKept result files out err × (files.new.log ≡ log)
+  kept : new ≡ opened → IsKept files × (new.log ≡ log)
   kept same = (λ p. rw (same, none), rw same)
 
   -- nothing was written
   untouched : (path : Option (List ℕ)) → (OutputAt path).untouched
-      → (out.new ≡ out.old) × IsKept result files out err × (files.new.log ≡ log)
-  untouched None (same_out, same) =
-      let (stands, stays) = kept same in (same_out, stands, stays)
+      → (to_memory files out path).untouched × (new.log ≡ log)
+  untouched None (same_out, same) = let (stands, stays) = kept same in ((same_out, stands), stays)
   untouched (Some at) (same_out, same) =
-      let (stands, stays) = kept same in (same_out, stands, stays)
+      let (stands, stays) = kept same in ((same_out, stands), stays)
 
   -- what the file at a path is after these calls of its output
   left-at : (at bytes : List ℕ) (calls : List SystemCall) (n : ℕ) (t : OutputState)
-      → StoreExecutes opened calls files.new → OutputCalls (Chosen at access) calls bytes n t
-      → ((length at ≤ PATH_LIMIT) × Left files.old.entries log at false t bytes n files.new)
-      ⊎ Unbegun files.old.entries log at n t files.new
+      → StoreExecutes opened calls new → OutputCalls (Chosen at access) calls bytes n t
+      → ((length at ≤ PATH_LIMIT) × Left old.entries log at false t bytes n new)
+      ⊎ Unbegun old.entries log at n t new
   left-at at bytes calls n t executed is =
-      let fresh : opened ≡ uncreated files.old.entries log at = rw none refl in
-      outcome files.old.entries log at access t calls bytes n files.new is (rw fresh at executed)
+      let fresh : opened ≡ uncreated old.entries log at = rw none refl in
+      outcome old.entries log at access t calls bytes n new is (rw fresh at executed)
 
   -- the answer is there whole
   received : (path : Option (List ℕ)) (bytes : List ℕ) → (OutputAt path).received bytes
-      → Stands result files out err (stands_after (file_at files.old.entries) path bytes)
-      × IfSome path (λ at. IsSynced files.new.created) × Received path bytes out
-      × (files.new.log ≡ log)
-  received None bytes ((took, finished, unfailed), same) =
-      let (stands, stays) = kept same in
-      (stands, tt, (took.0.appended, finished), stays)
+      → (to_memory files out path).received bytes × (new.log ≡ log)
+  received None bytes (took, same) = let (stands, stays) = kept same in ((took, stands), stays)
   received (Some at) bytes (same_out, (calls, executed, is)) =
       elim (left-at at bytes calls 0 Finished executed is) [
         | inl (fits, left) ↦
-            (λ p. rw left.is refl, rw left.is (left.whole refl), same_out, rw left.is refl)
+            ((same_out, λ p. rw left.is refl, rw left.is (left.whole refl)), rw left.is refl)
         | inr unbegun ↦ absurd (unbegun.unfinished refl)
       ]
 
   -- or its first bytes
   cut : (path : Option (List ℕ)) (bytes : List ℕ) → (OutputAt path).cut bytes
-      → IsCut result files out err path bytes × (files.new.log ≡ log)
-  cut None bytes ((n, took, risen), same) =
-      let (stands, stays) = kept same in
-      (((risen, (n, took.0.appended)), stands), stays)
+      → (to_memory files out path).cut bytes × (new.log ≡ log)
+  cut None bytes (took, same) = let (stands, stays) = kept same in ((took, stands), stays)
   cut (Some at) bytes (same_out, (n, calls, executed, (state, is))) =
       elim (left-at at (take n bytes) calls 1 state executed is) [
         | inl (fits, left) ↦
@@ -255,74 +233,52 @@ module _ (W : Type 0) (result : Status) (files : Change StoreState) (log : Optio
             ((same_out, inl (long, λ p. rw unbegun.is refl)), rw unbegun.is refl)
       ]
 
-  module _ (path : Option (List ℕ)) (src : Change MemSourceState)
-      (not_ended : src.old.ended ≡ false) where
+  module _ (path : Option (List ℕ)) (src src_new : MemSourceState) (not_ended : src.ended ≡ false)
+      {E : Type 0} (err : SinkCall E) (result : Status) (needed : Option ℕ)
+      (answers : List ℕ → Result (List ℕ) Fault) where
+    abbrev pub Source : SourceCall MemSourceState
+    Source = memory_source src src_new
+
     -- nothing is left where the end was reported
-    at-end : (input : List ℕ) → MemoryGives src.old input src.new → IsTrue src.new.ended
-        → src.new.left ≡ []
+    at-end : (input : List ℕ) → MemoryGives src input src_new → IsTrue src_new.ended
+        → src_new.left ≡ []
     at-end input given = given.0.end_is_real (λ ended. absurd cc)
 
     -- the answer to what was read is the answer to all that was there, and that was taken
-    read-all : (needed : Option ℕ) (answers : List ℕ → Result (List ℕ) Fault)
-        → IsOfPrefix needed answers → (input : List ℕ) → Reads (memory_source src) needed input
-        → (answers input ≡ answers src.old.left) × Taken needed src
-    read-all None answers same input (unread, is) = (rw is (same src.old.left), unread)
-    read-all (Some limit) answers same input read = (
-      same src.new.ended src.old.left input src.new.left read.gives.0.consumed
+    read-all : (needed : Option ℕ) → IsOfPrefix needed answers → (input : List ℕ)
+        → Reads Source needed input → (answers input ≡ answers src.left) × Taken needed Source
+    read-all None same input (unread, is) = (rw is (same src.left), unread)
+    read-all (Some limit) same input read = (
+      same src_new.ended src.left input src_new.left read.gives.0.consumed
           (at-end input read.gives) read.whole,
-      taken-left src.old.left input src.new.left limit src.new.ended read.gives.0.consumed
+      taken-left src.left input src_new.left limit src_new.ended read.gives.0.consumed
           read.bounded (at-end input read.gives) read.whole,
     )
 
+    -- the log stays as it was after the opens
+    stays : RunEnds Source (OutputAt path) err result needed answers → new.log ≡ log
+    stays (Succeeded s) = (received path s.bytes s.output).1
+    stays (HasRefused r) = (untouched path r.output).1
+    stays (OutputFailed f) = (cut path f.bytes f.output).1
+    stays (InputFailed f) = (untouched path f.output).1
+
     -- a run ends so
-    pub ends-run : (needed : Option ℕ) (answers : List ℕ → Result (List ℕ) Fault)
-        → IsOfPrefix needed answers
-        → RunEnds (memory_source src) (OutputAt path) (memory_sink err) result needed answers
-        → EndsInMemory result files out err path (answers src.old.left) × Taken needed src
-        × (files.new.log ≡ log)
-    ends-run needed answers same (Succeeded s) =
-        let (all, taken) = read-all needed answers same s.input s.reads in
-        let (stands, synced, output, stays) = received path s.bytes s.output in (
-          in_memory.EndsInMemory.Succeeded (record {
-            bytes = s.bytes;
-            answer = sym all ∙ s.answer;
-            status = s.status;
-            stands = stands;
-            synced = synced;
-            output = output;
-            message = s.message;
-          }),
-          taken,
-          stays,
-        )
-    ends-run needed answers same (HasRefused r) =
-        let (all, taken) = read-all needed answers same r.input r.reads in
-        let (output, stands, stays) = untouched path r.output in (
-          in_memory.EndsInMemory.HasRefused (record {
-            fault = r.fault;
-            answer = sym all ∙ r.answer;
-            status = r.status;
-            stands = stands;
-            output = output;
-            message = reported err _ r.message;
-          }),
-          taken,
-          stays,
-        )
-    ends-run needed answers same (OutputFailed f) =
-        let (all, taken) = read-all needed answers same f.input f.reads in
-        let (output, stays) = cut path f.bytes f.output in (
-          in_memory.EndsInMemory.OutputFailed (record {
-            bytes = f.bytes;
-            answer = sym all ∙ f.answer;
-            status = f.status;
-            output = output;
-            message = reported err _ f.message;
-          }),
-          taken,
-          stays,
-        )
-    ends-run needed answers same (InputFailed f) = absurd (omega (arith, f.failed))
+    pub ends-run : IsOfPrefix needed answers
+        → RunEnds Source (OutputAt path) err result needed answers
+        → RunEnds Source (to_memory files out path) err result needed (λ _. answers src.left)
+        × Taken needed Source × (new.log ≡ log)
+    ends-run same ends =
+        elim (input-or-read Source Source err result (OutputAt path) (to_memory files out path)
+        (record {
+          untouched = λ left. (untouched path left).0;
+          received = λ bytes all. (received path bytes all).0;
+          cut = λ bytes some. (cut path bytes some).0;
+        }) needed answers ends) [
+          | inl f ↦ absurd (omega (arith, f.failed))
+          | inr (input, read, like) ↦
+              let (all, taken) = read-all needed same input read in
+              (like needed (λ _. answers src.left) input read (sym all), taken, stays ends)
+        ]
 
 -- ---- how the program ends over files in memory
 
@@ -331,47 +287,33 @@ requests-same : (requested : Option (Result Request Fault)) (one other : Request
     → requested ≡ Some (Ok one) → requested ≡ Some (Ok other) → one ≡ other
 requests-same requested one other is also = cc
 
-module _ (W : Type 0) (result : Status) (files : Change StoreState)
-    (src : Change MemSourceState) (out err : Change MemSinkState)
-    (none : files.old.created ≡ None) (not_ended : src.old.ended ≡ false)
-    (requested : Option (Result Request Fault)) (request : Request)
-    (is_request : requested ≡ Some (Ok request)) where
-  -- it ends as the answer to all of its input; where it did not run out of memory, what it needed
-  -- of that was taken, and these paths were opened
-  pub ends-in_memory : (kinds : Kinds) → kinds ≡ []
-      → Ends (system (memory_terms {W = W}) files.old files.new)
-      (memory_source src) (memory_sink out) (memory_sink err) result kinds requested
-      → EndsInMemory result files out err request.output
-      (program request (found_in files.old request) src.old.left)
-      × (result ≢ OutOfMemory
-      → Taken (stdin_needed request (found_in files.old request)) src
-      × (files.new.log
-      ≡ logged files.old.log (opened_paths request (found_in files.old request))))
-  ends-in_memory kinds parses (Stopped same unread (MemoryLacked m)) = (
-    in_memory.EndsInMemory.MemoryLacked (record {
-      status = m.status;
-      stands = λ p. rw (same, none);
-      output = m.output;
-      message = reported err _ m.message;
-    }),
-    λ fits. absurd (fits m.status),
-  )
-  ends-in_memory kinds parses (Stopped same unread (HelpShown h)) =
+module _ (W : Type 0) (old new : StoreState) (src src_new : MemSourceState) {K E : Type 0}
+    (out : SinkCall K) (err : SinkCall E) (result : Status) (none : old.created ≡ None)
+    (not_ended : src.ended ≡ false) (kinds : Kinds) (requested : Option (Result Request Fault))
+    (request : Request) where
+  pub runs-in_memory : kinds ≡ [] → requested ≡ Some (Ok request) → result ≢ OutOfMemory
+      → Ends (memory_files {W = W} old new) (memory_source src src_new) out err result kinds
+      requested
+      → RunsInMemory (memory_files {W = W} old new) (memory_source src src_new) out err result
+      request (files_at (file_at old.entries) request)
+  runs-in_memory parses is fits (Stopped same unread (MemoryLacked m)) = absurd (fits m.status)
+  runs-in_memory parses is fits (Stopped same unread (HelpShown h)) =
       absurd (rw parses at h.is_among)
-  ends-in_memory kinds parses (Stopped same unread (HelpFailed h)) =
+  runs-in_memory parses is fits (Stopped same unread (HelpFailed h)) =
       absurd (rw parses at h.is_among)
-  ends-in_memory kinds parses (Stopped same unread (Rejected r)) =
+  runs-in_memory parses is fits (Stopped same unread (Rejected r)) =
       absurd (rw parses at r.is_among)
-  ends-in_memory kinds parses (Declined _ same unread d) =
-      let never : Some (Ok request) ≡ Some (Err d.fault) = sym is_request ∙ d.refused in absurd cc
-  ends-in_memory kinds parses (Ran _ other is seen all_found later went ends) =
-      let same : other ≡ request = requests-same requested other request is is_request in
-      let found = at-paths (file_at files.old.entries) request seen (rw same at all_found) in
+  runs-in_memory parses is fits (Declined _ same unread d) =
+      let never : Some (Ok request) ≡ Some (Err d.fault) = sym is ∙ d.refused in absurd cc
+  runs-in_memory parses is fits (Ran _ other other_is seen all_found later went ends) =
+      let same : other ≡ request = requests-same requested other request other_is is in
+      let found = at-paths (file_at old.entries) request seen (rw same at all_found) in
+      let all = files_at (file_at old.entries) request in
+      let paths = opened_paths request all in
       let opens = rw (same, found) at went in
-      let paths = opened_paths request (found_in files.old request) in
-      let logs = opens-logged files.old later paths opens.calls opens.are_opens opens.executed in
-      let (so, taken, stays) =
-      ends-run W result files (logged files.old.log paths) out err none
-      (output_access request.command) request.output src not_ended _ _
-      (answer-prefix request (found_in files.old request)) (rw (same, found, logs) at ends) in
-      (so, λ fits. (taken, stays))
+      let logs = opens-logged old later paths opens.calls opens.are_opens opens.executed in
+      let (ends_so, taken, stays) =
+      ends-run W old new (logged old.log paths) out none (output_access request.command)
+      request.output src src_new not_ended err result _ _ (answer-prefix request all)
+      (rw (same, found, logs) at ends) in
+      record { ends = ends_so; taken = taken; opened = stays }

@@ -1,5 +1,5 @@
 -- How a run ends over one output, carried over to another.
-use Rattle.std.proofs.Common.{◌≡◌, ℕ, List, Option, Some, None, Result, ap, ◌∙◌, refl, sym}
+use Rattle.std.proofs.Common.{◌≡◌, ◌⊎◌, inl, inr, ℕ, List, Option, Some, None, Result, ap, ◌∙◌, refl, sym}
 use Rattle.std.proofs.Common.{arith}
 use Rattle.vault_text.specs.declared.sink.Stage.TheVariants as stage
 use Rattle.vault_files.specs.Output.{FileOutputState, FileTakes, OutputState, stage_of}
@@ -11,7 +11,7 @@ use Rattle.vault_fault.specs.declared.fault.Fault.{Fault}
 use Rattle.vault_cli.specs.Call.{FilesCall, SinkCall, SourceCall, sink, system}
 use Rattle.vault_cli.specs.Drive.{to_path}
 use Rattle.vault_cli.specs.runs.OutputEnd.{OutputEnd, to_sink}
-use Rattle.vault_cli.specs.runs.Run.{RunEnds}
+use Rattle.vault_cli.specs.runs.Run.{InputFails, Reads, RunEnds}
 use Rattle.vault_cli.specs.runs.Run.RunEnds.{Succeeded, HasRefused, OutputFailed, InputFailed}
 use Rattle.vault_cli.specs.declared.runs.status.Status.{Status}
 
@@ -21,49 +21,89 @@ pub record CarriesOver (there here : OutputEnd) : Type 0 where
   pub received : (bytes : List ℕ) → there.received bytes → here.received bytes
   pub cut : (bytes : List ℕ) → there.cut bytes → here.cut bytes
 
+-- of the same output
+pub carries-same : (out : OutputEnd) → CarriesOver out out
+carries-same out = record {
+  untouched = λ left. left;
+  received = λ bytes all. all;
+  cut = λ bytes some. some;
+}
+
+module _ {S T E : Type 0} (from : SourceCall S) (to : SourceCall T) (err : SinkCall E)
+    (result : Status) (there here : OutputEnd) (carries : CarriesOver there here)
+    (needed : Option ℕ) (answers : List ℕ → Result (List ℕ) Fault) where
+  -- a run that read something else to the same answer
+  abbrev pub EndsLike : List ℕ → Type 0
+  EndsLike input =
+      (wanted : Option ℕ) (others : List ℕ → Result (List ℕ) Fault) (other : List ℕ)
+      → Reads to wanted other → others other ≡ answers input
+      → RunEnds to here err result wanted others
+
+  -- a run whose source failed, or that read something
+  pub input-or-read : RunEnds from there err result needed answers
+      → InputFails from there err result needed answers
+      ⊎ ((input : List ℕ) × Reads from needed input × EndsLike input)
+  input-or-read (Succeeded s) = inr (
+    s.input,
+    s.reads,
+    λ wanted others other reads same. Succeeded (record {
+      input = other;
+      reads = reads;
+      bytes = s.bytes;
+      answer = same ∙ s.answer;
+      status = s.status;
+      output = carries.received s.bytes s.output;
+      message = s.message;
+    }),
+  )
+  input-or-read (HasRefused r) = inr (
+    r.input,
+    r.reads,
+    λ wanted others other reads same. HasRefused (record {
+      input = other;
+      reads = reads;
+      fault = r.fault;
+      answer = same ∙ r.answer;
+      status = r.status;
+      memory_suffices = r.memory_suffices;
+      output = carries.untouched r.output;
+      message = r.message;
+    }),
+  )
+  input-or-read (OutputFailed f) = inr (
+    f.input,
+    f.reads,
+    λ wanted others other reads same. OutputFailed (record {
+      input = other;
+      reads = reads;
+      bytes = f.bytes;
+      answer = same ∙ f.answer;
+      status = f.status;
+      output = carries.cut f.bytes f.output;
+      message = f.message;
+    }),
+  )
+  input-or-read (InputFailed f) = inl f
+
 module _ {S E : Type 0} (src : SourceCall S) (err : SinkCall E) (result : Status)
     (needed : Option ℕ) (answers : List ℕ → Result (List ℕ) Fault) where
   ends-carried : (there here : OutputEnd) → CarriesOver there here
       → RunEnds src there err result needed answers → RunEnds src here err result needed answers
-  ends-carried there here carries (Succeeded s) = Succeeded (record {
-    input = s.input;
-    reads = s.reads;
-    bytes = s.bytes;
-    answer = s.answer;
-    status = s.status;
-    output = carries.received s.bytes s.output;
-    message = s.message;
-  })
-  ends-carried there here carries (HasRefused r) = HasRefused (record {
-    input = r.input;
-    reads = r.reads;
-    fault = r.fault;
-    answer = r.answer;
-    status = r.status;
-    memory_suffices = r.memory_suffices;
-    output = carries.untouched r.output;
-    message = r.message;
-  })
-  ends-carried there here carries (OutputFailed f) = OutputFailed (record {
-    input = f.input;
-    reads = f.reads;
-    bytes = f.bytes;
-    answer = f.answer;
-    status = f.status;
-    output = carries.cut f.bytes f.output;
-    message = f.message;
-  })
-  ends-carried there here carries (InputFailed f) = InputFailed (record {
-    input = f.input;
-    limit = f.limit;
-    is_needed = f.is_needed;
-    gives = f.gives;
-    short = f.short;
-    failed = f.failed;
-    status = f.status;
-    output = carries.untouched f.output;
-    message = f.message;
-  })
+  ends-carried there here carries ends =
+      elim (input-or-read src src err result there here carries needed answers ends) [
+        | inl f ↦ InputFailed (record {
+          input = f.input;
+          limit = f.limit;
+          is_needed = f.is_needed;
+          gives = f.gives;
+          short = f.short;
+          failed = f.failed;
+          status = f.status;
+          output = carries.untouched f.output;
+          message = f.message;
+        })
+        | inr (input, read, like) ↦ like needed answers input read refl
+      ]
 
   -- a run whose output is standard output
   pub ends-out : {D R W K : Type 0} (files : FilesCall D R W) (out : SinkCall K) (access : Access)

@@ -1,5 +1,5 @@
 -- How the program ends over its files and its standard streams.
-use Rattle.std.specs.Prelude.{◌≡◌, ℕ, List, [], take, Option, Some, None, Result, Ok, Err}
+use Rattle.std.specs.Prelude.{◌≡◌, ℕ, List, [], take, Option, Some, None, Result, Ok}
 use Rattle.clap.specs.Words.{Kinds}
 use Rattle.vault_files.specs.File.{FileState, Found}
 use Rattle.vault_files.specs.Output.{OutputCalls, OutputState}

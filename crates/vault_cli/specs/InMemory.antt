@@ -1,27 +1,26 @@
 -- How the program ends over files, an input and sinks in memory: what each contains afterwards.
-use Rattle.std.specs.Prelude.{◌≡◌, ◌⊎◌, ℕ, ◌+◌, ◌<◌, if◌then◌else◌, List, [], ◌++◌, length}
-use Rattle.std.specs.Prelude.{map, take, drop, Bool, true, false, Option, Some, None, IfSome}
-use Rattle.std.specs.Prelude.{Result, Ok, Err}
+use Rattle.std.specs.Prelude.{◌≡◌, ◌≢◌, ◌⊎◌, ℕ, ◌+◌, ◌<◌, if◌then◌else◌, List, [], length, map}
+use Rattle.std.specs.Prelude.{take, drop, Bool, true, false, Option, Some, None, Result, Ok}
 use Rattle.std.specs.Option.{option_map}
 use Rattle.std.specs.Str.{bytes_eq}
-use Rattle.vault_text.specs.Failures.{HasRisen}
-use Rattle.vault_text.specs.Sink.{MemSinkState}
-use Rattle.vault_text.specs.Source as source
-use Rattle.vault_text.specs.declared.sink.Stage.TheVariants.{Finished}
+use Rattle.clap.specs.Words.{Kinds}
+use Rattle.vault_text.specs.Source.{MemSourceState}
 use Rattle.vault_files.specs.File.{FileState}
 use Rattle.vault_files.specs.File.FileState.{Whole}
 use Rattle.vault_files.specs.Memory.{Created, StoreState, file_at, stands_at}
+use Rattle.vault_files.specs.PathLog.{logged}
 use Rattle.vault_files.specs.declared.limits.TheConstants.{PATH_LIMIT}
 use Rattle.vault_fault.specs.declared.fault.Fault.{Fault}
-use Rattle.vault_fault.specs.declared.fault.Fault.TheVariants.{Memory, Write}
 use Rattle.vault_request.specs.Request.{Request}
-use Rattle.vault_cli.specs.Program.{Files}
+use Rattle.vault_cli.specs.Call.{FilesCall, SinkCall, SourceCall}
+use Rattle.vault_cli.specs.Drive.{Ends}
+use Rattle.vault_cli.specs.OpenedPaths.{opened_paths}
+use Rattle.vault_cli.specs.Program.{Files, program, stdin_needed}
 use Rattle.vault_cli.specs.runs.FileContents.{secret_paths}
-use Rattle.vault_cli.specs.runs.Reports.{line_of}
-use Rattle.vault_cli.specs.runs.Status.{status_of}
+use Rattle.vault_cli.specs.runs.OutputEnd.{OutputEnd, to_sink}
+use Rattle.vault_cli.specs.runs.Run.{RunEnds}
 use Rattle.vault_cli.specs.declared.runs.status.Status.{Status}
-use Rattle.vault_cli.specs.declared.runs.status.Status.TheVariants.{DeviceFailed, OutOfMemory}
-use Rattle.vault_cli.specs.declared.runs.status.Status.TheVariants.{Success}
+use Rattle.vault_cli.specs.declared.runs.status.Status.TheVariants.{OutOfMemory}
 
 -- the files at the paths of the request
 abbrev pub files_at : (List ℕ → FileState) → Request → Files
@@ -31,41 +30,9 @@ files_at at request = record {
   input = option_map at request.input;
 }
 
--- the files at its paths in memory
-abbrev pub found_in : StoreState → Request → Files
-found_in files request = files_at (file_at files.entries) request
-
--- a value in memory before a call and after it
-pub record Change (T : Type 0) : Type 0 where
-  pub old : T
-  pub new : T
-
--- the change from one value to another
-abbrev pub change : {T : Type 0} → T → T → Change T
-change old new = record { old = old; new = new }
-
--- these bytes were added to a sink, and it was finished
-abbrev pub Holds : Change MemSinkState → List ℕ → Type 0
-Holds sink bytes = (sink.new.held ≡ sink.old.held ++ bytes) × (sink.new.stage ≡ Finished)
-
--- an allocation failed: only the first of these bytes were added
-abbrev pub HoldsPrefix : Change MemSinkState → List ℕ → Type 0
-HoldsPrefix sink bytes =
-    HasRisen sink.old.failures sink.new.failures
-    × ((n : ℕ) × (sink.new.held ≡ sink.old.held ++ take n bytes))
-
--- a line was added to the sink, or only its first bytes if an allocation failed
-abbrev pub Reported : Change MemSinkState → List ℕ → Type 0
-Reported err line = Holds err line ⊎ HoldsPrefix err line
-
--- standard output received these bytes, unless the output goes to a path
-abbrev pub Received : Option (List ℕ) → List ℕ → Change MemSinkState → Type 0
-Received (Some path) bytes out = out.new ≡ out.old
-Received None bytes out = Holds out bytes
-
 -- the input was taken to its end, or to one byte past the limit, or was left alone if nothing was
 -- requested
-abbrev pub Taken : Option ℕ → Change source.MemSourceState → Type 0
+abbrev pub Taken : Option ℕ → SourceCall MemSourceState → Type 0
 Taken None src = src.new ≡ src.old
 Taken (Some limit) src = src.new.left ≡ drop (limit + 1) src.old.left
 
@@ -89,7 +56,7 @@ abbrev pub HasFailedWrite : Option Created → Type 0
 HasFailedWrite None = ⊥
 HasFailedWrite (Some file) = file.cut ≡ true
 
-module _ (result : Status) (files : Change StoreState) (out err : Change MemSinkState) where
+module _ {R W : Type 0} (files : FilesCall StoreState R W) where
   -- this is at each path
   abbrev pub Stands : (List ℕ → FileState) → Type 0
   Stands after = (path : List ℕ) → stands_at files.new path ≡ after path
@@ -98,57 +65,41 @@ module _ (result : Status) (files : Change StoreState) (out err : Change MemSink
   abbrev pub IsKept : Type 0
   IsKept = Stands (file_at files.old.entries)
 
-  -- a file was not created, because its path is too long, or a write failed, and only the first
-  -- bytes were written
-  abbrev pub IsCutAt : List ℕ → List ℕ → Type 0
-  IsCutAt path bytes = ((PATH_LIMIT < length path) × IsKept)
-      ⊎ (HasFailedWrite files.new.created × ((count : ℕ)
-      × Stands (stands_after (file_at files.old.entries) (Some path) (take count bytes))))
+  -- each still has that, but the path has these bytes
+  abbrev pub StandsAt : List ℕ → List ℕ → Type 0
+  StandsAt path bytes = Stands (stands_after (file_at files.old.entries) (Some path) bytes)
 
-  -- the first bytes of the output were written
-  abbrev pub IsCut : Option (List ℕ) → List ℕ → Type 0
-  IsCut None bytes = HoldsPrefix out bytes × IsKept
-  IsCut (Some path) bytes = (out.new ≡ out.old) × IsCutAt path bytes
+  -- what happened to the file at a path, if one is named, or else to standard output; the other is
+  -- left alone. A file whose path is too long is not created.
+  abbrev pub to_memory : {K : Type 0} → SinkCall K → Option (List ℕ) → OutputEnd
+  to_memory out None = record {
+    untouched = (out.new ≡ out.old) × IsKept;
+    received = λ bytes. (to_sink out).received bytes × IsKept;
+    cut = λ bytes. (to_sink out).cut bytes × IsKept;
+  }
+  to_memory out (Some path) = record {
+    untouched = (out.new ≡ out.old) × IsKept;
+    received = λ bytes. (out.new ≡ out.old) × StandsAt path bytes × IsSynced files.new.created;
+    cut = λ bytes. (out.new ≡ out.old)
+        × (((PATH_LIMIT < length path) × IsKept)
+        ⊎ (HasFailedWrite files.new.created
+        × ((count : ℕ) × StandsAt path (take count bytes))));
+  }
 
-  -- the answer goes to a path or to standard output
-  module _ (output_file : Option (List ℕ)) (wanted : Result (List ℕ) Fault) where
-    -- The run succeeded: the whole answer is there, and a file was synced.
-    pub record Succeeds : Type 0 where
-      pub bytes : List ℕ
-      pub answer : wanted ≡ Ok bytes
-      pub status : result ≡ Success
-      pub stands : Stands (stands_after (file_at files.old.entries) output_file bytes)
-      pub synced : IfSome output_file (λ path. IsSynced files.new.created)
-      pub output : Received output_file bytes out
-      pub message : err.new ≡ err.old
+module _ {R W K E : Type 0} (files : FilesCall StoreState R W) (src : SourceCall MemSourceState)
+    (out : SinkCall K) (err : SinkCall E) (result : Status) where
+  -- A request ran over the files at its paths. Its answer is that to the whole input.
+  pub record RunsInMemory (request : Request) (found : Files) : Type 0 where
+    pub ends : RunEnds src (to_memory files out request.output) err result
+        (stdin_needed request found) (λ _. program request found src.old.left)
+    pub taken : Taken (stdin_needed request found) src
+    pub opened : files.new.log ≡ logged files.old.log (opened_paths request found)
 
-    -- The run was refused: the answer is a fault, which was reported.
-    pub record Refuses : Type 0 where
-      pub fault : Fault
-      pub answer : wanted ≡ Err fault
-      pub status : result ≡ status_of fault
-      pub stands : IsKept
-      pub output : out.new ≡ out.old
-      pub message : Reported err (line_of fault)
-
-    -- The output failed: only the first bytes of the answer are there.
-    pub record OutputFails : Type 0 where
-      pub bytes : List ℕ
-      pub answer : wanted ≡ Ok bytes
-      pub status : result ≡ DeviceFailed
-      pub output : IsCut output_file bytes
-      pub message : Reported err (line_of Write)
-
-    -- Memory ran out.
-    pub record LacksMemory : Type 0 where
-      pub status : result ≡ OutOfMemory
-      pub stands : IsKept
-      pub output : out.new ≡ out.old
-      pub message : Reported err (line_of Memory)
-
-    -- one of these four
-    pub data EndsInMemory : Type 0 where
-      Succeeded : Succeeds → EndsInMemory
-      HasRefused : Refuses → EndsInMemory
-      OutputFailed : OutputFails → EndsInMemory
-      MemoryLacked : LacksMemory → EndsInMemory
+  pub record EndsInMemory (kinds : Kinds) (requested : Option (Result Request Fault))
+      : Type 0 where
+    -- the program ends as it does over any files
+    pub ends : Ends files src out err result kinds requested
+    -- a request runs over the files in memory, unless an allocation fails
+    pub runs : (request : Request) → kinds ≡ [] → requested ≡ Some (Ok request)
+        → result ≢ OutOfMemory
+        → RunsInMemory request (files_at (file_at files.old.entries) request)

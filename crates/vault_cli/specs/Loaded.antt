@@ -1,5 +1,5 @@
 -- What loading the files of a request gives, for files that may be found at its paths.
-use Rattle.std.specs.Prelude.{◌≡◌, ℕ, List, Option, Some, Result, Ok, Err}
+use Rattle.std.specs.Prelude.{◌≡◌, ℕ, List, Option, Result, Err}
 use Rattle.vault_fault.specs.declared.fault.Fault.{Fault}
 use Rattle.vault_fault.specs.declared.fault.Role.{Role}
 use Rattle.vault_files.specs.File.{FileState, Found}

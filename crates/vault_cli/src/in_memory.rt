@@ -1,16 +1,11 @@
 //! The program over files in memory.
-ghost use Rattle.std.specs.Prelude.{◌≡◌, ◌≢◌, [], None, Ok, Some, false, map};
+ghost use Rattle.std.specs.Prelude.{◌≡◌, None, false, map};
 ghost use Rattle.std.specs.String.{string_bytes};
 ghost use Rattle.clap.specs.Words.{fault_of};
-ghost use Rattle.vault_files.specs.PathLog.{logged};
 ghost use Rattle.vault_request.specs.CommandLine.{vault_app};
-ghost use Rattle.vault_request.specs.Request.{Request};
 ghost use Rattle.vault_request.specs.Settled.{requested_by};
 ghost use Rattle.vault_cli.specs.Call.{sink, source, system};
-ghost use Rattle.vault_cli.specs.Drive.{Ends};
-ghost use Rattle.vault_cli.specs.InMemory.{EndsInMemory, Taken, change, found_in};
-ghost use Rattle.vault_cli.specs.OpenedPaths.{opened_paths};
-ghost use Rattle.vault_cli.specs.Program.{program, stdin_needed};
+ghost use Rattle.vault_cli.specs.InMemory.{EndsInMemory};
 
 use crate::program::drive_over;
 use crate::runs::Status;
@@ -34,28 +29,11 @@ pub fn drive_in_memory<'f, 's>(
     requires src_not_ended { src.old.ended ≡ false }
     requires out_unbegun { out.old.stage ≡ Stage.Unbegun }
     requires err_unbegun { err.old.stage ≡ Stage.Unbegun }
-    ensures ends { let texts = map string_bytes words.now in
-        Ends (system ⟦<MemFiles<'f> as System>⟧ files.old files.new)
+    ensures { let texts = map string_bytes words.now in
+        EndsInMemory (system ⟦<MemFiles<'f> as System>⟧ files.old files.new)
         (source ⟦<MemSource<'s> as Source>⟧ src.old src.new)
         (sink ⟦<MemSink as Sink>⟧ out.old out.new) (sink ⟦<MemSink as Sink>⟧ err.old err.new)
         result (fault_of vault_app texts) (requested_by texts) }
-
-    // A request is answered as the program says, unless an allocation fails.
-    ensures answered { let texts = map string_bytes words.now in
-        (request : Request) → fault_of vault_app texts ≡ []
-        → requested_by texts ≡ Some (Ok request)
-        → EndsInMemory result (change files.old files.new) (change out.old out.new)
-        (change err.old err.new) request.output
-        (program request (found_in files.old request) src.old.left) }
-    ensures taken { let texts = map string_bytes words.now in
-        (request : Request) → fault_of vault_app texts ≡ []
-        → requested_by texts ≡ Some (Ok request) → result ≢ Status.OutOfMemory
-        → Taken (stdin_needed request (found_in files.old request)) (change src.old src.new) }
-    ensures opened { let texts = map string_bytes words.now in
-        (request : Request) → fault_of vault_app texts ≡ []
-        → requested_by texts ≡ Some (Ok request) → result ≢ Status.OutOfMemory
-        → files.new.log
-        ≡ logged files.old.log (opened_paths request (found_in files.old request)) }
 {
     drive_over(files, alloc, words, src, out, err)
 }

@@ -1,4 +1,4 @@
-use Rattle.std.proofs.Common.{◌≡◌, ◌∙◌, List, ℕ, Result, Ok, Err, [], length, arith, refl, take}
+use Rattle.std.proofs.Common.{◌≡◌, ℕ, Result, Ok, Err, [], length, arith, refl, take}
 use Rattle.std.specs.Prelude.{OnErr, OnOk}
 use Rattle.std.proofs.lemmas.List.{take_all}
 use Rattle.vault_text.proofs.SinkLemmas.{prefix_second, taken_none}
