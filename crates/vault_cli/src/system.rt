@@ -1,7 +1,7 @@
 //! The program over the files of the system.
 ghost use Rattle.std.specs.Prelude.{map};
 ghost use Rattle.std.specs.String.{string_bytes};
-ghost use Rattle.vault_cli.specs.System.{MayBeDriven, device_terms, new_devices};
+ghost use Rattle.vault_cli.specs.System.{MayEnd, new_sink, new_source};
 
 use crate::program::drive_over;
 use crate::runs::Status;
@@ -22,11 +22,11 @@ pub fn drive<'a, F: Files, R: Read + Drop, O: Write + Drop, E: Write + Drop>(
     stdout: O,
     stderr: E,
 ) -> Status
-    ensures { let terms = device_terms ⟦<&'a F as System>⟧
-        ⟦<ReadSource<R> as Source>⟧ ⟦<WriteSink<O> as Sink>⟧ ⟦<WriteSink<E> as Sink>⟧ in
-        let devices = new_devices rt.entry (R.remaining stdin) (O.contents stdout)
-        (E.contents stderr) in
-        MayBeDriven terms devices result (map string_bytes words.now) }
+    ensures { MayEnd ⟦<&'a F as System>⟧ rt.entry
+        ⟦<ReadSource<R> as Source>⟧ (new_source (R.remaining stdin))
+        ⟦<WriteSink<O> as Sink>⟧ (new_sink (O.contents stdout))
+        ⟦<WriteSink<E> as Sink>⟧ (new_sink (E.contents stderr)) result
+        (map string_bytes words.now) }
 {
     let mut sys = rt;
     let mut src = ReadSource::new(stdin);
