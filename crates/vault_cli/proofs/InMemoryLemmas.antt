@@ -39,7 +39,8 @@ use Rattle.vault_cli.proofs.RunOutputLemmas.{input-or-read}
 use Rattle.vault_cli.proofs.ProgramLemmas.{IsOfPrefix, answer-prefix, at-paths}
 
 -- calls over files and a source in memory
-abbrev pub memory_files : {W : Type 0} → StoreState → StoreState → FilesCall StoreState ReaderState W
+abbrev pub memory_files : {W : Type 0} → StoreState → StoreState
+    → FilesCall StoreState ReaderState W
 memory_files old new = system (record {
   executes = StoreExecutes;
   finds = λ s path file. file ≡ file_at s.entries path;

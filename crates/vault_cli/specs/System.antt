@@ -21,8 +21,8 @@ new_source left = record { left = left; ended = false; failures = 0 }
 abbrev pub new_sink : Option (List ℕ) → SinkState
 new_sink held = record { held = held; stage = Unbegun; failures = 0 }
 
--- from the terms of each device's trait and the device before, there is a later state of all of them
--- in which the program ended in this way
+-- from the terms of each device's trait and the device before: there is a later state of all of
+-- them in which the program ended in this way
 abbrev pub MayEnd : {D R W S K E : Type 0} → SystemTerms D R W → D → SourceTerms S → S
     → SinkTerms K → K → SinkTerms E → E → Status → List Text → Type 0
 MayEnd {D} {R} {W} {S} {K} {E} for_files files for_src src for_out out for_err err result words =

@@ -4,8 +4,8 @@ use Rattle.vault_text.specs.Failures.{HasRisen}
 use Rattle.vault_text.specs.declared.sink.Stage.TheVariants.{Finished}
 use Rattle.vault_cli.specs.Call.{SinkCall}
 
--- it was left alone; it received these bytes and was finished; or it failed, and took only the first
--- of these bytes
+-- it was left alone; it received these bytes and was finished; or it failed, and took only the
+-- first of these bytes
 pub record OutputEnd : Type 1 where
   pub untouched : Type 0
   pub received : List ℕ → Type 0
