@@ -1,18 +1,34 @@
 -- What readers of the password, and its output, guarantee.
-use Rattle.std.specs.Prelude.{◌≡◌, ℕ, ◌≤◌, ◌⊎◌, List, [], ◌++◌, length, take, Ok, refl}
+use Rattle.std.specs.Prelude.{◌≡◌, ℕ, ◌≤◌, ◌⊎◌, List, [], ◌∷◌, ◌++◌, length, take, Ok, refl}
 use Rattle.std.specs.Prelude.{IsTrue, false}
 use Rattle.std.proofs.Common.{inl, inr, arith, sym, ap, ◌∙◌}
 use Rattle.std.proofs.lemmas.List.{append-nil, take_all, take-append-le}
 use Rattle.std.proofs.lemmas.Bool.{false≢true}
 use Rattle.vault_files.specs.File.{Answers}
 use Rattle.vault_files.specs.File.FileState.{Whole}
+use Rattle.vault_files.specs.System.{OpenCalls, SystemCall}
+use Rattle.vault_files.specs.System.OpenCalls.{no_opens, opens, fails_to_open}
 use Rattle.vault_text.specs.Failures.{HasRisen}
 use Rattle.vault_text.specs.Source.{MemSourceState, MemoryGives}
-use Rattle.vault_program_tests.specs.OnePassword.{new_reader}
+use Rattle.vault_program_tests.specs.OnePassword.{OnePassword, after, changed, new_reader}
 
--- two calls that change nothing
-pub same : {T : Type 0} {s t u : T} → t ≡ s → u ≡ t → u ≡ s
-same first then = then ∙ first
+-- what calls leave, and then more calls
+after-append : (s : OnePassword) (xs ys : List SystemCall)
+    → after s (xs ++ ys) ≡ after (after s xs) ys
+after-append s [] ys = refl
+after-append s (call ∷ xs) ys = after-append (changed s call) xs ys
+
+pub after-more : (s t u : OnePassword) (xs ys : List SystemCall)
+    → t ≡ after s xs → u ≡ after t ys → u ≡ after s (xs ++ ys)
+after-more s t u xs ys first then = rw (after-append s xs ys, ← first) then
+
+-- opens change nothing
+pub opens-same : (s t : OnePassword) (paths : List (List ℕ)) (calls : List SystemCall)
+    → OpenCalls paths calls → t ≡ after s calls → t ≡ s
+opens-same s t _ _ no_opens left = left
+opens-same s t _ _ (opens path paths calls rest) left = opens-same s t paths calls rest left
+opens-same s t _ _ (fails_to_open path paths calls rest) left =
+    opens-same s t paths calls rest left
 
 -- the first bytes of a text that begins with the given bytes
 take-given : (bytes xs rest : List ℕ) (n : ℕ) → bytes ≡ xs ++ rest → length xs ≤ n

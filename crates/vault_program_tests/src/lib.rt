@@ -6,5 +6,4 @@
 mod examples;
 #[cfg(test)]
 mod in_memory;
-#[cfg(test)]
-mod library;
+pub mod library;

@@ -44,14 +44,15 @@ impl<'a> OnePassword<'a> {
 impl<'a> System for OnePassword<'a> {
     ghost use Rattle.std.specs.Prelude.{◌≡◌, refl};
     ghost use Rattle.vault_files.specs.File.FileState.{Whole};
-    ghost use Rattle.vault_program_tests.specs.OnePassword.{new_reader};
-    ghost use Rattle.vault_program_tests.specs.OnePasswordProofs.{prefix-found, break-found, same};
+    ghost use Rattle.vault_program_tests.specs.OnePassword.{after, new_reader};
+    ghost use Rattle.vault_program_tests.specs.OnePasswordProofs.{after-more, opens-same};
+    ghost use Rattle.vault_program_tests.specs.OnePasswordProofs.{prefix-found, break-found};
 
     type Reader = MemSource<'a>;
 
     type Writer = ();
 
-    ghost executes = { λ s calls t. t.password ≡ s.password };
+    ghost executes = { λ s calls t. t ≡ after s calls };
 
     ghost finds = { λ s path file. file ≡ Whole s.password };
 
@@ -59,13 +60,15 @@ impl<'a> System for OnePassword<'a> {
 
     ghost executes_none = { λ s. refl };
 
-    ghost executes_more = { λ s t u xs ys first then. same first then };
+    ghost executes_more = { after-more };
 
     ghost finds_some = { λ s path. (Whole s.password, refl) };
 
-    ghost opens_finds = { λ s t paths calls path file opens executes found. rw executes at found };
+    ghost opens_finds = { λ s t paths calls path file opened executes found.
+        rw (opens-same s t paths calls opened executes) at found };
 
-    ghost opens_reader = { λ s t paths calls path reader opens executes at. rw executes at at };
+    ghost opens_reader = { λ s t paths calls path reader opened executes at.
+        rw (opens-same s t paths calls opened executes) at at };
 
     ghost prefix_found = { λ s path r t xs n opened gives fits end unfailed.
         prefix-found s.password r t xs n opened gives fits end };
