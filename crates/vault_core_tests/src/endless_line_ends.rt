@@ -18,23 +18,16 @@ fn work_memory(alloc: Global) -> Result<Vec<u8>, AllocError>
     vec![in alloc; 0u8; CIPHERTEXT_LIMIT]
 }
 
-/// The fault of endless line ends that come in steps, without a request, and how many bytes of them
-/// are read.
-fn endless_line_ends(alloc: Global, step: usize) -> Result<(Option<Fault>, usize), Fail> {
-    let mut work = work_memory(alloc)?;
-    let mut reader = CountingReader::with_line_feeds(HEADER_LINE, usize::MAX, step);
-    let mut src = ReadSource::new(&mut reader);
-    let secrets = Secrets::new();
-    let mut meter = Meter::new();
-    let refused = prepare_decrypt(&mut src, work.as_mut_slice(), &secrets, &mut meter).err();
-    Ok((refused, reader.given))
-}
-
 #[test]
 fn refuse_endless_line_ends(rt: HostRuntime) -> Result<(), Fail> {
-    for step in [1, 7, 4_096, 65_536] {
-        let refused = endless_line_ends(rt.alloc(), step)?;
-        assert_eq!(rt; refused, (Some(Fault::TooLong), 100_671_489), "{step}");
-    }
+    let mut work = work_memory(rt.alloc())?;
+    let mut reader = CountingReader::with_line_feeds(HEADER_LINE, usize::MAX, 4_096);
+    let mut src = ReadSource::new(&mut reader);
+    let (secrets, mut meter) = (Secrets::new(), Meter::new());
+    let refused = prepare_decrypt(&mut src, work.as_mut_slice(), &secrets, &mut meter).err();
+    assert_eq!(rt;
+        (refused, reader.given),
+        (Some(Fault::TooLong), 100_671_489)
+    );
     Ok(())
 }

@@ -6,9 +6,6 @@ use std::test::Fail;
 use vault_fault::{Fault, LabelRule};
 use vault_request::{CommandName, Request, parse, settle};
 
-/// The longest salt text that is accepted.
-const LONGEST: &str = "aaaaaaaaaaaaaaaaaaaaaaaaaaaaaaaaaaaaaaaaaaaaaaaaaaaaaaaaaaaaaaaa";
-
 /// The words of a line, separated by spaces, with the program's name before them.
 fn words_of(alloc: Global, line: &str) -> Result<Vec<String>, AllocError> {
     let words: Vec<&str> = line.split(' ').collect(alloc)?;
@@ -42,13 +39,30 @@ fn assert_files(
     Ok(())
 }
 
+#[test]
+fn keeps_files_in_order(rt: HostRuntime) -> Result<(), Fail> {
+    let alloc = rt.alloc();
+    let line = "rekey --new-vault-id=prod@g --vault-password-file p --vault-id @f \
+        --vault-id=f --vault-id dev@x@y --vault-id dev@";
+    let files = [
+        ("default", "f"),
+        ("default", "f"),
+        ("dev", "x@y"),
+        ("dev", ""),
+        ("default", "p"),
+        ("prod", "g"),
+    ];
+    assert_files(&rt, alloc, line, &files)?;
+    let line = "rekey --new-vault-password-file=a@g";
+    assert_files(&rt, alloc, line, &[("default", "a@g")])
+}
+
 /// The parts of a request that are compared, besides its password files.
 #[derive(Clone, Copy, Debug, PartialEq, Eq)]
 struct Said<'a> {
     command: CommandName,
     seals: bool,
     secret_count: usize,
-    new_label: Option<&'a str>,
     choice: Option<&'a str>,
     name: Option<&'a str>,
     string: Option<&'a str>,
@@ -59,12 +73,11 @@ struct Said<'a> {
     output: Option<&'a str>,
 }
 
-/// What `decrypt` says without an option.
-const DECRYPT: Said<'static> = Said {
-    command: CommandName::Decrypt,
+/// What `view` says without an option.
+const VIEW: Said<'static> = Said {
+    command: CommandName::View,
     seals: false,
     secret_count: 0,
-    new_label: None,
     choice: None,
     name: None,
     string: None,
@@ -74,11 +87,6 @@ const DECRYPT: Said<'static> = Said {
     input: None,
     output: None,
 };
-
-/// The label of the new secret of `rekey`, as a text.
-fn new_label_of(request: &Request) -> Option<&str> {
-    Some(request.new_label()?.as_str())
-}
 
 /// The label to encrypt with, as a text.
 fn choice_of(request: &Request) -> Option<&str> {
@@ -91,7 +99,6 @@ fn said_by(request: &Request) -> Said<'_> {
         command: request.command(),
         seals: request.seals(),
         secret_count: request.secret_count(),
-        new_label: new_label_of(request),
         choice: choice_of(request),
         name: request.name(),
         string: request.string(),
@@ -103,267 +110,140 @@ fn said_by(request: &Request) -> Said<'_> {
     }
 }
 
-/// Asserts that the words of a line settle a request that says this.
-fn assert_says(rt: &impl Abort, alloc: Global, line: &str, wanted: Said<'_>) -> Result<(), Fail> {
-    let request = settled(alloc, line)??;
-    assert_eq!(rt; said_by(&request), wanted, "{line}");
-    Ok(())
-}
+/// What the rows for commands that encrypt say in common.
+const ENCRYPT: Said<'static> = Said {
+    command: CommandName::Encrypt,
+    seals: true,
+    choice: Some("b"),
+    output: Some("o"),
+    ..VIEW
+};
+
+/// What `rekey` says with only a new secret.
+const REKEY: Said<'static> = Said {
+    command: CommandName::Rekey,
+    seals: true,
+    salt_path: Some("/dev/urandom"),
+    ..VIEW
+};
+
+/// Each option of each command, and what the request says. `keeps_files_in_order` looks at the
+/// password files.
+const CASES: [(&str, Said<'static>); 9] = [
+    (
+        "encrypt --vault-id=b@f --encrypt-vault-id=b --salt-file=s --output=o x",
+        Said {
+            secret_count: 1,
+            salt_path: Some("s"),
+            input: Some("x"),
+            ..ENCRYPT
+        },
+    ),
+    (
+        "encrypt --vault-password-file=f --encrypt-vault-id=b --salt=abc --output=o",
+        Said {
+            secret_count: 1,
+            salt_text: Some("abc"),
+            ..ENCRYPT
+        },
+    ),
+    (
+        "encrypt_string -n k --encrypt-vault-id=b --salt-file=s --output=o secret",
+        Said {
+            command: CommandName::EncryptString,
+            name: Some("k"),
+            string: Some("secret"),
+            salt_path: Some("s"),
+            ..ENCRYPT
+        },
+    ),
+    (
+        "encrypt_string --vault-password-file=f --stdin-name= --encrypt-vault-id=b --salt=abc \
+            --output=o",
+        Said {
+            command: CommandName::EncryptString,
+            secret_count: 1,
+            name: Some(""),
+            salt_text: Some("abc"),
+            ..ENCRYPT
+        },
+    ),
+    (
+        "decrypt --require-id-match --output=o x",
+        Said {
+            command: CommandName::Decrypt,
+            rule: LabelRule::Required,
+            input: Some("x"),
+            output: Some("o"),
+            ..VIEW
+        },
+    ),
+    (
+        "view --require-id-match x",
+        Said {
+            rule: LabelRule::Required,
+            input: Some("x"),
+            ..VIEW
+        },
+    ),
+    ("rekey --new-vault-id=g --output=- -", REKEY),
+    (
+        "rekey --new-vault-id=g --salt-file=s",
+        Said {
+            salt_path: Some("s"),
+            ..REKEY
+        },
+    ),
+    (
+        "rekey --new-vault-password-file=g --salt=abc --require-id-match",
+        Said {
+            salt_text: Some("abc"),
+            salt_path: None,
+            rule: LabelRule::Required,
+            ..REKEY
+        },
+    ),
+];
 
 #[test]
-fn keeps_files_in_order(rt: HostRuntime) -> Result<(), Fail> {
-    let line = "decrypt --vault-password-file p --vault-id @f \
-        --vault-id=f --vault-id dev@x@y --vault-id dev@";
-    let files = [
-        ("default", "f"),
-        ("default", "f"),
-        ("dev", "x@y"),
-        ("dev", ""),
-        ("default", "p"),
-    ];
-    assert_files(&rt, rt.alloc(), line, &files)
-}
-
-#[test]
-fn leaves_unset_what_no_option_names(rt: HostRuntime) -> Result<(), Fail> {
-    let wanted = Said {
-        secret_count: 1,
-        ..DECRYPT
-    };
-    assert_says(&rt, rt.alloc(), "decrypt --vault-id=f", wanted)
-}
-
-/// The fault with which the words of a line are refused.
-fn fault_of(alloc: Global, line: &str) -> Result<Option<Fault>, Fail> {
-    Ok(settled(alloc, line)?.err())
-}
-
-/// Asserts that the words of each line are refused with the fault beside it.
-fn assert_refused(rt: &impl Abort, alloc: Global, cases: &[(&str, Fault)]) -> Result<(), Fail> {
-    for &(line, fault) in cases {
-        assert_eq!(rt; fault_of(alloc, line)?, Some(fault), "{line}");
+fn reads_the_options_of_each_command(rt: HostRuntime) -> Result<(), Fail> {
+    for (line, wanted) in CASES {
+        let request = settled(rt.alloc(), line)??;
+        assert_eq!(rt; said_by(&request), wanted, "{line}");
     }
     Ok(())
 }
 
-/// Asserts that the words of a line settle a request.
-fn assert_settled(rt: &impl Abort, alloc: Global, line: &str) -> Result<(), Fail> {
-    assert!(rt; fault_of(alloc, line)?.is_none(), "{line}");
-    Ok(())
-}
-
+/// Each line, with the first fault of its request.
 #[test]
-fn names_the_first_fault_of_vault_ids(rt: HostRuntime) -> Result<(), Fail> {
+fn names_the_first_fault(rt: HostRuntime) -> Result<(), Fail> {
     let cases = [
         ("view --vault-id a;b@f", Fault::BadLabel),
         ("view --vault-id=dev@prompt", Fault::PromptSource),
-        ("view --vault-id prompt", Fault::PromptSource),
-        (
-            "view --vault-id=dev@prompt --vault-id=a;b@f",
-            Fault::PromptSource,
-        ),
-        (
-            "encrypt --encrypt-vault-id= --vault-id=dev@prompt",
-            Fault::PromptSource,
-        ),
-        ("encrypt --encrypt-vault-id= f", Fault::BadLabel),
-    ];
-    assert_refused(&rt, rt.alloc(), &cases)
-}
-
-#[test]
-fn needs_one_new_secret(rt: HostRuntime) -> Result<(), Fail> {
-    let cases = [
-        ("rekey", Fault::NeedNewSecret),
         ("rekey --vault-id=f", Fault::NeedNewSecret),
-        (
-            "rekey --new-vault-id=a;b@f --new-vault-password-file=g",
-            Fault::NeedNewSecret,
-        ),
-        ("rekey --new-vault-id=a;b@prompt", Fault::BadLabel),
-        ("rekey --new-vault-id=prompt f", Fault::PromptSource),
-    ];
-    assert_refused(&rt, rt.alloc(), &cases)
-}
-
-#[test]
-fn fits_the_name_to_the_string(rt: HostRuntime) -> Result<(), Fail> {
-    let cases = [
-        ("encrypt_string --name k", Fault::NameMismatch),
-        ("encrypt_string --name  -", Fault::NameMismatch),
-        ("encrypt_string --stdin-name k s", Fault::NameMismatch),
-        ("encrypt_string -n \t --stdin-name=k s", Fault::NameMismatch),
-        ("encrypt_string --name a\tb s", Fault::BadName),
-        ("encrypt_string --stdin-name \u{7f}", Fault::BadName),
-        ("encrypt_string --name=\n s --salt=", Fault::BadName),
-    ];
-    assert_refused(&rt, rt.alloc(), &cases)
-}
-
-#[test]
-fn needs_an_output_for_a_file(rt: HostRuntime) -> Result<(), Fail> {
-    let cases = [
         ("encrypt f", Fault::OutputNeeded),
-        ("decrypt f", Fault::OutputNeeded),
-        ("rekey --new-vault-id=g f", Fault::OutputNeeded),
-        ("encrypt f --salt=", Fault::OutputNeeded),
-    ];
-    assert_refused(&rt, rt.alloc(), &cases)?;
-    assert_settled(&rt, rt.alloc(), "encrypt --output=- f")?;
-    assert_settled(&rt, rt.alloc(), "encrypt -- -")
-}
-
-#[test]
-fn takes_one_salt(rt: HostRuntime) -> Result<(), Fail> {
-    let line = "encrypt --salt aaaaaaaaaaaaaaaaaaaaaaaaaaaaaaaaaaaaaaaaaaaaaaaaaaaaaaaaaaaaaaaa";
-    let wanted = Said {
-        command: CommandName::Encrypt,
-        seals: true,
-        salt_text: Some(LONGEST),
-        ..DECRYPT
-    };
-    assert_says(&rt, rt.alloc(), line, wanted)
-}
-
-#[test]
-fn refuses_wrong_salts(rt: HostRuntime) -> Result<(), Fail> {
-    let cases = [
+        ("encrypt_string --name k", Fault::NameMismatch),
+        ("encrypt_string --stdin-name k s", Fault::NameMismatch),
+        ("encrypt_string --name a\tb s", Fault::BadName),
         ("encrypt --salt=", Fault::BadSalt),
         (
             "encrypt --salt=aaaaaaaaaaaaaaaaaaaaaaaaaaaaaaaaaaaaaaaaaaaaaaaaaaaaaaaaaaaaaaaaa",
             Fault::BadSalt,
         ),
-        (
-            "encrypt --salt-file=g \
-            --salt=aaaaaaaaaaaaaaaaaaaaaaaaaaaaaaaaaaaaaaaaaaaaaaaaaaaaaaaaaaaaaaaaa",
-            Fault::SaltChoice,
-        ),
+        ("encrypt --salt=abc --salt-file=g", Fault::SaltChoice),
         ("encrypt --salt= --salt-file=g", Fault::SaltChoice),
-        ("encrypt --salt-file=g --salt=", Fault::SaltChoice),
+        ("encrypt f --salt=", Fault::OutputNeeded),
     ];
-    assert_refused(&rt, rt.alloc(), &cases)
-}
-
-#[test]
-fn reads_the_options_of_encrypt(rt: HostRuntime) -> Result<(), Fail> {
-    let line = "encrypt --vault-id=b@f --encrypt-vault-id=b --salt-file=s --output=o x";
-    let wanted = Said {
-        command: CommandName::Encrypt,
-        seals: true,
-        secret_count: 1,
-        choice: Some("b"),
-        salt_path: Some("s"),
-        input: Some("x"),
-        output: Some("o"),
-        ..DECRYPT
-    };
-    assert_says(&rt, rt.alloc(), line, wanted)
-}
-
-#[test]
-fn reads_the_options_of_decrypt(rt: HostRuntime) -> Result<(), Fail> {
-    let line = "decrypt --require-id-match --output=o x";
-    let wanted = Said {
-        rule: LabelRule::Required,
-        input: Some("x"),
-        output: Some("o"),
-        ..DECRYPT
-    };
-    assert_says(&rt, rt.alloc(), line, wanted)
-}
-
-#[test]
-fn reads_the_options_of_view(rt: HostRuntime) -> Result<(), Fail> {
-    let line = "view --require-id-match x";
-    let wanted = Said {
-        command: CommandName::View,
-        rule: LabelRule::Required,
-        input: Some("x"),
-        ..DECRYPT
-    };
-    assert_says(&rt, rt.alloc(), line, wanted)
-}
-
-#[test]
-fn reads_the_new_secret_of_rekey(rt: HostRuntime) -> Result<(), Fail> {
-    let line = "rekey --new-vault-id=prod@g --vault-password-file=f";
-    assert_files(&rt, rt.alloc(), line, &[("default", "f"), ("prod", "g")])?;
-    let wanted = Said {
-        command: CommandName::Rekey,
-        seals: true,
-        secret_count: 1,
-        new_label: Some("prod"),
-        salt_path: Some("/dev/urandom"),
-        ..DECRYPT
-    };
-    assert_says(&rt, rt.alloc(), line, wanted)
-}
-
-#[test]
-fn reads_the_new_password_file_of_rekey(rt: HostRuntime) -> Result<(), Fail> {
-    let line = "rekey --new-vault-password-file=a@g";
-    assert_files(&rt, rt.alloc(), line, &[("default", "a@g")])?;
-    let wanted = Said {
-        command: CommandName::Rekey,
-        seals: true,
-        new_label: Some("default"),
-        salt_path: Some("/dev/urandom"),
-        ..DECRYPT
-    };
-    assert_says(&rt, rt.alloc(), line, wanted)
-}
-
-#[test]
-fn reads_the_options_of_rekey(rt: HostRuntime) -> Result<(), Fail> {
-    let line = "rekey --new-vault-id=g --salt=abc --require-id-match --output=- -";
-    let wanted = Said {
-        command: CommandName::Rekey,
-        seals: true,
-        new_label: Some("default"),
-        salt_text: Some("abc"),
-        rule: LabelRule::Required,
-        ..DECRYPT
-    };
-    assert_says(&rt, rt.alloc(), line, wanted)
-}
-
-#[test]
-fn reads_the_options_of_encrypt_string(rt: HostRuntime) -> Result<(), Fail> {
-    let line = "encrypt_string -n k --encrypt-vault-id=default --salt-file=s --output=o secret";
-    let wanted = Said {
-        command: CommandName::EncryptString,
-        seals: true,
-        choice: Some("default"),
-        name: Some("k"),
-        string: Some("secret"),
-        salt_path: Some("s"),
-        output: Some("o"),
-        ..DECRYPT
-    };
-    assert_says(&rt, rt.alloc(), line, wanted)
-}
-
-#[test]
-fn reads_the_name_of_a_string_from_standard_input(rt: HostRuntime) -> Result<(), Fail> {
-    let line = "encrypt_string --stdin-name=";
-    let wanted = Said {
-        command: CommandName::EncryptString,
-        seals: true,
-        name: Some(""),
-        salt_path: Some("/dev/urandom"),
-        ..DECRYPT
-    };
-    assert_says(&rt, rt.alloc(), line, wanted)
-}
-
-/// Whether these words parse as a command with its own options.
-fn are_parsed(alloc: Global, words: Vec<String>) -> bool {
-    parse(alloc, words.as_slice()).is_ok()
+    for (line, fault) in cases {
+        assert_eq!(rt; settled(rt.alloc(), line)?.err(), Some(fault), "{line}");
+    }
+    Ok(())
 }
 
 #[test]
 fn takes_no_option_of_another_command(rt: HostRuntime) -> Result<(), Fail> {
-    let lines = [
+    let alloc = rt.alloc();
+    for line in [
         "encrypt --require-id-match",
         "encrypt_string --require-id-match",
         "decrypt --salt=a",
@@ -373,12 +253,10 @@ fn takes_no_option_of_another_command(rt: HostRuntime) -> Result<(), Fail> {
         "encrypt_string a b",
         "help",
         "",
-    ];
-    let alloc = rt.alloc();
-    for line in lines {
-        assert!(rt; !are_parsed(alloc, words_of(alloc, line)?), "{line}");
+    ] {
+        let words = words_of(alloc, line)?;
+        assert!(rt; parse(alloc, words.as_slice()).is_err(), "{line}");
     }
-    assert!(rt; !are_parsed(alloc, line_of(alloc, &[])?));
     Ok(())
 }
 
@@ -389,8 +267,9 @@ fn takes_sixteen_secrets(rt: HostRuntime) -> Result<(), Fail> {
     for _ in 0..16 {
         line.push_str(" --vault-id=f")?;
     }
-    assert_settled(&rt, alloc, line.as_str())?;
-    // The seventeenth comes before its own faults.
-    line.push_str(" --vault-id=a;b@f")?;
-    assert_refused(&rt, alloc, &[(line.as_str(), Fault::TooManySecrets)])
+    assert_eq!(rt; settled(alloc, line.as_str())??.files(), 16);
+    line.push_str(" --vault-id=f")?;
+    let fault = settled(alloc, line.as_str())?.err();
+    assert_eq!(rt; fault, Some(Fault::TooManySecrets));
+    Ok(())
 }

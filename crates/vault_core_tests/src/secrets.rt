@@ -1,5 +1,4 @@
 //! Lists of secrets, and passwords.
-use crate::calls::two_secrets;
 use std::process::Abort;
 use std::test::Fail;
 use vault_core::{Fault, ListFault, SecretFault, Secrets, password_of};
@@ -22,7 +21,9 @@ fn lists_and_choices(rt: HostRuntime) -> Result<(), Fail> {
     let known = Label::new("b")?;
     let none = Secrets::new();
     assert_choice(&rt, &none, None, Err(Fault::NoEncryptSecret));
-    let two = two_secrets(b"one", b"two")?;
+    let mut two = Secrets::new();
+    two.push(Label::new("a")?, b"one")?;
+    two.push(Label::new("b")?, b"two")?;
     assert_choice(&rt, &two, None, Err(Fault::ManyEncryptSecrets));
     assert_choice(&rt, &two, Some(&unknown), Err(Fault::UnknownEncryptId));
     assert_choice(&rt, &two, Some(&known), Ok(1));

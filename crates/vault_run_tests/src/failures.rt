@@ -1,168 +1,200 @@
-//! Runs whose devices fail.
-use crate::program::LINUX_FILE;
-use crate::ran::Left;
-use crate::sinks::{Calls, assert_leaves, output_failed};
-use crate::trial::Trial;
+//! Devices that fail at each of their calls in turn, and are then not called again.
+use crate::narrow_writer::NarrowWriter;
+use crate::trial::{Left, Trial};
+use crate::watched::Watched;
 use std::alloc::{AllocError, Global};
-use std::fs::Files;
 use std::process::Abort;
 use std::test::Fail;
-use vault_cli::{Status, drive};
-use vault_core_tests::{CountingReader, NarrowWriter, line_of};
-use vault_made::envelope;
+use vault_cli::{MemSink, MemSource, Status, WriteSink};
+use vault_made::{block, envelope};
+use vault_text::{FailingSink, FailingSource};
 
-const DECRYPT: &[&str] = &["decrypt", "--vault-password-file", "one"];
+const ONE: &[&[u8]] = &[b"one\n"];
 
-const FIRST: &[&[u8]] = &[b"first\n"];
+const TWO: &[&[u8]] = &[b"one\n", b"two\n"];
 
-const PLAINTEXT: &[u8; 200] = &[b'p'; 200];
+const ZEROS: &[u8] = &[0; 32];
 
-const WRITE_FAILED: &[u8] = b"ERROR! the output cannot be written\n";
-
-const NO_VAULT: &str = "ERROR! input is not vault encrypted data\n";
-
-/// A vault of the plaintext.
-fn vault_of_first(alloc: Global) -> Result<Vec<u8>, AllocError> {
-    envelope(alloc, "default", b"first", &[7; 32], PLAINTEXT)
+fn decrypt() -> Trial<'static> {
+    Trial::new(&["decrypt", "--vault-id=f1"], ONE, ZEROS)
 }
 
-/// How many bytes the writer of the output takes, and the writer of the message.
-#[derive(Clone, Copy, Debug)]
-struct Room {
-    output: usize,
-    message: usize,
+fn encrypt() -> Trial<'static> {
+    Trial::new(&["encrypt", "--vault-id=f1"], ONE, ZEROS)
 }
 
-/// Asserts that the program, run on these words between these bytes and two narrow writers, ends
-/// with this status, output and message.
-fn assert_writes(
-    rt: &(impl Abort + Files),
+fn encrypt_string() -> Trial<'static> {
+    Trial::new(&["encrypt_string", "--vault-id=f1"], ONE, ZEROS)
+}
+
+fn rekey() -> Trial<'static> {
+    Trial::new(&["rekey", "--vault-id=f1", "--new-vault-id=f2"], TWO, ZEROS)
+}
+
+/// A vault under the password `one`.
+fn vault_of(alloc: Global, plaintext: &[u8]) -> Result<Vec<u8>, AllocError> {
+    envelope(alloc, "default", b"one", ZEROS, plaintext)
+}
+
+/// The source gives the input one byte per call. It fails at each call in turn, and then at none.
+/// It is not called again after it failed or reported the end.
+fn assert_reads_reported(
+    rt: &impl Abort,
     alloc: Global,
-    words: &[&str],
+    trial: &Trial<'_>,
     input: &[u8],
-    room: Room,
-    expected: (Status, &[u8], &[u8]),
 ) -> Result<(), Fail> {
-    let line = line_of(alloc, words)?;
-    let stdin = CountingReader::new(input, 1_000);
-    let mut out = NarrowWriter::new(alloc, room.output);
-    let mut err = NarrowWriter::new(alloc, room.message);
-    let status = drive(rt, alloc, line.as_slice(), stdin, &mut out, &mut err);
-    let written = (status, out.taken.as_slice(), err.taken.as_slice());
-    assert_eq!(rt; written, expected, "{words:?} {room:?}");
+    for calls in 0..=input.len() + 1 {
+        let mut src = Watched::new(FailingSource::new(input, 1, calls));
+        let ran = trial.run_from(alloc, &mut src)?;
+        let left = ran.left()?;
+        let expected = if calls > input.len() {
+            Left::success(left.output)
+        } else {
+            Left::failure(Status::DeviceFailed, "ERROR! the input cannot be read\n")
+        };
+        assert_eq!(rt;
+            (left, src.asked_after),
+            (expected, 0),
+            "{:?} {calls}",
+            trial.words
+        );
+    }
     Ok(())
 }
 
-/// Asserts that the writer of the output takes this and no more, and that the message says so.
-fn assert_writer_fails(
-    rt: &(impl Abort + Files),
+#[test]
+fn reports_each_read_that_fails(rt: HostRuntime) -> Result<(), Fail> {
+    let alloc = rt.alloc();
+    let vault = vault_of(alloc, b"")?;
+    assert_eq!(rt; vault.len(), 355);
+    assert_reads_reported(&rt, alloc, &decrypt(), vault.as_slice())?;
+    assert_reads_reported(&rt, alloc, &rekey(), vault.as_slice())?;
+    assert_reads_reported(&rt, alloc, &encrypt(), b"text")?;
+    assert_reads_reported(&rt, alloc, &encrypt_string(), b"text")
+}
+
+/// Runs the trial between sinks that take one byte per call and fail after these many calls.
+/// Asserts what that leaves, and that neither sink is called again after it failed.
+fn assert_leaves(
+    rt: &impl Abort,
     alloc: Global,
-    words: &[&str],
+    trial: &Trial<'_>,
+    input: &[u8],
+    calls: (usize, usize),
+    expected: Left<'_>,
+) -> Result<(), Fail> {
+    let mut src = MemSource::new(input, 1_000);
+    let mut out = Watched::new(FailingSink::new(alloc, 1, calls.0));
+    let mut err = Watched::new(FailingSink::new(alloc, 1, calls.1));
+    let status = trial.run_between(alloc, &mut src, &mut out, &mut err)?;
+    let left = Left {
+        status,
+        begun: out.device.begun(),
+        output: out.device.bytes(),
+        message: str::from_utf8(err.device.bytes())?,
+    };
+    let found = (left, out.asked_after, err.asked_after);
+    assert_eq!(rt; found, (expected, 0, 0), "{:?} {calls:?}", trial.words);
+    Ok(())
+}
+
+/// The same if only the sink of the output fails. It has taken the first bytes of this output.
+fn assert_write_reported(
+    rt: &impl Abort,
+    alloc: Global,
+    trial: &Trial<'_>,
+    input: &[u8],
+    output: &[u8],
+    calls: usize,
+) -> Result<(), Fail> {
+    let taken = calls.saturating_sub(1).min(output.len());
+    let failed = Left {
+        begun: calls > 0,
+        output: &output[..taken],
+        ..Left::failure(
+            Status::DeviceFailed,
+            "ERROR! the output cannot be written\n",
+        )
+    };
+    assert_leaves(rt, alloc, trial, input, (calls, usize::MAX), failed)
+}
+
+/// The sink fails at each call in turn, and then at none.
+fn assert_writes_reported(
+    rt: &impl Abort,
+    alloc: Global,
+    trial: &Trial<'_>,
     input: &[u8],
     output: &[u8],
 ) -> Result<(), Fail> {
-    let room = Room {
-        output: output.len(),
-        message: 100,
-    };
-    let expected = (Status::DeviceFailed, output, WRITE_FAILED);
-    assert_writes(rt, alloc, words, input, room, expected)
+    for calls in 0..=output.len() + 1 {
+        assert_write_reported(rt, alloc, trial, input, output, calls)?;
+    }
+    let calls = (output.len() + 2, usize::MAX);
+    assert_leaves(rt, alloc, trial, input, calls, Left::success(output))
 }
 
-/// A writer that is full before the end, and one whose flush fails.
+#[test]
+fn reports_each_write_that_fails(rt: HostRuntime) -> Result<(), Fail> {
+    let alloc = rt.alloc();
+    let plain = b"aaaaaaaaaaaaaaa".as_slice();
+    let vault = vault_of(alloc, plain)?;
+    let block = block(alloc, "", vault.as_slice())?;
+    let (vault, block) = (vault.as_slice(), block.as_slice());
+    assert_writes_reported(&rt, alloc, &decrypt(), vault, plain)?;
+    assert_writes_reported(&rt, alloc, &encrypt(), plain, vault)?;
+    assert_writes_reported(&rt, alloc, &encrypt_string(), plain, block)
+}
+
+#[test]
+fn reports_each_write_of_rekey_that_fails(rt: HostRuntime) -> Result<(), Fail> {
+    let alloc = rt.alloc();
+    let vault = vault_of(alloc, b"text")?;
+    let rekeyed = envelope(alloc, "default", b"two", ZEROS, b"text")?;
+    assert_writes_reported(&rt, alloc, &rekey(), vault.as_slice(), rekeyed.as_slice())
+}
+
+const PLAINTEXT: &[u8; 200] = &[b'p'; 200];
+
+/// One fails at its 102nd call, after 100 bytes, and one at its 202nd, at `finish`.
+#[test]
+fn reports_a_sink_that_fails(rt: HostRuntime) -> Result<(), Fail> {
+    let alloc = rt.alloc();
+    let vault = vault_of(alloc, PLAINTEXT)?;
+    let vault = vault.as_slice();
+    assert_write_reported(&rt, alloc, &decrypt(), vault, PLAINTEXT, 101)?;
+    assert_write_reported(&rt, alloc, &decrypt(), vault, PLAINTEXT, 201)
+}
+
+/// One writer is full before the end, and the other fails to flush.
 #[test]
 fn reports_a_writer_that_fails(rt: HostRuntime) -> Result<(), Fail> {
     let alloc = rt.alloc();
-    let vault = envelope(alloc, "default", b"Linux", &[7; 32], PLAINTEXT)?;
-    let (vault, view) = (vault.as_slice(), ["view", "--vault-id", LINUX_FILE]);
-    assert_writer_fails(&rt, alloc, &view, vault, b"")?;
-    assert_writer_fails(&rt, alloc, &view, vault, &PLAINTEXT[..100])?;
-    assert_writer_fails(&rt, alloc, &view, vault, PLAINTEXT)
-}
-
-#[test]
-fn reports_help_that_cannot_be_written(rt: HostRuntime) -> Result<(), Fail> {
-    let alloc = rt.alloc();
-    assert_writer_fails(&rt, alloc, &["--help"], b"", b"Encrypts a")?;
-    assert_writer_fails(&rt, alloc, &["--version"], b"", b"ansible-va")
-}
-
-/// Asserts that the writer of the message takes this and no more, and that the status is the same.
-fn assert_message_lost(
-    rt: &(impl Abort + Files),
-    alloc: Global,
-    message: &[u8],
-) -> Result<(), Fail> {
-    let room = Room {
-        output: 100,
-        message: message.len(),
-    };
-    let expected = (Status::Refused, b"".as_slice(), message);
-    assert_writes(rt, alloc, &["view"], b"", room, expected)
-}
-
-/// A message is lost if its writer is full, but the status is the same.
-#[test]
-fn keeps_the_status_where_the_writer_of_the_message_fails(rt: HostRuntime) -> Result<(), Fail> {
-    assert_message_lost(&rt, rt.alloc(), b"")?;
-    assert_message_lost(&rt, rt.alloc(), b"ERROR! input is not ")
-}
-
-/// Asserts that the sink of the message fails after `calls` calls, and has taken this.
-fn assert_message_fails(
-    rt: &impl Abort,
-    alloc: Global,
-    calls: usize,
-    message: &str,
-) -> Result<(), Fail> {
-    let calls = Calls {
-        output: usize::MAX,
-        message: calls,
-    };
-    let trial = Trial::new(&["view"], &[], &[]);
-    assert_leaves(rt, alloc, &trial, b"", calls, Left::refused(message))?;
+    let vault = vault_of(alloc, PLAINTEXT)?;
+    for room in [100, 200] {
+        let mut src = MemSource::new(vault.as_slice(), 1_000);
+        let mut out = WriteSink::new(NarrowWriter::new(alloc, room));
+        let mut err = MemSink::new(alloc, 4_096);
+        let status = decrypt().run_between(alloc, &mut src, &mut out, &mut err)?;
+        let taken = out.into_inner().taken.len();
+        let line = b"ERROR! the output cannot be written\n".as_slice();
+        let left = (status, taken, err.bytes());
+        assert_eq!(rt; left, (Status::DeviceFailed, room, line));
+    }
     Ok(())
 }
 
-/// The error sink fails at `begin`, at a byte and at `finish`, or, with many calls, not at all. It
-/// is not called again after a failure.
+/// The error sink fails at `begin`, at a byte and at `finish`, or, with many calls, not at all.
 #[test]
 fn keeps_the_status_where_the_message_fails(rt: HostRuntime) -> Result<(), Fail> {
-    let alloc = rt.alloc();
-    assert_message_fails(&rt, alloc, 0, "")?;
-    assert_message_fails(&rt, alloc, 1, "")?;
-    assert_message_fails(&rt, alloc, 8, "ERROR! ")?;
-    assert_message_fails(&rt, alloc, 20, "ERROR! input is not")?;
-    assert_message_fails(&rt, alloc, 42, NO_VAULT)?;
-    assert_message_fails(&rt, alloc, 100, NO_VAULT)
-}
-
-/// The sink of the message fails at once, the sink of the output after `calls` calls.
-fn assert_ends_silently(
-    rt: &impl Abort,
-    alloc: Global,
-    vault: &[u8],
-    calls: usize,
-    expected: Left<'_>,
-) -> Result<(), Fail> {
-    let calls = Calls {
-        output: calls,
-        message: 0,
-    };
-    let trial = Trial::new(DECRYPT, FIRST, &[]);
-    let has_reported = assert_leaves(rt, alloc, &trial, vault, calls, expected)?;
-    assert!(rt; !has_reported, "{calls:?}");
+    let line = b"ERROR! input is not vault encrypted data\n";
+    assert_eq!(rt; line.len(), 41);
+    let trial = Trial::new(&["view"], &[], &[]);
+    for calls in [0usize, 1, 20, 42, 100] {
+        let taken = calls.saturating_sub(1).min(line.len());
+        let left = Left::refused(str::from_utf8(&line[..taken])?);
+        assert_leaves(&rt, rt.alloc(), &trial, b"", (usize::MAX, calls), left)?;
+    }
     Ok(())
-}
-
-#[test]
-fn a_failing_error_sink_changes_nothing_else(rt: HostRuntime) -> Result<(), Fail> {
-    let alloc = rt.alloc();
-    let vault = vault_of_first(alloc)?;
-    let failed = Left {
-        message: "",
-        ..output_failed(true, &PLAINTEXT[..99])
-    };
-    assert_ends_silently(&rt, alloc, vault.as_slice(), 100, failed)?;
-    assert_ends_silently(&rt, alloc, vault.as_slice(), 202, Left::success(PLAINTEXT))
 }

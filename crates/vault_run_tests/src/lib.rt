@@ -3,38 +3,20 @@
 #![tactic(auto)]
 
 #[cfg(test)]
-mod damage;
-#[cfg(test)]
-mod each_call;
+mod decrypting;
 #[cfg(test)]
 mod encrypting;
 #[cfg(test)]
 mod failures;
 #[cfg(test)]
-mod leaving;
-#[cfg(test)]
 mod limits;
 #[cfg(test)]
-mod long_ciphertext;
-#[cfg(test)]
-mod program;
-#[cfg(test)]
-mod ran;
+mod narrow_writer;
 #[cfg(test)]
 mod rekeying;
-#[cfg(test)]
-mod runs;
-#[cfg(test)]
-mod sinks;
-#[cfg(test)]
-mod sources;
-#[cfg(test)]
-mod spellings;
 #[cfg(test)]
 mod system;
 #[cfg(test)]
 mod trial;
 #[cfg(test)]
 mod watched;
-#[cfg(test)]
-mod without_secrets;

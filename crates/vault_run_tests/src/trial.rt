@@ -1,34 +1,31 @@
-//! Runs of one request.
-ghost use Rattle.std.specs.Prelude.{◌≡◌, ◌≤◌, IfOk, vec_len};
+//! Runs of one request, and what they leave.
+ghost use Rattle.std.specs.Prelude.{◌≡◌, IfOk, vec_len};
 
-use crate::ran::{Ran, left_by};
 use std::alloc::{AllocError, Global};
+use std::process::Abort;
 use std::test::Fail;
 use vault_cli::{MemSink, MemSource, Status, parse, run, settle};
-use vault_core_tests::{CountingReader, line_of};
-use vault_text::{CIPHERTEXT_LIMIT, PADDING_LIMIT, ReadSource, Sink, Source, Stage};
-
-/// The length of memory for 64 KiB of plaintext with its padding.
-pub const LITTLE_WORK: usize = 65_552;
+use vault_core_tests::line_of;
+use vault_text::{CIPHERTEXT_LIMIT, PADDING_LIMIT, Sink, Source, Stage};
 
 /// A request, and what it is run on besides its input.
 #[derive(Clone, Copy)]
 pub struct Trial<'a> {
     pub words: &'a [&'a str],
     /// The contents of its password files.
-    pub secret_files: &'a [&'a [u8]],
-    pub salt: &'a [u8],
-    pub work_length: usize,
+    secret_files: &'a [&'a [u8]],
+    salt: &'a [u8],
+    work_length: usize,
 }
 
 impl<'a> Trial<'a> {
-    /// The request of the words after the program's name, in little memory.
-    pub fn new(words: &'a [&'a str], secret_files: &'a [&'a [u8]], salt: &'a [u8]) -> Self {
+    /// The request of the words after the program's name, in memory for 64 KiB of plaintext.
+    pub const fn new(words: &'a [&'a str], secret_files: &'a [&'a [u8]], salt: &'a [u8]) -> Self {
         Trial {
             words,
             secret_files,
             salt,
-            work_length: LITTLE_WORK,
+            work_length: 65_536 + PADDING_LIMIT,
         }
     }
 
@@ -38,35 +35,6 @@ impl<'a> Trial<'a> {
             work_length: CIPHERTEXT_LIMIT,
             ..self
         }
-    }
-
-    /// Runs the request on these bytes.
-    pub fn run_on(&self, alloc: Global, input: &[u8]) -> Result<Ran, Fail> {
-        self.run_in_steps(alloc, input, 4_096)
-    }
-
-    /// Runs the request on these bytes, which come in steps.
-    pub fn run_in_steps(&self, alloc: Global, input: &[u8], step: usize) -> Result<Ran, Fail>
-        requires { 1 ≤ step }
-    {
-        self.run_from(alloc, &mut MemSource::new(input, step))
-    }
-
-    /// Runs the request on the bytes that the reader gives.
-    pub fn run_on_reader(&self, alloc: Global, reader: &mut CountingReader) -> Result<Ran, Fail> {
-        self.run_from(alloc, &mut ReadSource::new(reader))
-    }
-
-    /// Runs the request on the bytes that the source gives; fails if a success begins its message.
-    pub fn run_from<S: Source>(&self, alloc: Global, src: &mut S) -> Result<Ran, Fail> {
-        let mut out = MemSink::new(alloc, 4_096);
-        let mut err = MemSink::new(alloc, 4_096);
-        let status = self.run_between(alloc, src, &mut out, &mut err)?;
-        if status == Status::Success && err.begun() {
-            return Err(Fail::from("a run that succeeded began its message"));
-        }
-        let message = Vec::from_slice(alloc, err.bytes())?;
-        left_by(alloc, status, &out, message)
     }
 
     /// Runs the request between a source and two sinks.
@@ -102,10 +70,88 @@ impl<'a> Trial<'a> {
         }
         Ok(contents)
     }
+
+    /// Runs the request on the bytes that the source gives.
+    pub fn run_from<S: Source>(&self, alloc: Global, src: &mut S) -> Result<Ran, Fail> {
+        let mut out = MemSink::new(alloc, 4_096);
+        let mut err = MemSink::new(alloc, 4_096);
+        let status = self.run_between(alloc, src, &mut out, &mut err)?;
+        Ok(Ran { status, out, err })
+    }
+
+    /// Runs the request on these bytes, and asserts what that leaves.
+    pub fn assert_leaves(
+        &self,
+        rt: &impl Abort,
+        alloc: Global,
+        input: &[u8],
+        expected: Left<'_>,
+    ) -> Result<(), Fail> {
+        let ran = self.run_from(alloc, &mut MemSource::new(input, 4_096))?;
+        assert_eq!(rt; ran.left()?, expected, "{:?}", self.words);
+        Ok(())
+    }
 }
 
 fn zeros(alloc: Global, length: usize) -> Result<Vec<u8>, AllocError>
     ensures { IfOk result (λ work. vec_len work ≡ length) }
 {
     vec![in alloc; 0u8; length]
+}
+
+/// A run that ended: its status and its sinks.
+#[derive(Drop)]
+pub struct Ran {
+    status: Status,
+    out: MemSink,
+    err: MemSink,
+}
+
+impl Ran {
+    /// All that the run left; fails if its message is not UTF-8.
+    pub fn left(&self) -> Result<Left<'_>, Fail> {
+        Ok(Left {
+            status: self.status,
+            begun: self.out.begun(),
+            output: self.out.bytes(),
+            message: str::from_utf8(self.err.bytes())?,
+        })
+    }
+}
+
+/// What a run leaves, so that one comparison covers all of it.
+#[derive(Clone, Copy, Debug, PartialEq, Eq)]
+pub struct Left<'a> {
+    pub status: Status,
+    /// Whether the output was begun.
+    pub begun: bool,
+    pub output: &'a [u8],
+    pub message: &'a str,
+}
+
+impl<'a> Left<'a> {
+    /// The whole output, and no message.
+    pub const fn success(output: &'a [u8]) -> Self {
+        Left {
+            status: Status::Success,
+            begun: true,
+            output,
+            message: "",
+        }
+    }
+
+    /// Only a message.
+    pub const fn failure(status: Status, message: &'a str) -> Self {
+        Left {
+            status,
+            begun: false,
+            output: b"",
+            message,
+        }
+    }
+
+    /// The message of a run that was refused.
+    pub const fn refused(message: &'a str) -> Self {
+        Left::failure(Status::Refused, message)
+    }
 }
