@@ -16,14 +16,10 @@ mod keys;
 #[cfg(test)]
 mod labels;
 #[cfg(test)]
-mod parts;
-#[cfg(test)]
 mod reading;
 #[cfg(test)]
 mod text_memory;
 #[cfg(test)]
 mod vectors;
-#[cfg(test)]
-mod whole_list;
 #[cfg(test)]
 mod writing;
