@@ -18,6 +18,8 @@ mod memory_files;
 #[cfg(test)]
 mod prefixes;
 #[cfg(test)]
+mod rekeying;
+#[cfg(test)]
 mod requests;
 #[cfg(test)]
 mod secrets;

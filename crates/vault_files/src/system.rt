@@ -53,8 +53,8 @@ pub trait System {
     fn truncate(&mut self, file: &Self::Writer) -> io::Result<()>
         ensures { executes self.old (called Truncate result ∷ []) self.new };
 
-    /// Writes a prefix of the bytes and returns its length, which is not 0 if there are any. A failed
-    /// call writes none.
+    /// Writes a prefix of the bytes and returns its length, which is not 0 if there are any bytes.
+    /// A failed call writes none.
     fn write(&mut self, file: &mut Self::Writer, bytes: &[u8]) -> io::Result<usize>
         ensures executes { executes self.old
             (called (Write (taken result bytes.now)) result ∷ []) self.new }
