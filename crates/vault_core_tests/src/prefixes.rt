@@ -26,7 +26,7 @@ pub fn assert_reads<D: System>(
     ensures { Opens D.executes files.old (path.now ∷ []) files.new }
 {
     match read_prefix(files, path, buffer) {
-        Ok(length) => assert_found(rt, path, Ok(&buffer[..length]), expected),
+        Ok(prefix) => assert_found(rt, path, Ok(&buffer[..prefix.length]), expected),
         Err(fault) => assert_found(rt, path, Err(fault), expected),
     }
 }

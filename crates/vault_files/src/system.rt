@@ -107,20 +107,34 @@ pub fn open<D: System>(system: &mut D, path: &str) -> Result<D::Reader, FileFaul
     system.open(path).map_err(|_| FileFault::CannotOpen)
 }
 
-/// Reads a prefix of a file into the start of `buf` and returns its length. It is shorter than
-/// `buf` only if the file has no more bytes. After an error the contents of `buf` are unspecified.
+/// A prefix of a file, in the buffer that it was read into. Nobody can read on, since the reader is
+/// private.
+#[derive(Drop)]
+pub struct Prefix<R> {
+    /// The number of bytes, from the start of the buffer.
+    pub length: usize,
+    reader: R,
+}
+
+/// Reads a prefix of a file into the start of `buf`. It is shorter than `buf` only if the file has
+/// no more bytes. After an error the contents of `buf` are unspecified.
 pub fn read_prefix<D: System>(
     system: &mut D,
     path: &str,
     buf: &mut [u8],
-) -> Result<usize, FileFault>
+) -> Result<Prefix<D::Reader>, FileFault>
     ensures opens { Opens D.executes system.old (path.now ∷ []) system.new }
-    ensures bound { IfOk result (λ n. n ≤ length buf.new) }
-    ensures prefix { IfOk result (λ n.
-        Answers (D.finds system.old path.now) (length buf.new) (Ok (take n buf.new))) }
+    ensures bound { IfOk result (λ prefix. prefix.length ≤ length buf.new) }
+    ensures prefix { IfOk result (λ prefix.
+        Answers (D.finds system.old path.now) (length buf.new)
+        (Ok (take prefix.length buf.new))) }
+    ensures gives { IfOk result (λ prefix.
+        (opened : D.Reader) × D.reader_at system.old path.now opened
+        × D.Reader.gives opened (take prefix.length buf.new) prefix.reader) }
     ensures refused { IfErr result (λ fault.
         Answers (D.finds system.old path.now) (length buf.new) (Err fault)) }
 {
     let mut reader = open(system, path)?;
-    fill_up(&mut reader, buf).map_err(|_| FileFault::CannotRead)
+    let length = fill_up(&mut reader, buf).map_err(|_| FileFault::CannotRead)?;
+    Ok(Prefix { length, reader })
 }
