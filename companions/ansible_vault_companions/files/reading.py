@@ -18,6 +18,10 @@ LONGEST_PLAINTEXT = 16_777_216
 LIMIT = 6 * LONGEST_PLAINTEXT + 8_192
 
 
+# Called between two pieces; raises if a signal arrived.
+Check = Callable[[], None]
+
+
 class TooLong(OSError):
     """A file is longer than the limit."""
 
@@ -26,7 +30,7 @@ def read(path: str) -> bytes | None:
     """The content of the file at a path, or None if there is no file."""
     try:
         with opened(path) as file:
-            return b"".join(parts(file, path))
+            return whole(file, path)
     except FileNotFoundError:
         return None
 
@@ -52,9 +56,14 @@ def pieces(path: str) -> Iterator[bytes]:
         yield from parts(file, path, stopping.check, max(LIMIT, os.fstat(file.fileno()).st_size))
 
 
-def parts(
-    file: BinaryIO, path: str, check: Callable[[], None] = lambda: None, limit: int = LIMIT
-) -> Iterator[bytes]:
+def whole(file: BinaryIO, path: str, check: Check = lambda: None, limit: int = LIMIT) -> bytes:
+    """The content of a file. Raises TooLong, and reads nothing of a file whose stated size exceeds the limit."""
+    if os.fstat(file.fileno()).st_size > limit:
+        raise _too_long(path, limit)
+    return b"".join(parts(file, path, check, limit))
+
+
+def parts(file: BinaryIO, path: str, check: Check = lambda: None, limit: int = LIMIT) -> Iterator[bytes]:
     """Yields the content of a file from its beginning. Raises TooLong after the limit."""
     file.seek(0)
     left = limit
@@ -62,8 +71,12 @@ def parts(
         check()
         yield piece[:left]
         if len(piece) > left:
-            raise TooLong(errno.EFBIG, f"it has more than {limit:,} bytes, more than any vault", path)
+            raise _too_long(path, limit)
         left -= len(piece)
+
+
+def _too_long(path: str, limit: int) -> TooLong:
+    return TooLong(errno.EFBIG, f"it has more than {limit:,} bytes, more than any vault", path)
 
 
 def opened(path: str) -> BinaryIO:

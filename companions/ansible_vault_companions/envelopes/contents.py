@@ -1,0 +1,53 @@
+"""Reads those files that may have envelopes."""
+
+from __future__ import annotations
+
+import os
+from contextlib import suppress
+from typing import BinaryIO
+
+from ansible_vault_companions import stopping
+from ansible_vault_companions.envelopes.document import OVERLAP, mentions
+from ansible_vault_companions.envelopes.scalars import LONGEST
+from ansible_vault_companions.files.reading import LIMIT, TooLong, opened, parts, whole
+from ansible_vault_companions.program import Refused
+
+# Documents. An envelope in one that no password opens is an example.
+PROSE = (".md", ".rst", ".adoc", ".html")
+YAML = (".yml", ".yaml", ".json")
+
+
+class Unsearched(Refused):
+    """A file has no envelope up to the limit, but is longer."""
+
+
+def is_prose(path: str) -> bool:
+    """Whether it is a document. A link is one if its file is."""
+    return os.path.realpath(path).lower().endswith(PROSE)
+
+
+def is_yaml(path: str) -> bool:
+    """Whether it is meant as YAML, by its name or by that of the file that it points to."""
+    return any(name.lower().endswith(YAML) for name in (path, os.path.realpath(path)))
+
+
+def contents(path: str) -> bytes:
+    """The content of a file; empty if it has no envelopes. A signal ends the search."""
+    with opened(path) as file:
+        with suppress(TooLong):
+            data = whole(file, path, stopping.check, LONGEST)
+            return data if mentions(data) else b""
+        # It is longer than YAML may be, and is not kept in memory while it is searched.
+        return whole(file, path, stopping.check) if _mentions(file, path) else b""
+
+
+def _mentions(file: BinaryIO, path: str) -> bool:
+    before = b""
+    try:
+        for piece in parts(file, path, stopping.check):
+            if mentions(before[-OVERLAP:] + piece):
+                return True
+            before = piece
+    except TooLong:
+        raise Unsearched(f"it is longer than any vault, so only its first {LIMIT:,} bytes were searched") from None
+    return False

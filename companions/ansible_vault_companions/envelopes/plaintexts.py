@@ -1,0 +1,55 @@
+"""Shows plaintext in the place of an envelope: a block becomes a literal, and any other value gets double quotes."""
+
+from __future__ import annotations
+
+import json
+import re
+
+from ansible_vault_companions.envelopes.value import LITERAL, STRAY, WHOLE, Value
+from ansible_vault_companions.files.changes import Change, indented
+from ansible_vault_companions.program import Refused
+
+# What YAML does not allow, or takes for the end of a line.
+UNSHOWN = re.compile("[^\t\n\x20-\x7e\xa0-\u2027\u202a-\ud7ff\ue000-\ufefe\uff00-\ufffd\U00010000-\U0010ffff]")
+HEADER = re.compile(rb"[|>][-+0-9]*")
+BEGINS_WITH_BLANK = re.compile(rb"\n*[ \t]")
+# What precedes a key or the text of an item in its line.
+DASHES = re.compile(rb" *(?:- +)*")
+NOT_UTF_8, CONTROL = "it is not UTF-8", "it has control characters"
+
+
+def shown(data: bytes, value: Value, text: bytes) -> list[Change]:
+    if value.style == WHOLE:
+        return [Change(value.start, value.end, text)]
+    if value.style == STRAY:
+        return [Change(value.start, value.end, indented(text.removesuffix(b"\n"), value.margin, value.ending))]
+    try:
+        characters = text.decode()
+    except UnicodeDecodeError:
+        raise Refused(NOT_UTF_8) from None
+    if UNSHOWN.search(characters):
+        raise Refused(CONTROL)
+    if value.style == LITERAL:
+        return _literal(data, value, text)
+    return [Change(value.start, value.end, json.dumps(characters, ensure_ascii=False).encode())]
+
+
+def _literal(data: bytes, value: Value, text: bytes) -> list[Change]:
+    """The changes of the header, which tells how the text begins and ends, and of the lines."""
+    header = HEADER.match(data, value.begin)
+    assert header
+    indicator = b"2" if BEGINS_WITH_BLANK.match(text) else b""
+    chomping = b"-" if not text.endswith(b"\n") else b"+" if text == b"\n" or text.endswith(b"\n\n") else b""
+    margin = b" " * (column(data, value.begin) + 2)
+    # A text that is empty has no line.
+    start = value.start if text else value.start - len(value.ending)
+    lines = indented(text.removesuffix(b"\n"), margin, value.ending)
+    return [Change(value.begin, header.end(), b"|" + indicator + chomping), Change(start, value.end, lines)]
+
+
+def column(data: bytes, place: int) -> int:
+    """The column of the key or dash to which a value belongs."""
+    dashes = DASHES.match(data, data.rfind(b"\n", 0, place) + 1)
+    assert dashes
+    is_item = data[dashes.end() : dashes.end() + 1] in (b"!", b"&", b"|")
+    return dashes[0].rfind(b"-") if is_item and b"-" in dashes[0] else len(dashes[0])

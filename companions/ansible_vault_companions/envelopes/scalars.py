@@ -1,0 +1,159 @@
+"""The scalars of a file, as PyYAML reads them. Ansible uses PyYAML as well.
+
+PyYAML gets one character for each byte, so that a mark counts bytes, and so that no byte keeps it from reading a file.
+"""
+
+from __future__ import annotations
+
+import codecs
+import io
+import re
+import sys
+from functools import lru_cache
+from typing import Any, Iterator, Union
+
+from ansible_vault_companions import stopping
+from ansible_vault_companions.envelopes import envelope
+from ansible_vault_companions.envelopes.value import FOLDED, JSON_KEY, LITERAL, NO_SCALAR, PLAIN, Path, Value
+from ansible_vault_companions.program import Refused
+
+TAGS = ("!vault", "!vault-encrypted")
+BYTE_ORDER_MARK = b"\xef\xbb\xbf"
+# libyaml takes quadratic time for brackets, so a file that is nested more deeply, as none is, would hang this.
+DEEPEST = 1000
+# The most bytes to parse, as many as a plaintext has.
+LONGEST = 16_777_216
+# YAML has no such character, but other files do, in which escapes mean nothing.
+BINARY = b"\0"
+
+# YAML allows each of these characters, and a name gets its bytes back.
+SHADOW = "".join(chr(byte) if 0x20 <= byte < 0x7F or byte in b"\t\n\r" else chr(0xE000 + byte) for byte in range(256))
+# Half of a character, as JSON may have it and libyaml refuses it.
+SURROGATE = re.compile(rb"\\u[dD][89a-fA-F](?=[0-9a-fA-F]{2})")
+# What precedes the text of a scalar: tag, anchor, comments; and the first line of a block with text.
+PROPERTIES = re.compile(rb"(?:[!&][^\s,\]}]*(?:\s|(?<=\s)#[^\r\n]*)*)*")
+FIRST_LINE = re.compile(rb"[^\n\r]*\s*[\r\n](?P<margin>[ \t]*)")
+LINE_END = re.compile(rb"\r\n?|\n")
+BLANKS = b" \t\r\n"
+
+NO_PYYAML = "PyYAML, which reads YAML, is missing: install Debian's python3-yaml, or PyYAML with pip"
+NOT_YAML = "it cannot be read as YAML: {}"
+TOO_DEEP, TOO_LONG, NULL = "it is nested too deeply", f"it has more than {LONGEST:,} bytes", "it has a null character"
+# The key or number of the next node in each collection; None while a key comes next.
+Steps = list[Union[str, int, None]]
+
+
+class NotYaml(Refused):
+    """A text that cannot be read as YAML."""
+
+
+@lru_cache(maxsize=None)
+def pyyaml() -> Any:
+    """PyYAML. The companions start without `site`, by -S, but it is needed to find packages."""
+    try:
+        if sys.flags.no_site and "yaml" not in sys.modules:
+            import site
+
+            site.main()
+        import yaml
+    except ImportError:
+        raise Refused(NO_PYYAML) from None
+    return yaml
+
+
+def scalars(data: bytes, every: bool = False) -> Iterator[Value]:
+    """The envelopes among the scalars, or every node that is not a key. Raises NotYaml."""
+    if BINARY in data:
+        raise NotYaml(NOT_YAML.format(NULL))
+    if len(data) > LONGEST:
+        raise NotYaml(NOT_YAML.format(TOO_LONG))
+    yaml = pyyaml()
+    skipped = len(BYTE_ORDER_MARK) if data.startswith(BYTE_ORDER_MARK) else 0
+    ending = b"\r\n" if b"\r\n" in data else b"\n"
+    try:
+        for path, is_key, event in _nodes(yaml, _Shadow(data[skipped:])):
+            if not is_key if every else _is_envelope(path, event):
+                yield _value(data, skipped, ending, path, event)
+    except yaml.YAMLError as fault:
+        mark = getattr(fault, "problem_mark", None)
+        where = f"line {mark.line + 1}: " if mark else ""
+        raise NotYaml(where + NOT_YAML.format(getattr(fault, "problem", None) or fault)) from None
+
+
+class _Shadow(io.RawIOBase):
+    """The characters, in pieces, since libyaml copies what it gets."""
+
+    def __init__(self, data: bytes) -> None:
+        self.data = SURROGATE.sub(rb"\\ue0", data) if b"\\u" in data else data
+        self.place = 0
+
+    def read(self, size: int = -1) -> str:  # type: ignore[override]
+        piece = self.data[self.place : self.place + size]
+        self.place += size
+        return codecs.charmap_decode(piece, "strict", SHADOW)[0]  # type: ignore[arg-type]
+
+
+def _unshadowed(text: str) -> bytes:
+    if text.isascii():
+        return text.encode()
+    return b"".join(bytes([ord(c) - 0xE000]) if "\ue000" <= c <= "\ue0ff" else c.encode(errors="replace") for c in text)
+
+
+def _nodes(yaml: Any, text: _Shadow) -> Iterator[tuple[Steps, bool, Any]]:
+    """Each scalar, alias and beginning of a collection, the steps to it, and whether it is a key."""
+    steps: Steps = []
+    mapping, scalar = yaml.MappingStartEvent, yaml.ScalarEvent
+    starts, ends = (mapping, yaml.SequenceStartEvent), (yaml.MappingEndEvent, yaml.SequenceEndEvent)
+    nodes = (scalar, yaml.AliasEvent, *starts)
+    for event in yaml.parse(text, getattr(yaml, "CSafeLoader", yaml.SafeLoader)):
+        stopping.check()
+        kind = type(event)
+        if kind in ends:
+            steps.pop()
+        elif kind not in nodes:
+            continue
+        step = steps[-1] if steps else ""
+        if kind not in ends:
+            yield steps, step is None, event
+        if kind in starts:
+            steps.append(None if kind is mapping else 0)
+            if len(steps) > DEEPEST:
+                raise yaml.YAMLError(TOO_DEEP)
+        elif steps:
+            key = event.value if kind is scalar else ""
+            steps[-1] = step + 1 if isinstance(step, int) else key if step is None else None
+
+
+def _is_envelope(steps: Steps, event: Any) -> bool:
+    text = getattr(event, "value", None)
+    if text is None:
+        return False
+    is_tagged = event.tag in TAGS or JSON_KEY in steps[-1:]
+    return is_tagged or text.startswith("$ANSIBLE_VAULT") and envelope.has_digits(_unshadowed(text))
+
+
+def _value(data: bytes, skipped: int, ending: bytes, steps: Steps, event: Any) -> Value:
+    first, end = event.start_mark.index + skipped, event.end_mark.index + skipped
+    properties = PROPERTIES.match(data, first, end)
+    assert properties
+    start = begin = properties.end()
+    margin = b""
+    own_ending = LINE_END.search(data, begin, end)
+    style = (event.style or PLAIN) if hasattr(event, "value") else NO_SCALAR
+    if style in (LITERAL, FOLDED):
+        end = begin + len(data[begin:end].rstrip(BLANKS))
+    if style == LITERAL:
+        line = FIRST_LINE.match(data, begin, end)
+        if line:
+            start, margin = line.start("margin"), line["margin"]
+    number = event.start_mark.line + 1 + len(LINE_END.findall(data, first, start))
+    text = _unshadowed(getattr(event, "value", ""))
+    if text.strip().startswith(envelope.MAGIC):
+        text = text.strip() + b"\n"
+    ending = own_ending[0] if own_ending else ending
+    return Value(_path(steps), style, number, begin, start, end, margin, ending, text)
+
+
+def _path(steps: Steps) -> Path:
+    names = ("" if step is None else step for step in steps)
+    return tuple(_unshadowed(step).decode(errors="replace") if isinstance(step, str) else step for step in names)
