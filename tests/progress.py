@@ -140,7 +140,7 @@ PACKAGES = dict.fromkeys(["awk", "bash", "dpkg-deb", "rt", "stty"], "") | dict.f
 PACKAGES |= {"dh": "debhelper", "groff": "groff-base", "localedef": "locales", "man": "man-db", "setfacl": "acl"}
 PACKAGES |= {"ansible-playbook": "ansible-core"}
 # Those of the modules and of the other programs that they use.
-OTHERS = "bash-completion fish graphviz openssl python3-coverage python3-hypothesis python3-matplotlib "
+OTHERS = "bash-completion fish openssl python3-coverage python3-hypothesis python3-matplotlib "
 OTHERS += "python3-pytest python3-pytest-subtests python3-pytest-timeout python3-pytest-xdist python3-yaml"
 
 

@@ -3,7 +3,6 @@ symbol that they name, and what `tools/write_documents` writes into the document
 programs, which tests run, and with the crates, and docs/architecture.md has every crate. Links and paths lead to files.
 """
 
-import html
 import re
 from collections.abc import Callable, Iterator
 from functools import cache
@@ -11,17 +10,16 @@ from pathlib import Path
 
 import pytest
 
-import pictures
 from contracts import CRATES, code, crates, declared_in
 from documents import LIBRARY, PAGE, PROGRAMS, REFERENCE, WRITTEN, definition_files
 from lib.links import dead_links
 from lib.paths import ROOT
 
-# A row of a table of claims: the calls with their clauses and the definitions, and the tests.
-CLAIM = re.compile(r"^\| [^|]* \| ([^|]*) ?\| ([^|]*) ?\|$", re.MULTILINE)
+# What follows a claim in a list: the calls with their clauses, the definitions, and the tests; or the tests in a row.
+CLAIM = re.compile(r"^- .*?: (`.*)\.$|^\| [^|]* \| [^|]* \| ([^|]*) \|$", re.MULTILINE)
 CONTRACT = re.compile(r"^`([\w:]+)`(?:: ((?:`\w+`(?:, )?)+))?$")
 DEFINITIONS = re.compile(r"((?:`[\w-]+`(?:, | and )?)+) \(`([\w/]+\.antt)`\)")
-TEST = re.compile(r"`(tests/[\w/.]+|vault_\w+)`(?:: ((?:`\w+`(?:, )?)+))?")
+TEST = re.compile(r"`(tests/[\w/.]+)`(?:: ((?:`\w+`(?:, )?)+))?")
 CODE = re.compile(r"`([^`]+)`")
 
 
@@ -48,12 +46,12 @@ def unproved(page: str) -> Iterator[str]:
 
 def untested(page: str) -> Iterator[str]:
     """Yield tests that do not exist."""
-    for name, functions in (found for _, tests in CLAIM.findall(page) for found in TEST.findall(tests)):
-        path = ROOT / name if name.startswith("tests/") else CRATES / name
-        text = "".join(file.read_text() for file in [path, *path.glob("src/**/*.rt")] if file.is_file())
+    for name, functions in (test for groups in CLAIM.findall(page) for test in TEST.findall("".join(groups))):
+        path = ROOT / name
+        text = path.read_text() if path.is_file() else ""
         yield from [] if path.exists() else [f"there is no {name}"]
         for function in CODE.findall(functions):
-            if not re.search(rf"\b(?:def test_|fn ){function}\b", text):
+            if not re.search(rf"\bdef test_{function}\b", text):
                 yield f"{name} has no {function}"
 
 
@@ -82,7 +80,7 @@ CHECKS = [
     (PAGE, untested, "`tests/faults.py`", "`tests/no_faults.py`"),
     (PAGE, undefined, "`opened_paths` (", "`opened_from` ("),
     (REFERENCE, unproved, "`read_prefix`: ", "`read_suffix`: "),
-    (REFERENCE, untested, "`reads_prefixes`", "`reads_suffixes`"),
+    (REFERENCE, untested, "`devices`", "`device_files`"),
     (REFERENCE, undefined, "`cipher` (", "`ciphers` ("),
     (REFERENCE, unexplained, ", `A ⊎ B`", ""),
 ]
@@ -101,8 +99,7 @@ CHANGED = [
     (PAGE, r"\d+ lines of code", "12 lines of code"),
     (PAGE, r"[\d,]+ lines of proofs", "20,000 lines of proofs"),
     (REFERENCE, r"`load` in `(\w+)/src", r"`load` in `\1/sources"),
-    (REFERENCE, r"^fn open_directory", "fn open_folder"),
-    (REFERENCE, r"^ +\d+ specs/OpenedPaths.antt\n", ""),
+    (REFERENCE, r"\d+ lines of code", "12 lines of code"),
     (LIBRARY, r"^//! Decrypts a vault", "//! Encrypts a vault"),
 ]
 
@@ -163,26 +160,6 @@ def test_crates() -> None:
     assert sorted(listed) == sorted(crates()), "docs/architecture.md lists every crate"
 
 
-def reached(uses: pictures.Uses) -> dict[str, set[str]]:
-    """Return everything that each name uses, directly or indirectly."""
-
-    def below(name: str) -> set[str]:
-        return {each for used in uses[name] for each in (used, *below(used))}
-
-    return {name: below(name) for name in uses}
-
-
-@pytest.mark.parametrize("name, uses", [("crates", pictures.crates()), ("companions", pictures.companions())])
-def test_pictures(name: str, uses: pictures.Uses) -> None:
-    """The arrows are those that tools/pictures.py would draw."""
-    text = html.unescape((ROOT / "docs" / f"{name}.svg").read_text())
-    drawn: dict[str, list[str]] = {node: [] for node in re.findall(r'class="node">\n<title>([^<]+)</title>', text)}
-    for user, used in re.findall(r"<title>(\S+)->(\S+)</title>", text):
-        drawn[user].append(used)
-    assert len(drawn) > 5
-    assert reached(drawn) == reached(uses)
-
-
 PAGES = [*ROOT.glob("*.md"), ROOT / "tests" / "README.md", *ROOT.glob("docs/*.md"), *ROOT.glob("man/*")]
 PAGES += [ROOT / "debian" / "control", ROOT / "debian" / "README.source"]
 # A path in quotes, or a path below a top-level directory without quotes, which BEFORE may precede.
@@ -210,7 +187,7 @@ def test_links() -> None:
 def test_paths() -> None:
     """Each path is below the crate, the directory `crates`, the page's directory or the repository."""
     named = [(page, crate, path) for page in PAGES for crate, path in paths_in(page)]
-    assert len(named) > 150
+    assert len(named) > 80
     for page, crate, path in named:
         folders = (ROOT, page.parent, CRATES, CRATES / crate)
         assert any((folder / path).exists() for folder in folders), f"{page.name} names {path}"

@@ -1,4 +1,4 @@
-"""Update what the documents take from the code: lists of files, places and code in docs/verification.md and
+"""Update what the documents take from the code: code, places and numbers of lines in docs/verification.md and
 docs/verification-reference.md, and the programs in docs/library.md.
 """
 
@@ -7,20 +7,20 @@ from collections.abc import Callable
 from functools import partial
 from pathlib import Path
 
-from contracts import CRATES, IMPORT, code, crates, declared_in, needed
+from contracts import CRATES, code, crates, declared_in, needed
 
 ROOT = CRATES.parent
 PAGE = ROOT / "docs" / "verification.md"
 REFERENCE = ROOT / "docs" / "verification-reference.md"
 LIBRARY = ROOT / "docs" / "library.md"
 
-# The code that the pages print, in this order: a small contract with its definition, and the theorem; and in the
-# reference, all trusted code. If a pattern has groups, only the groups are printed.
+# The code that docs/verification.md prints, in this order: a small contract with its definition, and the theorem.
 EXPLAINED = [
     r"^pub fn password_of\b.*?(?=^\{)",
     r"^unfoldable pub password_of\b.*?(?=^$)",
     r"^pub fn drive_over\b.*?(?=^\{)",
 ]
+# All trusted code, whose lines are counted. If a pattern has groups, only the groups count.
 TRUSTED = [
     r"^fn words\(.*\Z",
     r"(^pub fn drive\b.*?\) -> Status\n).*?(^\{.*?^\})",
@@ -59,28 +59,6 @@ def about(pattern: str) -> str:
     return f"{round(lines / 500) * 500:,}"
 
 
-def listed(files: list[Path]) -> str:
-    """Return the files with their lengths, by crate."""
-    rows = []
-    for crate in crates():
-        mine = [file for file in files if file.is_relative_to(CRATES / crate)]
-        rows += [f"    {crate}"] if mine else []
-        rows += [f"{length(file):>10} {file.relative_to(CRATES / crate)}" for file in mine]
-    return "\n".join([*rows, f"{sum(map(length, files)):>10} lines in all\n"])
-
-
-def names_of_kit(files: list[Path]) -> str:
-    """Return the names that definitions take from the kit, by the file that defines them."""
-    names: dict[str, set[str]] = {}
-    for file in files:
-        for crate, module, some, _ in IMPORT.findall(file.read_text() if file.suffix == ".antt" else ""):
-            if crate not in crates() and not module.startswith("declared"):
-                found = {name for name in some.split(", ") if name[0].isalpha() and "◌" not in name}
-                names.setdefault(f"{crate}/specs/{module.replace('.', '/')}", set()).update(found)
-    rows = (f"    {place}: {', '.join(sorted(found, key=str.lower))}" for place, found in sorted(names.items()))
-    return "\n".join(rows) + "\n"
-
-
 def definition_files() -> list[Path]:
     return [file for file in sum(needed(), []) if file.suffix == ".antt"]
 
@@ -103,23 +81,12 @@ def place(found: re.Match[str]) -> str:
     return f"`{found[1]}` in `{path}`"
 
 
-def with_block(page: str, heading: str, block: str) -> str:
-    """Return the page with the indented lines below a heading replaced."""
-    section = re.compile(rf"(^### {heading}\n(?:(?!    ).*\n)*?)(?:    .*\n)+", re.MULTILINE)
-    return section.sub(lambda found: found[1] + block, page)
-
-
 def written(page: str) -> str:
     """Return a page, with everything that it takes from the code up to date."""
-    theorem, others = needed()
-    page = with_block(page, "For `drive_over`", listed(theorem))
-    page = with_block(page, "For the other contracts", listed(others))
-    page = with_block(page, "Names from the kit", names_of_kit(theorem + others))
-    trusted = [printed(pattern) for pattern in TRUSTED]
-    left = iter(map(printed, EXPLAINED) if "\n## The theorem\n" in page else trusted)
-    page = BLOCK.sub(lambda found: f"{found[1]}{next(left)}{found[3]}", page)
-    page = re.sub(r"\d+(?= lines of code)", str(sum(block.count("\n") for block in trusted)), page)
-    page = re.sub(r"\d+(?= lines to read)", str(sum(map(to_read, theorem))), page)
+    left = map(printed, EXPLAINED)
+    page = BLOCK.sub(lambda block: f"{block[1]}{next(left)}{block[3]}", page)
+    page = re.sub(r"\d+(?= lines of code)", str(sum(printed(pattern).count("\n") for pattern in TRUSTED)), page)
+    page = re.sub(r"\d+(?= lines to read)", str(sum(map(to_read, needed()[0]))), page)
     for what, pattern in SIZES.items():
         page = re.sub(rf"[\d,]+(?= lines of {what}\b)", about(pattern), page)
     return PLACE.sub(place, page)
