@@ -158,11 +158,13 @@ _ansible_vault_with_options() {
 _ansible_vault_companion_options() {
     local common="--vault-id --vault-password-file $_ansible_vault_asking --help -h --version -V"
     case $1 in
-    ansible-vault-edit) echo "$common --encrypt-vault-id --value --resume" ;;
+    ansible-vault-edit) echo "$common --encrypt-vault-id --any-label --value --resume" ;;
     ansible-vault-textconv) echo "$common --value" ;;
     ansible-vault-rotate)
-        echo "$common --new-vault-id --new-vault-password-file --dry-run --skip-documents --tracked --exclude --jobs"
+        echo "$common --new-vault-id --new-vault-password-file --any-label --dry-run --skip-documents"
+        echo "--tracked --exclude --jobs"
         ;;
+    ansible-vault-merge) echo "$common --any-label" ;;
     ansible-vault-check) echo "$common --label --tracked --exclude" ;;
     ansible-vault-hook)
         echo "--all --since --install --uninstall --vault-id --vault-password-file --help -h --version -V"

@@ -77,6 +77,8 @@ complete -c ansible-vault-with -n "$none" -a create -d 'Edit a new vault'
 complete -c ansible-vault-with -n "$none" -a edit -d 'Edit a vault'
 complete -c ansible-vault-with -n "$given create edit rekey" -l encrypt-vault-id -x \
     -d 'The label of the secret to encrypt with'
+complete -c ansible-vault-with -n "$given create edit" -l any-label \
+    -d 'Encrypt again what a secret with another label decrypts'
 complete -c ansible-vault-with -n "$given create edit" -l value -x -d 'Set this YAML value from standard input'
 complete -c ansible-vault-with -n "$given create edit" -l resume -d 'Begin with what the last edit kept'
 complete -c ansible-vault-with -n "$given encrypt_string" -s p -l prompt -d 'Ask for a string'
@@ -105,6 +107,9 @@ for name in with edit rotate check textconv merge
 end
 complete -c ansible-vault-edit -l encrypt-vault-id -x \
     -d 'The label of the secret to encrypt with'
+for name in edit merge rotate
+    complete -c ansible-vault-$name -l any-label -d 'Encrypt again what a secret with another label decrypts'
+end
 complete -c ansible-vault-edit -l value -x -d 'Set this YAML value from standard input'
 complete -c ansible-vault-edit -l resume -d 'Begin with what the last edit kept'
 complete -c ansible-vault-textconv -l value -x -d 'Print only this value'

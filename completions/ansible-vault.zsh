@@ -82,13 +82,16 @@ _ansible_vault_arguments() {
         '*--new-vault-id=[a new password file, with its label]:[label@]file:_ansible_vault_id'
         '*--new-vault-password-file=[a new password file for the label default]:file:_ansible_vault_files'
     )
+    local -a any_label=('--any-label[encrypt again what a secret with another label decrypts]')
     local -a rotation=(
+        $any_label
         '--dry-run[write nothing, and report what would be done]'
         '--skip-documents[do not look for envelopes in documents]'
         '--jobs=[how many vaults and blocks to work on at once]:number: '
     )
 
     local -a edits=(
+        $any_label
         '(--resume)--value=[set this YAML value from standard input]:path: '
         '(--value)--resume[begin with what the last edit kept]'
     )
@@ -108,7 +111,7 @@ _ansible_vault_arguments() {
         rotate) _arguments -s -S $common $all_secrets $new_secrets $rotation $left_out '*:path:_ansible_vault_files' ;;
         check) _arguments -s -S $common $all_secrets $labels $left_out '*:path:_ansible_vault_files' ;;
         textconv) _arguments -s -S $common $all_secrets '--value=[print only this value]:path: ' $file ;;
-        merge) _arguments -s -S $common $all_secrets '*:file:_ansible_vault_files' ;;
+        merge) _arguments -s -S $common $all_secrets $any_label '*:file:_ansible_vault_files' ;;
         hook) _arguments -s -S $common $commits $secrets '*:file:_ansible_vault_files' ;;
     esac
 }

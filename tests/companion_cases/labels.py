@@ -1,4 +1,4 @@
-"""Labels that anybody may have changed: rotate, check and the alias's rekey trust a secret only with its own label."""
+"""Labels that anybody may have changed: with several passwords, each encrypts only what has its own label."""
 
 import re
 from itertools import product
@@ -44,44 +44,45 @@ def prepare(place: Place, options: list[Pair], by_settings: list[Pair]) -> list[
     return [word for pair in words for word in pair]
 
 
-def may_decrypt(secrets: list[Pair], label: str, password: str, rotates: bool = False) -> bool | None:
-    """Return whether one of these secrets may decrypt a vault, or None if none of them can."""
+def may_encrypt(secrets: list[Pair], label: str, password: str) -> bool | None:
+    """Return whether the text of a vault may be encrypted again, or None if no secret decrypts it."""
     fitting = {own or DEFAULT for own, each in secrets if each == password}
     if not fitting:
         return None
-    is_for_all = not rotates or {own or DEFAULT for own, _ in secrets} == {DEFAULT}
-    is_only = is_for_all and len({each for _, each in secrets}) == 1
-    return not label or label in fitting or is_only
+    return (label or DEFAULT) in fitting or len({each for _, each in secrets}) == 1
 
 
 @pytest.mark.parametrize("options, by_settings", SECRETS)
 def test_check_and_rotate(place: Place, options: list[Pair], by_settings: list[Pair]) -> None:
-    """For a check, it is a fault if a secret of another label decrypts an envelope, and the advice in the message
-    repairs it. A rotation lets such an envelope stay, and names its file; a text gets the new password of its label."""
+    """Of several passwords, only one with the label of an envelope encrypts its text again, with the new password of
+    that label. A rotation leaves any other envelope as it is, and names its file, unless `--any-label` permits it. A
+    check names it, too, and the advice in the message repairs it."""
     words = prepare(place, options, by_settings)
     done = place.run(CHECK, *words, ".")
     assert done.returncode == 1, "some are not decrypted"
     steps: list[str] = []
     unknown = 0
     for name, (label, password) in VAULTS.items():
-        serves = may_decrypt([*options, *by_settings], label, password)
+        serves = may_encrypt([*options, *by_settings], label, password)
         lines = [line for line in done.stderr.splitlines() if f"./{name}" in line]
         told = [found for found in map(NEXT_STEP.search, lines) if found]
         named = [found[1] for found in told]
-        assert (bool(lines), named) == (serves is not True, [label] * (serves is False)), (name, done.stderr)
+        assert (bool(lines), named) == (serves is not True, [label or DEFAULT] * (serves is False)), (name, done.stderr)
         steps += [f"--vault-id={found[2]}" for found in told]
         unknown += serves is None
     again = place.run(CHECK, *words, *steps, ".")
     assert again.stdout.endswith(f"{len(VAULTS) - unknown} decrypted, {unknown} not\n"), "as told, it is repaired"
     new = [word for label, password in NEW.items() for word in place.by_id(label, password, "new-")]
-    done = place.run(ROTATE, *words, *new, ".")
-    assert done.returncode == 1, "some are not rotated"
-    for name, (label, password) in VAULTS.items():
-        is_rotated = may_decrypt([*options, *by_settings], label, password, rotates=True) is True
-        text, after = name.encode(), place.get(name)
-        stays = after == sealed(password, text, label)
-        found = decrypted(NEW[label or DEFAULT] if is_rotated else password, after), stays, f"./{name}" in done.stderr
-        assert found == (text, not is_rotated, not is_rotated), (name, done.stderr)
+    for permitting in ("", "--any-label"):
+        done = place.run(ROTATE, *words, *new, *permitting.split(), ".")
+        assert done.returncode == 1, "some are not rotated"
+        for name, (label, password) in VAULTS.items():
+            serves = may_encrypt([*options, *by_settings], label, password)
+            is_rotated = serves is not None if permitting else serves is True
+            text, after = name.encode(), place.get(name)
+            stays = after == sealed(password, text, label)
+            text_after = decrypted(NEW[label or DEFAULT] if is_rotated else password, after)
+            assert (text_after, stays, f"./{name}" in done.stderr) == (text, not is_rotated, not is_rotated), name
 
 
 def test_awkward_labels(place: Place) -> None:

@@ -121,9 +121,9 @@ REFUSED: dict[str, Sequence[bytes]] = {
     "one side is a vault and the other is not": [*OLD[:2], THEIRS],
     "both sides changed its secret, and the new secrets differ": [sealed(name) for name in ("old", "new", "prod2")],
     "git merge-file cannot merge it; it may be binary": [sealed("old", b"\0%d" % number) for number in range(3)],
-    "the labels differ: default in ours, prod in theirs": [*PROD[:2], sealed("prod", THEIRS, "prod")],
-    "secrets with different labels decrypt the two sides: prod ours, dev theirs": [*PROD[:2], sealed("dev", b"x")],
+    "the labels differ: default in ours, prod in theirs": [*OLD[:2], sealed("prod", THEIRS, "prod")],
     # The secret of another label decrypts a side.
+    "ours: its label is default, but prod@": [*PROD[:2], sealed("dev", b"x")],
     "ours: its label is prod, but dev@": [sealed(name, TEXT, "prod") for name in ("prod", "dev", "prod")],
     "theirs: its label is prod, but dev@": [sealed(name, TEXT, "prod") for name in ("prod", "prod", "dev")],
     "theirs: line 1: secret: its label is prod, but dev@": [
@@ -346,7 +346,7 @@ def test_secrets_of_vaults(tmp_path: Path, monkeypatch: pytest.MonkeyPatch) -> N
             assert before.password == wanted or is_one_label and not before.is_mislabelled(), vaults
             counts["with the base"] += 1
         counts["under a new secret"] += ours.password != theirs.password
-    assert min(counts["refused"], counts["with the base"]) > 10 and counts["under a new secret"] == 36, counts
+    assert min(counts["refused"], counts["with the base"]) > 10 and counts["under a new secret"] == 24, counts
 
 
 def test_secrets_of_values() -> None:
@@ -367,7 +367,7 @@ def test_secrets_of_values() -> None:
             if found.envelope in tool.made:
                 check_new(merge, tool.made[found.envelope], found.key)
                 made += 1
-    assert made == 6, "those under another secret"
+    assert made == 4, "those under another secret"
 
 
 def test_secrets_of_edits() -> None:

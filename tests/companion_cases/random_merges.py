@@ -35,7 +35,7 @@ UNNAMED = "dev2"
 TEXTS = [b"x", b"y\n", b"two\nlines\n"]
 INDENTATIONS = [4, 10, 10]
 ITEM = ""
-KINDS = ["text", "encrypted anew", "rekeyed", "removed", "indented", "added", "unlabelled"]
+KINDS = ["text", "encrypted anew", "rekeyed", "removed", "indented", "added"]
 BLOCK = re.compile(rb"(?m)^((?:\w+:|  -) )!vault \|\r?\n((?: +\S+(?:\r?\n|\Z))+)")
 # A value in a plaintext, with its number among equal ones.
 NUMBERED = re.compile(rb"(?m)^(?P<head>(?:\w+:|  -) )(?P<known>.*') (?P<number>\d+)(?=\r?$)")
@@ -69,7 +69,8 @@ class Value(NamedTuple):
         return self.head() + b"!vault |\n" + b"".join(b" " * self.indentation + line for line in lines)
 
     def is_mislabelled(self) -> bool:
-        return self.label not in ("", LABELS.get(self.password, self.label))
+        label = self.label or "default"
+        return LABELS.get(self.password, label) != label
 
     def known_by(self) -> bytes:
         """Return what stays the same if nothing is changed, whatever the envelope is."""
@@ -211,7 +212,7 @@ def wanted(folder: Path, merge: Merge, layout: Layout) -> tuple[bytes, int, list
 def random_value(draw: st.DrawFn, key: str) -> Value:
     password = draw(st.sampled_from(["dev", "prod", "prod", "prod2", "old", "new", UNNAMED]))
     own = LABELS.get(password, "dev")
-    label = draw(st.sampled_from([own, own, own, ""])) if own != "default" else ""
+    label = own if own != "default" else ""
     text, salt = draw(st.sampled_from(TEXTS)), draw(st.sampled_from(range(len(SALTS))))
     return Value(key, text, label, password, salt, draw(st.sampled_from(INDENTATIONS)))
 
@@ -230,7 +231,6 @@ def changed(kind: str, value: Value, new: Value) -> list[Value]:
         "removed": [],
         "indented": [value._replace(indentation=new.indentation)],
         "added": [added, value],
-        "unlabelled": [value._replace(label="")],
     }
     return ways[kind]
 

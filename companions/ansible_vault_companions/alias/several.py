@@ -46,7 +46,7 @@ def output(tool: Tool, run: Run, options: list[str], data: bytes) -> bytes:
     if not run.heeds_label:
         raise NotDecrypted(NOT_DECRYPTED)
     tried = [secret for secret in run.secrets if secret.label == written_label(data)]
-    raise NotDecrypted(f"{NOT_DECRYPTED} {labels.tried(data, tried)}")
+    raise NotDecrypted(f"{NOT_DECRYPTED} {labels.tried(written_label(data), tried)}")
 
 
 def handle(companion: str, tool: Tool, run: Run) -> int:

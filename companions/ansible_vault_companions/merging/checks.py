@@ -51,7 +51,7 @@ def check_labels(opened: dict[bytes, Opened], base: Version, sides: dict[str, Ve
     for side, version in sides.items():
         for block in version.blocks:
             found = opened.get(block.envelope)
-            fault = labels.fault(found.secret, block.envelope) if found else ""
+            fault = labels.fault(found.secret, label_of(block.envelope)) if found else ""
             if fault and block.envelope not in known:
                 raise Refused(f"{side}: {block.value.place}: {fault}")
 

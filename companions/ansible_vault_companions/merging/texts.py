@@ -68,7 +68,7 @@ def _merged_vaults(tool: Tool, decrypt: Decrypt, base: bytes, ours: bytes, their
 def _permitted(decrypt: Decrypt, envelope: bytes, side: str) -> Version:
     """The vault of a side. Refuses it if its label does not allow the secret that decrypts it."""
     found = _decrypted(decrypt, envelope, side)
-    fault = labels.fault(found.secret, envelope)
+    fault = labels.fault(found.secret, found.label)
     if fault:
         raise Refused(f"{side}: {fault}")
     return found
@@ -79,7 +79,7 @@ def _before(decrypt: Decrypt, base: bytes, ours: Version) -> Version | None:
     if not base.startswith(MAGIC) or label_of(base) != ours.label:
         return None
     found = _decrypted(decrypt, base, BASE)
-    is_permitted = found.secret.label == ours.secret.label and not labels.fault(found.secret, base)
+    is_permitted = found.secret.label == ours.secret.label and not labels.fault(found.secret, found.label)
     return found if is_permitted or found.secret.is_same(ours.secret) else None
 
 

@@ -53,7 +53,7 @@ class Vault:
 
     def label_faults(self) -> list[str]:
         """A message if a secret with another label decrypts it. The edit keeps that secret and the label."""
-        fault = labels.fault(self.keys[0][0], self.envelope.text) if self.envelope else ""
+        fault = labels.fault(*self.keys[0]) if self.envelope else ""
         return [fault] if fault else []
 
     def encrypted(self, tool: Tool, text: bytes) -> bytes:
@@ -87,7 +87,7 @@ class Values:
         return text == self.plaintext and all(value.is_encrypted for value in self.showing.found.values)
 
     def label_faults(self) -> list[str]:
-        found = [(each.block, labels.fault(each.secret, each.block.envelope)) for each in self.showing.decrypted]
+        found = [(each.block, labels.fault(*each.key)) for each in self.showing.decrypted]
         return [f"{block.value.place}: {fault}" for block, fault in found if fault]
 
     def encrypted(self, tool: Tool, text: bytes) -> bytes:

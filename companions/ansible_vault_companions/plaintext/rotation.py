@@ -115,7 +115,7 @@ class Rotation:
         new = self.new[label]
         # Secrets with its label are tried first, so most vaults are decrypted by the first one.
         secret, plaintext = self.tool.decrypt(text, [*self.old, new])
-        fault = labels.fault(secret, text)
+        fault = labels.fault(secret, label)
         if fault:
             raise Refused(fault)
         after = self._within(plaintext, where, report)

@@ -57,7 +57,7 @@ class SingleValue:
         self.before = self._decrypted(decrypt)
         self.keys: list[Key] = [choice.key(found)] if self.is_chosen or not self.before else [self.before.key]
         # If the secret has another label than the value, the new text may be for other readers.
-        fault = labels.fault(self.keys[0][0], self.before.block.envelope) if self.before else ""
+        fault = labels.fault(*self.keys[0]) if self.before else ""
         if fault and not self.is_chosen:
             raise Refused(fault)
         if "@" in self.keys[0][1]:

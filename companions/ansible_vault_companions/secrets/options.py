@@ -3,9 +3,10 @@
 from __future__ import annotations
 
 import argparse
+from typing import Callable
 
 from ansible_vault_companions.program import write_error
-from ansible_vault_companions.secrets import configuration, prompts, scripts, sources
+from ansible_vault_companions.secrets import configuration, labels, prompts, scripts, sources
 from ansible_vault_companions.secrets.settings import Settings
 from ansible_vault_companions.secrets.sources import ASKED, ASKING, READ_AT_MOST, Secret
 
@@ -28,6 +29,8 @@ NONE = (
 
 def add_options(parser: argparse.ArgumentParser, prefix: str = "", which: str = "") -> None:
     """Adds the options that name secrets. Settings do not apply to options with a prefix."""
+    if not prefix:
+        parser.set_defaults(new_vault_id=[], new_vault_password_file=[], any_label=False)
     group = parser.add_argument_group(which or "secrets", None if prefix else SOURCES)
     what = "the source of a new secret" if prefix else "the source of a secret"
     group.add_argument(
@@ -56,20 +59,30 @@ def add_options(parser: argparse.ArgumentParser, prefix: str = "", which: str = 
         )
 
 
-def from_options(
-    parser: argparse.ArgumentParser, ids: list[str], paths: list[str], encrypts: bool = False
-) -> list[Secret]:
+def add_any_label(parser: argparse.ArgumentParser) -> None:
+    parser.add_argument(
+        labels.ANY_LABEL, action="store_true", help="a secret may encrypt again what it decrypts under another label"
+    )
+
+
+def from_options(parser: argparse.ArgumentParser, args: argparse.Namespace, encrypts: bool = False) -> list[Secret]:
     """The secrets from a command line and from the settings, in Ansible's order. To encrypt, the user has to type each
     password twice."""
-    found = Settings(bool(ids or paths), configuration.section, lambda text: write_error(f"{parser.prog}: {text}"))
-    named = sources.named(ids, paths, found)
+    settings = _settings(args, lambda text: write_error(f"{parser.prog}: {text}"))
+    named = sources.named(args.vault_id, args.vault_password_file, settings)
     secrets = sources.load(parser.prog, named, encrypts, password)
     if not secrets:
         parser.error(NONE)
+    is_one = all(secret.is_same(secrets[0]) for secret in secrets)
     for secret in secrets:
-        secret.requires_match = found.requires_match()
-        secret.is_only = all(each.password() == secret.password() for each in secrets)
+        secret.requires_match = settings.requires_match()
+        secret.serves_any_label = args.any_label or is_one
     return secrets
+
+
+def new_secrets(args: argparse.Namespace) -> list[Secret]:
+    """The new secrets from a command line."""
+    return of_options(args.new_vault_id, args.new_vault_password_file, encrypts=True)
 
 
 def password(secret: Secret, encrypts: bool) -> bytes:
@@ -93,6 +106,11 @@ def words(ids: list[str], paths: list[str]) -> list[str]:
     return [*(word for each in ids for word in ("--vault-id", each)), *by_path]
 
 
-def encrypt_label(ids: list[str], paths: list[str]) -> str | None:
+def encrypt_label(args: argparse.Namespace) -> str | None:
     """The label of the secret to encrypt with, from the settings that apply along with these options."""
-    return Settings(bool(ids or paths), configuration.section).encrypt_label()
+    return _settings(args).encrypt_label()
+
+
+def _settings(args: argparse.Namespace, warn: Callable[[str], None] = lambda _: None) -> Settings:
+    named = (args.vault_id, args.vault_password_file, args.new_vault_id, args.new_vault_password_file)
+    return Settings(any(named), configuration.section, warn)

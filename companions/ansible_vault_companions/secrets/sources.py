@@ -51,8 +51,8 @@ class Secret:
         self.fault: Refused | None = None
         # Whether it may decrypt only envelopes with its label.
         self.requires_match = False
-        # Whether no other password is named.
-        self.is_only = False
+        # Whether it may encrypt the text of any envelope that it opens, whatever the label.
+        self.serves_any_label = False
         # Whether it was typed twice, or has decrypted something. Only then may a typed password encrypt.
         self.is_certain = False
         # Whether it is ignored for want of a password, and only the other secrets decrypt.

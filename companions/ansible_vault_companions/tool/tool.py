@@ -8,7 +8,7 @@ from subprocess import DEVNULL, PIPE
 from typing import Callable
 
 from ansible_vault_companions import running
-from ansible_vault_companions.files.envelopes import label_of
+from ansible_vault_companions.files.envelopes import label_of, written_label
 from ansible_vault_companions.program import Refused, shown
 from ansible_vault_companions.secrets import labels
 from ansible_vault_companions.secrets.sources import Secret
@@ -71,7 +71,7 @@ class Tool:
                 plaintext = self.view(envelope, secret)
                 secret.is_certain = True
                 return secret, plaintext
-        raise NotDecrypted(f"{NOT_DECRYPTED} {labels.tried(envelope, tried)}")
+        raise NotDecrypted(f"{NOT_DECRYPTED} {labels.tried(written_label(envelope), tried)}")
 
     def encrypt(self, plaintext: bytes, secret: Secret, label: str) -> bytes:
         """The plaintext, encrypted with a secret and labeled with this label."""
