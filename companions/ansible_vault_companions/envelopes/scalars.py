@@ -14,10 +14,9 @@ from typing import Any, Iterator, Union
 
 from ansible_vault_companions import stopping
 from ansible_vault_companions.envelopes import envelope
-from ansible_vault_companions.envelopes.value import FOLDED, JSON_KEY, LITERAL, NO_SCALAR, PLAIN, Path, Value
+from ansible_vault_companions.envelopes.value import FOLDED, JSON_KEY, LITERAL, NO_SCALAR, PLAIN, TAGS, Path, Value
 from ansible_vault_companions.program import Refused
 
-TAGS = ("!vault", "!vault-encrypted")
 BYTE_ORDER_MARK = b"\xef\xbb\xbf"
 # libyaml takes quadratic time for brackets, so a file that is nested more deeply, as none is, would hang this.
 DEEPEST = 1000
@@ -62,7 +61,7 @@ def pyyaml() -> Any:
 
 
 def scalars(data: bytes, every: bool = False) -> Iterator[Value]:
-    """The envelopes among the scalars, or every node that is not a key. Raises NotYaml."""
+    """The envelopes among the scalars; or every node, but of the keys only envelopes. Raises NotYaml."""
     if BINARY in data:
         raise NotYaml(NOT_YAML.format(NULL))
     if len(data) > LONGEST:
@@ -72,7 +71,7 @@ def scalars(data: bytes, every: bool = False) -> Iterator[Value]:
     ending = b"\r\n" if b"\r\n" in data else b"\n"
     try:
         for path, is_key, event in _nodes(yaml, _Shadow(data[skipped:])):
-            if not is_key if every else _is_envelope(path, event):
+            if every and not is_key or _is_envelope(path, event):
                 yield _value(data, skipped, ending, path, event)
     except yaml.YAMLError as fault:
         mark = getattr(fault, "problem_mark", None)
@@ -151,7 +150,8 @@ def _value(data: bytes, skipped: int, ending: bytes, steps: Steps, event: Any) -
     if text.strip().startswith(envelope.MAGIC):
         text = text.strip() + b"\n"
     ending = own_ending[0] if own_ending else ending
-    return Value(_path(steps), style, number, begin, start, end, margin, ending, text)
+    tag = getattr(event, "tag", None) or ""
+    return Value(_path(steps), style, number, begin, start, end, margin, ending, text, tag)
 
 
 def _path(steps: Steps) -> Path:

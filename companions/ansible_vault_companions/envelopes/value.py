@@ -13,8 +13,8 @@ from ansible_vault_companions.program import Refused, shown
 LITERAL, FOLDED, PLAIN, SINGLE, DOUBLE, NO_SCALAR = "|", ">", "", "'", '"', "none"
 # A whole file; an envelope elsewhere whose lines have one margin, so that it can be replaced; and any other.
 WHOLE, STRAY, LOOSE = "vault", "stray", "loose"
-# The key of an encrypted value in JSON.
-JSON_KEY = "__ansible_vault"
+# The tags of an encrypted value in YAML, and its key in JSON.
+TAGS, JSON_KEY = ("!vault", "!vault-encrypted"), "__ansible_vault"
 JOINED_LINES = re.compile(rb"[^\r\n]*[ \t][0-9a-fA-F]{16}")
 
 ELSEWHERE = "an envelope within other text; write it as a value (`NAME: !vault |`), or encrypt the whole file"
@@ -44,12 +44,18 @@ class Value(NamedTuple):
     ending: bytes
     # As the parser reads it.
     text: bytes
+    tag: str = ""
 
     @property
     def name(self) -> str:
         """The key that it belongs to; empty for the item of a list."""
         steps = self.path[:-1] if self.path[-1:] == (JSON_KEY,) else self.path
         return next((step for step in steps[-1:] if isinstance(step, str)), "")
+
+    @property
+    def is_tagged(self) -> bool:
+        """Whether its text is to be encrypted, wherever its envelope is."""
+        return self.tag in TAGS or self.path[-1:] == (JSON_KEY,)
 
     @property
     def label(self) -> str | None:
