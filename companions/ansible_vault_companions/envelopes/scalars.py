@@ -14,7 +14,7 @@ from typing import Any, Iterator, Union
 
 from ansible_vault_companions import stopping
 from ansible_vault_companions.envelopes import envelope
-from ansible_vault_companions.envelopes.value import FOLDED, JSON_KEY, LITERAL, NO_SCALAR, PLAIN, TAGS, Path, Value
+from ansible_vault_companions.envelopes.value import ALIAS, FOLDED, JSON_KEY, LITERAL, NO_SCALAR, PLAIN, TAGS, Path, Value
 from ansible_vault_companions.program import Refused
 
 BYTE_ORDER_MARK = b"\xef\xbb\xbf"
@@ -138,7 +138,7 @@ def _value(data: bytes, skipped: int, ending: bytes, steps: Steps, event: Any) -
     start = begin = properties.end()
     margin = b""
     own_ending = LINE_END.search(data, begin, end)
-    style = (event.style or PLAIN) if hasattr(event, "value") else NO_SCALAR
+    style = (event.style or PLAIN) if hasattr(event, "value") else NO_SCALAR if hasattr(event, "tag") else ALIAS
     if style in (LITERAL, FOLDED):
         end = begin + len(data[begin:end].rstrip(BLANKS))
     if style == LITERAL:
@@ -150,8 +150,8 @@ def _value(data: bytes, skipped: int, ending: bytes, steps: Steps, event: Any) -
     if text.strip().startswith(envelope.MAGIC):
         text = text.strip() + b"\n"
     ending = own_ending[0] if own_ending else ending
-    tag = getattr(event, "tag", None) or ""
-    return Value(_path(steps), style, number, begin, start, end, margin, ending, text, tag)
+    tag, anchor = getattr(event, "tag", None) or "", event.anchor or ""
+    return Value(_path(steps), style, number, begin, start, end, margin, ending, text, tag, anchor)
 
 
 def _path(steps: Steps) -> Path:

@@ -9,8 +9,8 @@ from ansible_vault_companions.envelopes import envelope
 from ansible_vault_companions.files.changes import Change, indented
 from ansible_vault_companions.program import Refused, shown
 
-# The styles of scalars; and of a list, a mapping or an alias.
-LITERAL, FOLDED, PLAIN, SINGLE, DOUBLE, NO_SCALAR = "|", ">", "", "'", '"', "none"
+# The styles of scalars; of a list or a mapping; and of an alias.
+LITERAL, FOLDED, PLAIN, SINGLE, DOUBLE, NO_SCALAR, ALIAS = "|", ">", "", "'", '"', "none", "alias"
 # A whole file; an envelope elsewhere whose lines have one margin, so that it can be replaced; and any other.
 WHOLE, STRAY, LOOSE = "vault", "stray", "loose"
 # The tags of an encrypted value in YAML, and its key in JSON.
@@ -45,6 +45,8 @@ class Value(NamedTuple):
     # As the parser reads it.
     text: bytes
     tag: str = ""
+    # The name of its anchor, or of the one that an alias stands for; empty if there is none.
+    anchor: str = ""
 
     @property
     def name(self) -> str:
@@ -56,6 +58,11 @@ class Value(NamedTuple):
     def is_tagged(self) -> bool:
         """Whether its text is to be encrypted, wherever its envelope is."""
         return self.tag in TAGS or self.path[-1:] == (JSON_KEY,)
+
+    @property
+    def is_value(self) -> bool:
+        """Whether it is tagged as an envelope, or is one without a tag."""
+        return self.is_tagged or envelope.has_digits(self.text)
 
     @property
     def label(self) -> str | None:
