@@ -21,7 +21,8 @@ from matplotlib import pyplot
 
 Point = dict[str, Any]
 
-NAMES = {"ours": "this tool", "theirs": "Ansible's tool"}
+# The tools, and what takes the time where their lines are flat.
+NAMES = {"ours": "this tool (flat: deriving the keys)", "theirs": "Ansible's tool (flat: start-up)"}
 UNITS = [(1 << 20, "MiB"), (1 << 10, "KiB"), (1, "B")]
 # The possible ticks of a logarithmic axis.
 TICKS = [digit * 10**power for power in range(6) for digit in (1, 2, 5)]
@@ -53,7 +54,7 @@ def draw(axes: Any, points: list[Point]) -> None:
     axes.set_yticks(ticks, [f"{tick:,}" for tick in ticks])
     axes.set_ylim(ticks[0], ticks[-1])
     axes.minorticks_off()
-    axes.set_title("CPU time of view")
+    axes.set_title("CPU time of view: lower is better (both scales are logarithmic)")
     axes.set_xlabel("size of the plaintext")
     axes.set_ylabel("milliseconds")
     axes.grid(True, alpha=0.3)

@@ -57,6 +57,7 @@ TABLE = {
     "view, 1 MiB": "`view`, 1 MiB",
     "view, 16 MiB": "`view`, 16 MiB",
     "encrypt, 1 MiB": "`encrypt`, 1 MiB",
+    "view, 1 KiB, by the alias": "`view FILE`, 1 KiB, by the alias",
     "view, 1 KiB, the tenth password fits": "`view`, 1 KiB, nine wrong passwords and the right one",
 }
 TIMES = {CLOCK: "the clock", PROCESSOR: "processor time"}
@@ -197,11 +198,14 @@ def print_table(measured: dict[str, dict[str, Times]], runs: int, kind: str) -> 
             print(f"| {title} | {ours.shown(' ms')} | {theirs.shown(' ms')} | {ratio_of(measured[name], kind)} |")
 
 
-def print_alias(row: Row, runs: int, kind: str) -> None:
-    times = {tool: spread(took.of(kind)) for tool, took in measure_in_turn(row.tasks, runs).items()}
+def measure_alias(row: Row, runs: int, kind: str) -> dict[str, Times]:
+    """Print the times of the alias, and return them in place of ours."""
+    measured = measure_in_turn(row.tasks, runs)
+    times = {tool: spread(took.of(kind)) for tool, took in measured.items()}
     ratio = f"the alias takes {times[ALIAS].median / times[OURS].median:.2f} times as long as ours (goal: {ALIAS_GOAL})"
     each = ", ".join(f"{tool} {took.shown(' ms')}" for tool, took in times.items())
     print(f"{row.name}: {each}; {ratio}")
+    return measured | {OURS: measured[ALIAS]}
 
 
 def print_instructions(row: Row) -> None:
@@ -256,7 +260,8 @@ def main() -> None:
             print(line_of(row.name, measured[row.name], args.time), flush=True)
             print_instructions(row)
         if rows.alias.__name__.startswith(args.only):
-            print_alias(rows.alias(), args.runs, args.time)
+            row = rows.alias()
+            measured[row.name] = measure_alias(row, args.runs, args.time)
         if args.chart:
             draw(chart_points(rows, args, measured), args.chart)
     print_table(measured, args.runs, args.time)
