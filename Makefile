@@ -19,6 +19,10 @@ QUICKLY := $(if $(filter yes,$(QUICK)),--quick)
 VERSION := $(shell sed -n 's/^const VERSION: &str = "\(.*\)";$$/\1/p' crates/vault_request/src/command_line.rt)
 SOURCES := $(shell find crates/*/src crates/*/specs crates/*/proofs) crates.txt
 
+# The Python that runs the installed companions, whatever PATH and the current directory say.
+PYTHON := /usr/bin/python3
+NO_PYYAML = $(PYTHON) has no PyYAML, which the companions need: install it (Debian's package python3-yaml)
+
 # The installed files, below the prefix, in the directories that Debian's tools search. Python finds the companions'
 # shared package beside the files that the links point to.
 TOP := $(DESTDIR)$(PREFIX)
@@ -168,11 +172,14 @@ bench: all bin/vault_bench
 	bench/key_derivation.py $(QUICKLY)
 
 # Refuse to overwrite another program's file.
-# Everybody may use what is installed, whatever the caller's umask.
+# Everybody may use what is installed, whatever the caller's umask. Below DESTDIR, it is for another system's Python.
 install: all
-	@umask 022; tools/installed install "$(TOP)" $(SUMS) $(REPLACE) $(INSTALLED) -- $(LINKS)
+	@case "$(PYTHON)" in (*[" ,&"]* | [!/]* | "") echo "PYTHON=$(PYTHON) is no plain path that begins with /" >&2; exit 1; esac
+	@$(if $(DESTDIR),,[ -x "$(PYTHON)" ] || { echo "there is no $(PYTHON): name a Python by PYTHON=PATH" >&2; exit 1; })
+	@umask 022; tools/installed install "$(TOP)" $(SUMS) "$(PYTHON)" $(REPLACE) $(INSTALLED) -- $(LINKS)
 # Compiled companions start faster. A package compiles them where it is installed.
-	@$(if $(DESTDIR),,umask 022; python3 -m compileall -q "$(TOP)/$(LIBRARY)" || true)
+	@$(if $(DESTDIR),,umask 022; "$(PYTHON)" -I -m compileall -q "$(TOP)/$(LIBRARY)" || true)
+	@$(if $(DESTDIR),,"$(PYTHON)" -I -c "import yaml" 2> /dev/null || echo "$(NO_PYYAML)" >&2)
 	@$(if $(DESTDIR),,echo "Type next: hash -r; ansible-vault --version")
 
 # Remove the installed files that are unchanged, and list the others.
@@ -196,7 +203,7 @@ dist: portable all
 	@rm -rf $(DIST) && mkdir -p $(DIST)
 	@git ls-files -z | $(ARCHIVE) --null --files-from=- --transform='flags=r;s,^,$(SOURCE_NAME)/,' \
 		| gzip --no-name > $(DIST)/$(SOURCE_NAME).tar.gz
-	@$(MAKE) --no-print-directory install PREFIX= DESTDIR=$(abspath $(DIST))/$(PROGRAM_NAME)
+	@$(MAKE) --no-print-directory install PYTHON=/usr/bin/python3 PREFIX= DESTDIR=$(abspath $(DIST))/$(PROGRAM_NAME)
 	@rm $(DIST)/$(PROGRAM_NAME)/$(SUMS)
 	@$(ARCHIVE) --directory=$(DIST) $(PROGRAM_NAME) | gzip --no-name > $(DIST)/$(PROGRAM_NAME).tar.gz
 	@rm -r $(DIST)/$(PROGRAM_NAME)

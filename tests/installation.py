@@ -10,7 +10,7 @@ from pathlib import Path
 
 import pytest
 
-from lib.installed import NAMES, PREFIX_FILES, SHARED, check_program, files_below, printed, run_make
+from lib.installed import NAMES, VERSION, PREFIX_FILES, SHARED, check_program, files_below, printed, run_make
 from lib.links import dead_links
 from lib.needs import needs
 from lib.scripts import searched_first, write_script
@@ -73,6 +73,28 @@ def test_found(make: Make, place: Path) -> None:
         pytest.skip("without bash-completion")
     ask = f"source {BASH_COMPLETION} && _completion_loader ansible-vault-rotate; complete -p ansible-vault-rotate"
     assert "_ansible_vault_companion" in printed("bash", "-c", ask, XDG_DATA_DIRS=str(place / "share"))
+
+
+def test_python(tmp_path: Path, make: Make, place: Path) -> None:
+    """The Python that make is told, by default Debian's, runs the companions, whatever the environment and the current
+    directory offer. If it lacks PyYAML, make says so."""
+    lacking, shim = tmp_path / "lacking", "echo started; exit 1"
+    write_script(lacking, 'case "$*" in *yaml*) exit 1 ;; esac; exec /usr/bin/python3 "$@"')
+    stranger = tmp_path / "stranger"
+    write_script(stranger / "python3", shim)
+    for name in ("yaml", "sitecustomize", "ansible_vault_companions", "argparse"):
+        (stranger / f"{name}.py").write_text("raise SystemExit('started')\n")
+    variables = searched_first(stranger) | {"PYTHONPATH": str(stranger), "PYTHONHOME": str(stranger)}
+    for python, said in (("/usr/bin/python3", ""), (str(lacking), f"{lacking} has no PyYAML, which the companions")):
+        done = make("install", *([f"PYTHON={python}"] if said else []), env=searched_first(stranger))
+        assert done.returncode == 0 and done.stderr.startswith(said) and bool(done.stderr) == bool(said), done.stderr
+        for name in NAMES - {"ansible-vault"}:
+            program = place / "lib/ansible-vault" / name
+            assert program.read_text().startswith(f"#!{python} -I"), name
+            assert printed(str(place / "bin" / name), "--version", cwd=stranger, **variables) == f"{name} {VERSION}\n"
+    for name in ("python3", "/two words/python3", f"{tmp_path}/none"):
+        done = make("install", f"PYTHON={name}", f"PREFIX={tmp_path}/other")
+        assert (done.returncode != 0, (tmp_path / "other").exists(), "PYTHON" in done.stderr) == (True, False, True)
 
 
 def theirs(path: Path) -> Path:

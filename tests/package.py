@@ -38,17 +38,17 @@ def test_contents(package: Path, tmp_path: Path) -> None:
     """The package's contents, and what it says about itself."""
     fields = dict(re.findall(r"^(\S+): (.*)$", printed("dpkg-deb", "-f", str(package)), re.MULTILINE))
     assert fields["Version"] == VERSION
-    needed = {"libc6", f"python3 (>= {'.'.join(map(str, OLDEST))})"}
+    needed = {"libc6", f"python3 (>= {'.'.join(map(str, OLDEST))})", "python3-yaml"}
     assert [each for each in needed if each not in fields["Depends"]] == []
-    wanted = {"Recommends": "python3-yaml", "Suggests": "git", "Conflicts": None, "Breaks": None, "Replaces": None}
-    assert {name: fields.get(name) for name in wanted} == wanted, "PyYAML is for blocks; no package is taken away"
+    wanted = {"Recommends": None, "Suggests": "git", "Conflicts": None, "Breaks": None, "Replaces": None}
+    assert {name: fields.get(name) for name in wanted} == wanted, "no package is taken away"
     folder = tmp_path / "package"
     subprocess.run(["dpkg-deb", "-R", str(package), str(folder)], check=True)
     own = {f"DEBIAN/{name}" for name in ("control", "md5sums", "preinst", "postinst", "prerm", "postrm")}
     assert files_below(folder) == own | {f"usr/{name}" for name in PACKAGE_FILES}
     check_program(folder / "usr" / "bin" / "ansible-vault", "the packaged program")
     shebangs = {each.read_text().split("\n")[0] for each in (folder / "usr/lib/ansible-vault").glob("ansible-vault-*")}
-    assert shebangs == {"#!/usr/bin/python3 -ESB"}, "the companions run by Debian's Python"
+    assert shebangs == {"#!/usr/bin/python3 -IB", "#!/usr/bin/python3 -ISB"}, "the companions run by Debian's Python"
     needs("lintian")
     found = subprocess.run(["lintian", "--pedantic", str(package)], capture_output=True, text=True)
     assert (found.returncode, found.stdout) == (0, "")

@@ -11,6 +11,6 @@ OLDEST = (3, 9)
 
 if sys.version_info < OLDEST:
     sys.exit(
-        f"{os.path.basename(sys.argv[0])}: Python {OLDEST[0]}.{OLDEST[1]} or newer is needed, and the python3 that is "
-        f"first on PATH is {sys.version.split()[0]} ({sys.executable})"
+        f"{os.path.basename(sys.argv[0])}: Python {OLDEST[0]}.{OLDEST[1]} or newer is needed, and {sys.executable} is "
+        f"{sys.version.split()[0]}"
     )

@@ -1,4 +1,4 @@
-"""If the first python3 on PATH is too old, the companions say so in one line."""
+"""A Python that is too old makes the companions say so in one line."""
 
 import ast
 import subprocess
@@ -16,15 +16,14 @@ if {version} < (3, 7):
     sys.modules["dataclasses"] = None
     del contextlib.nullcontext
 sys.version_info, sys.version = {version}, "{name} (main)"
-sys.path.insert(0, {folder!r})
 sys.argv[:] = [{path!r}, "--version"]
 runpy.run_path(sys.argv[0], run_name="__main__")"""
 
 
 def run_as(name: str, path: Path) -> tuple[int, str, str]:
     number = (*map(int, name.split(".")), "final", 0)
-    text = AS_OTHER.format(version=number, name=name, folder=str(path.parent), path=str(path))
-    done = subprocess.run([sys.executable, "-ESBc", text], capture_output=True, text=True)
+    text = AS_OTHER.format(version=number, name=name, path=str(path))
+    done = subprocess.run([sys.executable, "-ISBc", text], capture_output=True, text=True)
     return done.returncode, done.stdout, done.stderr
 
 
@@ -32,8 +31,8 @@ def run_as(name: str, path: Path) -> tuple[int, str, str]:
 def test_refused(name: str) -> None:
     path = COMPANIONS[name]
     for number in ("3.6.8", "3.8.20"):
-        line = f"{name}: Python 3.9 or newer is needed, and the python3 that is first on PATH is {number} "
-        assert run_as(number, path) == (1, "", f"{line}({sys.executable})\n")
+        line = f"{name}: Python 3.9 or newer is needed, and {sys.executable} is {number}\n"
+        assert run_as(number, path) == (1, "", line)
     assert run_as("3.9.0", path) == (0, f"{name} {version()}\n", ""), "the oldest"
 
 

@@ -101,7 +101,7 @@ def parts_of(functions: Counter[str]) -> dict[str, int]:
 
 def imported_modules(script: Path) -> list[str]:
     """Return the modules that Python imports when a companion prints its help."""
-    command = [sys.executable, "-ESB", "-X", "importtime", str(script), "--help"]
+    command = [sys.executable, "-ISB", "-X", "importtime", str(script), "--help"]
     done = processes.run_text(command, env={})
     lines = [line for line in done.stderr.splitlines() if line.startswith("import time:")]
     return [line.rpartition("|")[2].strip() for line in lines[1:]]
