@@ -161,7 +161,7 @@ _ansible_vault_companion_options() {
     ansible-vault-edit) echo "$common --encrypt-vault-id --any-label --value --resume" ;;
     ansible-vault-textconv) echo "$common --value" ;;
     ansible-vault-rotate)
-        echo "$common --new-vault-id --new-vault-password-file --any-label --dry-run --skip-documents"
+        echo "$common --new-vault-id --new-vault-password-file --any-label --dry-run"
         echo "--tracked --exclude --jobs"
         ;;
     ansible-vault-merge) echo "$common --any-label" ;;

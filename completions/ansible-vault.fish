@@ -118,7 +118,6 @@ complete -c ansible-vault-rotate -l new-vault-id -x -a '(__ansible_vault_ids)' \
 complete -c ansible-vault-rotate -l new-vault-password-file -x -a '(__ansible_vault_files)' \
     -d 'A new password file for the label default'
 complete -c ansible-vault-rotate -l dry-run -d 'Write nothing, and report what would be done'
-complete -c ansible-vault-rotate -l skip-documents -d 'Do not look for envelopes in documents'
 complete -c ansible-vault-rotate -l jobs -x -d 'How many vaults and blocks to work on at once'
 complete -c ansible-vault-check -l label -x -d 'Decrypt only what has this label, and count the rest'
 for name in check rotate

@@ -86,7 +86,6 @@ _ansible_vault_arguments() {
     local -a rotation=(
         $any_label
         '--dry-run[write nothing, and report what would be done]'
-        '--skip-documents[do not look for envelopes in documents]'
         '--jobs=[how many vaults and blocks to work on at once]:number: '
     )
 

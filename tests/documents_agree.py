@@ -10,7 +10,7 @@ from ansible_vault_companions import OLDEST
 from ansible_vault_companions.alias.table import COMMANDS
 from ansible_vault_companions.files import reading
 from ansible_vault_companions.files.replacing import RANDOM
-from ansible_vault_companions.files.searching import PROSE
+from ansible_vault_companions.envelopes.contents import PROSE
 from ansible_vault_companions.stopping import GRACE_PERIOD
 from completions import options_of
 from lib.needs import needs
@@ -91,7 +91,7 @@ def test_bytes() -> None:
 def test_suffixes() -> None:
     """Each list of suffixes that marks documents, in which blocks may be examples, is the companions' own."""
     lists = re.findall(r"\.md(?:`? ?, `?\.\w+)+", TEXT)
-    assert len(lists) > 2
+    assert len(lists) > 1
     assert {tuple(re.findall(r"\.\w+", each)) for each in lists} == {PROSE}
 
 

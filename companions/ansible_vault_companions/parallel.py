@@ -11,12 +11,13 @@ Result = TypeVar("Result")
 
 
 def results(work: Callable[[Item], Result], items: Iterable[Item], jobs: int | None = None) -> Iterator[Result]:
-    """Calls `work` for several items at once, by default one for each processor, and yields each result, in order. If
-    the caller stops early, items in progress are finished, and no new ones are begun."""
-    with ThreadPoolExecutor(jobs or processors()) as pool:
+    """Calls `work` for several items at once, and yields each result, in order. If the caller stops early, items in
+    progress are finished, and no new ones are begun."""
+    with ThreadPoolExecutor(jobs or workers()) as pool:
         # When this loop ends early, `map` cancels the items that have not begun.
         yield from pool.map(work, items)
 
 
-def processors() -> int:
-    return len(os.sched_getaffinity(0))
+def workers() -> int:
+    """Twice as many as there are processors, so that each has a program to run while a worker reads or writes."""
+    return 2 * len(os.sched_getaffinity(0))

@@ -111,30 +111,24 @@ def test_owners_that_cannot_be_kept(place: Place) -> None:
 
 
 def test_documents(place: Place) -> None:
-    """An envelope in a document is counted, but not rotated, if an old secret decrypts it. An example is ignored. A
-    link is a document only if its file is."""
-    line = sealed("old").decode().replace("\n", "\\n")
-    left = {
-        "README.md:4": b"An example:\n\n" + block("old"),
-        f"a.RST:{len(block('new').splitlines()) + 2}": block("new") + block("old", name="b"),
-        "b.adoc:2": b"\n" + sealed("old"),
-        "c.html:1": f'<pre>"{line}"</pre>'.encode(),
-    }
-    others = {"c.md": block("dev"), "d.md": block("new"), "e.md": block("prod", label="prod")}
-    others |= {"f.md": b"As $ANSIBLE_VAULT;1.1\n", "vars.yml": block("old"), "vault.md": sealed("old")}
-    for where, content in (left | others).items():
-        place.put(where.partition(":")[0], content)
+    """In a document, an envelope that no password opens, or that is damaged, is an example, and stays. Any other is
+    rotated. A link is a document only if its file is."""
+    rotated = {"README.md": b"An example:\n\n" + block("old"), "a.RST": block("new") + block("old", name="b")}
+    rotated |= {"b.adoc": b"# x\n" + block("old"), "link.md": block("old"), "vault.md": sealed("old")}
+    damaged = b"$ANSIBLE_VAULT;1.1;AES256\n%s\n" % (b"61" * 40)
+    stay = {"c.md": block("dev"), "d.md": block("prod", label="prod"), "e.md": b"$ ANSIBLE_VAULT;1.1;AES256\n"}
+    stay |= {"f.html": b"<pre>\n" + damaged + b"[...]\n", "g.md": b'# x\n<p>"%s"' % damaged.replace(b"\n", b"\\n")}
+    place.put("vars.yml", rotated.pop("link.md"))
+    for name, content in (rotated | stay).items():
+        place.put(name, content)
     (place.tree / "link.md").symlink_to("vars.yml")
-    before = place.files()
-    why = "it is in a document and was not rotated; to ignore documents, add --skip-documents"
-    for words, counts in (((), summary(2)), (("--dry-run",), summary(0, 2).replace("rotated", "to be rotated", 1))):
-        done = place.run(ROTATE, *words, *to_new(place), ".")
-        assert (done.returncode, done.stderr.splitlines()) == (1, [f"{ROTATE}: ./{each}: {why}" for each in left])
-        assert done.stdout.endswith(f"{counts}, {len(left)} left in documents\n"), "the counts"
-    changed = {name for name, content in before.items() if place.get(name) != content}
-    assert changed == {"link.md", "vars.yml", "vault.md"}, "a document that is a vault is rotated"
-    done = place.run(ROTATE, "--skip-documents", *to_new(place), ".")
-    assert (done.returncode, done.stdout, done.stderr) == (0, f"{summary(0, 2)}\n", ""), "they are ignored"
+    done = place.run(CHECK, *place.by_file("old"), *place.by_file("new"), ".")
+    assert (done.returncode, done.stderr) == (0, ""), "the check"
+    counts = summary(5, 1, 1, " (prod 1)").replace("rotated", "to be rotated", 1)
+    ended("a dry run", place.run(ROTATE, "--dry-run", *to_new(place), "."), 1, counts)
+    done = place.run(ROTATE, *to_new(place), ".")
+    assert (done.returncode, done.stderr, done.stdout.splitlines()[-1]) == (0, "", summary(5, 1, 1, " (prod 1)"))
+    assert {name: place.get(name) for name in stay} == stay, "examples stay"
 
 
 def test_closed_output(place: Place) -> None:
@@ -160,7 +154,7 @@ FILES = {
     "digits as keys": (b"a: !vault |\n" + BODY + b"\ndeadbeef: 1\nabcd\n", 1),
     "empty lines": (b"\n\na: !vault |\n\n\n" + BODY + b"\n\n\nb:\n\n", 1),
     "upper case": (b"a: !vault |\n" + re.sub(rb"(?m)^ +[0-9a-f]+$", lambda found: found[0].upper(), BODY) + b"\n", 1),
-    "bytes of any kind": (b"\xef\xbb\xbf# \xff\x00\x85\xe2\x80\xa8\t\r\na: !vault |\n" + BODY + b"\n# \x0c \xfe", 1),
+    "bytes of any kind": (b"\xef\xbb\xbf# \xff\x85\xe2\x80\xa8\t\r\na: !vault |\n" + BODY + b"\n# \x0c \xfe", 1),
     "a comment like a block": (b"# $ANSIBLE_VAULT;1.1;AES256\na: !vault |\n" + BODY + b"\n#  6162\n", 1),
     "within a text": (b"script: |\n  x: !vault |\n" + lines_of(sealed("old"), 6) + b"\n  y: 1\n", 1),
 }

@@ -45,7 +45,7 @@ NOT_SHOWN = [
     (FILE, "app.users[1].pw", "there is no value app.users[1].pw"),
     (FILE, "app.plain", "app.plain is not encrypted"),
     (block("dev", b"one", "dev", "a") * 2, "a", "2 values are at a"),
-    (b'a: !vault "$ANSIBLE_VAULT;1.1;AES256"\n', "a", "an envelope in quotes"),
+    (b'a: !vault "$ANSIBLE_VAULT;1.1;AES256"\n', "a", "vault payload is malformed"),
     (VAULT, "db", "db is a list, a mapping or an alias"),
     (VAULT, "y", "there is no value y"),
     (block("old"), "secret", "vars.yml: no secret decrypts this vault (no label; tried dev@"),

@@ -1,85 +1,115 @@
-"""The forms and spellings of an envelope in a file: each is found, or reported as one that cannot be replaced."""
+"""The grammar of envelopes: whatever the spelling, an envelope is found where PyYAML finds it, and another one takes
+its place. What cannot be read or replaced is named, and what only looks like one is none."""
 
 from __future__ import annotations
 
 import json
+import re
 from collections import Counter
-from collections.abc import Callable
+from collections.abc import Callable, Iterator
 from random import Random
 from time import process_time
 from timeit import repeat
-from typing import Any
 
 import pytest
+from hypothesis import given, settings
+from hypothesis import strategies as st
 
-from ansible_vault_companions.files.envelopes import has_valid_header, mentions_envelope
-from ansible_vault_companions.git import damage, leaks
-from ansible_vault_companions.yaml.hidden import envelopes
+from ansible_vault_companions.envelopes import conflicts, document, envelope
+from ansible_vault_companions.envelopes.value import LOOSE, STRAY, TAGS, Path
+from ansible_vault_companions.git import marked
 from companion_cases import BODY, CHECK, ROTATE, Place, block, ended, sealed, silent, summary, to_new
 from companion_cases.repository import IN_PART, again, leaked, staged, with_hooks
 from lib.needs import needs_pyyaml
 
+needs_pyyaml()
+import yaml
+
 LINE = sealed("old").decode().replace("\n", "\\n")
 OF_PROD = sealed("prod", label="prod").decode().replace("\n", "\\n")
 COMMENT = b"".join(b"# " + line for line in block("old").splitlines(keepends=True))
-# The content of a file, and the reason that is reported.
-REPORTED = {
-    "quotes": (f'a: !vault "{LINE}"\n'.encode(), "in quotes or within a line"),
-    "JSON": (f'{{"a": {{"__ansible_vault": "{LINE}"}}}}\n'.encode(), "encrypt the whole file"),
-    "a comment": (COMMENT, "an envelope in a comment"),
-    "tabs": (b"a: !vault |\n" + BODY.replace(b"          ", b"\t"), "after tabs; indent with spaces"),
-    "a folded scalar": (b"a: !vault >\n" + BODY + b"\n", "in a folded scalar"),
-    "a byte order mark": (b"\xef\xbb\xbf" + sealed("old"), "after a byte order mark"),
-    "empty lines": (b" \r\n\t\n" + sealed("old"), "the empty lines or spaces before this envelope"),
-    "spaces": (b"  " + sealed("old").replace(b"\n", b"\n  "), "keep the file from being a vault; remove them"),
-    "a damaged block": (b"a: !vault |\n  $ANSIBLE_VAULT;1.1;AES256\n  not digits\n", "vault payload is malformed"),
+DIGITS = "".join(sealed("old").decode().splitlines()[1:])
+MAGIC = "$ANSIBLE_VAULT"
+# The content of a file, and the reason why it is not rotated; empty if it is.
+FORMS = {
+    "quotes": (f'a: !vault "{LINE}"\n'.encode(), ""),
+    "quotes over lines": (f'a: !vault "{LINE}"\n'.replace("\\n", "\\n\\\n    ").encode(), ""),
+    "JSON": (f'{{"a": {{"__ansible_vault": "{LINE}"}}}}\n'.encode(), ""),
+    "a comment": (COMMENT, ""),
+    "tabs": (b"a: !vault |\n" + BODY.replace(b"          ", b"\t"), ""),
+    "a template": (b"{% if x %}\na: !vault |\n" + BODY + b"\n{% endif %}\n", ""),
+    "a script": (b"cat <<END\n" + sealed("old") + b"END\n", ""),
+    "a folded scalar": (b"a: !vault >\n" + BODY + b"\n", "its lines are joined, since it is not a block"),
+    "single quotes": (b"a: !vault '%s'\n" % sealed("old").replace(b"\n", b"\n  "), "its lines are joined"),
+    "a byte order mark": (b"\xef\xbb\xbf" + sealed("old"), "let the file begin with it"),
+    "empty lines": (b" \r\n\t\n" + sealed("old"), "an envelope within other text"),
+    "spaces": (b"  " + sealed("old").replace(b"\n", b"\n  "), "let the file begin with it"),
+    "a text": (f"PASSWORD=x:{LINE}\n\tx".encode(), "an envelope within other text"),
+    "a damaged block": (b"a: !vault |\n  $ANSIBLE_VAULT;1.1;AES256\n  not digits\n", "vault body is not hexadecimal"),
     "a damaged header": (b"$ANSIBLE_VAULT;1.1\n61\n", " line is malformed"),
-    "a key like a header": (
-        "$ANSIBLE_VAULT;1.2;AES256;x: 1\n# größe\n".encode() + block("old"),
-        "or YAML with an unusual first line",
-    ),
-    "UTF-16": (("\ufeff" + block("old").decode()).encode("utf-16-le"), "save the file as UTF-8"),
+    "not ASCII.yml": ("$ANSIBLE_VAULT;1.1;AES256\n# größe\n".encode() + block("old"), "vault body is not hexadecimal"),
+    "a null character.yml": (block("old") + b"\0", "it cannot be read as YAML: it has a null character"),
 }
 
 
-def test_reported(place: Place) -> None:
-    for name, (content, _) in REPORTED.items():
+def test_forms(place: Place) -> None:
+    """The check names what is not rotated, and nothing else."""
+    for name, (content, _) in FORMS.items():
         place.put(name, content)
-    before, count = place.files(), len(REPORTED)
+    before, left = place.files(), {name: why for name, (_, why) in FORMS.items() if why}
     rotate, check = [ROTATE, *to_new(place), "."], [CHECK, *place.by_file("old"), "."]
-    for words, counts in ((rotate, summary(0, failed=count)), (check, f"0 decrypted, {count} not")):
+    rotated, failed = len(FORMS) - len(left), len(left)
+    for words, counts in ((check, f"{rotated} decrypted, {failed} not"), (rotate, summary(rotated, failed=failed))):
         done = place.run(*words)
         ended(words[0], done, 1, counts)
-        found = {name: "".join(line for line in done.stderr.splitlines() if f"./{name}:" in line) for name in REPORTED}
-        assert [name for name, (_, why) in REPORTED.items() if why not in found[name]] == [], (words[0], found)
-    assert place.files() == before
+        found = {name: "".join(line for line in done.stderr.splitlines() if f"./{name}:" in line) for name in FORMS}
+        assert [name for name, line in found.items() if bool(line) != (name in left)] == [], (words[0], found)
+        assert [name for name, why in left.items() if why not in found[name]] == [], (words[0], found)
+    assert {name for name, content in place.files().items() if content == before[name]} == left.keys()
+    ended("again", place.run(*rotate), 1, summary(0, rotated, failed=failed))
+
+
+def test_yaml_that_cannot_be_read(place: Place) -> None:
+    """By its name it is meant as YAML, so the check cannot say that all is well. Only text that mentions a header is no
+    envelope."""
+    place.put("a.yml", b"x: [\n" + block("old") + b"y:\t1\n")
+    place.put("b.json", b'{"x": 1,\n"y"}\n' + sealed("old"))
+    place.put("c.yaml", b"[" * 200_000 + b"\n# " + sealed("old").replace(b"\n", b"\n# "))
+    for name in ("d.j2", "e.yml"):
+        place.put(name, b"x: [\n" + (block("old") if name == "d.j2" else b"# !vault | $ANSIBLE_VAULT;1.1;AES256\n"))
+    done = place.run(CHECK, *place.by_file("old"), ".")
+    whys = {"a.yml": "line 2: it cannot be read as YAML", "b.json": "line ", "c.yaml": "it is nested too deeply"}
+    assert done.returncode == 1
+    for line, (name, why) in zip(done.stderr.splitlines(), whys.items(), strict=True):
+        assert line.startswith(f"{CHECK}: ./{name}: ") and why in line, line
 
 
 def test_several_in_a_line(place: Place) -> None:
     """Each envelope in a line counts, with its own label."""
     for name, lines in {"a.json": (LINE, OF_PROD), "b.json": (OF_PROD, LINE), "c.json": (LINE, LINE)}.items():
         place.put(name, '{{"x": "{}", "y": "{}"}}'.format(*lines).encode())
-    done = place.run(ROTATE, *to_new(place), ".")
-    counts = summary(0, 0, 2, " (prod 2)", 4)
-    ended("minified JSON", done, 1, "./a.json:1: ", "./b.json:1: ", "./c.json:1: ", counts)
+    ended("minified JSON", place.run(ROTATE, *to_new(place), "."), 0, summary(4, 0, 2, " (prod 2)"))
+    assert [len(json.loads(place.get(f"{name}.json"))) for name in "abc"] == [2, 2, 2]
 
 
 # Each piece is repeated to make a hostile file.
 PIECES = [b"$ANSIBLE_VAULT", b"$ANSIBLE_VAULT;1.1;AES256", b'"\\x24ANSIBLE_VAULT', b'"\\\n $\\\n ', b"A\\\n ", b"\\\n"]
 PIECES += [b"  $ANSIBLE_VAULT;1.1;AES256\n  6162\n", b'"$ANSIBLE_VAULT;1.1;AES256\\n' + b"61" * 40 + b'", ']
 PIECES += [b"a: !vault |\n  $ANSIBLE_VAULT;1.1;AES256\n  6162\n", b" " * 4000 + b"$ANSIBLE_VAULT;1.1;AES256\n"]
-PIECES += [b"!vault &" + b"x" * 4000 + b"\n$ANSIBLE_VAULT;1.1;AES256\n", b"!vault | ", b"!vault &a "]
-PIECES += [b" ", b"\t", b"\n", b"- ", b"61", b"<<<<<<< "]
+PIECES += [b"!vault &" + b"x" * 4000 + b"\n$ANSIBLE_VAULT;1.1;AES256\n", b"!vault | ", b"!vault &a ", b"# \\n"]
+PIECES += [b" ", b"\t", b"\n", b"- ", b"61", b"<<<<<<< ", b"<<<<<<< a\n", b"[", b"{a: ", b"? ", b"&a ", b"%TAG ! !"]
+PIECES += [b"$ANSIBLE_VAULT;1.1;AES256 # # # " + b"61" * 20 + b"\n", b"  - ", b"\r", b"'"]
 SMALL, TIMES = 1 << 15, 8
 # The large file is eight times as long as the small one. In quadratic time, it would take 64 times as long.
 MOST = 24
 START = b"x: !vault |\n  $ANSIBLE_VAULT;1.1;AES256\n  61\n"
 WORKS: dict[str, Callable[[bytes], object]] = {
-    "the envelopes": lambda data: envelopes(b"x: 1\n" + data),
-    "a marked file": lambda data: damage.fault_of_marked(b"x: 1\n" + data, {"diff"}),
-    "what is decrypted": lambda data: leaks.decrypted(START + data, b"x: 1\n" + data),
-    "a whole vault": lambda data: damage.is_whole(b"$ANSIBLE_VAULT;1.1;AES256\n" + data),
-    "conflict markers": damage.is_unmerged,
+    "the envelopes": lambda data: document.read(START + data),
+    "every node": lambda data: document.read(START + data, every=True),
+    "a file that is no YAML": lambda data: document.read(b"[$ANSIBLE_VAULT;1.1;AES256" + data),
+    "a marked file": lambda data: marked.fault(document.read(b"x: 1\n" + data), {"diff"}),
+    "a whole vault": lambda data: envelope.is_whole(b"$ANSIBLE_VAULT;1.1;AES256\n" + data),
+    "conflict markers": lambda data: (conflicts.is_unmerged(data), conflicts.sides(b"<<<<<<<\n" + data)),
 }
 
 
@@ -97,116 +127,153 @@ def test_linear_time(work: Callable[[bytes], object], piece: bytes) -> None:
     assert any(seconds(small * TIMES) < max(0.02, MOST * seconds(small)) for _ in range(4))
 
 
-DIGITS = "".join(sealed("old").decode().splitlines()[1:])
-MAGIC = "$ANSIBLE_VAULT"
-BEGINNINGS = [MAGIC, MAGIC, f"{MAGIC}_2", f"{MAGIC} {MAGIC}", f"{MAGIC} x"]
-BLANKS = ["", "", " ", "\t", "  "]
-# What precedes the document, and a spelling of the tag.
-TAGS = [
-    *(("", each) for each in ("!vault", "!vault-encrypted", "!<!vault>", "!v%61ult", "!<%21vault>")),
-    ("%TAG ! !va\n---\n", "!ult"),
-    ("%TAG !e! !vault-\n---\n", "!e!encrypted"),
-]
-GAPS = [" ", " ", "\t", "\n    ", " &a ", " # $ANSIBLE_VAULT\n    ", "\n# comment\n    "]
-# What is around a tagged value, and around a text in JSON.
-PLACES = ["secret: {}\n", "secret: &b {}\n", "- {}\n", "{{secret: {}}}\n", "[1, {}]\n", "secret:\n  {{a: {}, b: 1}}\n"]
-PLACES += ["? {}\n: 1\n", "secret: &c\n  - {}\n  - 2\n", "x: $ANSIBLE_VAULT\nsecret: {}\ny: $ANSIBLE_VAULT_FILE\n"]
-OBJECTS = ['{{"secret": {{"__ansible_vault": {}}}}}\n', '[{{"__ansible_v\\u0061ult": {}}}]']
-OBJECTS += ['{{\n\t"secret":\t{{"__ansible_vault":\t{}}}, "x": "\\ud83d\\ude00"}}']
-# At least so many texts of each kind must be envelopes.
-LEAST = dict.fromkeys(["|", ">", "plain", "'", '"', "JSON"], 10)
-KNOWN = BEGINNINGS, ["1.1", "1.2"], ["AES256", "AES256;", "AES256;default", "AES256\t;prod", "AES256;prod ;x"]
+LOADERS = [getattr(yaml, "CSafeLoader", yaml.SafeLoader), yaml.SafeLoader]
+TAGGED = ["!vault", "!vault", "!vault-encrypted", "!<!vault>", "!v%61ult", "&a !vault", "!vault &a"]
+TAGGED += ["!vault # why\n{}   "]
+KEYS = ["a", "b c", "'q: ''x'", '"\\u00e9\\t"', "größe", "&k c", "!!str 1", "? d\n{}", "? [e, f]\n{}", "<<"]
+OTHERS = ["", "word", "'it''s'", "$ANSIBLE_VAULT_FILE", "|\n{}  text\n\n{}   more", "{{a: 'x', b: [1, 2]}}", "~"]
+OTHERS += ["&x 1", "[&w {{}}, *w]", ">-\n{}  folded\n{}  lines", "!other 1", "'!vault'", "$ANSIBLE_VAULT;1.1;AES256"]
+GAPS = ["", "", "", "\n", "\n\n", "# $ANSIBLE_VAULT\n", "\n    # !vault\n"]
+FIRST = ["%TAG !e! !va\n---\n", "", "", "\ufeff", "# \f\x9f\udcff\n", "%YAML 1.1\n---\n", "--- # x\n"]
+MEANT = re.compile(rb"\$ANSIBLE_VAULT;.*\s[0-9a-f]{16}")
+NEW = sealed("new", label="another")
+Found = list[tuple[Path, bytes]]
 
 
-def header_of(random: Random, *fields: list[str]) -> str:
-    """Return the first line of an envelope, with one of the texts for each field."""
-    return ";".join(random.choice(texts) + random.choice(BLANKS) for texts in fields)
+class Generator:
+    """Generates nested mappings and lists of scalars, some of which are envelopes."""
+
+    def __init__(self, random: Random) -> None:
+        self.random, self.choice = random, random.choice
+
+    def data(self) -> bytes:
+        text = "# größe\n---\n".join(self.collection(3, 0) for _ in range(self.choice((1, 1, 1, 2))))
+        end = self.choice(["\n", "\n", "\r\n", "\r"])
+        first = self.choice(FIRST)
+        # With a directive, a tag may have another name.
+        text = text.replace("!vault ", "!e!ult ") if "!e!" in first else text
+        text = (first + text).replace("\n", end).removesuffix(self.choice(("", end)))
+        return text.encode(errors="surrogateescape")
+
+    def collection(self, depth: int, column: int) -> str:
+        names, margin = self.random.sample(KEYS, self.random.randint(1, 4)), " " * column
+        is_list = self.random.random() < 0.3
+        heads = ["-" if is_list else name.format(margin) + ":" for name in names]
+        return "".join(f"{margin}{head}{self.node(depth - 1, column)}" for head in heads)
+
+    def node(self, depth: int, column: int) -> str:
+        """What follows a key or a dash, with the line end."""
+        kind, margin = self.random.random(), " " * column
+        if depth and kind < 0.3:
+            head = self.choice(("", "", " &y", "  # why"))
+            return f"{head}\n{self.collection(depth, column + self.random.randint(1, 4))}"
+        if kind < 0.5:
+            return f" {self.choice(OTHERS).format(*[margin] * 4)}\n{self.choice(GAPS)}"
+        if kind < 0.6:
+            return f" {self.flow()}\n{self.choice(GAPS)}"
+        tag = self.choice([*TAGGED, ""]).format(margin)
+        return f" {tag} {self.scalar(column)}{self.choice(GAPS)}"
+
+    def lines(self) -> list[str]:
+        return sealed("old", label=self.choice(("", "prod", "p q"))).decode().splitlines()
+
+    def scalar(self, column: int) -> str:
+        step, style = self.random.randint(1, 12), self.choice("||||>'\" ")
+        margin = " " * (column + step)
+        if style in "|>":
+            number = str(step) if step < 10 else ""
+            header = style + self.choice(("", "", "-", "+", number)) + self.choice(("", "", "  # why"))
+            return f"{header}\n" + "".join(f"{margin}{line}\n" for line in self.lines())
+        if style == '"':
+            return self.quoted(margin) + "\n"
+        return style.strip() + f"\n{margin}".join(self.lines()) + style.strip() + "\n"
+
+    def quoted(self, margin: str = "") -> str:
+        """In double quotes, with escapes and, if there is a margin, with lines that go on in the next one."""
+        rate = self.choice((0, 0, 0.03, 0.3))
+        ways = ["\\u{:04X}", "\\x{:02x}", "\\U{:08x}"] if margin else ["\\u{:04x}"]
+        ends = ["", f"\\\n{margin}"] if margin else [""]
+        spelled = [
+            self.choice(ways).format(ord(c)) if c == "\n" or self.random.random() < rate else c for c in self.text()
+        ]
+        # A line that ends within the first word would hide an envelope that has no tag.
+        for place in range(len(MAGIC), len(spelled), 80):
+            spelled[place] += self.choice(ends)
+        return '"%s"' % "".join(spelled)
+
+    def text(self) -> str:
+        return "\n".join(self.lines()) + self.choice(("", "\n"))
+
+    def flow(self) -> str:
+        items = [f'{{"__ansible_vault": {self.quoted()}}}', f"!vault {self.quoted()}", self.quoted(), "1", "x: 2"]
+        return self.choice(("[{}, {}, 3]", "{{a: [{}], c: !x [{}]}}")).format(*self.random.sample(items, 2))
 
 
-def escaped(random: Random, text: str, rate: int, is_json: bool = False) -> str:
-    """Write a text in double quotes, with one of `rate` characters as an escape or beside the end of a line."""
-    written = ""
-    for each in text:
-        ways = [f"\\u{ord(each):04X}"]
-        if not is_json:
-            ways += [f"\\x{ord(each):02x}", f"\\U{ord(each):08x}", f"{each}\\\n    ", f"\\\r\n  \t {each}"]
-        plain = {"\n": "\\n", "\t": "\\t"}.get(each, each)
-        written += random.choice(ways) if random.randrange(rate) == 0 else plain
-    return f'"{written}"'
-
-
-def document(random: Random) -> tuple[str, str]:
-    """Return the kind of a spelling, and a file with it."""
-    width = random.choice([30, 31, 80, 1000])
-    lines = [header_of(random, *KNOWN), *(DIGITS[start : start + width] for start in range(0, len(DIGITS), width))]
-    # With escapes, most texts are no envelopes.
-    kind, rate = random.choice([*LEAST, '"', '"']), random.choice([1, 4, 40, 1000])
-    if kind == "JSON":
-        return kind, random.choice(OBJECTS).format(escaped(random, "\n".join(lines), rate, is_json=True))
-    # In all but literals, a line end counts if an empty line is below, and otherwise as a space.
-    if kind != "|" and random.random() < 0.5:
-        lines[0] = lines[0].replace(";", ";\n    ")
-    folded = "\n\n    ".join(lines)
-    if kind == "|":
-        comment = random.choice(["", "-", "+", " # x", "  "])
-        written = f"|{comment}\n    " + random.choice(["\n    ", "\n\n    ", "\r\n    "]).join(lines)
-    elif kind == '"':
-        written = escaped(random, "\n".join(lines), rate).replace(";\\n    ", ";\n    ")
-    else:
-        written = {">": f">-\n    {folded}", "plain": folded, "'": f"'{folded}'"}[kind]
-    directive, tag = random.choice(TAGS)
-    value = tag + random.choice(GAPS) + written if random.random() < 0.9 else f"{tag} {{=: {written}}}"
-    return kind, directive + random.choice(PLACES).format(value)
-
-
-def loaded(kind: str, text: str) -> list[str]:
-    """Return the texts that Ansible's loader takes for envelopes."""
-    import yaml
-
-    found: list[str] = []
-    if kind == "JSON":
-        key = "__ansible_vault"
-        json.loads(text, object_pairs_hook=lambda pairs: found.extend(value for name, value in pairs if name == key))
-        return found
-
-    class Loader(getattr(yaml, "CSafeLoader", yaml.SafeLoader)):  # type: ignore[misc]
-        def note(self, node: Any) -> None:
-            found.append(str(self.construct_scalar(node)))
-
-    for tag in ("!vault", "!vault-encrypted"):
-        Loader.add_constructor(tag, Loader.note)
+def composed(data: bytes) -> Found | None:
+    """The path and the text of each envelope, as PyYAML composes them; None if it is not YAML."""
+    text = re.sub("[\f\x9f\udcff]", "?", data.decode(errors="surrogateescape")).removeprefix("\ufeff")
     try:
-        yaml.load(text, Loader)
+        nodes = [*yaml.compose_all(text, LOADERS[0])]  # type: ignore[no-untyped-call]
     except yaml.YAMLError:
-        return []
-    return found
+        return None
+    return [found for node in nodes for found in walked(node, (), set())]
 
 
-def is_decrypted(text: str) -> bool:
-    """Return whether Ansible decrypts a text, as its `parse_vaulttext_envelope` reads it."""
-    header, *lines = text.encode().splitlines() or [b""]
-    fields = [each.strip() for each in header.strip().split(b";")]
-    is_header = text.startswith(MAGIC) and len(fields) > 2 and fields[2] == b"AES256"
-    return is_header and b"".join(lines).decode() == DIGITS
+def walked(node: yaml.Node, path: Path, seen: set[int]) -> Iterator[tuple[Path, bytes]]:
+    if id(node) in seen:
+        return
+    seen.add(id(node))
+    if isinstance(node, yaml.ScalarNode):
+        text = node.value.encode()
+        is_tagged = node.tag in TAGS or path[-1:] == ("__ansible_vault",)
+        if is_tagged or MEANT.match(text):
+            yield path, text.strip()
+    elif isinstance(node, yaml.SequenceNode):
+        for number, item in enumerate(node.value):
+            yield from walked(item, (*path, number), seen)
+    elif isinstance(node, yaml.MappingNode):
+        for key, item in node.value:
+            yield from walked(item, (*path, key.value if isinstance(key, yaml.ScalarNode) else ""), seen)
 
 
-def test_spellings(place: Place, pytestconfig: pytest.Config) -> None:
-    """Whatever the spelling, the check with a wrong password fails, and the hook notices that it is plaintext now."""
-    needs_pyyaml()
-    counts: Counter[str] = Counter()
-    for number in range(600):
-        kind, text = document(Random(f"{pytestconfig.getoption('--seed')} {number}"))
-        if any(map(is_decrypted, loaded(kind, text))):
-            data = text.encode()
-            assert mentions_envelope(data) and envelopes(data), text
-            if kind != "JSON" and "secret" in text and "=:" not in text:
-                assert leaks.decrypted(data, b"secret: plain\n"), text
-            counts[kind] += 1
-            place.put(f"{number}.yml", data)
-    assert [(kind, counts[kind]) for kind, least in LEAST.items() if counts[kind] < least] == [], counts
-    done = place.run(CHECK, *place.by_file("new"), ".")
-    unreported = [name for name in place.files() if f"./{name}:" not in done.stderr]
-    assert (done.returncode, unreported) == (1, []), "none is passed over"
+COUNTS: Counter[str] = Counter()
+
+
+@settings(max_examples=800, deadline=None)
+@given(st.integers(0, 1 << 64).map(Random), st.sampled_from(LOADERS))
+def check_random_yaml(random: Random, loader: type) -> None:
+    data = Generator(random).data()
+    wanted = composed(data)
+    if wanted is None:
+        COUNTS["no YAML"] += 1
+        return
+    with pytest.MonkeyPatch.context() as patch:
+        patch.setattr(yaml, "CSafeLoader", loader, raising=False)
+        read = document.read(data)
+        values = [value for value in read.values if value.style not in (STRAY, LOOSE)]
+        assert [(value.path, value.text.strip()) for value in values] == wanted, data
+        new = {number: NEW for number, value in enumerate(read.values) if random.random() < 0.5}
+        after = read.with_envelopes(new)
+    texts = [new.get(number, text).strip() for number, (_, text) in enumerate(wanted)]
+    assert composed(after) == [(path, text) for (path, _), text in zip(wanted, texts)], (data, after)
+    COUNTS.update(values=len(wanted), replaced=len(new), **{value.style: 1 for value in values})
+
+
+def test_random_yaml() -> None:
+    check_random_yaml()
+    print(COUNTS)
+    assert min(COUNTS["values"], COUNTS["replaced"]) > 500, COUNTS
+
+
+WORDS = [envelope.MAGIC, b";1.1;AES256\n", b"61" * 20, b"\n", b" ", b"!vault", b"|", b"[", b"\0", b": ", b'"']
+WORDS += [b"\\x24", b"%TAG ", b"\xef\xbb\xbf", b"\xff", b"# ", block("old"), sealed("old")]
+
+
+@settings(max_examples=500, deadline=None)
+@given(st.lists(st.sampled_from(WORDS) | st.binary(max_size=9)).map(b"".join))
+def test_random_bytes(data: bytes) -> None:
+    for value in [*document.read(data).values, *document.read(data, every=True).values]:
+        assert 0 <= value.begin <= value.start <= value.end <= len(data) or value.style == STRAY, value
 
 
 @pytest.mark.parametrize("header", [f"{MAGIC} ;1.2;AES256;old", f"{MAGIC}_x; 1.1 ;AES256", f"{MAGIC};1.1;\tAES256;x"])
@@ -231,21 +298,28 @@ def test_moves(place: Place) -> None:
     silent("the value", again(place, "b.yml", value))
 
 
+BEGINNINGS = [MAGIC, MAGIC, f"{MAGIC}_2", f"{MAGIC} {MAGIC}", f"{MAGIC} x"]
+BLANKS = ["", "", " ", "\t", "  "]
+
+
+def header_of(random: Random, *fields: list[str]) -> str:
+    """Return the first line of an envelope, with one of the texts for each field."""
+    return ";".join(random.choice(texts) + random.choice(BLANKS) for texts in fields)
+
+
 def test_valid_headers(place: Place, pytestconfig: pytest.Config) -> None:
-    """The companions call a header valid if the program does, and a vault whole unless further fields follow."""
+    """The companions call a vault whole if the program reads it, unless further fields follow."""
     counts: Counter[bool] = Counter()
-    digits = sealed("old").partition(b"\n")[2]
     first = [*BEGINNINGS, MAGIC + "x" * 226, MAGIC + "x" * 225, f"{MAGIC}é"]
     label = ["", "prod", "p r", "x" * 128, "x" * 129, "\x7f", "é", "a\tb", "\x0b"]
     fields = [first, [*["1.1", "1.2"] * 3, "1.0", "1.3", ""], [*["AES256"] * 4, "AES", "aes256"], label, ["", "more"]]
     for number in range(300):
         random = Random(f"{pytestconfig.getoption('--seed')} {number}")
         header = header_of(random, *fields[: random.randint(2, 5)])
-        vault = header.encode() + b"\n" + digits
+        vault = header.encode() + b"\n" + DIGITS.encode()
         done = place.run_on(vault, "ansible-vault", "view", *place.by_file("old"))
         is_valid = done.returncode == 0
-        assert has_valid_header(header.encode()) == is_valid, (header, done.stderr)
-        assert damage.is_whole(vault) == (is_valid and header.count(";") < 4), header
+        assert envelope.is_whole(vault) == (is_valid and header.count(";") < 4), (header, done.stderr)
         counts[is_valid] += 1
     assert min(counts[True], counts[False]) > 20, counts
 

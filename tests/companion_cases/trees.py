@@ -7,8 +7,9 @@ from pathlib import Path
 
 import pytest
 
-from ansible_vault_companions.files import reading, searching
-from ansible_vault_companions.files.envelopes import MAGIC
+from ansible_vault_companions.envelopes import contents
+from ansible_vault_companions.envelopes.envelope import MAGIC
+from ansible_vault_companions.files import reading
 from companion_cases import AWKWARD, CHECK, ROTATE, TEXT, Place, block, decrypted, ended, sealed, summary, to_new
 from lib.needs import needs
 
@@ -65,10 +66,10 @@ def test_links(place: Place) -> None:
 
 def test_what_is_looked_at(place: Place) -> None:
     vaults = ["vault", ".hidden/vault.yml", "host_vars/www.example.org", "notes.md"]
-    blocks = ["vars.yaml", "host_vars/db.example.org", "a.json", "b.YML", ".github/x.yml"]
+    blocks = ["vars.yaml", "host_vars/db.example.org", "a.json", "b.YML", ".github/x.yml", "prose.md", "prose.RST"]
     for name in [*vaults, ".git/config", "sub/.git/vault.yml"]:
         place.put(name, sealed("old"))
-    for name in [*blocks, "prose.md", "prose.RST"]:
+    for name in blocks:
         place.put(name, block("old"))
     place.put("script.sh", b"#!/bin/sh\ngrep -q '^$ANSIBLE_VAULT;1.1;AES256' file\n")
     place.put("picture.png", bytes(range(256)) * 5000)
@@ -94,17 +95,15 @@ def test_what_has_no_end(place: Place) -> None:
 
 
 def test_pieces(tmp_path: Path, monkeypatch: pytest.MonkeyPatch) -> None:
-    """A file is read in chunks, and the start of an envelope may be split between two of them."""
-    path = tmp_path / "a.yml"
-    starts = [MAGIC.decode().encode(encoding) for encoding in ("ascii", "utf-16-le", "utf-16-be")]
-    starts.append(b'"\\x24ANSIBLE\\\r\n' + b" " * 300 + b"\\\n \\x5FVAULT")
-    for size, before, start in product(range(32, 41, 4), range(1, 41), starts):
+    """A long file is searched in pieces, and what tells of an envelope may be split between two of them."""
+    path = tmp_path / "a.txt"
+    monkeypatch.setattr(contents, "LONGEST", 16)
+    for size, before, start in product((80, 90), range(1, 100), (MAGIC, b'"\\U00000024', b"!" + b"x" * 60 + b"%61")):
         monkeypatch.setattr(reading, "CHUNK_SIZE", size)
-        monkeypatch.setattr(searching, "CHUNK_SIZE", size)
         path.write_bytes(b"x" * before + start + b";1.1")
-        assert searching.contents(str(path)) == path.read_bytes(), (size, before, start)
+        assert contents.contents(str(path)) == path.read_bytes(), (size, before, start)
         path.write_bytes(b"x" * before + start[:-1])
-        assert searching.contents(str(path)) == b"", "a part of it is none"
+        assert contents.contents(str(path)) == b"", "a part of it is none"
 
 
 FILES = {"a.yml", "b.txt", "tests/a.yml", "tests/fixtures/c.yml", "roles/tests/d.yml", "[x]/e.yml"}

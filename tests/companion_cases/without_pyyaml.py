@@ -1,9 +1,9 @@
-"""Without PyYAML, everything that needs no YAML works, and the rest names the missing package."""
+"""Without PyYAML, everything that needs no YAML works, and the rest stops and names the missing package."""
 
 import shutil
 
 from companion_cases import CHANGE, CHANGED, CHECK, MERGE, ROTATE, TEXTCONV, WITH, Place, block, decrypted, edit, ended
-from companion_cases import sealed, silent, summary, texts, to_new, versions
+from companion_cases import sealed, silent, to_new, versions
 from lib.needs import needs
 
 
@@ -18,16 +18,15 @@ def hide_pyyaml(place: Place) -> None:
 
 
 def test_without_pyyaml(place: Place) -> None:
-    """Vaults need no PyYAML, nor does finding blocks by their headers, but editing or merging blocks does."""
+    """No half of the envelopes is checked or rotated, and git shows a file as it is."""
     needs("git")
     hide_pyyaml(place)
     old, content, package = place.by_file("old"), block("old", b"one"), "python3-yaml"
     place.put("all.yml", sealed("old"))
     silent("edit", edit(place, CHANGE, *old, "all.yml"))
-    assert decrypted("old", place.get("all.yml")) == CHANGED, "it is edited"
-    for command in ([TEXTCONV], [WITH, "view"]):
-        done = place.run(*command, *old, "all.yml")
-        assert (done.returncode, done.stdout, done.stderr) == (0, CHANGED.decode(), ""), command
+    assert decrypted("old", vault := place.get("all.yml")) == CHANGED, "it is edited"
+    done = place.run(WITH, "view", *old, "all.yml")
+    assert (done.returncode, done.stdout, done.stderr) == (0, CHANGED.decode(), ""), "view"
     base, ours, theirs = (sealed("old", text) for text in (b"a: 1\n\nb: 1\n", b"a: 2\n\nb: 1\n", b"a: 1\n\nb: 2\n"))
     silent("merge", place.run(MERGE, *old, *versions(place, "a.yml", base, ours, theirs)))
     assert decrypted("old", place.get("a.yml")) == b"a: 2\n\nb: 2\n", "it is merged"
@@ -35,10 +34,14 @@ def test_without_pyyaml(place: Place) -> None:
     done = edit(place, "touch ../started", *old, "vars.yml")
     ended("edit", done, 1, "vars.yml: PyYAML, which reads YAML, is missing", package)
     assert not (place.path / "started").exists(), "no editor is started"
-    done = place.run(TEXTCONV, *old, "vars.yml")
-    ended("textconv", done, 0, "secret: !vault |\n          one\n", package)
     ended("merge", place.run(MERGE, *old, *words), 1, package)
     assert place.get("vars.yml") == content, "ours stays"
-    ended("check", place.run(CHECK, *old, "."), 0, "3 decrypted, 0 not")
-    ended("rotate", place.run(ROTATE, *to_new(place), "."), 0, summary(3))
-    assert texts(place.get("vars.yml"), "new") == [b"one"], "it is rotated"
+    for name, text in {"all.yml": vault, "vars.yml": content}.items():
+        done = place.run(TEXTCONV, *old, name)
+        assert (done.returncode, done.stdout) == (0, text.decode())
+        assert done.stderr.startswith(f"{TEXTCONV}: {name}: shown as it is: PyYAML, ") and package in done.stderr
+    ended("textconv --value", place.run(TEXTCONV, *old, "--value", "secret", "vars.yml"), 1, package)
+    for companion, secrets in ((CHECK, old), (ROTATE, to_new(place))):
+        done = place.run(companion, *secrets, ".")
+        assert (done.returncode, done.stdout) == (1, "") and done.stderr.startswith(f"{companion}: PyYAML, "), companion
+        assert package in done.stderr

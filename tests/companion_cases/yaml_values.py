@@ -29,8 +29,8 @@ from lib.needs import needs_pyyaml
 
 SECRET = Secret("default", "", "")
 # Characters that YAML does not allow. The last one stands for a byte that is not UTF-8.
-UNREADABLE = "\0\f\x9f\ufffe\udcff"
-LINE_ENDS = ["\n"] * 3 + ["\r\n", "\r", "\x85"]
+UNREADABLE = "\f\x9f\ufffe\udcff"
+LINE_ENDS = ["\n"] * 3 + ["\r\n", "\r"]
 KEYS = ["a", "b c", "'q: ''x'", '"\\u00e9\\t"', "größe", "&k c", "!!str 1", "? d\n{}", "? [e, f]\n{}", "<<"]
 SCALARS = ["", "word", "'it''s'", '"a\\tb"', "two\n{}  words", "|\n{}  text\n\n{}   more", "{{a: 'x', b: [1, 2]}}"]
 SCALARS += ["word # no !vault", "&x 1", "~", ">-\n{}  folded\n{}  lines", "!other 1", "[&w {{}}, *w]", "'!vault'"]

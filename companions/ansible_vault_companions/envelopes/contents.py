@@ -7,18 +7,14 @@ from contextlib import suppress
 from typing import BinaryIO
 
 from ansible_vault_companions import stopping
-from ansible_vault_companions.envelopes.document import OVERLAP, mentions
+from ansible_vault_companions.envelopes.document import OVERLAP, Document, mentions
+from ansible_vault_companions.envelopes.envelope import occurs
 from ansible_vault_companions.envelopes.scalars import LONGEST
-from ansible_vault_companions.files.reading import LIMIT, TooLong, opened, parts, whole
-from ansible_vault_companions.program import Refused
+from ansible_vault_companions.files.reading import LIMIT, TooLong, Unsearched, opened, parts, whole
 
 # Documents. An envelope in one that no password opens is an example.
 PROSE = (".md", ".rst", ".adoc", ".html")
 YAML = (".yml", ".yaml", ".json")
-
-
-class Unsearched(Refused):
-    """A file has no envelope up to the limit, but is longer."""
 
 
 def is_prose(path: str) -> bool:
@@ -29,6 +25,11 @@ def is_prose(path: str) -> bool:
 def is_yaml(path: str) -> bool:
     """Whether it is meant as YAML, by its name or by that of the file that it points to."""
     return any(name.lower().endswith(YAML) for name in (path, os.path.realpath(path)))
+
+
+def fault(document: Document, path: str) -> str:
+    """Why a file that is meant as YAML, and has an envelope, cannot be read; empty if it is none, or can."""
+    return document.fault if document.fault and is_yaml(path) and occurs(document.data) else ""
 
 
 def contents(path: str) -> bytes:

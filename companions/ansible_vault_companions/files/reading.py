@@ -26,6 +26,10 @@ class TooLong(OSError):
     """A file is longer than the limit."""
 
 
+class Unsearched(Refused):
+    """A file has no envelope up to the limit, but is longer."""
+
+
 def read(path: str) -> bytes | None:
     """The content of the file at a path, or None if there is no file."""
     try:

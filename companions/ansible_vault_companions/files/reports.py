@@ -7,7 +7,7 @@ from dataclasses import dataclass, field
 from typing import Callable, Collection
 
 from ansible_vault_companions import program
-from ansible_vault_companions.files import searching
+from ansible_vault_companions.files.reading import Unsearched
 from ansible_vault_companions.program import Refused, shown, write_error, write_line
 
 
@@ -39,12 +39,13 @@ class Report:
         return f"{sum(self.others.values())} with other labels" + (f" ({labels})" if labels else "")
 
 
-def of_file(path: str, work: Callable[[str, Report], None]) -> Report:
-    """The report that `work` makes on a file. A failure is in it, so that the other files are still processed."""
-    report = Report()
+def of_file(paths: list[str], work: Callable[[list[str], Report], None]) -> Report:
+    """The report that `work` makes on the file to which these paths lead. A failure is in it, so that the other files
+    are still processed."""
+    report, path = Report(), paths[0]
     try:
-        work(path, report)
-    except searching.Unsearched as fault:
+        work(paths, report)
+    except Unsearched as fault:
         report.notes.append(program.refusal(path, fault))
     except (Refused, OSError) as fault:
         report.faults.append(program.refusal(path, fault))

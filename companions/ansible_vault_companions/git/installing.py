@@ -6,7 +6,7 @@ import os
 import shlex
 import shutil
 
-from ansible_vault_companions.files.searching import is_prose
+from ansible_vault_companions.envelopes.contents import is_prose
 from ansible_vault_companions.git import attributes, commands, repositories
 from ansible_vault_companions.program import Refused, shown, write_line
 

@@ -30,22 +30,22 @@ def by_repository(paths: list[str], follows: bool = True) -> dict[str, dict[byte
     return repositories
 
 
-def files_named(args: argparse.Namespace, refuse: Callable[[str, Exception], None]) -> list[str]:
-    """The files below the paths of a command line; with --tracked, only those that git tracks."""
-    paths = list(searching.files_below(args.paths, refuse, args.exclude))
-    return _tracked(paths) if args.tracked else paths
+def files_named(args: argparse.Namespace, refuse: Callable[[str, Exception], None]) -> list[list[str]]:
+    """The paths that lead to each file of a command line; with --tracked, only to those that git tracks."""
+    files = searching.files_below(args.paths, refuse, args.exclude)
+    return _tracked(files) if args.tracked else files
 
 
-def _tracked(paths: list[str]) -> list[str]:
-    """The paths that git tracks, each in its own repository. A link counts as the file that it points to."""
-    found: set[str] = set()
-    repositories = by_repository(paths)
-    if paths and not repositories:
+def _tracked(files: list[list[str]]) -> list[list[str]]:
+    """The files that git tracks, each in its own repository. A link counts as the file that it points to."""
+    tracked: set[str] = set()
+    repositories = by_repository([paths[0] for paths in files])
+    if files and not repositories:
         raise Refused("--tracked needs a git repository, and none of these files is in one; leave it out")
     for repository, names in repositories.items():
         known = git("ls-files", "-z", folder=repository).split(b"\0")
-        found.update(names[name] for name in known if name in names)
-    return [path for path in paths if path in found]
+        tracked.update(names[name] for name in known if name in names)
+    return [paths for paths in files if paths[0] in tracked]
 
 
 @lru_cache(maxsize=None)

@@ -1,21 +1,21 @@
-"""Shows the plaintext of a vault, or of the blocks in a file, for git."""
+"""Shows the plaintext of a vault, or of the values in a file, for git."""
 
 from __future__ import annotations
 
 from contextlib import suppress
 
 from ansible_vault_companions import parallel, program
-from ansible_vault_companions.files.changes import Change, Spans, changed
-from ansible_vault_companions.files.envelopes import MAGIC, TAG_NAME, Envelope
+from ansible_vault_companions.envelopes import plaintexts
+from ansible_vault_companions.envelopes.document import Document
+from ansible_vault_companions.envelopes.value import Value
+from ansible_vault_companions.files.changes import Change, changed
+from ansible_vault_companions.plaintext import opening
 from ansible_vault_companions.program import Refused, write_error
 from ansible_vault_companions.secrets.sources import Secret
 from ansible_vault_companions.tool import layers
 from ansible_vault_companions.tool.faults import NOT_DECRYPTED, NotDecrypted, NotVault, SecretRefused
 from ansible_vault_companions.tool.remembering import RememberingTool
 from ansible_vault_companions.tool.tool import Decrypt
-from ansible_vault_companions.yaml import inline
-from ansible_vault_companions.yaml.nodes import LITERAL, NoPyYaml
-from ansible_vault_companions.yaml.values import Value
 
 NAME = "ansible-vault-textconv"
 
@@ -38,45 +38,20 @@ class SkippingTool(RememberingTool):
         return b""
 
 
-def converted(data: bytes, path: str, found: list[Envelope], decrypt: Decrypt) -> bytes:
-    """The file's data with plaintext in place of its blocks and its other envelopes."""
-    changes, values = _literals(decrypt, path, data)
-    spans = Spans((value.line_end, value.end) for value in values)
-    left = [each for each in found if each.start not in spans]
-    return changed(data, [*changes, *_others(decrypt, path, left)])
+def converted(found: Document, path: str, decrypt: Decrypt) -> bytes:
+    """The file's data with plaintext in place of its envelopes, as far as they can be decrypted and shown."""
 
-
-def _literals(decrypt: Decrypt, path: str, data: bytes) -> tuple[list[Change], list[Value]]:
-    """The changes that show YAML values as literals, and those values; both empty if the data is not YAML."""
-    if data.startswith(MAGIC) or TAG_NAME not in data:
-        return [], []
-    try:
-        showing = inline.showing(data, decrypt, with_notes=False)
-    except NoPyYaml as fault:
-        write_error(f"{NAME}: {program.shown(path)}: {fault}")
-        return [], []
-    except Refused:
-        return [], []
-    for value, why in showing.still_encrypted:
-        if value.style == LITERAL:
-            write_error(f"{NAME}: {program.shown(path)}:{value.line + 1}: shown as it is: {why}")
-    return showing.changes, [value for value in showing.found.values if value.style == LITERAL]
-
-
-def _others(decrypt: Decrypt, path: str, found: list[Envelope]) -> list[Change]:
-    """The changes that replace each other envelope with its plaintext, as far as it can be decrypted."""
-
-    def shown(envelope: Envelope) -> Change | Refused:
+    def shown(value: Value) -> list[Change] | Refused:
         try:
-            _, plaintext = layers.decrypted(decrypt, envelope.readable())
+            return plaintexts.shown(found.data, value, layers.decrypted(decrypt, value.readable())[1])
         except Refused as fault:
             return fault
-        return Change(envelope.start, envelope.end, envelope.in_place(plaintext))
 
-    changes = []
-    for result, envelope in zip(parallel.results(shown, found), found):
-        if isinstance(result, Change):
-            changes.append(result)
+    values = [*opening.envelopes(found).values()]
+    changes: list[Change] = []
+    for result, value in zip(parallel.results(shown, values), values):
+        if isinstance(result, Refused):
+            write_error(f"{NAME}: {value.place(path)}: shown as it is: {result}")
         else:
-            write_error(f"{NAME}: {envelope.place(path)}: shown as it is: {result}")
-    return changes
+            changes += result
+    return changed(found.data, changes)

@@ -2,13 +2,11 @@
 
 from __future__ import annotations
 
-from ansible_vault_companions.files.envelopes import MAGIC
+from ansible_vault_companions.envelopes import document, keypath
+from ansible_vault_companions.envelopes.value import NO_SCALAR
 from ansible_vault_companions.program import Refused, shown
 from ansible_vault_companions.tool import layers
 from ansible_vault_companions.tool.tool import Decrypt
-from ansible_vault_companions.yaml import blocks
-from ansible_vault_companions.yaml.nodes import ALIAS, LIST, MAPPING
-from ansible_vault_companions.yaml.typed_paths import no_value, node_at, value_at
 
 NO_TEXT = "{} is a list, a mapping or an alias; name a value in it"
 NOT_ENCRYPTED = "{} is not encrypted"
@@ -16,16 +14,16 @@ NOT_ENCRYPTED = "{} is not encrypted"
 
 def value_of(data: bytes, path: str, decrypt: Decrypt) -> bytes:
     """The plaintext of a value in YAML, or in the plaintext of a vault."""
-    is_vault = data.startswith(MAGIC)
+    is_vault = document.Document(data).is_vault
     text = layers.decrypted(decrypt, data)[1] if is_vault else data
-    value = value_at(text, path)
-    if value and value.is_encrypted:
-        return decrypt(blocks.block_of(text, value).envelope)[1]
-    node = node_at(text, path)
-    if not node:
-        raise no_value(text, path)
+    found = document.read(text, every=True)
+    if found.fault:
+        raise Refused(found.fault)
+    value = keypath.value_at(found, path)
+    if value.is_envelope:
+        return decrypt(value.readable())[1]
     if not is_vault:
         raise Refused(NOT_ENCRYPTED.format(shown(path)))
-    if node.style in (LIST, MAPPING, ALIAS):
+    if value.style == NO_SCALAR:
         raise Refused(NO_TEXT.format(shown(path)))
-    return node.text.encode(errors="surrogatepass")
+    return value.text
