@@ -149,7 +149,7 @@ _ansible_vault_with_options() {
     create | edit) _ansible_vault_companion_options ansible-vault-edit ;;
     "") _ansible_vault_companion_options ansible-vault-with ;;
     encrypt_string) echo "$(_ansible_vault_options "$1") $_ansible_vault_asking --prompt -p --show-input" ;;
-    rekey) echo "$(_ansible_vault_options "$1") $_ansible_vault_asking --encrypt-vault-id" ;;
+    rekey) echo "$(_ansible_vault_options "$1") $_ansible_vault_asking --encrypt-vault-id --any-label" ;;
     *) echo "$(_ansible_vault_options "$1") $_ansible_vault_asking" ;;
     esac
 }

@@ -77,7 +77,7 @@ complete -c ansible-vault-with -n "$none" -a create -d 'Edit a new vault'
 complete -c ansible-vault-with -n "$none" -a edit -d 'Edit a vault'
 complete -c ansible-vault-with -n "$given create edit rekey" -l encrypt-vault-id -x \
     -d 'The label of the secret to encrypt with'
-complete -c ansible-vault-with -n "$given create edit" -l any-label \
+complete -c ansible-vault-with -n "$given create edit rekey" -l any-label \
     -d 'Encrypt again what a secret with another label decrypts'
 complete -c ansible-vault-with -n "$given create edit" -l value -x -d 'Set this YAML value from standard input'
 complete -c ansible-vault-with -n "$given create edit" -l resume -d 'Begin with what the last edit kept'

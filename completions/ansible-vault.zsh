@@ -54,11 +54,12 @@ _ansible_vault_arguments() {
         '*'{-J,--ask-vault-password,--ask-vault-pass}'[ask for a password of the label default]'
     )
     local -a encrypt_id=('--encrypt-vault-id=[the label of the secret to encrypt with]:label: ')
+    local -a any_label=('--any-label[encrypt again what a secret with another label decrypts]')
     # Those that ansible-vault-with takes for rekey and encrypt_string, as Ansible's tool does.
     local -a rekey_id=() typed=()
     if [[ $service == ansible-vault-with ]]; then
         secrets=($all_secrets)
-        rekey_id=($encrypt_id)
+        rekey_id=($encrypt_id $any_label)
         typed=('(-p --prompt)'{-p,--prompt}'[ask for a string]' '--show-input[show the string while you type]')
     fi
     local -a label_match=('--require-id-match[try only the secrets with the label of the encrypted file]')
@@ -82,7 +83,6 @@ _ansible_vault_arguments() {
         '*--new-vault-id=[a new password file, with its label]:[label@]file:_ansible_vault_id'
         '*--new-vault-password-file=[a new password file for the label default]:file:_ansible_vault_files'
     )
-    local -a any_label=('--any-label[encrypt again what a secret with another label decrypts]')
     local -a rotation=(
         $any_label
         '--dry-run[write nothing, and report what would be done]'

@@ -109,7 +109,8 @@ def repeatable(line: str) -> list[str]:
     """Return the options that may be repeated, according to a companion's help."""
     text = companion_help(line) if line in COMPANIONS else ""
     entries = [" ".join(each.split()) for each in re.split(r"^ +(?=-)", text, flags=re.MULTILINE)]
-    return [option for each in entries if "may be repeated" in each for option in re.findall(r"(?:^|, )(--\S+)", each)]
+    repeated = [each for each in entries if "may be repeated" in each]
+    return [option for each in repeated for option in re.findall(r"(?:^|, )(--[\w-]+)", each)]
 
 
 @pytest.mark.parametrize("line", ["ansible-vault", *COMPANIONS, *(start for start in STARTS if " " in start)])

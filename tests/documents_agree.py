@@ -7,7 +7,7 @@ import runpy
 from pathlib import Path
 
 from ansible_vault_companions import OLDEST
-from ansible_vault_companions.alias.table import COMMANDS
+from ansible_vault_companions.alias.command_line import COMMANDS
 from ansible_vault_companions.files import reading
 from ansible_vault_companions.files.replacing import RANDOM
 from ansible_vault_companions.envelopes.contents import PROSE

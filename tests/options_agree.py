@@ -11,13 +11,13 @@ from pathlib import Path
 import pytest
 
 from ansible_vault_companions import program as companion
-from ansible_vault_companions.alias import table
+from ansible_vault_companions.alias.command_line import COMMANDS
 from ansible_vault_companions.files import private_folder, replacing
 from ansible_vault_companions.git import unmerged
 from ansible_vault_companions.plaintext import edits
 from ansible_vault_companions.secrets import settings
 from lib.needs import needs
-from lib.option_sets import OF_ANSIBLE, companion_help, companion_options, companion_page, described_options
+from lib.option_sets import companion_help, companion_options, companion_page, described_options
 from lib.option_sets import help_commands, help_options, help_text, options_in, page_sets, sections, spellings
 from lib.option_table import table_options
 from lib.paths import COMPANIONS, PAGE, ROOT
@@ -119,9 +119,10 @@ def plain(text: str) -> str:
     return " ".join(re.sub(r"[`'\"]|\(\d\)", "", text).replace(";", ".").lower().split()).rstrip(".") + "."
 
 
-# What a help or a shown page lists on a line of its own, with a text; and the headings of a help.
+# What a help or a shown page lists on a line of its own, with a text.
 ENTRY = re.compile(r"^ +(--?\w.*?|[a-z_]+) {2,}(\S.*)$", re.MULTILINE)
-HEADING = re.compile(r"^(?:positional arguments:(?:\n +[A-Z]+\b.*)+|options:|(?:old |new )?secrets:)$", re.MULTILINE)
+# The lines of a screen, and the helps that are longer.
+LINES, LONGER = 34, {SHARED, "ansible-vault-edit", "ansible-vault-hook", "ansible-vault-merge"}
 
 
 def joined(text: str) -> str:
@@ -132,13 +133,7 @@ def joined(text: str) -> str:
 def texts_in(text: str) -> list[tuple[str, str]]:
     """Return what a help or a shown page says of each command and option, by the option's last spelling."""
     entries = ENTRY.findall(joined(text))
-    return [(re.sub("[<>]", "", names.split(", ")[-1]).lower(), plain(said)) for names, said in entries]
-
-
-def statements(text: str) -> set[str]:
-    """Return the sentences, list items and commands of a text whose paragraphs are separated by blank lines."""
-    parts = re.split(r":?(?:\n+ +[-o] +|\n+ +(?=\$ )|\n\n)", re.sub(r"\\\n+ +", "", text))
-    return {each for part in parts for each in re.split(r"(?<=\.) ", plain(part))}
+    return [(re.sub(r" \S+$", "", names.split(", ")[-1]), plain(said)) for names, said in entries]
 
 
 def wide(name: str) -> str:
@@ -150,22 +145,30 @@ def wide(name: str) -> str:
 
 @pytest.mark.parametrize("name", ["ansible-vault", *COMPANIONS])
 def test_words(program: str, name: str) -> None:
-    """What a page says of the program, a command or an option begins with the words of the help. What else the help of
-    a companion says is in its page, or in the one that describes what the companions share, word for word."""
+    """What a page says of the program, a command or an option begins with the words of the help."""
     texts = [companion_help(name)] if name in COMPANIONS else [help_text(program, each) for each in page_sets()]
     about = next(each for each in texts[-1].split("\n\n") if not each.startswith("usage: "))
     said = [("", plain(re.split(r"\.\s", about)[0])), *(each for text in texts for each in texts_in(text))]
+    said = [(what, words) for what, words in said if name != SHARED or what not in COMMANDS]
     page = {"": plain(re.findall(r"\nDESCRIPTION\n(.*)", wide(name))[0])} | dict(texts_in(wide(SHARED) + wide(name)))
     assert len(said) > 5
     assert [(what, words) for what, words in said if not page.get(what, "").startswith(words)] == []
     others = [what for what, words in said if ("be repeated" in words) != ("be repeated" in page[what])]
     assert others == [], "and a page does not add that an option may be repeated"
-    if name in COMPANIONS:
-        rest = HEADING.sub("", ENTRY.sub("", joined(texts[0])).partition("\n\n")[2])
-        sentences = statements(rest) - {f"for more, see man {name}."}
-        assert len(sentences) > 4
-        assert [each for each in sentences if each.startswith("$ ") and name in each], "it has an example"
-        assert sentences - statements((wide(name) + wide(SHARED)).replace("\n", "\n\n")) == set()
+
+
+@pytest.mark.parametrize("name", COMPANIONS)
+def test_helps(name: str) -> None:
+    """A help has an example, says where to read on, and fits a screen; each option and argument has a text."""
+    lines = companion_help(name).splitlines()
+    assert lines[-1] == f"`man {name}` says more. Companions are tested, not proved."
+    parts = companion_help(name).split("\n\n")
+    assert [part for part in parts if "\n  $ " in part and name in part], "it has an example"
+    assert [line for line in lines if len(line) > COLUMNS] == []
+    assert (len(lines) > LINES) == (name in LONGER)
+    lists = joined("\n".join(lines))
+    without = [line for line in lists.splitlines() if re.match(r"  (?:--?\w|[A-Z]+$)", line) and not ENTRY.match(line)]
+    assert [line for line in without if line.strip() != "COMMAND"] == []
 
 
 def test_references() -> None:
@@ -184,21 +187,3 @@ def test_page_as_it_is_shown(page: Path) -> None:
     lines = re.sub(".\b", "", done.stdout).strip().split("\n")
     assert (done.stderr, [line for line in lines if len(line) > COLUMNS]) == ("", []), "it fits into a terminal"
     assert re.split(" {2,}", lines[-1])[::2] == ["ansible-vault"] * 2, "its footer names the program, and no version"
-
-
-# The options of Ansible's tool for each command, in addition to the program's.
-OF_SECRETS = {"--vault-pass-file", "-J", "--ask-vault-password", "--ask-vault-pass", "--verbose"}
-
-
-def test_alias(program: str) -> None:
-    """The table of ansible-vault-with has the options in each command's help, agrees on which take a value, and has the
-    options of Ansible's tool."""
-    commands = help_commands(help_text(program, None))
-    for command in commands:
-        text = help_text(program, command)
-        known = {name: kind for name, (kind, having) in table.OPTIONS.items() if command in having}
-        of_ansible = OF_SECRETS | OF_ANSIBLE.get(command, set())
-        assert known.keys() == help_options(text) - {"-h", "-n"} | of_ansible - {"-p"}, command
-        valued = {name for name in known.keys() & help_options(text) if known[name] != table.FLAG}
-        assert valued == {*re.findall(r"(--[\w-]+) <", text)}, command
-    assert {*table.COMMANDS} == {*commands, "create", "edit"}

@@ -104,7 +104,7 @@ def test_what_only_encrypts(place: Place, what: str, is_mistyped: bool) -> None:
     place.put("a.yml", before)
     place.put("b.yml", before)
     if "rekey" in line:
-        place.environment["ANSIBLE_VAULT_IDENTITY_LIST"] = "old@../secrets/old, prod@prompt"
+        place.environment["ANSIBLE_VAULT_IDENTITY_LIST"] = "../secrets/old, prod@prompt"
     if is_mistyped:
         *others, (question, _) = answers
         end = [("Open the editor again? (yes, no): ", b"no\n")] if "/dev/tty" in line else []

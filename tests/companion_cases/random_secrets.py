@@ -53,9 +53,9 @@ class Named(NamedTuple):
         """Return whether there is a password. The client has only some labels."""
         return self.name not in UNUSABLE and (self.name != "keys-client" or self.label in PASSWORDS)
 
-    def is_elsewhere(self) -> bool:
-        """Return whether the path does not start from the current directory."""
-        return not self.folder.startswith("..")
+    def is_absolute(self) -> bool:
+        """Return whether the path counts beside options."""
+        return self.folder.startswith(("/", "~"))
 
     def text(self) -> str:
         return f"{self.label}@{self.path()}" if self.label else self.path()
@@ -124,8 +124,8 @@ def random_settings(random: Random, secrets: Path) -> Settings:
     count = random.choice([0, 1, 2, 2, 3])
     identities = [random_secret(random, secrets, True, ["", *LABELS]) for _ in range(count)]
     if random.random() < 0.08:
-        # More secrets than the tool takes at once.
-        wrong = [Named(random.choice(LABELS), str(secrets), "wrong") for _ in range(random.randint(15, 20))]
+        # Almost as many secrets as the tool takes.
+        wrong = [Named(random.choice(LABELS), str(secrets), "wrong") for _ in range(random.randint(6, 8))]
         identities = [*wrong, *identities]
     password_files = [random_secret(random, secrets, True, [DEFAULT])] if random.random() < 0.3 else []
     label = random.choice(LABELS) if random.random() < 0.35 else ""
@@ -171,11 +171,11 @@ def what_counts(case: Case) -> Case | None:
         return None
     variables, file = case.variables, case.file
     if case.ids or case.paths:
-        # Nothing in the current directory may name a secret. The path of a password file starts from the file.
-        variables, file = variables.only(Named.is_elsewhere), file.only(Named.is_elsewhere)
-        file = file._replace(password_files=case.file.password_files)
+        # The path of a password file starts from the file, unless it begins with a variable.
+        variables, file = variables.only(Named.is_absolute), file.only(Named.is_absolute)
+        file = file._replace(password_files=[each for each in case.file.password_files if each.folder[0] != "$"])
         if "folder" in case.place:
-            file = NOTHING._replace(match=case.file.match)
+            file = NOTHING
     if case.command[0].startswith("encrypt") and not is_clear(case._replace(variables=variables, file=file)):
         return None
     if ansible_release() < (2, 14):

@@ -50,26 +50,27 @@ def test_variables_and_files(
 
 
 WITHOUT_OPTIONS = "no options"
-# Files and variables that name a script of an untrusted clone, and whether the script runs beside options.
-STRANGE: dict[str, tuple[dict[str, str], dict[str, str], bool]] = {
-    "a list": ({"ansible.cfg": LIST.format("old@./script, ./script")}, {}, False),
-    "a variable with a relative path": ({}, {"ANSIBLE_VAULT_PASSWORD_FILE": "script"}, False),
-    "a list with a relative path": ({}, {"ANSIBLE_VAULT_IDENTITY_LIST": "old@../tree/script"}, False),
-    "a relative path with an @": ({}, {"ANSIBLE_VAULT_IDENTITY_LIST": "old@at@/script"}, False),
-    "$PWD": ({}, {"ANSIBLE_VAULT_IDENTITY_LIST": "$PWD/script, ${PWD}/script"}, False),
-    "$PWD in the user's own file": ({"../.ansible.cfg": FILE.format("$PWD/script")}, {}, False),
-    "${PWD} in the user's own file": ({"../.ansible.cfg": FILE.format("${PWD}/script")}, {}, False),
-    "{{CWD}} in the user's own file": ({"../.ansible.cfg": FILE.format("{{CWD}}/script")}, {}, False),
-    "a folder that is trusted": ({"ansible.cfg": FILE.format("./script")}, {"ANSIBLE_CONFIG": "ansible.cfg"}, True),
-    WITHOUT_OPTIONS: ({"ansible.cfg": LIST.format("../secrets/old, ./script")}, {}, True),
+# Files and variables that name a script of an untrusted clone, and the paths of variables and of the user's own files
+# that are named when they are ignored beside options.
+STRANGE: dict[str, tuple[dict[str, str], dict[str, str], list[str]]] = {
+    "a list": ({"ansible.cfg": LIST.format("old@./script, ./script")}, {}, []),
+    "a variable with a relative path": ({}, {"ANSIBLE_VAULT_PASSWORD_FILE": "script"}, ["script"]),
+    "a list with a relative path": ({}, {"ANSIBLE_VAULT_IDENTITY_LIST": "old@../tree/script"}, ["../tree/script"]),
+    "a relative path with an @": ({}, {"ANSIBLE_VAULT_IDENTITY_LIST": "old@at@/script"}, ["at@/script"]),
+    "$PWD": ({}, {"ANSIBLE_VAULT_IDENTITY_LIST": "$PWD/script, ${PWD}/script"}, ["$PWD/script", "${PWD}/script"]),
+    "$PWD in the user's own file": ({"../.ansible.cfg": FILE.format("$PWD/script")}, {}, ["$PWD/script"]),
+    "{{CWD}} in the user's own file": ({"../.ansible.cfg": FILE.format("{{CWD}}/script")}, {}, ["{{CWD}}/script"]),
+    "a named file": ({"ansible.cfg": FILE.format("./script")}, {"ANSIBLE_CONFIG": "ansible.cfg"}, ["ansible.cfg"]),
+    WITHOUT_OPTIONS: ({"ansible.cfg": LIST.format("../secrets/old, ./script")}, {}, []),
 }
 
 
 @pytest.mark.parametrize("what", STRANGE)
 def test_what_is_not_trusted(place: Place, subtests: SubTests, what: str) -> None:
     """Beside options, no companion runs a script of the current directory or encrypts with a secret that the directory
-    names, unless ANSIBLE_CONFIG names its settings. Without options, each uses the directory's settings."""
-    files, variables, runs = STRANGE[what]
+    names. Without options, each uses the directory's settings."""
+    files, variables, ignored = STRANGE[what]
+    runs = what == WITHOUT_OPTIONS
     # As a shell sets it.
     place.environment["PWD"] = str(place.tree)
     place.environment["EDITOR"] = place.script('echo more >> "$1"', "editor")
@@ -95,34 +96,52 @@ def test_what_is_not_trusted(place: Place, subtests: SubTests, what: str) -> Non
         ran.unlink(missing_ok=True)
         with subtests.test(" ".join(line[:2])):
             done = place.run(*line, **variables)
-            assert (done.returncode, ran.exists()) == (0, runs), done.stderr
+            # The option that names the new secret switches the settings of the directory off, too.
+            is_beside = not runs or line[0] == ROTATE
+            assert (done.returncode, ran.exists()) == (0 if secret or not is_beside else 2, not is_beside), done.stderr
+            lacking = [path for path in ignored if f": {path}: beside options, a path in the" not in done.stderr]
+            assert lacking == []
     if not runs:
         ended("without options", place.run(CHECK, "a.yml", **variables), 1)
         assert ran.exists(), "without options it is run"
 
 
+def test_paths_that_count(place: Place) -> None:
+    """Beside options, the user's own paths count, also with the letters PWD, and so do those beside a named file."""
+    place.put("a.yml", sealed("old"))
+    place.put("../PWD/old", b"the password old\n")
+    place.put("../PWD/ansible.cfg", FILE.format("old").encode())
+    words = [CHECK, *place.by_file("dev"), "a.yml"]
+    for variables in (
+        {"ANSIBLE_VAULT_PASSWORD_FILE": "~/PWD/old"},
+        {"ANSIBLE_VAULT_IDENTITY_LIST": f"{place.path}/PWD/old"},
+        {"ANSIBLE_CONFIG": "~/PWD"},
+    ):
+        done = place.run(*words, **variables)
+        assert (done.returncode, done.stderr) == (0, ""), variables
+
+
 def test_matching_labels(place: Place) -> None:
-    """With vault_id_match, whatever its value, a secret decrypts only envelopes with its label."""
+    """With vault_id_match, whatever its value, a secret decrypts only envelopes with its label. Beside options, it does
+    not count in ./ansible.cfg either."""
     place.put("a.yml", sealed("dev", label="prod"))
     place.put("b.yml", sealed("dev", label="dev"))
     dev, wanted = place.by_id("dev", "dev"), ["a.yml: prod: no secret decrypts", "1 decrypted, 1 not"]
     words = [CHECK, *dev, "."]
     ended("by a variable", place.run(*words, ANSIBLE_VAULT_ID_MATCH="False"), 1, *wanted)
     place.put("ansible.cfg", b"[defaults]\nvault_id_match = True\n")
-    ended("by the file", place.run(*words), 1, *wanted)
+    ended("beside an option", place.run(*words), 0, "2 decrypted")
+    variables = {"ANSIBLE_VAULT_IDENTITY_LIST": dev[1]}
+    ended("by the file", place.run(CHECK, ".", **variables), 1, *wanted)
+    place.put("../.ansible.cfg", place.get("ansible.cfg"))
+    ended("by the user's own file", place.run(*words), 1, *wanted)
     done = place.run(WITH, "rekey", *dev, *place.by_file("new", "new-"), "a.yml")
     ended("rekey", done, 1, "a.yml: no secret decrypts this vault")
-    place.put("../own.cfg", b"[defaults]\n")
-    ended("by another file", place.run(*words, ANSIBLE_CONFIG=str(place.path / "own.cfg")), 0, "2 decrypted")
-    place.put("../.ansible.cfg", place.get("ansible.cfg"))
-    for content in (b"no section\n", b"[defaults]\nvault_id_match =\n", b"[defaults]\nvault_id_match = ''\n"):
-        place.put("ansible.cfg", content)
-        ended("the folder's file only restricts", place.run(*words), 1, *wanted)
 
 
 def test_many_secrets(place: Place) -> None:
-    """More secrets than the tool takes at once are tried one after the other, even on standard input. One that is
-    unavailable is skipped with a warning if there is another one."""
+    """More secrets than the tool takes are refused. One that is unavailable is skipped with a warning if there is
+    another one."""
     place.put("a.yml", sealed("dev", label="dev"))
     place.script("exit 4", "secrets/failing")
     (place.secrets / "empty").touch()
@@ -131,13 +150,14 @@ def test_many_secrets(place: Place) -> None:
         "old@../secrets/failing": "this script ended with status 4",
         "new@../secrets/empty": "the password is empty",
     }
-    wrong = ["../secrets/old"] * 33
-    listed = ", ".join([*ignored, *wrong, "dev@../secrets/dev"])
-    done = place.shell(f"{WITH} view < a.yml", ANSIBLE_VAULT_IDENTITY_LIST=listed)
+    listed = [*ignored, *["../secrets/old"] * 12, "dev@../secrets/dev"]
+    done = place.shell(f"{WITH} view < a.yml", ANSIBLE_VAULT_IDENTITY_LIST=", ".join(listed))
     messages = [f"{WITH}: {given}: {why}; it is ignored" for given, why in ignored.items()]
     assert (done.returncode, done.stdout, done.stderr.splitlines()) == (0, TEXT.decode(), messages)
-    done = ours(place, "view", "a.yml", ANSIBLE_VAULT_IDENTITY_LIST=", ".join(wrong))
-    ended("without the right one", done, 1, "ERROR! no secret decrypts this vault")
+    sixteen = ",".join([place.secret("dev")] * 16)
+    for words in ([WITH, "view"], [CHECK], [TEXTCONV]):
+        done = place.run(*words, *place.by_file("old"), "a.yml", ANSIBLE_VAULT_IDENTITY_LIST=sixteen)
+        ended(words[0], done, 1, "17 secrets are named, and ansible-vault takes at most 16")
 
 
 MALFORMED = {
@@ -188,7 +208,7 @@ def test_missing_secrets_to_encrypt_with(
     place: Place, line: list[str], listed: str, label: str, there: str, encrypts: bool
 ) -> None:
     """If the secret to encrypt with is missing, no other one encrypts in its place. Others may be missing."""
-    before = {"plain.yml": TEXT, "values.yml": b"word: !vault TEXT\n", "a.yml": sealed(there)}
+    before = {"plain.yml": TEXT, "values.yml": b"word: !vault TEXT\n", "a.yml": sealed(there, label=label)}
     for name, content in before.items():
         place.put(name, content)
     variables = {"ANSIBLE_VAULT_IDENTITY_LIST": listed, "ANSIBLE_VAULT_ENCRYPT_IDENTITY": label}

@@ -11,7 +11,7 @@ from lib.processes import run_text
 
 OPTION = re.compile(r"\bFl (-?[\w-]+)")
 # Options of Ansible's tool that ansible-vault-with accepts in addition to the program's own, by command.
-OF_ANSIBLE = {"encrypt_string": {"--prompt", "-p", "--show-input"}, "rekey": {"--encrypt-vault-id"}}
+OF_ANSIBLE = {"encrypt_string": {"--prompt", "-p", "--show-input"}, "rekey": {"--encrypt-vault-id", "--any-label"}}
 
 
 def sections(text: str) -> dict[str, str]:
@@ -77,8 +77,9 @@ def companion_options(name: str) -> list[set[str]]:
 
 def companion_values(name: str) -> dict[str, str]:
     """Return the names of the options' values in a companion's help."""
-    found = re.findall(r"(?<=[ ,])(--[\w-]+) (\S*[A-Z.]+)(?=,|\n|  )", "\n".join(option_lines(name)) + "\n")
-    return dict(found)
+    invocations = [line.strip().partition("  ")[0] for line in option_lines(name)]
+    valued = [(each, found[1]) for each in invocations if (found := re.search(r" (\S*[A-Z.]+)$", each))]
+    return {option: value for each, value in valued for option in re.findall(r"--[\w-]+", each)}
 
 
 def option_lines(name: str) -> list[str]:

@@ -1,7 +1,6 @@
 """Takes the command lines of Ansible's tool.
 
-`table` lists the commands and options. `words` parses a command line, and `run` builds the call of ansible-vault for
-it. `several` handles several files or strings, `asking` asks for passwords, and `command_help` adapts the help of a
-command.
+`command_line` has the commands and options. `run` chooses the secrets and builds the call of ansible-vault, and
+`several` handles several files or strings.
 May import files, secrets, tool.
 """

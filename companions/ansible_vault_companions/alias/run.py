@@ -2,65 +2,81 @@
 
 from __future__ import annotations
 
-from ansible_vault_companions.alias.table import DECRYPTING, ENCRYPT_ID, ENCRYPTING, MATCH, REKEY
-from ansible_vault_companions.alias.words import Words
-from ansible_vault_companions.program import Refused
-from ansible_vault_companions.secrets.settings import Settings
-from ansible_vault_companions.secrets.sources import Secret
+from argparse import Namespace
 
-# The maximum number of secrets that the tool accepts.
-MOST = 16
+from ansible_vault_companions import stopping
+from ansible_vault_companions.alias.command_line import ENCRYPTING, NAME, REKEY, passed_on
+from ansible_vault_companions.program import Refused, shown
+from ansible_vault_companions.secrets import options, prompts, sources
+from ansible_vault_companions.secrets.settings import Settings
+from ansible_vault_companions.secrets.sources import ASKED, NoTerminal, Secret
+
 SEVERAL = "several secrets were given; choose one with --encrypt-vault-id"
+MATCH, ENCRYPT_ID = "--require-id-match", "--encrypt-vault-id"
+NO_NEW = (
+    "no new secret is given: name one with --new-vault-id or --new-vault-password-file, or run this at a terminal and "
+    "type it"
+)
 
 
 class Run:
-    """The words of the command line, and the secrets in the order in which they are tried."""
+    """The command line, and the secrets in the order in which they are tried."""
 
-    def __init__(self, words: Words, found: Settings) -> None:
-        self.words = words
-        self.found = found
-        self.secrets: list[Secret] = []
-        self.new: list[Secret] = []
-        # Whether several secrets are named, even if some of them could not be obtained.
-        self.names_several = False
-        # Whether to try only secrets with the vault's label, whatever the settings say.
-        self.heeds_label = False
+    def __init__(self, args: Namespace, settings: Settings) -> None:
+        self.args = args
         # The label of the secret to encrypt with.
-        self.label = words.value(ENCRYPT_ID) or found.encrypt_label()
+        self.label = args.encrypt_vault_id if getattr(args, "encrypt_vault_id", None) else settings.encrypt_label()
+        self.requires_match = args.command not in ENCRYPTING and settings.requires_match()
+        named = sources.named(args.vault_id, args.vault_password_file, settings)
+        if not named or any(secret.is_active() for secret in named) or args.command == REKEY:
+            stopping.listen()
+        encrypts = args.command in ENCRYPTING
+        any_label = getattr(args, "any_label", False)
+        named = sources.load(NAME, named, settings, options.password, encrypts, any_label) or _typed(encrypts)
+        self.new = self._new(named) if args.command == REKEY else []
+        self.secrets = self._to_encrypt_with(named) if encrypts else [each for each in named if not each.is_left_out]
 
-    def take(self, secrets: list[Secret], new: list[Secret]) -> None:
-        """Sets the secrets. To encrypt, only the secret with the label is kept, since the tool accepts at most MOST. It
-        is chosen among all that are named, and refused if it was left out."""
-        self.secrets, self.new = [secret for secret in secrets if not secret.is_left_out], new
-        if self.words.command not in ENCRYPTING:
-            return
+    def _to_encrypt_with(self, named: list[Secret]) -> list[Secret]:
+        """The secret that encrypts. It is chosen among all that are named, and refused if it was left out."""
         if self.label:
-            self.secrets = [secret for secret in secrets if secret.label == self.label][:1] or self.secrets[:1]
-            self.secrets[0].require()
-        elif len(self.secrets) < len(secrets):
+            [secret] = [secret for secret in named if secret.label == self.label][:1] or named[:1]
+            secret.require()
+            return [secret]
+        if any(secret.is_left_out for secret in named):
             raise Refused(SEVERAL)
+        return named
 
-    def command(self, secrets: list[Secret]) -> list[str]:
-        """The words that give the tool the command and these secrets."""
-        by_path = self.new[len(self.words.new_ids) :] if self.words.new_paths else []
+    def _new(self, old: list[Secret]) -> list[Secret]:
+        """The new secrets of options, else the one of the settings with the label to encrypt with, else a typed one."""
+        new = options.new_secrets(self.args)
+        fitting = [secret for secret in new or old if secret.label == self.label and (new or secret.is_setting)]
+        if self.label and not fitting and (self.args.encrypt_vault_id or not new):
+            raise Refused(f"no new secret has the label that was chosen for encryption, {shown(self.label)}")
+        for secret in fitting[:1]:
+            secret.require()
+            prompts.confirm(secret)
+        return new or fitting[:1] or _typed(encrypts=True, none=NO_NEW)
+
+    def command(self, *without: str) -> list[str]:
+        """The words that give the tool the command, the secrets and the options that are passed on."""
+        by_path = self.new[len(self.args.new_vault_id) :] if self.args.new_vault_password_file else []
         by_id = self.new[: len(self.new) - len(by_path)]
-        is_by_settings = self.label and self.words.command in ENCRYPTING and not self.words.has(ENCRYPT_ID)
+        encrypts = self.args.command in ENCRYPTING
+        needs_match = self.requires_match or self.args.command == REKEY and not self.secrets[0].serves_any_label
         return [
-            self.words.command,
-            *(secret.word() for secret in secrets),
+            self.args.command,
+            *(secret.word() for secret in self.secrets),
             *(secret.option("--new-vault-id") for secret in by_id),
             *(f"--new-vault-password-file={secret.path}" for secret in by_path),
-            *([f"{ENCRYPT_ID}={self.label}"] if is_by_settings else []),
-            *self.matching(),
+            *([f"{ENCRYPT_ID}={self.label}"] if encrypts and self.label else []),
+            *([MATCH] if needs_match and not self.args.require_id_match else []),
+            *passed_on(self.args, (ENCRYPT_ID, "--any-label", *without)),
         ]
 
-    def matching(self) -> list[str]:
-        """The option to try only secrets with the vault's label, if it is needed and not yet given."""
-        is_needed = self.heeds_label or self.words.command in (*DECRYPTING, REKEY) and self.found.requires_match()
-        return [MATCH] if is_needed and not self.words.has(MATCH) else []
 
-    def groups(self) -> list[list[Secret]]:
-        """The secrets in groups that are small enough for one run of the tool."""
-        if self.words.command in ENCRYPTING:
-            return [self.secrets[:MOST]]
-        return [self.secrets[start : start + MOST] for start in range(0, len(self.secrets), MOST)]
+def _typed(encrypts: bool, none: str = options.NONE) -> list[Secret]:
+    """Asks for a password where nothing names a secret. Raises Refused with the text `none` if there is no terminal."""
+    [secret] = options.of_options([ASKED], [], encrypts)
+    if isinstance(secret.fault, NoTerminal):
+        raise Refused(none)
+    return [secret]

@@ -111,7 +111,7 @@ class Copies:
         return [f"To correct it, and to put it into {self.path}:", *steps]
 
     def options(self) -> list[str]:
-        return options.words(self.args.vault_id, self.args.vault_password_file)
+        return options.words(self.args)
 
     def keep_others(self, text: bytes | None, last_save: bytes | None) -> str:
         """Copies other files that the editor left, such as a swap file, which may contain unsaved text. Also copies the

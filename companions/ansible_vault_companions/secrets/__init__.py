@@ -2,6 +2,6 @@
 
 `sources` lists the secrets that are named, and reads password files. `options` adds the options to a command line, and
 gets passwords from any source, including `scripts` and `prompts`. `settings` finds the settings in the environment and
-in ansible.cfg, which `configuration` reads. `labels` says which secret may decrypt which envelope.
+in ansible.cfg. `labels` says which secret may open an envelope, and which may encrypt its text again.
 May import files.
 """

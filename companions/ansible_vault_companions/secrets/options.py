@@ -3,81 +3,61 @@
 from __future__ import annotations
 
 import argparse
-from typing import Callable
+from _collections_abc import Callable
 
 from ansible_vault_companions.program import write_error
-from ansible_vault_companions.secrets import configuration, labels, prompts, scripts, sources
+from ansible_vault_companions.secrets import labels, prompts, sources
 from ansible_vault_companions.secrets.settings import Settings
 from ansible_vault_companions.secrets.sources import ASKED, ASKING, READ_AT_MOST, Secret
 
-SOURCES = """\
-A SOURCE is a file that contains the password. If the file is executable, it
-is run, and its standard output is the password. If its name without the
-suffix ends in `-client`, it gets the arguments --vault-id LABEL. If the
-SOURCE is `prompt`, you are asked for the password at the terminal.
-You can give secrets as options and in Ansible's settings (environment
-variables and ansible.cfg). Once you give a secret
-with --vault-id, --vault-password-file or -J, secrets from the current
-directory are ignored: only vault_id_match is read from ./ansible.cfg, and
-relative paths in your other settings are skipped. If ANSIBLE_CONFIG is itself
-a relative path, as in ANSIBLE_CONFIG=ansible.cfg, nothing is ignored."""
 NONE = (
     "no secret is given: name one with --vault-id or --vault-password-file, in ANSIBLE_VAULT_PASSWORD_FILE or "
     "in ansible.cfg, or type one with --ask-vault-password"
 )
 
 
-def add_options(parser: argparse.ArgumentParser, prefix: str = "", which: str = "") -> None:
-    """Adds the options that name secrets. Settings do not apply to options with a prefix."""
-    if not prefix:
+def add_options(parser: argparse.ArgumentParser, new: str = "", before: str = "") -> None:
+    """Adds the options that name secrets: old ones, to which settings belong, or with `new-` new ones. `before` begins
+    the names of the attributes that get the values."""
+    if not new:
         parser.set_defaults(new_vault_id=[], new_vault_password_file=[], any_label=False)
-    group = parser.add_argument_group(which or "secrets", None if prefix else SOURCES)
-    what = "the source of a new secret" if prefix else "the source of a secret"
-    group.add_argument(
-        f"--{prefix}vault-id",
+    ids, paths = (before + name for name in (f"{new}vault-id", f"{new}vault-password-file"))
+    parser.add_argument(
+        f"--{new}vault-id",
+        dest=ids.replace("-", "_"),
         action="append",
         default=[],
         metavar="[LABEL@]SOURCE",
-        help=f"{what}, with its label (default: `default`); may be repeated{' with other labels' * bool(prefix)}",
+        help=f"a {'new ' * bool(new)}file, script or `prompt`; may be repeated",
     )
-    group.add_argument(
-        f"--{prefix}vault-password-file",
-        *([] if prefix else ["--vault-pass-file"]),
+    parser.add_argument(
+        f"--{new}vault-password-file",
+        *([] if new else ["--vault-pass-file"]),
+        dest=paths.replace("-", "_"),
         action="append",
         default=[],
         metavar="SOURCE",
-        help=f"{what} with the label `default`{'' if prefix else '; may be repeated'}",
+        help=f"the same, labelled `default`{'' if new else '; may be repeated'}",
     )
-    if not prefix:
-        group.add_argument(
-            *ASKING,
-            action="append_const",
-            dest="vault_id",
-            default=[],
-            const=ASKED,
-            help="ask at the terminal for the password of the label `default`",
-        )
+    if not new:
+        asks = "ask for the password of the label `default`"
+        parser.add_argument(*ASKING, dest=ids.replace("-", "_"), action="append_const", const=ASKED, help=asks)
 
 
 def add_any_label(parser: argparse.ArgumentParser) -> None:
     parser.add_argument(
-        labels.ANY_LABEL, action="store_true", help="a secret may encrypt again what it decrypts under another label"
+        labels.ANY_LABEL, action="store_true", help="a secret may encrypt what it decrypts under another label"
     )
 
 
 def from_options(parser: argparse.ArgumentParser, args: argparse.Namespace, encrypts: bool = False) -> list[Secret]:
     """The secrets from a command line and from the settings, in Ansible's order. To encrypt, the user has to type each
     password twice."""
-    settings = _settings(args, lambda text: write_error(f"{parser.prog}: {text}"))
+    settings = settings_beside(args, lambda text: write_error(f"{parser.prog}: {text}"))
     named = sources.named(args.vault_id, args.vault_password_file, settings)
-    secrets = sources.load(parser.prog, named, encrypts, password)
-    if not secrets:
+    if not named:
         parser.error(NONE)
-    is_one = all(secret.is_same(secrets[0]) for secret in secrets)
-    for secret in secrets:
-        secret.requires_match = settings.requires_match()
-        secret.serves_any_label = args.any_label or is_one
-    return secrets
+    return sources.load(parser.prog, named, settings, password, encrypts, args.any_label)
 
 
 def new_secrets(args: argparse.Namespace) -> list[Secret]:
@@ -90,6 +70,9 @@ def password(secret: Secret, encrypts: bool) -> bytes:
     if secret.is_prompt:
         return prompts.password(secret.place, secret.label, encrypts)
     if secret.is_script():
+        # Imported here, since most runs of ansible-vault-with start no program.
+        from ansible_vault_companions.secrets import scripts
+
         return scripts.password(secret.place, secret.given_label)[:READ_AT_MOST]
     return sources.password_of_file(secret, encrypts)
 
@@ -100,17 +83,18 @@ def of_options(ids: list[str], paths: list[str], encrypts: bool = False) -> list
     return secrets
 
 
-def words(ids: list[str], paths: list[str]) -> list[str]:
-    """The words of a command line that name these secrets."""
-    by_path = (word for path in paths for word in ("--vault-password-file", path))
-    return [*(word for each in ids for word in ("--vault-id", each)), *by_path]
+def words(args: argparse.Namespace) -> list[str]:
+    """The words of a command line that name the same secrets."""
+    by_id = ("-J" if text == ASKED else f"--vault-id={text}" for text in args.vault_id)
+    return [*by_id, *(f"--vault-password-file={path}" for path in args.vault_password_file)]
 
 
 def encrypt_label(args: argparse.Namespace) -> str | None:
     """The label of the secret to encrypt with, from the settings that apply along with these options."""
-    return _settings(args).encrypt_label()
+    return settings_beside(args).encrypt_label()
 
 
-def _settings(args: argparse.Namespace, warn: Callable[[str], None] = lambda _: None) -> Settings:
+def settings_beside(args: argparse.Namespace, warn: Callable[[str], None] = lambda _: None) -> Settings:
+    """The settings that apply along with these options."""
     named = (args.vault_id, args.vault_password_file, args.new_vault_id, args.new_vault_password_file)
-    return Settings(any(named), configuration.section, warn)
+    return Settings(any(named), warn)

@@ -4,9 +4,9 @@ from __future__ import annotations
 
 import os
 import termios
+from _collections_abc import Iterator
 from contextlib import contextmanager
 from io import FileIO
-from typing import Iterator
 
 from ansible_vault_companions import stopping
 from ansible_vault_companions.program import Refused, shown

@@ -1,4 +1,9 @@
-"""Ansible's settings that name secrets: environment variables and `ansible.cfg`."""
+"""Ansible's settings that name secrets: environment variables and `ansible.cfg`.
+
+The current directory may be a stranger's, and a password file may be a script. So beside an option that names a
+password, a path in the settings counts only if it does not start from the current directory. ./ansible.cfg is such a
+path.
+"""
 
 from __future__ import annotations
 
@@ -6,9 +11,13 @@ import os
 import stat
 from _collections_abc import Callable
 
-from ansible_vault_companions.program import Refused, shown
+from ansible_vault_companions.program import Refused, reason, shown
 
 NAME = "ansible.cfg"
+SECTION = "defaults"
+SUFFIXES = (".cfg", ".ini")
+# Bytes read at most: the file may be a stranger's, and of any length.
+LONGEST = 1 << 20
 HOME = "~/.ansible.cfg"
 SYSTEM = "/etc/ansible/ansible.cfg"
 # In a path of the settings, this means the current directory.
@@ -23,6 +32,7 @@ ID_MATCH = "ANSIBLE_VAULT_ID_MATCH", "vault_id_match"
 PROMPT, ASK = "prompt", "prompt_ask_vault_pass"
 # Values that Ansible reads as true.
 TRUE = ("1", "on", "t", "true", "y", "yes")
+RELATIVE = "beside options, a path in the settings counts only if it begins with / or ~; it is ignored"
 
 
 def expanded(path: str, folder: str = "") -> str:
@@ -30,36 +40,25 @@ def expanded(path: str, folder: str = "") -> str:
     return os.path.join(folder, os.path.expanduser(os.path.expandvars(path)))
 
 
-# Reads the keys and values in the section of a file.
-Section = Callable[[str], dict[str, str]]
-
-
 class Settings:
-    """The values of the settings. An environment variable overrides the file, even if it is empty.
+    """The values of the settings. An environment variable overrides the file, even if it is empty."""
 
-    The current directory may be a stranger's. So if options name secrets, its ansible.cfg is ignored, and so are paths
-    in the settings that lead into it. The exception: ANSIBLE_CONFIG names a file by a relative path. The key that only
-    restricts, vault_id_match, counts nevertheless."""
-
-    def __init__(self, beside_options: bool, section: Section, warn: Callable[[str], None] = lambda _: None) -> None:
-        named = _named_configuration()
-        self.trusts_folder = not beside_options or (named is not None and not os.path.isabs(named))
-        self.path = named or _configuration(self.trusts_folder, warn)
-        self.found = section(self.path) if self.path else {}
-        if not (self.trusts_folder or named) and _is_readable(NAME):
-            self.found |= _restriction(section)
+    def __init__(self, beside_options: bool, warn: Callable[[str], None] = lambda _: None) -> None:
+        self.beside_options = beside_options
+        self.warn = warn
+        self.path = self._configuration()
+        self.keys = _section(self.path) if self.path else {}
 
     def identities(self) -> list[str]:
         """The sources, as [LABEL@]SOURCE. As with Ansible, relative paths start from the current directory."""
         items = [_unquoted(item.strip()) for item in self._value(IDENTITIES).split(",")]
-        return [item for item in items if item and self._is_trusted(item.partition("@")[2] or item)]
+        return [item for item in items if item and self._counts(item.partition("@")[2] or item)]
 
     def password_file(self) -> str:
-        """The path of the password file; empty if there is none."""
+        """The path of the password file; empty if there is none. In a file, it is relative to the file's directory."""
         path = self._value(PASSWORD_FILE)
         folder = "" if PASSWORD_FILE[0] in os.environ or not self.path else os.path.dirname(self.path)
-        leads_here = CURRENT in path or "PWD" in path
-        if not path or not (folder or self._is_trusted(path)) or (leads_here and not self.trusts_folder):
+        if not path or not self._counts(path, folder):
             return ""
         return expanded(path.replace(CURRENT, os.getcwd()) if CURRENT in path else path, folder)
 
@@ -75,46 +74,66 @@ class Settings:
         """Whether a secret may decrypt only its own label. As with Ansible, any value means yes, even `false`."""
         return bool(_unquoted(self._value(ID_MATCH)))
 
-    def _is_trusted(self, place: str) -> bool:
-        # $PWD also leads to the current directory.
-        return self.trusts_folder or "PWD" not in place and (os.path.isabs(expanded(place)) or place in (PROMPT, ASK))
-
     def _value(self, setting: tuple[str, str]) -> str:
         variable, key = setting
-        return os.environ.get(variable, self.found.get(key, ""))
+        return os.environ.get(variable, self.keys.get(key, ""))
+
+    def _counts(self, place: str, folder: str = "") -> bool:
+        """Whether a path counts that starts from a directory, if it is relative. A variable may be the current one."""
+        start = place if place.startswith(("$", CURRENT)) else os.path.join(folder, os.path.expanduser(place))
+        counts = not self.beside_options or place in (PROMPT, ASK) or os.path.isabs(start)
+        if not counts:
+            self.warn(f"{shown(place)}: {RELATIVE}")
+        return counts
+
+    def _configuration(self) -> str | None:
+        """The file that ANSIBLE_CONFIG names, else the first readable one, in Ansible's order of places."""
+        named = os.environ.get("ANSIBLE_CONFIG", "")
+        path = os.path.join(expanded(named), NAME) if os.path.isdir(expanded(named)) else expanded(named)
+        if _is_readable(path) and self._counts(named):
+            return path
+        places = [os.path.expanduser(HOME), SYSTEM]
+        if self.beside_options:
+            pass
+        elif not _is_world_writable("."):
+            places.insert(0, NAME)
+        elif os.path.exists(NAME):
+            self.warn(f"{shown(os.path.abspath(NAME))} is ignored, since its directory is world-writable")
+        return next((place for place in places if _is_readable(place)), None)
 
 
-def _restriction(section: Section) -> dict[str, str]:
-    """The key of the current directory's ansible.cfg that restricts, unless it is empty or cannot be read."""
+def _section(path: str) -> dict[str, str]:
+    """The keys and values of a file's section, empty if there is none. Raises Refused if the file cannot be read."""
+    # Imported here, since most runs of ansible-vault-with need no file.
+    import configparser
+
+    parser = configparser.RawConfigParser(inline_comment_prefixes=(";",))
     try:
-        return {key: value for key, value in section(NAME).items() if key == ID_MATCH[1] and _unquoted(value)}
-    except Refused:
-        return {}
+        parser.read_string(_text(path))
+    except UnicodeDecodeError:
+        raise Refused(f"{shown(path)}: it is not UTF-8") from None
+    except (Refused, OSError, configparser.Error) as fault:
+        raise Refused(f"{shown(path)}: {' '.join(reason(fault).split())}") from None
+    return dict(parser[SECTION]) if SECTION in parser else {}
+
+
+def _text(path: str) -> str:
+    if not path.endswith(SUFFIXES):
+        raise Refused("its name does not end in .cfg or .ini")
+    if not os.path.isfile(path):
+        raise Refused("it is not a regular file")
+    with open(path, "rb") as file:
+        content = file.read(LONGEST + 1)
+    if len(content) > LONGEST:
+        raise Refused(f"it has more than {LONGEST:,} bytes")
+    if b"\0" in content:
+        raise Refused("it has a NUL byte")
+    return content.decode()
 
 
 def _unquoted(text: str) -> str:
     is_quoted = len(text) > 1 and text[0] == text[-1] and text[0] in "\"'" and text[-2] != "\\"
     return text[1:-1] if is_quoted else text
-
-
-def _named_configuration() -> str | None:
-    """The file that ANSIBLE_CONFIG names, if it is readable."""
-    named = expanded(os.environ.get("ANSIBLE_CONFIG", ""))
-    if os.path.isdir(named):
-        named = os.path.join(named, NAME)
-    return named if _is_readable(named) else None
-
-
-def _configuration(trusts_folder: bool, warn: Callable[[str], None]) -> str | None:
-    """The first readable file, in Ansible's order of places."""
-    places = [os.path.expanduser(HOME), SYSTEM]
-    if not trusts_folder:
-        pass
-    elif not _is_world_writable("."):
-        places.insert(0, NAME)
-    elif os.path.exists(NAME):
-        warn(f"{shown(os.path.abspath(NAME))} is ignored, since its directory is world-writable")
-    return next((place for place in places if _is_readable(place)), None)
 
 
 def _is_readable(path: str) -> bool:

@@ -8,14 +8,15 @@ from _collections_abc import Callable, Iterable, Iterator
 
 from ansible_vault_companions import stopping
 from ansible_vault_companions.program import Refused, shown, write_error
-from ansible_vault_companions.secrets import settings
-from ansible_vault_companions.secrets.settings import ASK, PROMPT, Settings
+from ansible_vault_companions.secrets.settings import ASK, PROMPT, Settings, expanded
 
 # The maximum length of a password file, in bytes.
 LIMIT = 4096
 # One more, so that the tool sees that a file is too long, and refuses it.
 READ_AT_MOST = LIMIT + 1
 DEFAULT = "default"
+# The most secrets that the tool takes.
+MOST = 16
 BY_PATH = "--vault-password-file"
 # The options that ask for a password without a label, and the word for them in place of [LABEL@]FILE.
 ASKING = ("-J", "--ask-vault-password", "--ask-vault-pass")
@@ -110,29 +111,37 @@ class Secret:
 Password = Callable[[Secret, bool], bytes]
 
 
-def named(ids: list[str], paths: list[str], found: Settings) -> list[Secret]:
+def named(ids: list[str], paths: list[str], settings: Settings) -> list[Secret]:
     """All secrets that are named, in Ansible's order, without their passwords."""
-    password_file = found.password_file()
-    asked = [ASKED] if ASKED in ids or found.asks() else []
-    return [
-        *_by_setting(map(of_id, found.identities())),
-        *(of_id(each) for each in ids if each != ASKED),
+    password_file = settings.password_file()
+    asked = [ASKED] if ASKED in ids or settings.asks() else []
+    secrets = [
+        *_by_setting(map(of_id, settings.identities())),
+        *(of_id(text) for text in ids if text != ASKED),
         *map(of_path, paths),
         *_by_setting([of_path(password_file)] if password_file else []),
         *map(of_id, asked),
     ]
+    if len(secrets) > MOST:
+        raise Refused(f"{len(secrets)} secrets are named, and ansible-vault takes at most {MOST}")
+    return secrets
 
 
-def load(companion: str, found: list[Secret], encrypts: bool, password: Password) -> list[Secret]:
+def load(
+    companion: str, secrets: list[Secret], settings: Settings, password: Password, encrypts: bool, any_label: bool
+) -> list[Secret]:
     """The same secrets, with their passwords. Leaves out those from the settings that cannot be obtained, if any other
     is left. They stay in the list, since the secret to encrypt with is chosen among all that are named."""
-    obtain(found, encrypts, password)
-    left_out = [secret for secret in found if _may_be_left_out(secret)]
-    if len(left_out) < len(found):
+    obtain(secrets, encrypts, password)
+    left_out = [secret for secret in secrets if _may_be_left_out(secret)]
+    if len(left_out) < len(secrets):
         for secret in left_out:
             secret.is_left_out = True
             write_error(f"{companion}: {shown(secret.given)}: {secret.why_missing()}; it is ignored")
-    return found
+    for secret in secrets:
+        secret.requires_match = settings.requires_match()
+        secret.serves_any_label = any_label or all(secret.is_same(other) for other in secrets)
+    return secrets
 
 
 def _may_be_left_out(secret: Secret) -> bool:
@@ -154,11 +163,11 @@ def of_id(text: str) -> Secret:
         label, place = "", text
     if place in (PROMPT, ASK):
         return Secret(label, place, ASKING[1] if text == ASKED else text, is_prompt=True)
-    return Secret(label, settings.expanded(place), text)
+    return Secret(label, expanded(place), text)
 
 
 def of_path(path: str) -> Secret:
-    return Secret(DEFAULT, settings.expanded(path), path, is_path=True)
+    return Secret(DEFAULT, expanded(path), path, is_path=True)
 
 
 def obtain(secrets: list[Secret], encrypts: bool, password: Password) -> None:

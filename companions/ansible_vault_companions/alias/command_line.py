@@ -1,0 +1,138 @@
+"""The command line of ansible-vault-with: that of ansible-vault, and more from Ansible's tool."""
+
+from __future__ import annotations
+
+import argparse
+from _collections_abc import Iterable
+from argparse import Namespace
+
+from ansible_vault_companions import command_lines
+from ansible_vault_companions.secrets import options
+from ansible_vault_companions.secrets.labels import ANY_LABEL
+
+# The module `typing` takes long to import.
+TYPE_CHECKING = False
+if TYPE_CHECKING:
+    from typing import Any
+
+NAME = "ansible-vault-with"
+VIEW, DECRYPT, ENCRYPT, ENCRYPT_STRING, REKEY = "view", "decrypt", "encrypt", "encrypt_string", "rekey"
+CREATE, EDIT = "create", "edit"
+COMMANDS = {
+    ENCRYPT: "encrypt files in place",
+    DECRYPT: "decrypt vaults in place",
+    VIEW: "print the plaintext of vaults",
+    REKEY: "re-encrypt vaults with a new secret, in place",
+    ENCRYPT_STRING: "encrypt texts as YAML blocks",
+    CREATE: "edit a new vault",
+    EDIT: "edit vaults",
+}
+# The commands by their use of secrets.
+ENCRYPTING, EDITING = (ENCRYPT, ENCRYPT_STRING), (CREATE, EDIT)
+WRITING, SEALING = (DECRYPT, *ENCRYPTING, REKEY), (*ENCRYPTING, REKEY)
+STANDARD_INPUT = "-"
+SUMMARY = f"""\
+Runs a command of ansible-vault with the secrets that Ansible would use. Unlike
+ansible-vault, it reads ansible.cfg, runs password scripts, asks for passwords,
+and changes files in place. Options for secrets may also follow COMMAND. --help
+after COMMAND prints the help for that command. If you give no secret, you are
+asked for a password at the terminal."""
+EXAMPLE = f"""\
+Decrypt two files in place, with a password that is typed:
+  $ {NAME} --vault-id prod@prompt decrypt a.yml b.yml
+
+Keep using the commands of Ansible's own tool:
+  $ alias ansible-vault={NAME}
+  $ ansible-vault view --ask-vault-pass -v group_vars/all/vault.yml"""
+FLAG: dict[str, Any] = {"action": "store_true"}
+# The options that are passed on as they are given, with the commands that have them, and their settings.
+PASSED_ON: dict[str, tuple[tuple[str, ...], dict[str, Any]]] = {
+    "--encrypt-vault-id": (
+        (*SEALING, *EDITING),
+        {"metavar": "LABEL", "help": "the label of the secret to encrypt with, among those that are given"},
+    ),
+    "--require-id-match": ((VIEW, DECRYPT, REKEY), {**FLAG, "help": "try only secrets with the label of the vault"}),
+    ANY_LABEL: ((REKEY, *EDITING), {**FLAG, "help": "a secret may encrypt what it decrypts under another label"}),
+    "--output": (WRITING, {"metavar": "PATH", "help": "the file to write, or - for standard output (default: FILE)"}),
+    "--salt": (SEALING, {"metavar": "TEXT", "help": "the salt itself, used once"}),
+    "--salt-file": (SEALING, {"metavar": "PATH", "help": "the file whose first 32 bytes are the salt"}),
+    "--stdin-name": ((ENCRYPT_STRING,), {"metavar": "NAME", "help": "read standard input, a text with this name"}),
+    "--value": ((*EDITING,), {"metavar": "KEY.PATH", "help": "set this value of YAML to the bytes of standard input"}),
+    "--resume": ((*EDITING,), {**FLAG, "help": "start from the text that the last edit of FILE saved in a copy"}),
+}
+
+
+def parsed(words: list[str]) -> Namespace:
+    """The command line. `rest` has the words that are passed on, except those for secrets and for arguments."""
+    parser = command_lines.parser(NAME, SUMMARY, EXAMPLE, allow_abbrev=True)
+    options.add_options(parser, before="before_")
+    parser.add_argument("-v", "--verbose", action="count", help=argparse.SUPPRESS)
+    commands = parser.add_subparsers(dest="command", metavar="COMMAND", title="commands")
+    for name, text in COMMANDS.items():
+        command = commands.add_parser(
+            name, help=text, description=text, formatter_class=command_lines.Formatter, add_help=False
+        )
+        # Only the options of the command that is given are needed.
+        if name in words:
+            _add_options(command, name)
+    args = parser.parse_args(words)
+    if not args.command:
+        parser.error(f"no command is given; {NAME} --help lists the commands")
+    args.vault_id = [*args.before_vault_id, *args.vault_id]
+    args.vault_password_file = [*args.before_vault_password_file, *args.vault_password_file]
+    _refuse(parser, args)
+    return args
+
+
+def _add_options(parser: argparse.ArgumentParser, command: str) -> None:
+    command_lines.add_common(parser, NAME)
+    options.add_options(parser)
+    parser.add_argument("-v", "--verbose", action="count", help=argparse.SUPPRESS)
+    for option, (commands, settings) in PASSED_ON.items():
+        if command in commands:
+            parser.add_argument(option, **settings)
+    if command == REKEY:
+        options.add_options(parser, "new-")
+    if command == CREATE:
+        parser.add_argument("--skip-tty-check", help="ignored", **FLAG)
+    if command == ENCRYPT_STRING:
+        parser.add_argument(
+            "-n", "--name", action="append", default=[], help="the name of a STRING; the first one is for the first STRING"
+        )
+        parser.add_argument("-p", "--prompt", action="store_true", help="ask for one more text, and for its name")
+        parser.add_argument("--show-input", action="store_true", help="show that text while it is typed")
+    what = "STRING" if command == ENCRYPT_STRING else "FILE"
+    text = "the texts, or - for standard input" if command == ENCRYPT_STRING else "the files, or - for standard input"
+    parser.add_argument("arguments", metavar=what, nargs="+" if command in EDITING else "*", help=text)
+
+
+def _refuse(parser: argparse.ArgumentParser, args: Namespace) -> None:
+    if args.command == CREATE and len(args.arguments) > 1:
+        parser.error("create takes one FILE")
+    count = len(args.arguments)
+    if args.command == ENCRYPT_STRING:
+        count += args.prompt + (STANDARD_INPUT not in args.arguments and args.stdin_name is not None)
+        if args.name and count > 0 and len(args.name) > count:
+            parser.error(f"there are more names than strings: {', '.join(args.name)}")
+    if count > 1 and args.command in SEALING and (args.salt is not None or args.salt_file is not None):
+        parser.error("--salt and --salt-file are for a single FILE or STRING: two would share a key stream")
+
+
+def passed_on(args: Namespace, without: Iterable[str] = ()) -> list[str]:
+    """The words of the options that are passed on."""
+    words = []
+    for option in PASSED_ON:
+        value = getattr(args, option[2:].replace("-", "_"), None)
+        if option in without or value in (None, False):
+            continue
+        words.append(option if value is True else f"{option}={value}")
+    return words
+
+
+def are_several(args: Namespace) -> bool:
+    """Whether they need more than one run of the tool, or one that replaces a file or encrypts a typed string."""
+    is_more = len(args.arguments) > 1
+    if args.command == ENCRYPT_STRING:
+        return args.prompt or is_more or bool(args.arguments and args.stdin_name is not None)
+    has_files = bool(args.arguments) and STANDARD_INPUT not in args.arguments
+    return has_files and (is_more if args.command == VIEW else args.output is None)
