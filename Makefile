@@ -44,7 +44,8 @@ INSTALLED := bin/ansible-vault:$(PROGRAM) $(foreach page,$(MANUALS),$(page:man/%
 	$(FISH_FOLDER)/ansible-vault.fish:completions/ansible-vault.fish \
 	$(ZSH_FOLDER)/_ansible-vault:completions/ansible-vault.zsh \
 	$(foreach page,README.md CHANGELOG.md CONTRIBUTING.md LICENSE debian/copyright tests/README.md \
-		$(sort $(wildcard docs/*)),$(DOCUMENTS)/$(page):$(page)) \
+		$(sort $(wildcard docs/* testkit/*.* testkit/vectors/*) testkit/ansible-value testkit/make testkit/run),\
+		$(DOCUMENTS)/$(page):$(page)) \
 	$(foreach name,$(COMPANIONS),$(LIBRARY)/ansible-vault-$(name):companions/ansible-vault-$(name)) \
 	$(foreach file,$(sort $(shell find companions/ansible_vault_companions -name '*.py')),\
 		$(file:companions/%=$(LIBRARY)/%):$(file))
