@@ -92,7 +92,8 @@ def paddings() -> Iterator[Vector]:
         "17-bytes": ("a ciphertext of 17 bytes", TEXT[:16] + b"\x01"),
     }
     for name, (comment, text) in texts.items():
-        yield Vector(f"padding-bad-{name}", outcomes.BAD_PADDING, f"under a right tag: {comment}", envelope(enciphered(text)))
+        comment = f"under a right tag: {comment}"
+        yield Vector(f"padding-bad-{name}", outcomes.BAD_PADDING, comment, envelope(enciphered(text)))
 
 
 def salts() -> Iterator[Vector]:

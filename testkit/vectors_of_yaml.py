@@ -52,14 +52,15 @@ def read_values() -> dict[str, bytes]:
 
 def vectors() -> Iterator[Vector]:
     for name, data in read_values().items():
-        yield Vector(f"yaml-{name}", success(outcomes.VALUES), f"a value: {name.replace('-', ' ', 1)}", data, form="yaml")
+        comment = f"a value: {name.replace('-', ' ')}"
+        yield Vector(f"yaml-{name}", success(outcomes.VALUES), comment, data, form="yaml")
     # An envelope whose one joined line is no longer than a header line may be.
     short = envelope(enciphered(padded(b""), salt=b""))
     refused = {
         "folded-lines": (outcomes.LONG_HEADER, "lines joined with spaces", block(header=">")),
         "folded-short": (outcomes.BAD_CIPHER, "a few lines joined with spaces", block(short, header=">")),
         "plain-lines": (outcomes.LONG_HEADER, "lines joined with spaces", b"secret: !vault " + JOINED + b"\n"),
-        "single-quotes-lines": (outcomes.LONG_HEADER, "lines joined with spaces", b"secret: !vault '" + JOINED + b"'\n"),
+        "quotes-lines": (outcomes.LONG_HEADER, "lines joined with spaces", b"secret: !vault '" + JOINED + b"'\n"),
         "plaintext": (outcomes.NOT_VAULT, "plaintext", b"secret: !vault plaintext\n"),
         "no-text": (outcomes.NOT_VAULT, "no text", b'secret: !vault ""\n'),
         "text-after": (outcomes.BAD_BODY, "text after the envelope", block(ENVELOPE + b"more\n")),

@@ -17,7 +17,7 @@ from typing import NamedTuple
 import pytest
 
 from lib.needs import needs
-from lib.paths import FIXTURES, ROOT
+from lib.paths import ROOT
 from lib.preloaded import build_library, refusing_each
 from lib.processes import run
 from model.faults import Fault
@@ -29,7 +29,6 @@ PROGRAM = ROOT / "bin" / "vault_allocation_failures"
 # The content of the file of `--output` before a run.
 KEPT = b"kept\n"
 SALT = bytes(32)
-# The plaintext of Ansible's vault.
 TEXT = b"a" * 16
 
 BEFORE, WHOLE, MEMORY, OUTPUT, LINE = "before the call", "as without", "out of memory", "output", "line"
@@ -55,14 +54,14 @@ class Run(NamedTuple):
 
 def runs_of(call: str) -> list[Run]:
     """Return runs of each command: one with an output, one with a file, and one that is refused."""
-    vault, one = (FIXTURES / "format-1.1.vault").read_bytes(), ["--vault-password-file", "one"]
-    sealing, two = [*one, "--salt-file", "salt"], ["--vault-id", "a@two", "--vault-id", "b@one"]
+    one, two = ["--vault-password-file", "one"], ["--vault-id", "a@two", "--vault-id", "b@one"]
     sealed, rekeyed = seal(b"one", TEXT, salt=SALT), seal(b"two", TEXT, b"prod", SALT)
+    sealing = [*one, "--salt-file", "salt"]
     # The words of each command, its input and output, and an input that it refuses, with the fault.
     commands = [
         (["view", *two], seal(b"one", TEXT, b"b", SALT), TEXT, b"", Fault.NOT_VAULT),
-        (["decrypt", *one], vault, TEXT, b"", Fault.NOT_VAULT),
-        (["rekey", *sealing, "--new-vault-id", "prod@two"], vault, rekeyed, ENVELOPE, Fault.NO_SECRET_FITS),
+        (["decrypt", *one], sealed, TEXT, b"", Fault.NOT_VAULT),
+        (["rekey", *sealing, "--new-vault-id", "prod@two"], sealed, rekeyed, ENVELOPE, Fault.NO_SECRET_FITS),
         (["encrypt", *sealing], TEXT, sealed, ENVELOPE, Fault.ALREADY_VAULT),
         (["encrypt_string", *sealing], TEXT, yaml_block(sealed), ENVELOPE, Fault.ALREADY_VAULT),
     ]

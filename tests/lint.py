@@ -13,12 +13,14 @@ from lib.processes import run_text
 
 # What lint reads, and files without a mistake.
 COPIED = ["tools/lint", "tools/dead_names", "mypy.ini", "companions/ansible_vault_companions/__init__.py"]
-COPIED += ["bench/measured.py", "tests/lib/paths.py", "debian/prerm", "man/ansible-vault-check.1", "README.md"]
+COPIED += ["bench/measured.py", "testkit/sealing.py", "tests/lib/paths.py", "debian/prerm"]
+COPIED += ["man/ansible-vault-check.1", "README.md"]
 # A mistake for each kind of file and each check, and what is said of it, after the file's name.
 MISTAKES = {
     "tools/unused": ("#!/usr/bin/env python3\nimport os\n", ":2:1: 'os' imported but unused\n"),
     "bench/a.py": ("a: int = ''\n", ":1: error: Incompatible types"),
     "companions/ansible-vault-a": ("#!/usr/bin/env -S python3 -ISB\nmatch 1:\n    case _: ...\n", ":3: error: "),
+    "testkit/a.py": ("a: int = ''\n", ":1: error: Incompatible types"),
     "tests/conftest.py": ("a: int = ''\n", ":1: error: Incompatible types"),
     "tools/typed": ("#!/usr/bin/env -S python3 -B\na: int = ''\n", ":2: error: Incompatible types"),
     "debian/postrm": ("#!/bin/sh\nrm $1\n", " line 2:\n"),
@@ -66,7 +68,7 @@ def test_mistakes(repository: Path) -> None:
         (repository / name).write_text(text)
     status, printed = lint(repository, os.environ["PATH"])
     assert [name for name, (_, said) in MISTAKES.items() if name + said not in printed] == [], printed
-    assert (status, printed.splitlines()[-1]) == (1, "lint: 0 passed, 9 failed")
+    assert (status, printed.splitlines()[-1]) == (1, "lint: 0 passed, 10 failed")
 
 
 def test_missing_tool(repository: Path, tmp_path: Path) -> None:
@@ -74,5 +76,5 @@ def test_missing_tool(repository: Path, tmp_path: Path) -> None:
     for name in ("python3", "git", "pyflakes3", "shellcheck", "mandoc"):
         (tmp_path / name).symlink_to(shutil.which(name) or name)
     status, printed = lint(repository, str(tmp_path))
-    assert (status, printed.count("mypy is not installed\n")) == (1, 4)
-    assert printed.endswith("\nlint: 5 passed, 4 failed\n"), printed
+    assert (status, printed.count("mypy is not installed\n")) == (1, 5)
+    assert printed.endswith("\nlint: 5 passed, 5 failed\n"), printed

@@ -1,4 +1,4 @@
-"""The testkit: its vectors are made anew, name rules of docs/formats.md, and are answered by the program as expected."""
+"""The testkit: its vectors are made anew, name rules of docs/formats.md, and are answered as expected."""
 
 import re
 import subprocess

@@ -1,34 +1,12 @@
-"""The vaults of Ansible's tool in `fixtures`; and what `encrypt`, `rekey` and `encrypt_string` write: lengths and lines
-worked out by hand, and salts.
+"""What `encrypt`, `rekey` and `encrypt_string` write: lengths and lines worked out by hand, and salts.
 
-`fuzz.py` compares everything else that is read, written or refused with the model; `hostile.py` seals the longest
-plaintext.
+`testkit.py` shows what is read, and `fuzz.py` compares everything with the model.
 """
-
-import pytest
 
 from lib.cases import TEXT, Cases, answer_of, by_file, by_id
 from lib.needs import needs
-from lib.paths import FIXTURES
 from lib.preloaded import build_library
-from model.faults import Fault
 from model.vaults import HEADER, MAGIC, seal, yaml_block
-
-MADE = [
-    ("format-1.1", "one", b"a" * 16),
-    ("format-1.2", "two", b"a" * 16),
-    ("spaces-and-umlaut", "spaces-and-umlaut", b'secret: "value"\n'),
-    ("empty", "one", b""),
-]
-
-
-@pytest.mark.parametrize("name, password, plaintext", MADE)
-def test_fixtures(cases: Cases, name: str, password: str, plaintext: bytes) -> None:
-    vault, path = (FIXTURES / f"{name}.vault").read_bytes(), str(FIXTURES / f"{password}.password")
-    for options in (by_file(path), by_id(path, "other")):
-        cases.decrypts(options, vault, plaintext)
-    wrong = FIXTURES / ("two.password" if password == "one" else "one.password")
-    cases.refuses(by_file(str(wrong)), vault, Fault.NO_SECRET_FITS)
 
 
 def encrypted(cases: Cases, options: list[str], text: bytes = b"") -> list[bytes]:

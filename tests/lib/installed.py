@@ -3,10 +3,12 @@
 import os
 import pathlib
 import subprocess
+import tempfile
 from typing import Any
 
-from lib.paths import COMPANIONS, FIXTURES, ROOT, version
+from lib.paths import COMPANIONS, ROOT, version
 from lib.processes import run, run_text
+from model.vaults import seal
 
 VERSION = version()
 
@@ -14,6 +16,7 @@ SHARED = {str(each.relative_to(ROOT / "companions")) for each in (ROOT / "compan
 NAMES = {"ansible-vault", *COMPANIONS}
 DOCUMENTS = {"README.md", "CHANGELOG.md", "CONTRIBUTING.md", "LICENSE", "debian/copyright", "tests/README.md"}
 DOCUMENTS |= {f"docs/{each.name}" for each in (ROOT / "docs").iterdir()}
+DOCUMENTS |= {str(each.relative_to(ROOT)) for each in (ROOT / "testkit").rglob("*") if each.is_file()}
 # The paths, below the prefix, where Debian's tools look for these files.
 FILES = {
     *(f"bin/{name}" for name in NAMES),
@@ -50,13 +53,16 @@ def check_program(program: pathlib.Path, where: str) -> None:
     """Check that the program works, that each companion prints its help, and that one calls the program beside it."""
     output = printed(str(program), "--version").strip()
     assert output == f"ansible-vault {VERSION}", f"{where} prints its version"
-    password, vault = str(FIXTURES / "one.password"), FIXTURES / "format-1.1.vault"
-    shown = run([str(program), "view", "--vault-password-file", password], vault.read_bytes())
-    assert (shown.stdout, shown.stderr) == (b"a" * 16, b""), f"{where} shows a vault"
     helps = {name: printed(str(program.with_name(name)), "--help", PATH=os.defpath) for name in COMPANIONS}
     silent = [name for name, text in helps.items() if not text.startswith(f"usage: {name}")]
     assert silent == [], f"the companions beside {where} that have no help"
-    check = str(program.with_name("ansible-vault-check"))
-    output = printed(check, "--vault-password-file", password, str(vault), PATH=os.defpath)
-    wanted = f"{vault}: default: decrypted by {password}\n1 decrypted, 0 not\n"
-    assert output == wanted, f"the companions beside {where} call it"
+    with tempfile.TemporaryDirectory() as folder:
+        password, vault = pathlib.Path(folder, "password"), pathlib.Path(folder, "vault")
+        password.write_bytes(b"one\n")
+        vault.write_bytes(seal(b"one", b"text"))
+        shown = run([str(program), "view", "--vault-password-file", str(password), str(vault)])
+        assert (shown.stdout, shown.stderr) == (b"text", b""), f"{where} shows a vault"
+        check = str(program.with_name("ansible-vault-check"))
+        output = printed(check, "--vault-password-file", str(password), str(vault), PATH=os.defpath)
+        wanted = f"{vault}: default: decrypted by {password}\n1 decrypted, 0 not\n"
+        assert output == wanted, f"the companions beside {where} call it"

@@ -4,7 +4,6 @@ import re
 from pathlib import Path
 
 ROOT = Path(__file__).resolve().parent.parent.parent
-FIXTURES = ROOT / "tests" / "fixtures"
 PAGE = ROOT / "man" / "ansible-vault.1"
 README = ROOT / "README.md"
 COMPANIONS = {path.name: path for path in sorted((ROOT / "companions").glob("ansible-vault-*"))}
