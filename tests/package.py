@@ -184,7 +184,7 @@ def check_theirs(root: Root, mark: str = "") -> None:
 def test_beside_theirs(package: Path, tmp_path: Path, program: str) -> None:
     needs_root()
     root = Root(str(tmp_path / "root"), program)
-    for name in ("libc6", "python3"):
+    for name in ("libc6", "python3", "python3-yaml"):
         run_dpkg(root, "-i", stand_in(tmp_path, name, "99", {}))
     install_theirs(root, tmp_path, "2.14")
     taken = {"usr/share/doc/ansible-vault/README.md": "taken\n"}
