@@ -168,6 +168,7 @@ bench: all bin/vault_bench
 	bench/commands.py "$(PROGRAM)" --chart $(CHART) $(QUICKLY)
 	bench/parts.py "$(PROGRAM)" $(QUICKLY)
 	bench/rotation.py "$(PROGRAM)" $(QUICKLY)
+	bench/companions.py "$(PROGRAM)" $(QUICKLY)
 	bench/envelope.py $(QUICKLY)
 	bench/counter_mode.py $(QUICKLY)
 	bench/key_derivation.py $(QUICKLY)
