@@ -16,32 +16,35 @@ NONE = (
 )
 
 
-def add_options(parser: argparse.ArgumentParser, new: str = "", before: str = "") -> None:
-    """Adds the options that name secrets: old ones, to which settings belong, or with `new-` new ones. `before` begins
-    the names of the attributes that get the values."""
-    if not new:
+def add_options(parser: argparse.ArgumentParser, prefix: str = "") -> None:
+    """Adds the options that name secrets. Settings do not apply to options with a prefix."""
+    if not prefix:
         parser.set_defaults(new_vault_id=[], new_vault_password_file=[], any_label=False)
-    ids, paths = (before + name for name in (f"{new}vault-id", f"{new}vault-password-file"))
+    what = "the source of a new secret" if prefix else "the source of a secret"
     parser.add_argument(
-        f"--{new}vault-id",
-        dest=ids.replace("-", "_"),
+        f"--{prefix}vault-id",
         action="append",
         default=[],
         metavar="[LABEL@]SOURCE",
-        help=f"a {'new ' * bool(new)}file, script or `prompt`; may be repeated",
+        help=f"{what}; may be repeated",
     )
     parser.add_argument(
-        f"--{new}vault-password-file",
-        *([] if new else ["--vault-pass-file"]),
-        dest=paths.replace("-", "_"),
+        f"--{prefix}vault-password-file",
+        *([] if prefix else ["--vault-pass-file"]),
         action="append",
         default=[],
         metavar="SOURCE",
-        help=f"the same, labelled `default`{'' if new else '; may be repeated'}",
+        help=f"{what}{'' if prefix else '; may be repeated'}",
     )
-    if not new:
-        asks = "ask for the password of the label `default`"
-        parser.add_argument(*ASKING, dest=ids.replace("-", "_"), action="append_const", const=ASKED, help=asks)
+    if not prefix:
+        parser.add_argument(
+            *ASKING,
+            action="append_const",
+            dest="vault_id",
+            default=[],
+            const=ASKED,
+            help="ask at the terminal for a password",
+        )
 
 
 def add_any_label(parser: argparse.ArgumentParser) -> None:
