@@ -30,14 +30,14 @@ def spellings(text: str) -> list[set[str]]:
 
 
 def page_sets() -> dict[str | None, set[str]]:
-    """Return the options of each command in the synopsis, with all their spellings. Keep the page's order. Below the
-    commands, the synopsis says what its groups of options stand for. Every command has a help."""
+    """Return the options of each command in the synopsis, with all their spellings. Keep the page's order. Above its
+    list, the page says which options the groups in the synopsis stand for. Every command has a help."""
     page = sections(PAGE.read_text())
     described = spellings(page["OPTIONS"])
-    commands, *parts = re.split(r"^\.Pp\n\.Ar (\S+) :$", page["SYNOPSIS"], flags=re.MULTILINE)
+    _, *parts = re.split(r"^\.Ar (\S+)$", page["OPTIONS"].partition("\n.Bl ")[0], flags=re.MULTILINE)
     groups = {name: options_in(part) for name, part in zip(parts[::2], parts[1::2])}
     sets: dict[str | None, set[str]] = {}
-    for part in re.split(r"^\.Nm$", commands, flags=re.MULTILINE)[1:]:
+    for part in re.split(r"^\.Nm$", page["SYNOPSIS"], flags=re.MULTILINE)[1:]:
         command = re.search(r"^\.Cm (\S+)$", part, re.MULTILINE)
         used = (groups[name] for name in groups if re.search(rf"\bAr {name}$", part, re.MULTILINE))
         named = options_in(part).union({"--help"}, *used)
