@@ -7,13 +7,13 @@ from pathlib import Path
 
 import pytest
 
-from ansible_vault_companions.git.contents import LINK_MODE
+from ansible_vault_companions.git.commits import LINK_MODE
 from ansible_vault_companions.git.links import target
-from companion_cases import AWKWARD, CHANGE, HOOK, TEXT, WITH, Done, Place, block, edit, ended, run_changed, sealed
+from companion_cases import AWKWARD, CHANGE, HOOK, TEXT, WITH, Place, block, edit, ended, lines_of, run_changed, sealed
 from companion_cases import silent
-from companion_cases.repository import GONE, WHOLE, add_and_commit, again, commit, fork, leaked, refused, staged
-from companion_cases.repository import under_git, unmarking, with_hooks
-from lib.needs import needs_pyyaml
+from companion_cases.repository import WHOLE, add_and_commit, again, commit, fork, leaked, refused, staged
+from companion_cases.repository import under_git, with_hooks
+from lib.needs import needs
 from lib.paths import ROOT
 
 pytestmark = pytest.mark.usefixtures("git")
@@ -55,12 +55,9 @@ def test_leftovers(place: Place) -> None:
     names = sorted(name for name in place.files() if ".ansible-vault-" in name)
     assert sorted(place.get(name) == TEXT for name in names) == [False, True, True], "one is encrypted"
     done = add_and_commit(place)
-    whys, removing, marks = (done.stderr.splitlines()[first::3] for first in range(3))
-    wanted = [f"{HOOK}: {name} was left behind by a failed companion, and may be plaintext" for name in names]
+    whys, removing = (done.stderr.splitlines()[first::2] for first in range(2))
+    wanted = [f"{HOOK}: {name} was left behind by a companion, and may be plaintext" for name in names]
     assert (done.returncode, whys) == (1, wanted), "they are refused"
-    attributes = "\n".join(line.rpartition(": ")[2] for line in marks).replace("PATTERN", "/.ansible-vault-saved-*")
-    silent("with the attributes", staged(place, ".gitattributes", attributes.encode()))
-    place.put(".gitattributes", b"")
     for line in removing:
         assert place.shell(" && ".join(line.split("`")[1::2])).returncode == 0, "they are removed as the message says"
     others = [".ansible-vault-abcdefgh.py", ".ansible-vault-me.py", ".ansible-vault-pass", "ansible-vault-saved-x"]
@@ -87,9 +84,13 @@ def test_awkward_names(place: Place) -> None:
 
 LINES = block("old").splitlines(keepends=True)
 TAGGED = "has plaintext with the tag `!vault` in line {}"
-# What a marked file may not contain, and why. `spellings` has other headers.
+UNMERGED = "has git's conflict markers"
+CONFLICT = b"<<<<<<< HEAD\n%b=======\n%b>>>>>>> branch\n"
+NO_YAML = "cannot be checked: line 2: it cannot be read as YAML: found a tab character that violates indentation"
+# What a marked file may not contain, and why. `grammar` has other headers.
 CONTENTS = {
-    "empty": (b"", "is not encrypted"),
+    "plaintext": (TEXT, "is not encrypted"),
+    "a comment": (lines_of(sealed("old"), 0).replace(b"$", b"# $").replace(b"\n", b"\n# "), "is not encrypted"),
     "plaintext below": (sealed("old") + TEXT, "is a damaged vault"),
     "digits of a text": (b"$ANSIBLE_VAULT;1.1;AES256\n" + TEXT.hex().encode() + b"\n", "is a damaged vault"),
     "without the last line": (sealed("old").rstrip().rpartition(b"\n")[0], "is a damaged vault"),
@@ -97,38 +98,98 @@ CONTENTS = {
     "plaintext below a block": (block("old") + b" " * 10 + TEXT, "has a damaged block in line 2"),
     "a block that ends early": (b"".join([*LINES[:3], b"b: 1\n"]), "has a damaged block in line 2"),
     "plaintext with the tag": (block("old") + b"b: !vault text\n", TAGGED.format(len(LINES) + 1)),
-    "a literal with the tag": (b"b: !vault |\n  text\n" + block("old"), TAGGED.format(1)),
-    "a text like a header": (b"b: !vault $ANSIBLE_VAULT_KEY=text\n" + block("old"), "has a damaged block in line 1"),
-    "conflict markers": (block("old") + b"<<<<<<< HEAD\n=======\nb: 2\n>>>>>>> branch\n", "has git's conflict markers"),
+    "a literal with the tag": (b"b: !vault |\n  text\n" + block("old"), TAGGED.format(2)),
+    "a text like a header": (b"b: !vault $ANSIBLE_VAULT_KEY=text\n" + block("old"), TAGGED.format(1)),
+    "conflict markers": (block("old") + CONFLICT % (b"", b"b: 2\n"), UNMERGED),
+    "two sides": (CONFLICT % (sealed("old"), sealed("new")), UNMERGED),
+    "longer markers": (CONFLICT.replace(b"<" * 7, b"<" * 9) % (block("old"), block("new")), UNMERGED),
+    "a tab": (b"a: 1\n\tb: 2\n" + block("old"), NO_YAML),
 }
 
 
 def test_marked_content(place: Place) -> None:
-    """A marked file needs the digits of an envelope, without conflict markers or plaintext between them."""
-    needs_pyyaml()
+    """A marked file needs whole envelopes, without conflict markers or plaintext between them."""
     under_git(place, ATTRIBUTES)
     place.put("blocks/a.vault.yml", block("old") + b"x: 1\n\n" + block("old", name="b") + b"\n")
     place.put("secrets/a.yml", sealed("old").replace(b"\n", b"\r\n"))
+    place.put("empty.vault.yml", b"\n")
     for what, (content, _) in CONTENTS.items():
         place.put(f"{what}/a.vault.yml", content)
     done = staged(place, "secrets/b.yml", block("old"))
-    lines = [f"{HOOK}: {what}/a.vault.yml {why}" for what, (_, why) in CONTENTS.items()]
-    lines += [f"{HOOK}: secrets/b.yml is not encrypted", unmarking("secrets/b.yml")]
-    assert (done.returncode, sorted(done.stderr.splitlines())) == (1, sorted(lines))
+    whys = {f"{what}/a.vault.yml": why for what, (_, why) in CONTENTS.items()} | {"secrets/b.yml": "is not encrypted"}
+    assert done.stderr.splitlines()[::2] == [f"{HOOK}: {name} {why}" for name, why in sorted(whys.items())]
+
+
+def test_damage(place: Place) -> None:
+    """Files without a mark: envelopes have to be whole, except in documents, and where an attribute allows it."""
+    under_git(place, "")
+    place.put("README.md", b"".join(LINES[:3]))
+    damaged = {name: content for name, (content, why) in CONTENTS.items() if "damaged" in why or why == UNMERGED}
+    for name, content in damaged.items():
+        place.put(f"{name}.txt", content)
+    done = staged(place, "torn.txt", b"$ANSIBLE_VAULT;1.1;AES256\n<<<<<<< HEAD\n3132\n>>>>>>> a\n")
+    whys = {f"{name}.txt": why for name, (_, why) in CONTENTS.items() if name in damaged} | {"torn.txt": UNMERGED}
+    assert done.stderr.splitlines()[::2] == [f"{HOOK}: {name} {why}" for name, why in sorted(whys.items())]
+    silent("allowed", staged(place, ".gitattributes", b"*.txt -ansible-vault\n"))
 
 
 def test_plain_beside_vaults(place: Place) -> None:
     """The usual layout has plaintext beside vaults in one directory. The message says what to do."""
     with_hooks(place, "group_vars/** diff=ansible-vault\n")
     place.put("group_vars/all/vault.yml", sealed("old"))
-    place.put("group_vars/web/vars.yml", TEXT)
-    done = again(place, "group_vars/all/vars.yml", TEXT)
-    lines = [f"{HOOK}: group_vars/{name}/vars.yml is not encrypted" for name in ("all", "web")]
-    wanted = [lines[0], unmarking("group_vars/all/vars.yml"), lines[1]]
-    assert (done.returncode, done.stderr.splitlines()) == (1, wanted), "beside a vault"
-    unmarked = b"/group_vars/all/vars.yml !diff !ansible-vault\n/group_vars/web/vars.yml -ansible-vault\n"
-    place.put(".gitattributes", b"group_vars/** diff=ansible-vault\n" + unmarked)
-    silent("what it says helps, and what the manual page says", add_and_commit(place))
+    names = ["group_vars/all/vars.yml", "group_vars/web servers/vars.yml"]
+    for name in names:
+        place.put(name, TEXT)
+    done = add_and_commit(place)
+    lines = done.stderr.splitlines()
+    assert (done.returncode, lines[::2]) == (1, [f"{HOOK}: {name} is not encrypted" for name in names])
+    attributes = ["group_vars/** diff=ansible-vault", *(line.rpartition(": ")[2] for line in lines[1::2])]
+    place.put(".gitattributes", "\n".join(attributes).encode())
+    silent("what it says helps", add_and_commit(place))
+
+
+def test_exemptions(place: Place) -> None:
+    """The line that the message shows allows plaintext, until what it names is encrypted again."""
+    under_git(place, "*.vault.yml diff=ansible-vault\n")
+    key = '"a b,%=.c[]": '
+    text = key.encode() + block("old", name="").lstrip(b": ") + b"x:\n- " + block("old", name="pw") + b"y: 1\n"
+    for name in AWKWARD:
+        place.put(f"{name}.vault.yml", sealed("old"))
+        place.put(name, text)
+    add_and_commit(place)
+    plain = f"{key}plain\nx: [pw: plain]\ny: 1\n".encode()
+    for name in AWKWARD:
+        place.put(f"{name}.vault.yml", TEXT)
+        place.put(name, plain)
+    place.put(".gitattributes", b"")
+    lines = place.shell(f"git add -A && {HOOK}").stderr.splitlines()
+    assert len(lines) == 4 * len(AWKWARD)
+    attributes = "\n".join(line.rpartition(".gitattributes: ")[2] for line in lines[1::2])
+    assert attributes.count("ansible-vault-plain=a%20b%2C%25%3D%2Ec%5B%5D,x[].pw") == len(AWKWARD)
+    marks = "*.vault.yml diff=ansible-vault\n"
+    silent("the lines help", staged(place, ".gitattributes", f"{marks}{attributes}".encode()))
+    place.shell("git commit -qm plain")
+    silent("also later", staged(place, AWKWARD[0], plain + b"z: 1\n"))
+    for name in AWKWARD:
+        place.put(f"{name}.vault.yml", sealed("new"))
+        place.put(name, text)
+    done = place.shell(f"git add -A && {HOOK}")
+    stale = "is encrypted again, but .gitattributes allows plaintext in it: remove `{}` there"
+    counts = [done.stderr.count(stale.format(what)) for what in ("-ansible-vault", "a%20b%2C%25%3D%2Ec%5B%5D, x[].pw")]
+    assert (done.returncode, counts) == (1, [len(AWKWARD), len(AWKWARD)])
+    silent("they are gone", staged(place, ".gitattributes", marks.encode()))
+    long = b"%s diff=ansible-vault\n"
+    done = staged(place, ".gitattributes", long % (b"x" * 2028) + long % (b"y" * 2029))
+    ended("a long line", done, 1, f"{HOOK}: .gitattributes has a line of 2,048 bytes or more, which git ignores\n")
+    silent("a shorter one", staged(place, ".gitattributes", long % (b"x" * 2028)))
+
+
+def test_unmerged(place: Place) -> None:
+    under_git(place, "")
+    fork(place, {"a.yml": b"1\n"}, {"a.yml": b"2\n"}, {"a.yml": b"3\n"})
+    place.shell("git merge -q theirs")
+    for words in ([HOOK], [HOOK, "a.yml"]):
+        ended("a conflict", place.run(*words), 1, f"{HOOK}: a.yml is unmerged\n")
 
 
 def test_merges(place: Place) -> None:
@@ -140,42 +201,29 @@ def test_merges(place: Place) -> None:
 
 
 def test_pre_commit(place: Place) -> None:
-    """The framework runs it in the top directory, with the files of the commit that are not links."""
-    needs_pyyaml()
-    import yaml
-
-    [hook] = yaml.safe_load((ROOT / ".pre-commit-hooks.yaml").read_text())
-    others = {"id", "name", "description", "minimum_pre_commit_version", "entry", "args"}
-    stages = ["pre-commit", "pre-merge-commit"]
-    wanted = {"language": "script", "always_run": True, "require_serial": True, "stages": stages}
-    assert {key: hook[key] for key in hook.keys() - others} == wanted
-
-    def by_framework() -> Done:
-        listed = place.shell("git diff --staged --name-only --no-ext-diff -z --diff-filter=ACMRTUXB").stdout
-        files = [name for name in listed.split("\0")[:-1] if not os.path.islink(place.tree / name)]
-        return place.run(str(ROOT / hook["entry"]), *hook.get("args", []), *files)
-
+    """The framework runs it in the top directory, with the files of the commit that are no links."""
+    needs("pre-commit")
     under_git(place, ATTRIBUTES)
     place.put("a.yml", sealed("old"))
-    place.put("b.yml", sealed("new"))
     place.put("--all", block("old"))
-    place.shell("git add -A")
-    silent("vaults", by_framework())
     add_and_commit(place)
+    source = place.path / "source"
+    place.shell(f"mkdir {source} && cp -r {ROOT}/companions {ROOT}/.pre-commit-hooks.yaml {source}")
+    place.shell(f"cd {source} && git init -q && git add -A && git commit -qm one")
+    by_framework = ["pre-commit", "try-repo", str(source), "ansible-vault", "--verbose"]
+    home = {"PRE_COMMIT_HOME": str(place.path / "pre-commit")}
+    ended("all is well", place.run(*by_framework, **home), 0, "Passed")
+    place.shell("ln -s a.yml secrets.vault.yml")
     place.put("a.yml", TEXT)
     place.shell("git add -A")
-    leaked("plaintext", by_framework(), {"a.yml": WHOLE})
-    place.shell("git rm -qf a.yml b.yml && ln -s c.yml b.yml")
-    place.put("c.yml", TEXT)
-    place.shell("git add -A")
-    link = f"b.yml points to c.yml, and {WHOLE}"
-    ended("a link, which pre-commit does not name", by_framework(), 1, link, f"c.yml {GONE.format('a.yml')}")
+    link = "secrets.vault.yml is a link to a file that is not encrypted"
+    ended("plaintext", place.run(*by_framework, **home), 1, f"{HOOK}: a.yml {WHOLE}\n", f"{HOOK}: {link}\n")
 
 
 def test_files(place: Place) -> None:
     """Files that the commit does not change are checked if they are named."""
     for line in (HOOK, f"{HOOK} --install"):
-        ended("no repository", place.shell(line), 1, f"{HOOK}: git rev-parse failed")
+        ended("no repository", place.shell(line), 1, f"{HOOK}: the current directory is not in a git repository")
     under_git(place, ATTRIBUTES)
     for name in ("a.vault.yml", "inner/b.vault.yml", "plain.yml"):
         place.put(name, TEXT)
@@ -193,21 +241,23 @@ def test_files(place: Place) -> None:
         ended("an option", place.run(HOOK, *option, "plain.yml"), 2, "FILE cannot be used with an option")
 
 
-def test_links_in_place_of_vaults(place: Place) -> None:
-    """A link in place of a vault is refused if it leads to plaintext."""
-    with_hooks(place)
+def test_links(place: Place) -> None:
+    """A link in place of a vault, and one that is marked, counts as what it leads to in the commit."""
+    with_hooks(place, ATTRIBUTES)
     place.put("deep/plain.yml", TEXT)
     place.put("deep/vault.yml", sealed("new"))
     (place.tree / "folder").symlink_to("deep")
-    targets = ["../folder/../deep/plain.yml", f"{place.tree}/deep/plain.yml", "vault.yml", "nowhere.yml"]
+    targets = ["../folder/plain.yml", f"{place.tree}/deep/plain.yml", "vault.yml", "nowhere.yml", "/etc/hostname"]
     for number in range(len(targets)):
         place.put(f"deep/{number}.yml", sealed("old"))
     silent("at first", add_and_commit(place))
     for number, path in enumerate(targets):
         (place.tree / f"deep/{number}.yml").unlink()
-        (place.tree / f"deep/{number}.yml").symlink_to(path)
-    whys = {f"deep/{number}.yml": f"points to deep/plain.yml, and {WHOLE}" for number in (0, 1)}
-    leaked("the hook", place.shell(f"git add -A && {HOOK}"), whys)
+        for name in (f"deep/{number}.yml", f"deep/{number}.vault.yml"):
+            (place.tree / name).symlink_to(path)
+    whys = {f"deep/{number}.vault.yml": "is a link to a file that is not encrypted" for number in (0, 1)}
+    whys |= {f"deep/{number}.yml": f"is a link to a file that {WHOLE}" for number in (0, 1)}
+    leaked("the hook", place.shell(f"git add -A && {HOOK}"), dict(sorted(whys.items())))
 
 
 # Files and links below a directory, and files beside it. A link to the first of the chain leads through 40 links, which
@@ -238,11 +288,9 @@ def by_hook(top: Path, name: str) -> str:
         path = top / os.fsdecode(name)
         if path.is_symlink():
             return LINK_MODE, os.readlink(path)
-        return ("100644", "plain") if name and path.is_file() else ("", "")
+        return ("100644", os.fsdecode(name)) if name and path.is_file() else ("", "")
 
-    found, blob = target(os.fsencode(name), os.fsencode(top), entry, os.fsencode)
-    assert bool(found) == (blob == "plain")
-    return os.fsdecode(found)
+    return target(os.fsencode(name), os.fsencode(top), entry, os.fsencode)
 
 
 def test_links_as_the_system(tmp_path: Path) -> None:

@@ -5,8 +5,7 @@ import os
 import pytest
 
 from companion_cases import CHECK, HOOK, TEXT, Place, block, ended, sealed, silent
-from companion_cases.repository import GONE, IN_PART, WHOLE, committed, leaked, meant, refused, staged, under_git
-from companion_cases.repository import unmarking
+from companion_cases.repository import GONE, IN_PART, WHOLE, committed, leaked, refused, staged, under_git
 
 pytestmark = pytest.mark.usefixtures("git")
 
@@ -16,9 +15,7 @@ ATTRIBUTES = "*.vault.yml diff=ansible-vault\n"
 def test_every_file(place: Place) -> None:
     """A pipeline checks commits that no hook saw. Only the commit counts, not the index or the files."""
     under_git(place, ATTRIBUTES)
-    # A note that a full disk cut off is ignored.
-    place.put(".git/ansible-vault-conflicts", b"1" * 40 + b" " + b"2" * 40 + b" 7")
-    (place.tree / "link.vault.yml").symlink_to("other.yml")
+    (place.tree / "link.vault.yml").symlink_to("deep/a.vault.yml")
     place.put("other.yml", TEXT)
     place.put("deep/a.vault.yml", block("old"))
     committed(place, "vars.yml", block("old"))
@@ -29,8 +26,9 @@ def test_every_file(place: Place) -> None:
     for name in names:
         place.put(name, sealed("old"))
     done = place.shell(f"git add -A && {HOOK} --all", folder="deep")
-    lines = [f"{HOOK}: deep/a.vault.yml is not encrypted", f"{HOOK}: vars.yml {IN_PART.format('secret')}"]
-    assert (done.returncode, done.stderr.splitlines()) == (1, [*lines, meant("vars.yml")]), "each is refused"
+    why = "is not encrypted"
+    link = {"link.vault.yml": f"is a link to a file that {why}"}
+    leaked("each", done, {"deep/a.vault.yml": why} | link | {"vars.yml": IN_PART.format("secret")})
     silent("what is staged", place.run(HOOK))
     assert place.shell("git diff --cached --name-only").stdout.split() == names, "the index stays"
     place.shell("git commit -qm mended")
@@ -45,19 +43,20 @@ def test_each_commit(place: Place) -> None:
     done = place.run(HOOK, "--since", "nowhere")
     ended("no commit", done, 1, f"{HOOK}: nowhere is not a commit in this clone", "`git fetch`")
     silent("nothing since", place.run(HOOK, "--since", "HEAD"))
-    place.shell("git mv a.yml b.yml")
-    place.put("b.yml", TEXT)
+    place.shell("git mv a.yml a.txt")
+    place.put("a.txt", TEXT)
     leak = committed(place, "vars.yml", TEXT)
-    committed(place, ".gitattributes", f"{ATTRIBUTES}/b.yml -ansible-vault\n/vars.yml -ansible-vault\n".encode())
-    place.shell("git rm -q b.yml")
+    committed(place, ".gitattributes", f"{ATTRIBUTES}/a.txt -ansible-vault\n/vars.yml -ansible-vault\n".encode())
+    place.put(".gitattributes", ATTRIBUTES.encode())
+    place.shell("git rm -q a.txt")
     committed(place, "vars.yml", sealed("new"))
-    leaks = {f"{leak[:10]}: vars.yml": WHOLE, f"{leak[:10]}: b.yml": GONE.format("a.yml")}
+    leaks = {f"{leak[:10]}: a.txt": GONE.format("a.yml"), f"{leak[:10]}: vars.yml": WHOLE}
     leaked("taken back", place.run(HOOK, "--since", first), leaks)
     silent("--all sees it no more", place.run(HOOK, "--all"))
     silent("and neither what came before", place.run(HOOK, "--since", leak))
     marked = committed(place, "a.vault.yml", TEXT)
     done = place.run(HOOK, "--since", leak)
-    refused("one that is marked", done, f"{marked[:10]}: a.vault.yml", hint=unmarking("a.vault.yml"))
+    refused("one that is marked", done, f"{marked[:10]}: a.vault.yml")
     place.shell("git checkout -q --orphan empty && git commit -qm one")
     done = place.run(HOOK, "--since", first)
     ended("a first commit", done, 1, "a.vault.yml is not encrypted")
@@ -159,7 +158,7 @@ def test_kinds_of_clones(place: Place, line: str) -> None:
     ended("the check finds plaintext that is marked", done, 1, f"{CHECK}: ./deep/b.vault.yml: is not encrypted\n")
     place.put(f"{clone}/deep/c.vault.yml", TEXT)
     done = place.shell(f"git add -A && {HOOK}", folder=clone)
-    refused("and the hook", done, "deep/c.vault.yml", hint=unmarking("deep/c.vault.yml"))
+    refused("and the hook", done, "deep/c.vault.yml")
     place.put(f"{clone}/deep/a.vault.yml", TEXT)
     place.put(f"{clone}/.gitattributes", b"")
     ended("unmarked", place.shell(f"git add -A && {HOOK}", folder=clone), 1, f"deep/a.vault.yml {WHOLE}")

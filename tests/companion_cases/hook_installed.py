@@ -16,6 +16,7 @@ THIS_ONE = "git runs these hooks for this repository and its worktrees"
 NO_SECRETS = "git diff and git merge are not set up; they need secrets: --install --vault-id "
 UNMARKED = "git diff and git merge recognize vaults by .gitattributes; for the whole team, add these lines to it:"
 MARKS = "diff=ansible-vault merge=ansible-vault"
+OR_ELSE = '|| { s=$?; [ "$s" -lt 2 ] || [ "$s" -gt 127 ] || git merge-file -q %A %O %B; exit 1; }'
 DIFF, DRIVER = SETTINGS = ["diff.ansible-vault.textconv", "merge.ansible-vault.driver"]
 
 
@@ -100,7 +101,8 @@ def test_drivers(place: Place) -> None:
     fork(place, *({"a.vault.yml": sealed("old", text)} for text in (BASE, OURS, THEIRS)))
     before = place.get(".git/config")
     words = shlex.join(secrets)
-    values = [f"{TEXTCONV} {words}", f"{MERGE} {words.replace('%', '%%')} %O %A %B %P"]
+    values = [f"{place.tools}/{TEXTCONV} {words}"]
+    values.append(f"{place.tools}/{MERGE} {words.replace('%', '%%')} %O %A %B %P {OR_ELSE}")
     for status in ("set to", "is already"):
         done = place.run(HOOK, "--install", *secrets)
         lines = [f"{setting}: {status} {value}" for setting, value in zip(SETTINGS, values)]
@@ -108,7 +110,7 @@ def test_drivers(place: Place) -> None:
     ended("git diff", place.shell("git show; git show HEAD^"), 0, "-one: 1\n+one: I", f"+{TEXT.decode()}")
     ended("git merge", place.shell("git merge --no-edit theirs && git show -m"), 0, "+one: I", "+four: IV")
     done = place.run(HOOK, "--install", *place.by_file("new"))
-    ended("other secrets", done, 0, f"{DIFF}: set to {TEXTCONV} {' '.join(place.by_file('new'))}\n")
+    ended("other secrets", done, 0, f"{DIFF}: set to {place.tools}/{TEXTCONV} {' '.join(place.by_file('new'))}\n")
     done = place.run(HOOK, "--uninstall")
     ended("it is undone", done, 0, f"{DIFF}: removed", f"{DRIVER}: removed")
     assert place.get(".git/config") == before, "nothing is left of it"
@@ -158,7 +160,7 @@ def test_marks(place: Place) -> None:
     place.put("test.py", b'HEADER = "$ANSIBLE_VAULT;1.1;AES256"\n')
     done = place.shell(f"git add -A && {HOOK} --install", folder="inner")
     lines = done.stdout.partition(f"{UNMARKED}\n")[2].splitlines()
-    assert lines == [f"  {each} {MARKS}" for each in ("/a.vault.yml", "/inner/b.yml", "PATTERN")]
+    assert lines == [f"  {name} {MARKS}" for name in ("/a.vault.yml", "/inner/b.yml", '"/inner/c d.yml"')]
     assert place.get(".gitattributes") == b"*.vault.yml diff=ansible-vault\n"
-    place.put(".gitattributes", "".join([*(f"{line.strip()}\n" for line in lines), f"/inner/c*.yml {MARKS}"]).encode())
+    place.put(".gitattributes", "".join(f"{line.strip()}\n" for line in lines).encode())
     assert UNMARKED not in place.run(HOOK, "--install").stdout, "what it says helps"

@@ -1,5 +1,6 @@
 """Helpers for a tree under git."""
 
+import re
 import subprocess
 from pathlib import Path
 
@@ -47,28 +48,33 @@ def set_driver(place: Place, *secrets: str) -> None:
     place.run("git", "config", "merge.ansible-vault.driver", f"{MERGE} {' '.join(secrets)} %O %A %B %P")
 
 
-def refused(what: str, done: Done, *names: str, why: str = "is not encrypted", hint: str = "") -> None:
-    """Check that each name is refused with this reason, and with the hint below it."""
-    lines = [line for name in names for line in (f"{HOOK}: {name} {why}", hint) if line]
-    assert (done.returncode, done.stderr.splitlines()) == (1, lines), what
+def refused(what: str, done: Done, *names: str, why: str = "is not encrypted") -> None:
+    """Check that each name is refused with this reason, and with the advice for it below."""
+    leaked(what, done, dict.fromkeys(names, why))
 
 
 def unmarking(name: str) -> str:
-    """Return the hint for a file beside a vault."""
+    """Return the advice for a marked file."""
     return f"  encrypt it, or unmark it with a line at the end of .gitattributes: /{name} !diff !ansible-vault"
 
 
-def meant(name: str) -> str:
-    """Return the hint for plaintext that may be intended."""
-    return f"  if that is intended, commit with --no-verify, or add to .gitattributes: /{name} -ansible-vault"
+def meant(name: str, attribute: str = "-ansible-vault") -> str:
+    """Return the advice for plaintext that may be intended."""
+    return f"  if that is intended, commit with --no-verify, or add to .gitattributes: /{name} {attribute}"
+
+
+def advice(name: str, why: str) -> str:
+    name = name.rpartition(": ")[2]
+    values = re.search("has (.+) in plaintext, which", why)
+    if values:
+        keys = [value.partition(" of ")[0] for value in values[1].split(", ")]
+        return meant(name, f"ansible-vault-plain={','.join(keys)}")
+    return unmarking(name) if why.endswith("is not encrypted") or "!vault" in why else meant(name)
 
 
 def leaked(what: str, done: Done, whys: dict[str, str]) -> None:
-    """Check that each file is refused for this reason, and that the hint says what to do if it is intended; without
-    any, that nothing is refused."""
-    lines = []
-    for name, why in whys.items():
-        lines += [f"{HOOK}: {name} {why}", meant(name.rpartition(": ")[2])]
+    """Check that each file is refused for this reason, with the advice for it; without any, that nothing is."""
+    lines = [line for name, why in whys.items() for line in (f"{HOOK}: {name} {why}", advice(name, why))]
     assert (done.returncode, done.stderr.splitlines()) == (1 if whys else 0, lines), what
 
 

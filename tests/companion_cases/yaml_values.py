@@ -17,7 +17,6 @@ import pytest
 
 from ansible_vault_companions.files import reading
 from ansible_vault_companions.files.changes import Change, changed
-from ansible_vault_companions.git import leaks, places
 from ansible_vault_companions.program import Refused
 from ansible_vault_companions.secrets.sources import Secret
 from ansible_vault_companions.tool.tool import Tool
@@ -233,7 +232,6 @@ LAYERS |= {"{? [a] : 1, <<: ": "}", "{? ": "}"}
 
 def peak(work: Callable[[], object]) -> int:
     """Return the most memory that this work takes. It must find something."""
-    places.by_keys.cache_clear()
     gc.collect()
     tracemalloc.start()
     try:
@@ -251,7 +249,6 @@ def test_memory(layer: str, end: str) -> None:
     text = b"secret: !vault |\n  " + envelope(b"x").replace(b"\n", b"\n  ") + b"\n" + deep
     most = 500 * len(text)
     assert peak(lambda: Scan(text).values) < most, "its values"
-    assert peak(lambda: leaks.now_plain(text, b"secret: x\n" + deep)) < most, "what is in plaintext now"
     assert peak(lambda: encrypted(inline.showing(text, decrypt, with_notes=True), b"secret: !vault y\n" + deep)) < most
 
 

@@ -1,67 +1,86 @@
-"""The git attributes that mark files as vaults."""
+"""The git attributes that mark files as vaults, and those that exempt files and values."""
 
 from __future__ import annotations
 
 import os
+import re
+from typing import Iterable, NamedTuple
 
 from ansible_vault_companions.git.commands import git
 from ansible_vault_companions.git.repositories import by_repository
 
-# The attributes that mark a file. The first allows a vault or YAML with blocks, the second only a vault.
-DIFF, VAULT_ALONE = "diff", "ansible-vault"
+# The attributes that mark a file. The first allows a vault or YAML with blocks, the second only a vault. Unset, the
+# second exempts a file. The third exempts the values at these key paths.
+DIFF, VAULT_ALONE, PLAIN_VALUES = "diff", "ansible-vault", "ansible-vault-plain"
 # The attribute that selects the merge driver, and the name of both the diff driver and the merge driver.
 MERGE, NAME = "merge", b"ansible-vault"
-# Characters, besides letters and digits, that need no escape in .gitattributes.
-PLAIN = "/-_.@+,"
+MARKS = {DIFF: NAME, VAULT_ALONE: b"set"}
+NO_VALUES = (b"unspecified", b"set", b"unset")
+FILE = ".gitattributes"
+# git ignores lines of this many bytes.
+TOO_LONG = 2048
+# What needs no escape in a pattern, and what has a meaning there.
+PLAIN = re.compile(rb"[\w/.@+,-]+", re.ASCII)
+SPECIAL = re.compile(rb"[*?\[\\]")
 
 
-def marks(names: list[bytes], index: str | None = None, folder: str | None = None) -> dict[bytes, set[str]]:
-    """The attributes that mark each of these files, from the index or, if a directory is given, from its files. None
-    marks a file whose attribute `-ansible-vault` allows plaintext."""
-    found = _with_values(names, {DIFF: NAME, VAULT_ALONE: b"set"}, index, folder)
-    marked = [name for name in names if found[name]]
-    exempt = _with_values(marked, {VAULT_ALONE: b"unset"}, index, folder) if marked else {}
-    return {name: set() if exempt.get(name) else attributes for name, attributes in found.items()}
+class Attributes(NamedTuple):
+    marks: set[str]
+    is_exempt: bool
+    plain_values: set[str]
+
+
+def of(names: Iterable[bytes], index: str | None = None, folder: str | None = None) -> dict[bytes, Attributes]:
+    """The attributes of each file, from the index or, if a directory is given, from its files."""
+    values = _values(names, (DIFF, VAULT_ALONE, PLAIN_VALUES), index, folder)
+    return {name: _attributes(given) for name, given in values.items()}
+
+
+def _attributes(values: dict[str, bytes]) -> Attributes:
+    is_exempt, plain = values[VAULT_ALONE] == b"unset", values[PLAIN_VALUES]
+    marks = set() if is_exempt else {mark for mark, value in MARKS.items() if values[mark] == value}
+    return Attributes(marks, is_exempt, set() if plain in NO_VALUES else {*os.fsdecode(plain).split(",")})
 
 
 def drivers(names: list[bytes]) -> dict[bytes, set[str]]:
     """Which of the attributes `diff` and `merge` name the drivers for each of these files."""
-    return _with_values(names, {DIFF: NAME, MERGE: NAME}, folder=".")
+    values = _values(names, (DIFF, MERGE), folder=".")
+    return {name: {attribute for attribute in given if given[attribute] == NAME} for name, given in values.items()}
 
 
-def is_meant_plain(name: bytes, index: str | None = None) -> bool:
-    """Whether the attribute `-ansible-vault` allows plaintext in a file."""
-    return bool(_with_values([name], {VAULT_ALONE: b"unset"}, index)[name])
-
-
-def _with_values(
-    names: list[bytes], values: dict[str, bytes], index: str | None = None, folder: str | None = None
-) -> dict[bytes, set[str]]:
-    """The attributes of each file that have these values."""
+def _values(
+    names: Iterable[bytes], attributes: tuple[str, ...], index: str | None = None, folder: str | None = None
+) -> dict[bytes, dict[str, bytes]]:
     options = [] if folder else ["--cached"]
     data = b"".join(name + b"\0" for name in names)
-    fields = git("check-attr", *options, "-z", "--stdin", *values, data=data, index=index, folder=folder).split(b"\0")
-    found: dict[bytes, set[str]] = {name: set() for name in names}
-    for name, attribute, value in zip(fields[::3], fields[1::3], fields[2::3]):
-        if value == values[attribute.decode()]:
-            found[name].add(attribute.decode())
-    return found
+    fields = git("check-attr", *options, "-z", "--stdin", *attributes, data=data, index=index, folder=folder)
+    triples = iter(fields.split(b"\0")[:-1])
+    values: dict[bytes, dict[str, bytes]] = {}
+    for name, attribute, value in zip(triples, triples, triples):
+        values.setdefault(name, {})[attribute.decode()] = value
+    return values
 
 
 def marks_of(paths: list[str]) -> dict[str, set[str]]:
     """The attributes that mark each file, according to the repository that it is in, if any. A link has those of its
     own name, too."""
-    found: dict[str, set[str]] = {path: set() for path in paths}
+    marks: dict[str, set[str]] = {path: set() for path in paths}
     links = [path for path in paths if os.path.islink(path)]
     for repositories in (by_repository(paths), by_repository(links, follows=False)):
         for repository, names in repositories.items():
-            for name, attributes in marks(list(names), folder=repository).items():
-                found[names[name]] |= attributes
-    return found
+            for name, attributes in of(names, folder=repository).items():
+                marks[names[name]] |= attributes.marks
+    return marks
+
+
+def has_ignored_line(content: bytes) -> bool:
+    return any(len(line) >= TOO_LONG for line in content.split(b"\n"))
 
 
 def pattern(name: bytes) -> str:
-    """A pattern for .gitattributes that matches only this file, or `PATTERN` if that would need escapes."""
-    text = os.fsdecode(name)
-    is_plain = all(each.isalnum() or each in PLAIN for each in text)
-    return f"/{text}" if is_plain else "PATTERN"
+    """A pattern for .gitattributes that matches only this file. In quotes, git reads escapes as C does."""
+    if PLAIN.fullmatch(name):
+        return f"/{name.decode()}"
+    escaped = SPECIAL.sub(rb"\\\g<0>", name)
+    text = "".join(chr(byte) if 0x20 <= byte < 0x7F and byte not in b'"\\' else f"\\{byte:03o}" for byte in escaped)
+    return f'"/{text}"'

@@ -7,15 +7,21 @@ import tempfile
 from contextlib import contextmanager
 from typing import Iterable, Iterator, NamedTuple
 
+from ansible_vault_companions.git.blobs import PARTIAL
 from ansible_vault_companions.git.commands import answer, git
-from ansible_vault_companions.git.contents import FILE_MODES, LINK_MODE, PARTIAL, entries, listed
 from ansible_vault_companions.program import Refused, shown, temporary_folder
 
 # How messages refer to other commits.
 PARENT = "the parent commit"
 EARLIER = "an earlier commit"
+# The modes of regular files and of links, as opposed to submodules.
+FILE_MODES, LINK_MODE = {"100644", "100755"}, "120000"
 # git gives a hook the commits being merged in environment variables with this prefix.
 MERGED = "GITHEAD_"
+# How many commits git compares at once.
+BATCH = 1000
+# git compares each removed file with each new one, so it looks for renames only up to this many.
+RENAMES = ("--find-renames", "-l400")
 SHALLOW = (
     "this clone is shallow, so earlier commits are missing; run `git fetch --unshallow` first, and let a pipeline "
     "fetch all of them (fetch-depth: 0, GIT_DEPTH: 0)"
@@ -25,7 +31,7 @@ PROMISOR = r"^(extensions\.partialclone|remote\..*\.promisor)$"
 
 
 class File(NamedTuple):
-    """A file or link of a commit, with the blob of the file that was there before, if any."""
+    """A file or link of a commit, with the blob of the file that was there before, or that git calls renamed."""
 
     name: bytes
     blob: str
@@ -41,33 +47,49 @@ class Change(NamedTuple):
     files: list[File]
     # The blobs of the removed files, by name.
     gone: dict[bytes, str]
+    unmerged: list[bytes] = []
+
+
+class Difference(NamedTuple):
+    """An entry of git's raw output. A renamed file has its new name."""
+
+    name: bytes
+    old_mode: str
+    mode: str
+    old_blob: str
+    blob: str
+    status: str
+
+
+def _differences(*command: str, data: bytes = b"") -> Iterator[Difference]:
+    fields = iter(git(*command, "--raw", "-z", "--no-abbrev", data=data).split(b"\0")[:-1])
+    for about in fields:
+        old_mode, mode, old_blob, blob, status = about.decode().removeprefix(":").split()
+        name = next(fields)
+        if status.startswith("R"):
+            name = next(fields)
+        yield Difference(name, old_mode, mode, old_blob, blob, status)
 
 
 def _change(since: str, *command: str) -> Change:
-    change = Change(since, [], {})
-    for name, (old_mode, mode, old_blob, blob, status) in _differences(*command):
+    change = Change(since, [], {}, [])
+    for name, old_mode, mode, old_blob, blob, status in _differences(*command, *RENAMES):
         before = old_blob if old_mode in FILE_MODES else None
-        if mode in FILE_MODES:
-            change.files.append(File(name, blob, before))
-        elif before and mode == LINK_MODE:
-            change.files.append(File(name, blob, before, is_link=True))
-        elif before and status != "U":
+        if status == "U":
+            change.unmerged.append(name)
+        elif mode in FILE_MODES or mode == LINK_MODE:
+            change.files.append(File(name, blob, before, mode == LINK_MODE))
+        elif before:
             change.gone[name] = before
     return change
-
-
-def _differences(*command: str, data: bytes = b"") -> Iterator[tuple[bytes, list[str]]]:
-    """The names of the files that differ, with both modes, both blobs and the kind of difference."""
-    fields = git(*command, "--raw", "-z", "--no-abbrev", "--no-renames", data=data).split(b"\0")
-    return ((name, about.decode().removeprefix(":").split()) for about, name in zip(fields[::2], fields[1::2]))
 
 
 def staged() -> list[Change]:
     """The differences of the index from each parent that its commit will have."""
     ours = _staged_since(_head())
     names = {file.name for file in ours.files}
-    theirs = [_staged_since(each) for each in _merged()] if names else []
-    return [ours, *(each._replace(files=[file for file in each.files if file.name in names]) for each in theirs)]
+    theirs = [_staged_since(parent) for parent in _merged()] if names else []
+    return [ours, *(change._replace(files=[file for file in change.files if file.name in names]) for change in theirs)]
 
 
 def _staged_since(name: str) -> Change:
@@ -85,31 +107,27 @@ def _empty() -> str:
 
 def _merged() -> list[str]:
     """The commits that are being merged into the current one."""
-    found = {name.removeprefix(MERGED) for name in os.environ if name.startswith(MERGED)}
+    names = {name.removeprefix(MERGED) for name in os.environ if name.startswith(MERGED)}
     try:
         with open(git("rev-parse", "--git-path", "MERGE_HEAD").removesuffix(b"\n"), encoding="ascii") as file:
-            found.update(file.read().split())
+            names.update(file.read().split())
     except FileNotFoundError:
         pass
-    return sorted(found)
+    return sorted(names)
 
 
 def commit(name: str) -> str:
     """The ID of the commit with this name. Raises Refused if there is none."""
-    found = answer("rev-parse", "--verify", "--end-of-options", f"{name}^{{commit}}").decode().strip()
-    if not found:
+    commit_id = answer("rev-parse", "--verify", "--end-of-options", f"{name}^{{commit}}").decode().strip()
+    if not commit_id:
         raise Refused(f"{shown(name)} is not a commit in this clone; if others have it, run `git fetch`")
-    return found
+    return commit_id
 
 
 def of_commit(name: str) -> list[Change]:
     """The differences of a commit from each of its parents."""
-    return [_change(PARENT, "diff-tree", "-r", parent, name) for parent in _parents(name)]
-
-
-def _parents(name: str) -> list[str]:
-    found = git("rev-list", "--parents", "--max-count=1", name).decode().split()[1:]
-    return found or [_empty()]
+    parents = git("rev-list", "--parents", "--max-count=1", name).decode().split()[1:]
+    return [_change(PARENT, "diff-tree", "-r", parent, name) for parent in parents or [_empty()]]
 
 
 def commits_since(first: str) -> list[str]:
@@ -124,32 +142,45 @@ def of_range(first: str, last: str) -> list[Change]:
     return [_change(base[:10], "diff-tree", "-r", base, last) for base in bases if base != last]
 
 
-def of_history(name: str, text: str) -> Change:
-    """The differences of a commit's files from their versions before and after any ancestor added or removed a text."""
+def of_history(name: str) -> Change:
+    """The differences of a commit's files from all their versions in its ancestors."""
     now = {file.name: file for file in files_of(name)}
-    pickaxe = ("--stdin", "-r", "-m", "--root", "--no-commit-id", "--no-textconv", f"-S{text}")
-    found: set[File] = set()
-    for path, (old_mode, mode, old_blob, blob, _) in _differences("diff-tree", *pickaxe, data=git("rev-list", name)):
-        befores = [each for each_mode, each in ((old_mode, old_blob), (mode, blob)) if each_mode in FILE_MODES]
-        found.update(now[path]._replace(before=each) for each in befores if path in now and each != now[path].blob)
-    return Change(EARLIER, sorted(found), {})
+    names = git("rev-list", name).splitlines(keepends=True)
+    command = ("diff-tree", "--stdin", "-r", "-m", "--root", "--no-commit-id", "--no-renames")
+    files: set[File] = set()
+    for first in range(0, len(names), BATCH):
+        for difference in _differences(*command, data=b"".join(names[first : first + BATCH])):
+            file = now.get(difference.name)
+            if file and difference.mode in FILE_MODES and difference.blob != file.blob:
+                files.add(file._replace(before=difference.blob))
+    return Change(EARLIER, sorted(files), {})
 
 
 def files_named(paths: list[str]) -> list[File]:
     """The files of the index at or below these paths. git refuses a path without any."""
-    found = entries(*map(os.fsencode, paths), options=("--full-name", "--error-unmatch"))
-    return _files((name, mode, blob) for name, (mode, blob) in found.items())
+    listed = entries(git("ls-files", "-s", "-z", "--full-name", "--error-unmatch", "--", *paths))
+    return _files((name, mode, blob) for (mode, blob, stage), name in listed if stage == "0")
+
+
+def places(index: str | None) -> dict[bytes, tuple[str, str]]:
+    """The mode and the blob of each file and link of an index."""
+    return {name: (mode, blob) for (mode, blob, _), name in entries(git("ls-files", "-s", "-z", index=index))}
 
 
 def files_of(name: str) -> list[File]:
     """All files and links of a commit."""
-    found = listed(git("ls-tree", "-r", "-z", "--full-tree", name))
-    return _files((path, mode, blob) for (mode, _, blob), path in found)
+    return _files((path, mode, blob) for (mode, _, blob), path in entries(git("ls-tree", "-rz", "--full-tree", name)))
 
 
-def _files(entries: Iterable[tuple[bytes, str, str]]) -> list[File]:
+def entries(output: bytes) -> Iterator[tuple[list[str], bytes]]:
+    """For each file that git lists, the words before the tab and the name after it."""
+    lines = (line.partition(b"\t") for line in output.split(b"\0")[:-1])
+    return ((about.decode().split(), name) for about, _, name in lines)
+
+
+def _files(listed: Iterable[tuple[bytes, str, str]]) -> list[File]:
     modes = {*FILE_MODES, LINK_MODE}
-    return [File(name, blob, None, mode == LINK_MODE) for name, mode, blob in entries if mode in modes]
+    return [File(name, blob, None, mode == LINK_MODE) for name, mode, blob in listed if mode in modes]
 
 
 def refuse_incomplete() -> None:

@@ -4,17 +4,18 @@ from __future__ import annotations
 
 import os
 import shlex
-import shutil
 
 from ansible_vault_companions.envelopes.contents import is_prose
 from ansible_vault_companions.git import attributes, commands, repositories
 from ansible_vault_companions.program import Refused, shown, write_line
 
 HOOKS = ("pre-commit", "pre-merge-commit")
+# If the driver does not start, git's own merge leaves a conflict; otherwise git would keep ours without a word.
+OR_ELSE = ' || { s=$?; [ "$s" -lt 2 ] || [ "$s" -gt 127 ] || git merge-file -q %A %O %B; exit 1; }'
 # The git settings, each with the companion that it runs and the arguments after the secrets.
 SETTINGS = {
     "diff.ansible-vault.textconv": ("ansible-vault-textconv", ""),
-    "merge.ansible-vault.driver": ("ansible-vault-merge", " %O %A %B %P"),
+    "merge.ansible-vault.driver": ("ansible-vault-merge", f" %O %A %B %P{OR_ELSE}"),
 }
 # The last part of the settings that record which values --install has set.
 INSTALLED = "installed"
@@ -81,9 +82,10 @@ def for_which_repositories() -> str:
 
 
 def wanted(setting: str, program: str, secrets: list[str]) -> str:
-    """The command for a setting. It has the companion's full path if the companion is not on PATH."""
+    """The command for a setting, with the companion's whole path: PATH may be another one where git runs."""
     name, rest = SETTINGS[setting]
-    path = name if shutil.which(name) else os.path.join(os.path.dirname(program), name)
+    beside = os.path.join(os.path.dirname(program), name)
+    path = beside if os.path.exists(beside) else os.path.join(os.path.dirname(os.path.realpath(program)), name)
     words = shlex.join([path, *secrets])
     # git replaces what follows a percent sign in the command of a merge driver.
     return (words.replace("%", "%%") if "%" in rest else words) + rest

@@ -5,7 +5,7 @@ from __future__ import annotations
 import os
 from typing import Callable
 
-from ansible_vault_companions.git.contents import FILE_MODES, LINK_MODE
+from ansible_vault_companions.git.commits import FILE_MODES, LINK_MODE
 
 # How many links are followed, one after another.
 MOST_LINKS = 40
@@ -13,9 +13,9 @@ MOST_LINKS = 40
 
 def target(
     link: bytes, top: bytes, entry: Callable[[bytes], tuple[str, str]], read: Callable[[str], bytes]
-) -> tuple[bytes, str]:
-    """The file of the commit that a link leads to, and its blob; empty strings if there is none. Follows links as the
-    system does below the top directory. `entry` returns the mode and the blob at a name."""
+) -> str:
+    """The blob of the file of the commit that a link leads to; empty if there is none. Follows links as the system does
+    below the top directory. `entry` returns the mode and the blob at a name."""
     above = top.split(os.sep.encode())
     place, names = [*above], [*reversed(link.split(b"/"))]
     links, mode, blob = 0, "", ""
@@ -31,8 +31,8 @@ def target(
             place = [b""] if text.startswith(b"/") else place[:-1]
             names += reversed(text.split(b"/"))
         if links > MOST_LINKS:
-            return b"", ""
-    return (_below(above, place), blob) if mode in FILE_MODES else (b"", "")
+            return ""
+    return blob if mode in FILE_MODES else ""
 
 
 def _below(above: list[bytes], place: list[bytes]) -> bytes:

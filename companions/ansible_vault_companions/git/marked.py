@@ -1,38 +1,36 @@
-"""What a file must be that git's attributes mark: encrypted, whole, and without conflict markers."""
+"""Checks a file by itself: that it is encrypted if attributes say so, and that its envelopes are whole."""
 
 from __future__ import annotations
 
 from ansible_vault_companions.envelopes import conflicts, envelope
 from ansible_vault_companions.envelopes.document import Document
-from ansible_vault_companions.envelopes.value import WHOLE
+from ansible_vault_companions.envelopes.value import LOOSE, STRAY
 from ansible_vault_companions.git.attributes import VAULT_ALONE
 
-HEADER = envelope.MAGIC + b";"
 NOT_ENCRYPTED = "is not encrypted"
-DAMAGED = "is a damaged vault"
-ONLY_TAGGED = "has plaintext with the tag `!vault` in line {}"
-DAMAGED_VALUE = "has a damaged block in line {}"
-
-
-def conflict(document: Document, path: str) -> str:
-    """What to say of git's conflict markers in an envelope or beside one, even if git has torn it; empty if there are
-    none."""
-    if not (document.is_unmerged and (document.values or HEADER in document.data)):
-        return ""
-    return f"{conflicts.UNMERGED}; {conflicts.again(path)}"
 
 
 def fault(document: Document, marks: set[str]) -> str:
     """The reason to refuse a file with these attributes; empty if there is none."""
-    if not document.values or VAULT_ALONE in marks and not document.is_vault:
+    values = [value for value in document.values if value.style not in (STRAY, LOOSE)]
+    if not marks or document.is_vault or not document.data.strip():
+        return ""
+    if VAULT_ALONE in marks or not document.values:
         return NOT_ENCRYPTED
     if document.fault:
-        return document.fault
-    for value in document.values:
-        if value.style == WHOLE:
-            return "" if value.is_whole else DAMAGED
-        if not value.is_envelope:
-            return ONLY_TAGGED.format(value.line)
-        if not value.is_whole:
-            return DAMAGED_VALUE.format(value.line)
-    return ""
+        return f"cannot be checked: {document.fault}"
+    if not any(value.is_envelope for value in values):
+        return NOT_ENCRYPTED
+    line = next((value.line for value in values if not value.is_envelope), 0)
+    return f"has plaintext with the tag `!vault` in line {line}" if line else ""
+
+
+def damage(document: Document) -> str:
+    """What is wrong with the envelopes of a file; empty if they are whole."""
+    if document.is_unmerged and (document.values or envelope.START.search(document.data)):
+        return conflicts.UNMERGED
+    if document.is_vault:
+        return "" if envelope.is_whole(document.data) else "is a damaged vault"
+    envelopes = (value for value in document.values if value.is_envelope and value.style != LOOSE)
+    line = next((value.line for value in envelopes if not value.is_whole), 0)
+    return f"has a damaged block in line {line}" if line else ""

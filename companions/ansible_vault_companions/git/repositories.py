@@ -13,7 +13,14 @@ from ansible_vault_companions.program import Refused
 
 
 def top() -> str:
-    return os.fsdecode(git("rev-parse", "--show-toplevel").removesuffix(b"\n"))
+    """The top directory of the current repository. Only git's variables may name one without `.git`: a directory that
+    looks like a bare repository may be a part of another one."""
+    if "GIT_DIR" in os.environ:
+        return os.fsdecode(git("rev-parse", "--show-toplevel").removesuffix(b"\n"))
+    folder = _repository(os.getcwd())
+    if not folder:
+        raise Refused("the current directory is not in a git repository")
+    return folder
 
 
 def by_repository(paths: list[str], follows: bool = True) -> dict[str, dict[bytes, str]]:

@@ -7,7 +7,7 @@ from typing import NamedTuple
 
 from ansible_vault_companions.files import reading
 from ansible_vault_companions.git.commands import answer, git
-from ansible_vault_companions.git.contents import entry, listed
+from ansible_vault_companions.git.commits import entries
 from ansible_vault_companions.git.repositories import by_repository
 from ansible_vault_companions.program import Refused
 
@@ -90,7 +90,8 @@ def unmerged_of(paths: list[str]) -> set[str]:
 def unmerged_in_index() -> list[tuple[bytes, str]]:
     """The names and blobs of the unmerged files whose staged content is still our version."""
     noted = [(each.name, each.ours) for each in unmerged()]
-    return [(name, blob) for name, blob in noted if entry(name)[1] == blob]
+    staged = {name: blob for (_, blob, _), name in entries(git("ls-files", "-s", "-z"))}
+    return [(name, blob) for name, blob in noted if staged.get(name) == blob]
 
 
 def _blobs_of(path: str, repository: str) -> list[str]:
@@ -104,8 +105,8 @@ def _blobs_of(path: str, repository: str) -> list[str]:
 
 def _theirs(folder: str | None) -> set[tuple[bytes, str]]:
     """The names and blobs of theirs in the conflicts of an index, including those that are staged as resolved."""
-    entries = listed(git("ls-files", "-z", "--unmerged", "--resolve-undo", folder=folder))
-    return {(name, blob) for (_, blob, stage), name in entries if stage == THEIRS}
+    stages = entries(git("ls-files", "-z", "--unmerged", "--resolve-undo", folder=folder))
+    return {(name, blob) for (_, blob, stage), name in stages if stage == THEIRS}
 
 
 def _head(folder: str | None = None) -> str:

@@ -11,7 +11,7 @@ from ansible_vault_companions.files import reading, replacing
 from ansible_vault_companions.files.envelopes import MAGIC
 from ansible_vault_companions.files.last_save import LastSave
 from ansible_vault_companions.files.private_folder import PrivateFolder
-from ansible_vault_companions.git import leaks
+from ansible_vault_companions.git import facts
 from ansible_vault_companions.plaintext.copies import NAME, Copies
 from ansible_vault_companions.plaintext.loading import Values, Vault
 from ansible_vault_companions.plaintext.setting import SingleValue
@@ -77,7 +77,7 @@ class Edit(Copies):
                 replacing.replace(vault.target, content, vault.content)
         except (Refused, OSError) as failed:
             raise self.keep_encrypted(content, failed, is_finished=True) from None
-        names = leaks.now_plain(vault.content or b"", content)
+        names = facts.names_of_plain(vault.content or b"", content)
         if names:
             write_error(f"{NAME}: {program.shown(vault.target)}: no longer encrypted: {', '.join(names)}")
         return True

@@ -1,0 +1,153 @@
+"""What the hook has to know of a content: its envelopes and its plaintexts, by the keys that lead to them.
+
+All items of a list have the same keys, so their order does not matter. An alias counts as what it stands for.
+"""
+
+from __future__ import annotations
+
+import re
+from collections import Counter
+from typing import Iterable, NamedTuple
+
+from ansible_vault_companions.envelopes import conflicts, envelope
+from ansible_vault_companions.envelopes.document import Document, mentions
+from ansible_vault_companions.envelopes.scalars import BINARY, NotYaml, scalars
+from ansible_vault_companions.envelopes.strays import strays
+from ansible_vault_companions.envelopes.value import ALIAS, JSON_KEY, NO_SCALAR, Path, Value
+from ansible_vault_companions.files.changes import Spans
+from ansible_vault_companions.git import marked
+from ansible_vault_companions.git.attributes import DIFF
+
+# The key of every list item, and the key that merges a mapping into another, which is not part of a path.
+ITEM, MERGE = "[]", "<<"
+NOTHING = (b"", b"~", b"null")
+JINJA = re.compile(rb"(?:\s|\{\{(?:(?!\{\{|\}\}).)+\}\})+", re.DOTALL)
+# The most scalars that aliases may stand for.
+MOST = 1_000_000
+TOO_MANY = "its aliases stand for too many values"
+# What the value of an attribute cannot have, or what separates keys.
+UNWRITTEN = re.compile(r"[^\w$@/:+*-]")
+
+Keys = tuple[str, ...]
+# For each text at some keys, a number that stands for it, and how often it is there.
+Texts = dict[Keys, "Counter[int]"]
+NONE: Counter[int] = Counter()
+# With this word, every content matters.
+ANY = frozenset([b""])
+
+
+class Facts(NamedTuple):
+    is_vault: bool = False
+    is_empty: bool = False
+    is_yaml: bool = True
+    # What is wrong with its envelopes, and with the whole if it is marked.
+    damage: str = ""
+    unencrypted: str = marked.NOT_ENCRYPTED
+    encrypted: Texts = {}
+    plain: Texts = {}
+
+
+def facts(data: bytes, words: frozenset[bytes] = frozenset()) -> Facts:
+    """Reads a content that may have an envelope, or has one of these words."""
+    if not data.strip():
+        return Facts(is_empty=True, unencrypted="")
+    if data.startswith(envelope.MAGIC):
+        return Facts(is_vault=True, unencrypted="", damage=marked.damage(Document(data)))
+    if not (mentions(data) or any(word in data for word in words)):
+        return Facts()
+    document, leaves = _document(data)
+    # It may be a conflict of two vaults.
+    is_vault = any(side.startswith(envelope.MAGIC) for side in (conflicts.sides(data) or {}).values())
+    unencrypted = marked.fault(document, {DIFF})
+    made = Facts(is_vault, False, not document.fault, marked.damage(document), unencrypted, {}, {})
+    for path, value in leaves:
+        text, texts = value.text.strip(), made.encrypted if value.is_value and value.is_envelope else made.plain
+        if texts is made.encrypted or not (text.lower() in NOTHING or JINJA.fullmatch(text)):
+            texts.setdefault(_keys(path), Counter())[hash(text)] += 1
+    return made
+
+
+def _document(data: bytes) -> tuple[Document, list[tuple[Path, Value]]]:
+    """The envelopes, and all scalars at each path that leads to them, from one look at the nodes."""
+    document = Document(data)
+    leaves: list[tuple[Path, Value]] = []
+    try:
+        nodes = list(scalars(data, every=True))
+        leaves = _leaves(nodes)
+        document.values = [node for node in nodes if node.is_value]
+    except NotYaml as fault:
+        document.fault = str(fault)
+    if BINARY not in data:
+        document.values += strays(data, Spans((value.start, value.end) for value in document.values))
+    return document, leaves
+
+
+def _leaves(nodes: list[Value]) -> list[tuple[Path, Value]]:
+    leaves: list[tuple[Path, Value]] = []
+    # For each anchor its path, and the number of its first scalar.
+    anchors: dict[str, tuple[Path, int]] = {}
+    for node in nodes:
+        if node.style == ALIAS:
+            base, first = anchors.get(node.anchor, ((), len(leaves)))
+            for number in range(first, len(leaves)):
+                path, value = leaves[number]
+                if path[: len(base)] != base:
+                    break
+                leaves.append((node.path + path[len(base) :], value))
+        elif node.anchor:
+            anchors[node.anchor] = node.path, len(leaves)
+        if node.style not in (NO_SCALAR, ALIAS):
+            leaves.append((node.path, node))
+        if len(leaves) > MOST:
+            raise NotYaml(TOO_MANY)
+    return leaves
+
+
+def _keys(path: Path) -> Keys:
+    keys: list[str] = []
+    for before, step in zip((None, *path), path):
+        if step not in (MERGE, JSON_KEY) and not (isinstance(step, int) and before == MERGE):
+            keys.append(ITEM if isinstance(step, int) else step)
+    return tuple(keys)
+
+
+def written(keys: Keys) -> str:
+    """A key path as in .gitattributes, with what cannot be written there percent-encoded: `users[].password`."""
+    return ".".join(key if key is ITEM else _encoded(key) for key in keys).replace(f".{ITEM}", ITEM) or "."
+
+
+def _encoded(key: str) -> str:
+    return UNWRITTEN.sub(lambda match: "".join(f"%{byte:02X}" for byte in match[0].encode()), key)
+
+
+def lost(before: Facts, after: Facts) -> list[Keys]:
+    """Where an envelope is gone. A vault keeps all."""
+    if after.is_vault:
+        return []
+    return [keys for keys, texts in before.encrypted.items() if texts - after.encrypted.get(keys, NONE)]
+
+
+def came(before: Facts, after: Facts) -> set[Keys]:
+    """Where there is new plaintext."""
+    return {keys for keys, texts in after.plain.items() if texts - before.plain.get(keys, NONE)}
+
+
+def branches(paths: Iterable[Keys]) -> set[Keys]:
+    """These and those above them."""
+    return {keys[:length] for keys in paths for length in range(len(keys) + 1)}
+
+
+def touched(paths: Iterable[Keys], others: set[Keys]) -> list[Keys]:
+    """Those of the paths which are one of the others, or are above or below one."""
+    below = branches(others)
+    return [keys for keys in paths if keys in below or any(keys[:n] in others for n in range(len(keys)))]
+
+
+def now_plain(before: Facts, after: Facts) -> list[Keys]:
+    """Where an envelope is gone, and there is new plaintext instead."""
+    return touched(lost(before, after), came(before, after))
+
+
+def names_of_plain(before: bytes, after: bytes) -> list[str]:
+    """What an edit of a file with values leaves in plaintext."""
+    return [written(keys) for keys in now_plain(facts(before, ANY), facts(after, ANY))]
