@@ -64,6 +64,7 @@ def test_found(make: Make, place: Path) -> None:
     check_files(place)
     modes = {path: stat.S_IMODE(path.stat().st_mode) for path in place.rglob("*")}
     programs = {place / PROGRAM, *(place / "lib/ansible-vault").glob("ansible-vault-*")}
+    programs |= {place / "share/doc/ansible-vault/testkit" / name for name in ("ansible-value", "make", "run")}
     run = {path for path in modes if path.is_dir() or path.resolve() in programs}
     assert modes == {path: 0o755 if path in run else 0o644 for path in modes}
     needs("man")
