@@ -13,7 +13,6 @@ import pytest
 from ansible_vault_companions import program as companion
 from ansible_vault_companions.alias.command_line import COMMANDS
 from ansible_vault_companions.files import private_folder, replacing
-from ansible_vault_companions.git import unmerged
 from ansible_vault_companions.plaintext import edits
 from ansible_vault_companions.secrets import settings
 from lib.needs import needs
@@ -99,19 +98,12 @@ def test_choices() -> None:
     assert named == [name for [line] in code for name in re.findall(r'"([\w/]+)"', line)]
 
 
-def test_next_steps() -> None:
-    """The page of ansible-vault-merge quotes the commands that its message tells the user to run."""
-    told = re.findall(r"`(git [^`]+?) ?\{0\}`", COMPANIONS["ansible-vault-merge"].read_text())
-    page = PAGE.with_name("ansible-vault-merge.1").read_text()
-    assert len(told) == 2 and {*told} <= {*re.findall(r"^\.Ql (git .+?)(?: Ns)? Ar path", page, re.MULTILINE)}
-
-
 def test_files() -> None:
     """The pages name the files that companions make."""
     pages = "".join(companion_page(name).get("FILES", "") for name in COMPANIONS)
     made = {f"{each}*" for each in (private_folder.PREFIX, replacing.PREFIX, replacing.SAVED)}
     named = re.findall(r"^\.It Pa (.*ansible-vault-.*)$", pages, re.MULTILINE)
-    assert {*named} == made | {f".git/{unmerged.CONFLICTS}"}
+    assert {*named} == made
 
 
 def plain(text: str) -> str:

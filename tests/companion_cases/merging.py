@@ -1,5 +1,6 @@
-"""ansible-vault-merge as git runs it: two branches change a vault, or values of YAML that are vaults. Conflicts that
-git leaves without it, or if it fails. All merges and edits under a few secrets, without a process for each envelope.
+"""ansible-vault-merge as git runs it: two branches change a vault, or values of YAML that are vaults. What cannot be
+merged is a conflict of whole envelopes in the file. All merges and edits under a few secrets, without a process for
+each envelope.
 """
 
 import itertools
@@ -9,16 +10,15 @@ from pathlib import Path
 
 import pytest
 
-from ansible_vault_companions.merging.lines import merged_lines
-from ansible_vault_companions.merging.texts import merged
-from ansible_vault_companions.program import Refused
+from ansible_vault_companions.envelopes import conflicts
+from ansible_vault_companions.merging.lines import Versions, merged_lines
 from ansible_vault_companions.yaml import inline
 from ansible_vault_companions.yaml.matching import Choice
-from companion_cases import CHECK, EDIT, HOOK, MERGE, PASSWORDS, TEXT, Done, Place, block, decrypted, edit, ended
-from companion_cases import lines_of, sealed, silent, texts, versions
-from companion_cases.random_merges import ITEM, LABELS, SIMPLE, Merge, Model, Value, blocks_of, check_new, document
+from companion_cases import CHECK, EDIT, HOOK, MERGE, PASSWORDS, Done, Place, block, decrypted, ended
+from companion_cases import sealed, silent, texts, versions
+from companion_cases.random_merges import ITEM, LABELS, SIMPLE, Merge, Model, Value, blocks_of, check_made, document
 from companion_cases.random_merges import secret_of
-from companion_cases.repository import BASE, BOTH, NOT_MERGED, OURS, SALTS, THEIRS, add_and_commit, commit, fork
+from companion_cases.repository import BASE, BOTH, OURS, SALTS, THEIRS, add_and_commit, commit, fork
 from companion_cases.repository import repository, set_driver, under_git
 from lib.needs import needs_pyyaml
 from model.vaults import seal, yaml_block
@@ -27,6 +27,7 @@ pytestmark = pytest.mark.usefixtures("git")
 
 ATTRIBUTES = "*.yml merge=ansible-vault\n"
 TAKE_THEIRS = "sed -i '/^<<<</,/^====/d; /^>>>>/d' \"$1\""
+WHOLE = "not merged, so both sides are whole in the file: "
 
 
 def branches(
@@ -37,6 +38,12 @@ def branches(
     set_driver(place, *(words or place.by_file("old")))
     fork(place, base, ours, other)
     return place.shell("git merge --no-edit theirs")
+
+
+def both(sides: Sequence[bytes], size: int = 7) -> bytes:
+    """Return a conflict of two texts."""
+    markers = [sign * size + name + b"\n" for sign, name in ((b"<", b" ours"), (b"=", b""), (b">", b" theirs"))]
+    return markers[0] + sides[0] + markers[1] + sides[1] + markers[2]
 
 
 def values(a: bytes, b: bytes) -> bytes:
@@ -51,7 +58,7 @@ FILES = {
     "values.yml": [values(b"a", b"b"), values(b"A", b"b"), values(b"a", b"B")],
     "same.yml": [sealed("old", BASE), sealed("old", OURS), seal(PASSWORDS["old"], BASE, b"", SALTS[1])],
     "quoted.yml": [LINES, LINES.replace(b"1", b"2", 1), LINES + QUOTED],
-    "torn.yml": [sealed("old", b"x: %s\n1\n2\n3\n4\ny: %s\n" % (side, side)) for side in SIDES],
+    "torn.yml": [sealed("old", b"x: %s\n" % side) for side in SIDES],
     "torn_values.yml": [values(side, b"b") for side in SIDES],
 }
 
@@ -60,30 +67,22 @@ def test_branches(place: Place) -> None:
     """A single secret decrypts every label. A result that equals ours, byte for byte, counts as merged."""
     base, ours, theirs = ({name: each[number] for name, each in FILES.items()} for number in range(3))
     done = branches(place, base, ours, theirs)
-    conflicts = (f"{MERGE}: torn.yml: 2 conflicts; resolve with {EDIT}\n", f"{MERGE}: torn_values.yml: 1 conflict;")
-    ended("a merge", done, 1, *conflicts)
+    why = f"{MERGE}: torn.yml: {WHOLE}both sides changed the same lines; resolve with {EDIT}\n"
+    ended("a merge", done, 1, why, f"{MERGE}: torn_values.yml: 1 conflict; resolve with {EDIT}\n")
     unmerged = place.shell("git diff --name-only --diff-filter=U").stdout
     assert unmerged == "torn.yml\ntorn_values.yml\n", "the other files are merged"
     assert decrypted("old", place.get("vault.yml")) == BOTH, "both changes are in the vault"
     assert place.get("values.yml") == values(b"A", b"B"), "values keep the envelopes of their sides"
     assert place.get("same.yml") == ours["same.yml"]
     assert place.get("quoted.yml") == ours["quoted.yml"] + QUOTED, "values in quotes are merged, too"
-    marked = decrypted("old", place.get("torn.yml")) or b""
-    markers = b"<<<<<<< ours\nx: ours\n=======\nx: theirs\n>>>>>>> theirs\n"
-    assert marked == b"%s1\n2\n3\n4\n%s" % (markers, markers.replace(b"x", b"y")), "the markers are within"
-    assert place.get("torn_values.yml").startswith(b"<<<<<<< ours\na: !vault |\n"), "around values are markers"
-    assert texts(place.get("torn_values.yml"), "old") == [b"ours", b"theirs", b"b"], "and they stay encrypted"
+    assert place.get("torn.yml") == both(FILES["torn.yml"][1:]), "a vault stays whole"
+    rest = values(b"ours", b"b").removeprefix(block("old", b"ours", name="a"))
+    wanted = both([block("old", side, name="a") for side in SIDES[1:]]) + rest
+    assert place.get("torn_values.yml") == wanted, "so does a value"
     checked = place.run(CHECK, *place.by_file("old"), ".")
-    ended("the check", checked, 1, "./torn.yml: default: its plaintext has git's conflict markers\n")
+    ended("the check", checked, 1, *(f"./{name}: has git's conflict markers" for name in unmerged.split()))
     place.shell(f"git add -A; {HOOK} --install")
-    done = commit(place)
-    ended("the hook", done, 1, *(f"{HOOK}: {name} has git's conflict markers\n" for name in unmerged.split()))
-    for name in unmerged.split():
-        done = edit(place, TAKE_THEIRS, *place.by_file("old"), name)
-        ended(f"{EDIT} {name}", done, 0, "it has git's conflict markers")
-    assert decrypted("old", place.get("torn.yml")) == b"x: theirs\n1\n2\n3\n4\ny: theirs\n", "the vault"
-    assert place.get("torn_values.yml") == theirs["torn_values.yml"], "the value keeps its envelope"
-    silent("the commit", add_and_commit(place))
+    ended("the hook", commit(place), 1, *(f"{HOOK}: {name} " for name in unmerged.split()))
 
 
 MOVED = {"a tag": (b"!vault", b"!Vault"), "a key": (b"k:", b"key:"), "a comment": (b"k:", b"# k: x\nt:")}
@@ -96,22 +95,14 @@ def test_rotated_and_moved(place: Place, what: str, are_exchanged: bool) -> None
     base = b"a: 1\nb: 1\n" + block("old", name="k") + b"y: 1\nz: 1\n"
     sides = [base.replace(block("old", name="k"), block("new", name="k")), base.replace(*MOVED[what])]
     merge = versions(place, "a.yml", base, *(reversed(sides) if are_exchanged else sides))
-    done = place.run(MERGE, *place.by_file("old"), *place.by_file("new"), *merge)
-    ended(what, done, 1, "a.yml: 1 conflict")
-    assert TEXT in texts(place.get("a.yml"), "new"), "the new one is there"
+    silent(what, place.run(MERGE, *place.by_file("old"), *place.by_file("new"), *merge))
+    assert place.get("a.yml") == sides[0].replace(*MOVED[what]), "the new one is where the old one was moved"
 
 
 OLD, PROD = ([sealed(name, text) for text in (BASE, OURS, THEIRS)] for name in ("old", "prod"))
 # Versions whose lines git would merge, although together they are not YAML.
 FIVE = block("old") + b"a: 1\nb: 1\nc: 1\nd: 1\ne: 1\n"
 BROKEN = [FIVE, FIVE.replace(b"a: 1", b'a: "1').replace(b"e: 1", b'e: 1"'), FIVE.replace(b"c: 1", b'c: "1"')]
-NO_SIDE = "git can merge its lines, but the result has a value"
-
-
-def within(tag: bytes) -> Sequence[bytes]:
-    """Return versions of a text with an envelope, in which both sides change digits."""
-    text = b"text: |\n  a: %s |\n%s\n" % (tag, lines_of(sealed("old", BASE), 4))
-    return text, text.replace(b"AES256\n    3", b"AES256\n    4"), text[:-2] + b"0\n"
 
 
 # Versions that are not merged, and why.
@@ -119,44 +110,58 @@ REFUSED: dict[str, Sequence[bytes]] = {
     "base: no secret decrypts this vault (no label; ": [sealed("dev2"), *OLD[1:]],
     "theirs: no secret decrypts this vault (no label; ": [*OLD[:2], sealed("dev2", THEIRS)],
     "one side is a vault and the other is not": [*OLD[:2], THEIRS],
-    "both sides changed its secret, and the new secrets differ": [sealed(name) for name in ("old", "new", "prod2")],
+    "the passwords of the two sides differ; choose": [sealed(name) for name in ("old", "new", "prod2")],
     "git merge-file cannot merge it; it may be binary": [sealed("old", b"\0%d" % number) for number in range(3)],
     "the labels differ: default in ours, prod in theirs": [*OLD[:2], sealed("prod", THEIRS, "prod")],
     # The secret of another label decrypts a side.
-    "ours: its label is default, but prod@": [*PROD[:2], sealed("dev", b"x")],
-    "ours: its label is prod, but dev@": [sealed(name, TEXT, "prod") for name in ("prod", "dev", "prod")],
-    "theirs: its label is prod, but dev@": [sealed(name, TEXT, "prod") for name in ("prod", "prod", "dev")],
-    "theirs: line 1: secret: its label is prod, but dev@": [
-        block(name, text, "prod") for name, text in (("prod", b"old"), ("prod", b"new"), ("dev", b"old"))
-    ],
-    "git can merge its lines, but the result is not valid YAML (line ": BROKEN,
-    f"{NO_SIDE} that": within(b"!vault"),
-    NO_SIDE: within(b"vault"),
+    "ours: its label is prod, but dev@": [sealed("prod"), sealed("dev", OURS, "prod"), sealed("prod", THEIRS)],
+    "theirs: its label is prod, but dev@": [sealed("old"), sealed("old", OURS), sealed("dev", THEIRS, "prod")],
+    "git can merge its lines, but then line ": BROKEN,
 }
-NOT_DONE = f"{MERGE}: a.yml: not merged, so ours stays as it was: "
-NEXT = "  correct that and run `git checkout --merge a.yml`, or take what you need from theirs: `git show :3:a.yml`"
 
 
 @pytest.mark.parametrize("why", REFUSED)
 def test_those_that_fail(place: Place, why: str) -> None:
-    """Ours keeps every byte, no other file is left, and the message says why, and how to continue."""
+    """Both sides are whole in the file, no other file is left, and the message says why."""
     secrets = [word for name in ("old", "new", "prod2") for word in place.by_file(name)]
     secrets += [*place.by_id("dev", "dev"), *place.by_id("prod", "prod")]
     base, ours, theirs = REFUSED[why]
     done = place.run(MERGE, *secrets, *versions(place, "a.yml", base, ours, theirs))
-    lines = done.stderr.splitlines()
-    assert (done.returncode, done.stdout, lines[1:]) == (1, "", [NEXT]), lines
-    assert lines[0].startswith(f"{NOT_DONE}{why}"), lines
-    assert place.files() == {"a.yml": ours}, "ours stays"
+    assert (done.returncode, done.stdout, done.stderr.count("\n")) == (1, "", 1), done
+    assert done.stderr.startswith(f"{MERGE}: a.yml: {WHOLE}{why}"), done.stderr
+    assert place.files() == {"a.yml": both([ours, theirs])}, "both are whole"
 
 
 def test_what_fails(place: Place) -> None:
-    """A file is missing, or the tool fails."""
+    """A file is missing, there is no secret, the tool fails, or a signal ends the driver. Whatever git does then, both
+    sides are in the file, with markers of git's size."""
     words = [*place.by_file("old"), *versions(place, "a.yml", *OLD)]
     ended("no base", place.run(MERGE, *words[:2], "../missing", *words[3:]), 1, "is missing")
-    place.wrap_tool('[ "$1" != encrypt ] || exit 4')
-    ended("the tool fails", place.run(MERGE, *words), 1, "ansible-vault ended with status 4")
     assert place.files() == {"a.yml": OLD[1]}, "ours stays"
+    failures = {"exit 4": "ansible-vault ended with status 4", "kill -9 $PPID": "", "": "no secret is given"}
+    for tool, why in failures.items():
+        place.put("a.yml", OLD[1])
+        place.wrap_tool(f'[ "$1" != view ] || {tool or ":"}')
+        done = place.run(MERGE, *(words[:-1] if tool else words[2:-1]), "9", words[-1])
+        ended(tool, done, 1 if why else -9, why)
+        assert place.files() == {"a.yml": both(OLD[1:], 9)}, tool
+
+
+def test_chosen_secret(place: Place) -> None:
+    """Text goes under a password that its side did not use only if --encrypt-vault-id names that password's label."""
+    secrets = [*place.by_id("dev", "dev"), *place.by_id("prod", "prod"), *place.by_id("prod", "prod2")]
+    vaults = [sealed(name, text, name) for name, text in zip(("dev", "dev", "prod"), (BASE, OURS, THEIRS))]
+    words = [*secrets, *versions(place, "a.yml", *vaults)]
+    ended("no label", place.run(MERGE, "--encrypt-vault-id", "x", *words), 1, "no secret has the label of --encrypt")
+    place.put("a.yml", vaults[1])
+    silent("prod", place.run(MERGE, "--encrypt-vault-id", "prod", *words))
+    assert decrypted("prod", place.get("a.yml")) == BOTH
+    same = [block(name, b"new", "prod", name="a") for name in ("prod", "prod2")]
+    words = [*secrets, *versions(place, "b.yml", b"", *same)]
+    ended("two passwords of a value", place.run(MERGE, *words), 1, "b.yml: 1 conflict")
+    place.put("b.yml", same[0])
+    silent("one of them is chosen", place.run(MERGE, "--encrypt-vault-id", "prod", *words))
+    assert place.get("b.yml") == same[0]
 
 
 # Makes changes that the driver cannot merge. Each operation meets them.
@@ -175,51 +180,30 @@ OPERATIONS = {
     "am": "git format-patch -q -1 --output-directory .. theirs && git am -q -3 ../0001*",
     "stash": "git checkout -q base && cp ../theirs.yml a.yml && git stash -q && git checkout -q ours; git stash pop",
 }
-BY_OLD = "--vault-password-file ../secrets/old"
-# Why the driver fails: its secret, if any, which does not decrypt theirs, and what its tool does first.
-FAILURES = itertools.cycle([("", ":"), (BY_OLD, "kill -9 $PPID"), (BY_OLD, ":")])
-AGAIN = "  `git checkout --merge a.yml` merges it, or says why not; to keep ours, commit with --no-verify"
 
 
-@pytest.mark.parametrize("line, failure", zip(OPERATIONS.values(), FAILURES), ids=OPERATIONS)
-def test_failed_drivers(place: Place, line: str, failure: tuple[str, str]) -> None:
-    """git would commit ours without theirs. The hook and the check refuse that until the user resets the file, merges
-    it or commits on purpose. The merged text is under the secret that the other side has changed to."""
-    secret, tool = failure
+@pytest.mark.parametrize("line", OPERATIONS.values(), ids=OPERATIONS)
+def test_failed_drivers(place: Place, line: str) -> None:
+    """Without the secret of theirs, both sides stay whole in the file. Hook and check refuse that without a secret.
+    The merged text is under the secret that the other side has changed to."""
     under_git(place, ATTRIBUTES)
-    # If a signal ended the driver itself, newer versions of git would give up the whole merge.
-    place.run("git", "config", "merge.ansible-vault.driver", f"{MERGE} {secret} %O %A %B %P || exit 1")
-    place.wrap_tool(tool)
+    set_driver(place, *place.by_file("old"))
     for name, content in zip(("base", "ours"), OLD):
         place.put(f"../{name}.yml", content)
     for name, salt in zip(("theirs", "undone"), SALTS):
         place.put(f"../{name}.yml", seal(PASSWORDS["new"], THEIRS, b"", salt))
     place.shell(f"{FORK}{line}")
-    assert place.get("a.yml") == OLD[1], "ours stays"
+    found = conflicts.sides(place.get("a.yml")) or {}
+    assert {decrypted("old", side) or decrypted("new", side) for side in found.values()} == {OURS, THEIRS}
     place.run(HOOK, "--install")
-    place.wrap_tool(":")
-    both = [*place.by_file("old"), *place.by_file("new")]
-    check = [CHECK, *both, "a.yml"]
-    ended("the check", place.run(*check), 1, f"{CHECK}: a.yml: {NOT_MERGED}\n")
+    check = [CHECK, *place.by_file("old"), *place.by_file("new"), "a.yml"]
+    ended("the check", place.run(*check), 1, f"{CHECK}: a.yml: has git's conflict markers")
     for done in (commit(place, "-a"), add_and_commit(place)):
-        assert (done.returncode, done.stderr.splitlines()) == (1, [f"{HOOK}: a.yml {NOT_MERGED}", AGAIN]), "the hook"
-    ended("the check of what is staged", place.run(*check), 1, f"{CHECK}: a.yml: {NOT_MERGED}\n")
-    set_driver(place, *both)
-    place.shell("cp -r . ../given-up && cd ../given-up && git reset -q --hard")
-    place.shell("cp -r . ../merged && cd ../merged && git checkout --merge -- a.yml")
-    place.shell("git commit -qm meant --no-verify --allow-empty")
-    for folder in (".", "../given-up", "../merged"):
-        done = place.shell(f"echo c: 1 > c.yml; git add -A; {HOOK} && {' '.join(check)}", folder=folder)
-        assert (done.returncode, done.stderr) == (0, ""), f"afterwards in {folder}"
-    assert decrypted("new", place.get("../merged/a.yml")) == BOTH, "both changes are there"
-
-
-TORN = "has git's conflict markers within an envelope, since it was merged without ansible-vault-merge"
-COMMAND = "git checkout --merge a.yml"
-SET_UP = (
-    f"set up the merge driver (see `ansible-vault-merge --help`), and run `{COMMAND}`; if a commit has these markers, "
-    "`man ansible-vault-merge` says how to merge the file again"
-)
+        ended("the hook", done, 1, f"{HOOK}: a.yml ")
+    set_driver(place, *place.by_file("old"), *place.by_file("new"))
+    place.shell("git checkout --merge -- a.yml")
+    silent("afterwards", place.shell(f"git add -A; {HOOK}"))
+    assert decrypted("new", place.get("a.yml")) == BOTH, "both changes are there"
 
 
 def envelopes(*labels: str) -> list[bytes]:
@@ -242,64 +226,75 @@ TORN_FILES = {
 @pytest.mark.parametrize("contents, wanted", TORN_FILES.values(), ids=TORN_FILES)
 @pytest.mark.parametrize("style", ("merge", "diff3"))
 def test_without_driver(place: Place, style: str, contents: list[bytes], wanted: list[bytes]) -> None:
-    """Each companion prints the command that merges the file."""
+    """Each companion refuses what git alone leaves, and the driver merges it afterwards."""
     secrets = [*place.by_file("old"), *place.by_id("dev", "old"), *place.by_id("prod", "old")]
     under_git(place, ATTRIBUTES)
     place.run("git", "config", "merge.conflictStyle", style)
     fork(place, *({"a.yml": content} for content in contents))
     ended("git alone", place.shell("git merge --no-edit theirs"), 1, "Merge conflict in a.yml")
-    for name in (EDIT, CHECK):
-        done = place.run(name, *secrets, "a.yml", EDITOR="touch ../s")
-        ended(name, done, 1, f"a.yml: {TORN}; {SET_UP}\n")
-    assert not (place.path / "s").exists(), "no editor is started"
-    done = place.shell(f"git add -A; {HOOK}")
-    assert (done.returncode, done.stderr) == (1, f"{HOOK}: a.yml {TORN}\n  {SET_UP}\n"), "the hook"
+    ended("the check", place.run(CHECK, *secrets, "a.yml"), 1, "a.yml: has git's conflict markers")
+    ended("the hook", place.shell(f"git add -A; {HOOK}"), 1, f"{HOOK}: a.yml has git's conflict markers")
     set_driver(place, *secrets)
-    done = place.shell(COMMAND)
+    done = place.shell("git checkout --merge a.yml")
     assert done.stderr.count(": 1 conflict; resolve with") == len(wanted) - 1, "the driver merges it"
     content = place.get("a.yml")
     found = texts(content, "old") if b"!vault" in content else [decrypted("old", content)]
     assert [text for text in found if text != BASE] == wanted, "all that it is made of is whole"
-    edit(place, 'cp "$1" ../seen', *secrets, "a.yml")
-    seen = (place.path / "seen").read_bytes().split()
-    assert {*seen} >= {*b" ".join(wanted).split()}, "the editor shows it in plaintext"
 
 
-NAME = "deep/er/a.yml"
-ENDS = [("", b"\n"), ("*.yml text eol=crlf\n", b"\r\n"), ("*.yml -text\n", b"\r\n")]
+# Two merges of the same branches in turn, and then the merge of the two merges.
+CROSSED = """
+git checkout -qb crossed && git merge --no-edit theirs; cp ../merged.yml a.yml && git add -A && git commit -qm crossed
+git checkout -q theirs && git merge --no-edit @{-1}~1; cp ../merged.yml a.yml && git add -A && git commit -qm again
+change() { cp ../$1.yml a.yml && git commit -qam change; }
+change last && git checkout -q crossed && change first && git merge --no-edit theirs
+"""
 
 
-@pytest.mark.parametrize("attributes, end", ENDS)
-def test_edited(place: Place, attributes: str, end: bytes) -> None:
-    """A vault saved with git's conflict markers is noted, and the hook refuses it until they are gone; whether or not
-    git converts the line ends."""
-    markers = "printf '<<<<<<< ours\\nx: 1\\n=======\\nx: 2\\n>>>>>>> theirs\\n'"
-    still = f"{NAME}: it still has git's conflict markers; edit it again to remove them\n"
-    words, vault = [*place.by_file("old"), NAME], sealed("old").replace(b"\n", end)
-    place.put(NAME, vault)
-    ended("in no repository", edit(place, f'{markers} > "$1"', *words), 0, still)
-    assert "fatal" not in edit(place, "true", *words).stderr, "git says nothing of it"
-    under_git(place, attributes)
-    place.put(NAME, vault)
+@pytest.mark.parametrize("kind", ("a vault", "a value"))
+def test_crossed(place: Place, kind: str) -> None:
+    """The base is a merge of two bases with a conflict, and still tells which side changed a line."""
+    lines = [f"{number}: 1\n" for number in range(9)]
+
+    def file(**changes: str) -> bytes:
+        text = "".join(changes.get(f"_{line[0]}", line) for line in lines).encode()
+        return sealed("old", text) if kind == "a vault" else text + block("old", name="a")
+
+    contents: dict[str, dict[str, str]] = {"first": {"_0": "0: I\n"}, "last": {"_8": "8: I\n"}, "merged": {}}
+    for name, changes in contents.items():
+        place.put(f"../{name}.yml", file(_4="4: both\n", **changes))
+    under_git(place, ATTRIBUTES)
+    set_driver(place, *place.by_file("old"))
+    fork(place, *({"a.yml": file(_4=f"4: {side}\n")} for side in ("base", "ours", "theirs")))
+    done = place.shell(CROSSED)
+    assert done.returncode == 0, done.stderr
+    wanted = file(_0="0: I\n", _4="4: both\n", _8="8: I\n")
+    assert texts(place.get("a.yml"), "old") == texts(wanted, "old")
+    assert kind == "a vault" or place.get("a.yml") == wanted
+
+
+def test_reused_resolutions(place: Place) -> None:
+    """git asks the driver to merge a conflict with its earlier resolution, and has both only encrypted."""
+    under_git(place, ATTRIBUTES)
+    place.shell("git config rerere.enabled true; git config rerere.autoUpdate true")
+    set_driver(place, *place.by_file("old"))
+    fork(place, *({"a.yml": sealed("old", b"x: %s\n" % side)} for side in SIDES))
+    place.shell("git merge theirs")
+    place.put("a.yml", sealed("old", b"x: both\n"))
     add_and_commit(place)
-    for redirection in (">", ">>"):
-        ended("markers", edit(place, f'{markers} {redirection} "$1"', *words), 0, still)
-        assert place.get(NAME).count(b"\n") == place.get(NAME).count(end), "the ends of lines stay"
-        ended("are refused", place.shell(f"git add -A && {HOOK}"), 1, f"{NAME} has git's conflict markers\n")
-    (place.tree / ".git/ansible-vault-conflicts").unlink()
-    ended("an edit without a change", edit(place, "true", *words), 0, "nothing was changed")
-    ended("notes them again", place.shell(f"git add -A && {HOOK}"), 1, f"{NAME} has git's conflict markers\n")
-    ended("no markers", edit(place, 'echo "x: 1" > "$1"', *words), 0)
-    silent("are not refused", place.shell(f"git add -A && {HOOK}"))
+    done = place.shell("git reset -q --hard HEAD~1; git merge theirs")
+    assert "Staged 'a.yml' using previous resolution" in done.stdout + done.stderr, done
+    assert decrypted("old", place.get("a.yml")) == b"x: both\n"
+    ended("nothing in plaintext", place.shell("grep -r 'x: ' .git"), 1)
 
 
 @pytest.mark.parametrize("count", (1, 127, 128, 256))
 def test_counts(count: int) -> None:
     """The exit status of git counts up to 127 conflicts, and tells them from a failure."""
     lines = b"%d %s\n" + b"between\n" * 5
-    sides = [b"".join(lines % (number, side) for number in range(count)) for side in SIDES]
-    found = merged_lines(*sides)
-    assert (found.conflicts, found.content.count(b"\n=======\n")) == (min(count, 127), count)
+    base, ours, theirs = (b"".join(lines % (number, side) for number in range(count)) for side in SIDES)
+    found = merged_lines(Versions(ours, base, theirs), 9)
+    assert (found.conflicts, found.text.count(b"\n=========\n")) == (min(count, 127), count)
 
 
 # Vaults by their labels and passwords.
@@ -325,28 +320,25 @@ def wanted_password(before: Value, ours: Value, theirs: Value) -> str | None:
 def test_secrets_of_vaults(tmp_path: Path, monkeypatch: pytest.MonkeyPatch) -> None:
     """A text is encrypted with the password of its side, or if all versions have one label, with the changed one."""
     monkeypatch.chdir(repository(tmp_path / "diff3", "diff3"))
-    plaintexts = [b"the base\n", b"our text\n", b"their text\n"]
+    plaintexts = [BASE, OURS, THEIRS]
     # Both sides change the text, or one of them.
     changes = [plaintexts, [*plaintexts[:2], plaintexts[0]], [plaintexts[0], *plaintexts[::2]]]
     counts: Counter[str] = Counter()
     for changed, vaults in itertools.product(changes, itertools.product(VAULTS, repeat=3)):
-        before, ours, theirs = (Value("", text, *vault, 0, 0) for text, vault in zip(changed, vaults))
+        rows = enumerate(zip(changed, vaults))
+        before, ours, theirs = (Value("", text, *vault, number, 0) for number, (text, vault) in rows)
         tool, wanted = Model(), wanted_password(before, ours, theirs)
-        try:
-            result = merged(tool, tool.opened, before.envelope(), ours.envelope(), theirs.envelope()).content
-        except Refused:
-            assert wanted is None, vaults
+        contents = [each.envelope() for each in (before, ours, theirs)]
+        result = tool.merged(contents)
+        if result.why:
+            assert (wanted, result.content) == (None, both(contents[1:])), vaults
             counts["refused"] += 1
             continue
-        secret, text = tool.opened(result)
-        assert secret.path == wanted, vaults
-        assert all(each in text for each in {ours.text, theirs.text} - {before.text}), vaults
-        if before.text in text and before.text not in (ours.text, theirs.text):
-            is_one_label = (before.label, LABELS[before.password]) == (ours.label, LABELS[ours.password])
-            assert before.password == wanted or is_one_label and not before.is_mislabelled(), vaults
-            counts["with the base"] += 1
+        secret, text = tool.opened(result.content)
         counts["under a new secret"] += ours.password != theirs.password
-    assert min(counts["refused"], counts["with the base"]) > 10 and counts["under a new secret"] == 24, counts
+        merged = BOTH if changed == plaintexts else next(iter({ours.text, theirs.text} - {before.text}), BASE)
+        assert (secret.path, text) == (wanted, merged), vaults
+    assert counts["refused"] > 10 and counts["under a new secret"] == 24, counts
 
 
 def test_secrets_of_values() -> None:
@@ -356,16 +348,9 @@ def test_secrets_of_values() -> None:
     for their_text, vaults in itertools.product((b"text", b"their text"), itertools.product(VAULTS, repeat=3)):
         rows = zip((b"text", b"our text", their_text), vaults, range(3))
         merge, tool = Merge(*([Value("a", text, *vault, salt, 10)] for text, vault, salt in rows)), Model()
-        is_refused = merge.ours[0].is_mislabelled() or merge.theirs[0].is_mislabelled()
-        try:
-            content = merged(tool, tool.opened, *merge.documents(SIMPLE)).content
-        except Refused:
-            assert is_refused, vaults
-            continue
-        assert not is_refused, vaults
-        for found in blocks_of(content):
-            if found.envelope in tool.made:
-                check_new(merge, tool.made[found.envelope], found.key)
+        for _, envelope in blocks_of(tool.merged(merge.documents(SIMPLE)).content):
+            if envelope in tool.made:
+                check_made(merge, tool.made[envelope])
                 made += 1
     assert made == 4, "those under another secret"
 

@@ -1,7 +1,8 @@
 """Random merges of YAML, without a process for each envelope.
 
-There are only a few texts, so many values are equal. The result must be git's merge of the plaintexts, in each style of
-conflicts and with each kind of line end. `merging` shows what becomes of other people's secrets.
+There are only a few texts, so many values are equal, and several passwords with the same label. The result must be
+git's merge of the plaintexts, in each style of conflicts and with each kind of line end, unless it is unclear under
+which password a text goes: then it may be a conflict. Nothing is torn, lost, in plaintext, or under another's password.
 """
 
 import functools
@@ -9,6 +10,7 @@ import itertools
 import os
 import re
 from collections import Counter, defaultdict
+from collections.abc import Collection, Iterator
 from contextlib import suppress
 from pathlib import Path
 from typing import NamedTuple
@@ -17,12 +19,13 @@ import hypothesis
 import pytest
 from hypothesis import strategies as st
 
-from ansible_vault_companions.files.envelopes import label_of
+from ansible_vault_companions.envelopes import conflicts
+from ansible_vault_companions.envelopes.envelope import MAGIC, label_of
 from ansible_vault_companions.merging import texts
-from ansible_vault_companions.merging.alignment import aligned
-from ansible_vault_companions.program import Refused
+from ansible_vault_companions.merging.lines import Merged, Versions
 from ansible_vault_companions.secrets import labels
 from ansible_vault_companions.secrets.sources import Secret
+from ansible_vault_companions.tool.faults import NotDecrypted
 from ansible_vault_companions.tool.tool import Tool
 from companion_cases import PASSWORDS, decrypted
 from companion_cases.repository import SALTS, by_git, repository
@@ -32,19 +35,17 @@ from model.vaults import seal
 # The label of each named secret. Two labels have an old secret and a new one. One secret is not named.
 LABELS = {"dev": "dev", "prod": "prod", "prod2": "prod", "old": "default", "new": "default"}
 UNNAMED = "dev2"
-TEXTS = [b"x", b"y\n", b"two\nlines\n"]
+TEXTS = [b"clear x", b"clear y\n", b"two\nclear lines\n"]
 INDENTATIONS = [4, 10, 10]
 ITEM = ""
-KINDS = ["text", "encrypted anew", "rekeyed", "removed", "indented", "added"]
+KINDS = ["text", "encrypted anew", "rekeyed", "removed", "indented", "added", "unlabelled"]
 BLOCK = re.compile(rb"(?m)^((?:\w+:|  -) )!vault \|\r?\n((?: +\S+(?:\r?\n|\Z))+)")
-# A value in a plaintext, with its number among equal ones.
-NUMBERED = re.compile(rb"(?m)^(?P<head>(?:\w+:|  -) )(?P<known>.*') (?P<number>\d+)(?=\r?$)")
-# The line below a value in a plaintext, and the end of the value's line before it.
-BELOW = re.compile(rb"(?m)(?<=\d)\r?\n# \w*(\r?\n|\Z)|^# \w*(?:\r?\n|\Z)")
+# The line below a value in a plaintext, which separates it from the next.
+BELOW = re.compile(rb"(?m)^# \w*(?:\r?\n|\Z)")
 STYLES, ENDS = ["merge", "diff3", "zdiff3"], [b"\n", b"\r\n"]
 EXAMPLES = 900
 # The least number of merges of each kind, of changes of each kind, and of conflicts in each layout.
-LEAST: dict[object, int] = {"merged": 100, "conflicts": 15, "under a new secret": 4, "equal items": 60}
+LEAST: dict[object, int] = {"merged": 100, "conflicts": 15, "under a new secret": 4, "rotated": 100}
 LEAST |= dict.fromkeys(KINDS, 8) | dict.fromkeys(itertools.product(STYLES, ENDS), 3)
 
 
@@ -69,14 +70,15 @@ class Value(NamedTuple):
         return self.head() + b"!vault |\n" + b"".join(b" " * self.indentation + line for line in lines)
 
     def is_mislabelled(self) -> bool:
-        label = self.label or "default"
-        return LABELS.get(self.password, label) != label
+        return (self.label or "default") != LABELS.get(self.password, self.label)
 
-    def known_by(self) -> bytes:
-        """Return what stays the same if nothing is changed, whatever the envelope is."""
-        closed = self.salt if self.password == UNNAMED else ""
-        label, owner = self.label or "default", LABELS.get(self.password)
-        return f"{label} {owner} {closed} {self.indentation} {self.text!r}".encode()
+    def is_closed(self) -> bool:
+        return self.password == UNNAMED or self.is_mislabelled()
+
+    def known_by(self, closed: Collection[bytes]) -> bytes:
+        """Return what stays the same if nothing is changed: for a closed envelope all, otherwise label and text."""
+        own = f"{self.password} {self.salt}" if self.is_closed() or self.envelope() in closed else ""
+        return f"{self.label or 'default'} {own} {self.indentation} {self.text!r}".encode()
 
 
 def document(values: list[Value], shown: list[bytes]) -> bytes:
@@ -99,6 +101,11 @@ class Layout(NamedTuple):
         ended = [content if is_ended else content.removesuffix(b"\n") for content, is_ended in pairs]
         return [each.replace(b"\n", self.end) for each in ended]
 
+    def is_ended(self, versions: tuple[list[Value], ...]) -> bool:
+        """Return whether the result has an end of its last line, by the side that changed that. An empty file has."""
+        base, ours, theirs = (each or not version for each, version in zip(self.are_ended, versions))
+        return theirs if ours == base else ours
+
 
 SIMPLE = Layout("merge", b"\n", (True, True, True))
 ARE_ENDED = st.tuples(*[st.sampled_from([True, True, False])] * 3)
@@ -113,57 +120,24 @@ class Merge(NamedTuple):
     def documents(self, layout: Layout) -> list[bytes]:
         return layout.written([document(values, [value.block() for value in values]) for values in self])
 
-    def plain(self, layout: Layout, numbers: list[list[int]]) -> list[bytes]:
-        """Return the versions with plaintexts, each with its number among equal ones, and with a line that separates it
-        from the next."""
-        contents = []
-        for values, own in zip(self, numbers):
-            rows = [(value.head(), value.known_by(), each, value.key.encode()) for value, each in zip(values, own)]
-            contents.append(document(values, [b"%s%s %d\n# %s\n" % row for row in rows]))
-        return layout.written(contents)
+    def shared(self) -> set[bytes]:
+        """Return the envelopes that all versions have. Nothing opens these."""
+        return set.intersection(*({value.envelope() for value in values} for values in self))
 
-
-def numberings(known: list[bytes], envelopes: list[bytes]) -> list[list[int]]:
-    """Return the ways to number equal values: in order, and with the fewest envelopes added, removed or changed."""
-    ways: dict[int, list[list[int]]] = defaultdict(list)
-    places, numbers = range(len(envelopes)), range(len(known))
-    for count in range(min(len(known), len(envelopes)) + 1):
-        for kept in itertools.product(itertools.combinations(places, count), itertools.combinations(numbers, count)):
-            new, pairs = itertools.count(len(known)), dict(zip(*kept))
-            exchanged = sum(envelopes[place] != known[number] for place, number in pairs.items())
-            changes = len(known) + len(envelopes) - 2 * count + exchanged
-            ways[changes].append([pairs[place] if place in pairs else next(new) for place in places])
-    return ways[min(ways)]
-
-
-ENVELOPES = st.lists(st.sampled_from([b"a", b"b", b"c"]), max_size=5)
-
-
-@hypothesis.settings(max_examples=300, deadline=None, database=None)
-@hypothesis.given(ENVELOPES, ENVELOPES)
-def test_alignment(known: list[bytes], envelopes: list[bytes]) -> None:
-    assert aligned(known, envelopes) in numberings(known, envelopes)
-
-
-def numbered(merge: Merge) -> list[list[int]]:
-    """Return the number of each value among equal ones, in each version. Only their envelopes tell them apart."""
-    known: dict[tuple[str, bytes], list[bytes]] = {}
-    found = []
-    for values in merge:
-        equal: dict[tuple[str, bytes], list[bytes]] = defaultdict(list)
-        for value in values:
-            equal[value.key, value.known_by()].append(value.envelope())
-        numbers = {what: iter(aligned(known.setdefault(what, each), each)) for what, each in equal.items()}
-        found.append([next(numbers[value.key, value.known_by()]) for value in values])
-    return found
+    def plain(self, layout: Layout, closed: Collection[bytes]) -> list[bytes]:
+        """Return the versions with plaintexts, each with a line that separates it from the next, and with final line
+        ends, which are merged apart."""
+        rows = [[b"%s%s\n# %s\n" % (v.head(), v.known_by(closed), v.key.encode()) for v in values] for values in self]
+        ended = layout._replace(are_ended=(True, True, True))
+        return ended.written([document(values, own) for values, own in zip(self, rows)])
 
 
 @functools.cache
 def secret_of(name: str) -> Secret:
-    found = Secret(LABELS[name], name, f"{LABELS[name]}@{name}")
-    found.descriptor = os.memfd_create("password")
-    os.write(found.descriptor, PASSWORDS[name])
-    return found
+    secret = Secret(LABELS[name], name, f"{LABELS[name]}@{name}")
+    secret.descriptor = os.memfd_create("password")
+    os.write(secret.descriptor, PASSWORDS[name])
+    return secret
 
 
 class Model(Tool):
@@ -177,60 +151,54 @@ class Model(Tool):
     def view(self, envelope: bytes, secret: Secret) -> bytes:
         text = decrypted(secret.path, envelope)
         if text is None:
-            raise Refused("no secret decrypts this vault")
+            raise NotDecrypted("no secret decrypts this vault")
         return text
 
     def opened(self, envelope: bytes) -> tuple[Secret, bytes]:
         for secret in labels.in_order([*map(secret_of, LABELS)], label_of(envelope)):
-            with suppress(Refused):
+            with suppress(NotDecrypted):
                 return secret, self.view(envelope, secret)
-        raise Refused("no secret decrypts this vault")
+        raise NotDecrypted("no secret decrypts this vault")
 
     def encrypt(self, plaintext: bytes, secret: Secret, label: str) -> bytes:
         value = Value("", plaintext, "" if label == "default" else label, secret.path, next(self.salts), 0)
         self.made[value.envelope()] = value
         return value.envelope()
 
-
-def wanted(folder: Path, merge: Merge, layout: Layout) -> tuple[bytes, int, list[set[bytes]]]:
-    """Return the merge of the plaintexts, the number of conflicts, and the possible blocks for each value. A value that
-    at most one side has touched must keep every byte."""
-    numbers = numbered(merge)
-    text, conflicts = by_git(folder, merge.plain(layout, numbers))
-    text = BELOW.sub(rb"\1", text)
-    pairs = [zip(values, each) for values, each in zip(merge, numbers)]
-    at = [{(value.head(), value.known_by(), number): value.block() for value, number in each} for each in pairs]
-    blocks = []
-    for found in NUMBERED.finditer(text):
-        before, ours, theirs = (each.get((found["head"], found["known"], int(found["number"]))) for each in at)
-        sides = {theirs if before == ours else ours, ours if before == theirs else theirs} if ours and theirs else set()
-        blocks.append(sides or {each for each in (ours, theirs) if each})
-    return NUMBERED.sub(rb"\g<head>\g<known>", text), conflicts, blocks
+    def merged(self, contents: list[bytes]) -> Merged:
+        base, ours, theirs = contents
+        return texts.merged(self, self.opened, Versions(ours, base, theirs), conflicts.SIZE, None)
 
 
 @st.composite
 def random_value(draw: st.DrawFn, key: str) -> Value:
-    password = draw(st.sampled_from(["dev", "prod", "prod", "prod2", "old", "new", UNNAMED]))
+    password = draw(st.sampled_from(["dev", "prod", "prod", "prod", "prod2", "old", "old", "new", UNNAMED]))
     own = LABELS.get(password, "dev")
-    label = own if own != "default" else ""
+    label = draw(st.sampled_from([own, own, own, own, ""])) if own != "default" else ""
     text, salt = draw(st.sampled_from(TEXTS)), draw(st.sampled_from(range(len(SALTS))))
     return Value(key, text, label, password, salt, draw(st.sampled_from(INDENTATIONS)))
+
+
+def rekeyed(value: Value) -> Value:
+    """Return it under the other secret with the same label, if there is one."""
+    own = LABELS.get(value.password)
+    others = [name for name, label in LABELS.items() if label == own and name != value.password]
+    return value._replace(password=others[0] if others else value.password)
 
 
 def changed(kind: str, value: Value, new: Value) -> list[Value]:
     """Return what replaces a value."""
     anew = value._replace(salt=(value.salt + 1) % len(SALTS))
-    added = new._replace(key=value.key and f"{value.key}{new.text[:1].decode()}", text=value.text)
-    own = LABELS.get(value.password)
-    others = [name for name, label in LABELS.items() if label == own and name != value.password]
+    added = new._replace(key=value.key and f"{value.key}{new.text.split()[-1][:1].decode()}", text=value.text)
     ways: dict[str, list[Value]] = {
         "": [value],
         "text": [anew._replace(text=new.text)],
         "encrypted anew": [anew],
-        "rekeyed": [value._replace(password=others[0] if others else value.password)],
+        "rekeyed": [rekeyed(value)],
         "removed": [],
         "indented": [value._replace(indentation=new.indentation)],
         "added": [added, value],
+        "unlabelled": [value._replace(label="")],
     }
     return ways[kind]
 
@@ -242,94 +210,100 @@ def random_merge(draw: st.DrawFn, counts: Counter[object]) -> Merge:
     if draw(st.booleans()):
         # Make the items of the list equal. Their envelopes may differ.
         base = [value if value.key else base[keys.index(ITEM)]._replace(salt=value.salt) for value in base]
+    if draw(st.booleans()):
+        # One password for each label, which a side may rotate as a whole.
+        older = {"prod2": "prod", "new": "old"}
+        base = [value._replace(password=older.get(value.password, value.password)) for value in base]
     sides: list[list[Value]] = [[], []]
     for side, value in itertools.product(sides, base):
         kind = draw(st.sampled_from(["", "", "", "text", "rekeyed", *KINDS]))
         side.extend(changed(kind, value, draw(random_value(ITEM))))
         counts[kind] += 1
+    rotated = draw(st.sampled_from([None, None, *sides]))
+    if rotated is not None:
+        rotated[:] = map(rekeyed, rotated)
+        counts["rotated"] += 1
     return Merge(base if draw(st.integers(0, 9)) else [], *sides)
 
 
-class Found(NamedTuple):
-    """A block of a result."""
-
-    key: str
-    block: bytes
-    envelope: bytes
+def blocks_of(content: bytes) -> list[tuple[str, bytes]]:
+    """Return the key and the envelope of each block."""
+    lines = [(match[1], [line.strip() for line in match[2].splitlines()]) for match in BLOCK.finditer(content)]
+    return [(head.decode().strip(" -:"), b"".join(line + b"\n" for line in own)) for head, own in lines]
 
 
-def blocks_of(content: bytes) -> list[Found]:
-    found = []
-    for each in BLOCK.finditer(content):
-        envelope = b"".join(line.strip() + b"\n" for line in each[2].splitlines())
-        block = b"".join(line + b"\n" for line in each[0].splitlines())
-        found.append(Found(each[1].decode().strip(" -:"), block, envelope))
-    return found
-
-
-def in_plaintext(content: bytes, known: dict[bytes, Value]) -> bytes:
+def in_plaintext(content: bytes, known: dict[bytes, Value], closed: Collection[bytes]) -> bytes:
     """Return a result with what each block is known by in place of the block."""
 
-    def shown(found: re.Match[bytes]) -> bytes:
-        [each] = blocks_of(found[0])
-        indentation = len(found[2]) - len(found[2].lstrip(b" "))
-        end = found[0][len(found[0].rstrip(b"\r\n")) :]
-        return found[1] + known[each.envelope]._replace(indentation=indentation).known_by() + end
+    def shown(match: re.Match[bytes]) -> bytes:
+        [(_, envelope)] = blocks_of(match[0])
+        indentation = len(match[2]) - len(match[2].lstrip(b" "))
+        end = match[0][len(match[0].rstrip(b"\r\n")) :]
+        return match[1] + known[envelope]._replace(indentation=indentation).known_by(closed) + end
 
     return BLOCK.sub(shown, content)
 
 
-def check_new(merge: Merge, made: Value, key: str) -> None:
-    """Check that a text is under another password only if the other side has put the value under it, by its label."""
-    before, ours, theirs = ([value for value in values if value.key == key] for values in merge)
-    for [mine], [other] in ((ours, theirs), (theirs, ours)):
-        is_of_side = (mine.text, mine.password) == (made.text, before[0].password)
-        is_rekeyed = (other.text, other.password) == (before[0].text, made.password)
-        all_three = (before[0], mine, other)
-        labels = {value.label for value in (*all_three, made)}
-        owners = {LABELS[value.password] for value in all_three}
-        if is_of_side and is_rekeyed and len(labels) == len(owners) == 1 and not mine.is_mislabelled():
-            return
-    raise AssertionError("a text under a password that it was not under")
+def passwords(values: list[Value], label: str) -> set[str]:
+    return {value.password for value in values if (value.label or "default") == (label or "default")}
 
 
-def could_take_back(merge: Merge) -> bool:
-    """Return whether one side has put a value under another secret, and the other side has its old digits under another
-    label or key, or in a list. Without a conflict, only these digits would be left of the value. What is done to bring
-    one about may also avoid another one."""
-    for side, other in ((merge.ours, merge.theirs), (merge.theirs, merge.ours)):
-        digits = {(each.text, each.password, each.salt) for each in other}
-        for value, before in itertools.product(side, merge.base):
-            is_rekeyed = value.key == before.key and value.password != before.password
-            is_there = [each.envelope() for each in other if each.key == before.key] == [before.envelope()]
-            if is_rekeyed and not is_there and (before.text, before.password, before.salt) in digits:
-                return True
-    return False
+def check_made(merge: Merge, made: Value) -> None:
+    """Check that a text is under another password only if one side has put all values with its label under it."""
+    used = [passwords(values, made.label) for values in merge]
+    [before] = used[0]
+    assert LABELS[before] == LABELS[made.password] == (made.label or "default")
+    assert {before} in used[1:] and {made.password} in used[1:], "the password is not that of the other side"
+
+
+def ways_to_close(merge: Merge) -> Iterator[set[bytes]]:
+    """Yield the sets of envelopes that may have stayed closed. An envelope that all versions have is never opened, and
+    the envelopes with one label and text may all stay closed if they have several passwords."""
+    shared, same = merge.shared(), defaultdict[object, dict[bytes, str]](dict)
+    for value in itertools.chain(*merge):
+        if not (value.is_closed() or value.envelope() in shared):
+            same[value.label or "default", value.text][value.envelope()] = value.password
+    unclear = [{*group} for group in same.values() if len({*group.values()}) > 1]
+    for count in range(len(unclear) + 1):
+        yield from (shared.union(*groups) for groups in itertools.combinations(unclear, count))
+
+
+def check_rotations(merge: Merge, after: dict[str, Value]) -> None:
+    """Check that no value is under the password from which a side has put it under another one."""
+    for side, before in itertools.product(merge[1:], merge.base):
+        rotated = [value for value in side if before.key and value == before._replace(password=value.password)]
+        is_rotated = rotated and rotated[0].password != before.password
+        now = after.get(before.key)
+        if is_rotated and now and not before.is_closed():
+            assert (now.label, now.password) != (before.label, before.password), "the old password is back"
 
 
 def check_merge(folder: Path, merge: Merge, layout: Layout) -> list[str]:
     """Check a merge, and return of which kinds it was."""
     import yaml
 
-    tool = Model()
-    result = texts.merged(tool, tool.opened, *merge.documents(layout))
-    found = blocks_of(result.content)
-    blocks = {value.block() for values in merge for value in values}
-    new = [each for each in found if each.block not in blocks]
-    for each in new:
-        check_new(merge, tool.made[each.envelope], each.key)
-    kinds = ["conflicts" if result.conflicts else "merged", *(["under a new secret"] if new else [])]
-    known = tool.made | {value.envelope(): value for values in merge for value in values}
-    text, conflicts, possible = wanted(folder, merge, layout)
-    if not result.conflicts:
+    tool, contents = Model(), merge.documents(layout)
+    result = tool.merged(contents)
+    known = {value.envelope(): value for values in merge for value in values} | tool.made
+    blocks = blocks_of(result.content)
+    assert len(blocks) == result.content.count(MAGIC) and {*dict(blocks).values()} <= {*known}, "all are whole"
+    assert b"clear" not in result.content, "nothing is in plaintext"
+    for made in tool.made.values():
+        check_made(merge, made)
+    base, ours, theirs = ({(value.key, value.text) for value in values} for values in merge)
+    assert (ours | theirs) - base <= {(key, known[envelope].text) for key, envelope in blocks}, "nothing is lost"
+    kinds = ["conflicts" if result.why else "merged", *(["under a new secret"] if tool.made else [])]
+    if not result.why:
         yaml.load(result.content, Loader=yaml.BaseLoader)
-    if could_take_back(merge) and (result.conflicts or conflicts):
-        return kinds
-    assert (in_plaintext(result.content, known), result.conflicts) == (text, conflicts), "the merge by git"
-    if not result.conflicts:
-        pairs = zip(found, possible, strict=True)
-        assert all(each in new or each.block in sides for each, sides in pairs), "the value of the side that changed it"
-    return [*kinds, *(["equal items"] if any(map(any, numbered(merge))) else [])]
+        check_rotations(merge, {key: known[envelope] for key, envelope in blocks})
+    for number, closed in enumerate(ways_to_close(merge)):
+        text, count = by_git(folder, merge.plain(layout, closed))
+        text = BELOW.sub(b"", text)
+        if not count and not layout.is_ended(merge):
+            text = text.removesuffix(layout.end)
+        if (in_plaintext(result.content, known, closed), bool(result.why)) == (text, count > 0):
+            return [*kinds, "some stay closed" if number else "all are opened"]
+    raise AssertionError("the merge is not git's")
 
 
 def test_of_values(request: pytest.FixtureRequest, tmp_path: Path, monkeypatch: pytest.MonkeyPatch) -> None:

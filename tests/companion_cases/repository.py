@@ -17,7 +17,6 @@ AUTHOR = {f"GIT_{who}_{what}": "a@b" for who in ("AUTHOR", "COMMITTER") for what
 WHOLE = "is not a vault, but was one in the parent commit"
 IN_PART = "has {} in plaintext, which was encrypted in the parent commit"
 GONE = "is not encrypted, and {}, which is gone, was a vault in the parent commit"
-NOT_MERGED = "is not merged: the merge driver failed, so the file has only your side's version"
 
 
 def under_git(place: Place, attributes: str) -> None:
@@ -45,7 +44,7 @@ def fork(place: Place, base: dict[str, bytes], ours: dict[str, bytes], theirs: d
 
 
 def set_driver(place: Place, *secrets: str) -> None:
-    place.run("git", "config", "merge.ansible-vault.driver", f"{MERGE} {' '.join(secrets)} %O %A %B %P")
+    place.run("git", "config", "merge.ansible-vault.driver", f"{MERGE} {' '.join(secrets)} %O %A %B %L %P")
 
 
 def refused(what: str, done: Done, *names: str, why: str = "is not encrypted") -> None:

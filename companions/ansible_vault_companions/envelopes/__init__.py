@@ -2,6 +2,6 @@
 
 `envelope` is the grammar of a single one. `contents` reads those files that may have some, and `document` finds them:
 `scalars` are the values that PyYAML reads, and `strays` are those elsewhere. Each is a `value`, which knows its layout.
-`conflicts` finds git's conflict markers.
+`conflicts` finds git's conflict markers, and `sides` what is between them.
 May import files.
 """

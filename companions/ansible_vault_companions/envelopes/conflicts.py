@@ -4,6 +4,7 @@ from __future__ import annotations
 
 import re
 import shlex
+from typing import Iterable
 
 from ansible_vault_companions.program import shown
 
@@ -14,6 +15,8 @@ OURS, BASE, THEIRS, END = b"<", b"|", b"=", b">"
 FIRST = re.compile(rb"^(<{7,})(?:[ \t][^\r\n]*)?\r?$", re.MULTILINE)
 # What no text has beside envelopes. A line of equal signs is a title in other formats.
 MARKER = re.compile(rb"^(?:<{7,}|>{7,}|\|{7,})(?:[ \t][^\r\n]*)?\r?$", re.MULTILINE)
+# What may begin a line with a marker of some size.
+RUN = re.compile(rb"^([<|=>])\1{6,}", re.MULTILINE)
 LINES = re.compile(rb"[^\n]*\n|[^\n]+\Z")
 
 UNMERGED = "has git's conflict markers"
@@ -33,25 +36,47 @@ def is_unmerged(text: bytes) -> bool:
     return any(sign * SIZE in text for sign in (OURS, END, BASE)) and MARKER.search(text) is not None
 
 
-def sides(text: bytes) -> dict[bytes, bytes] | None:
-    """The text of each side, by the character of its first marker; None if there is no whole conflict."""
-    first = FIRST.search(text) if OURS * SIZE in text else None
-    if not first:
-        return None
-    marker = re.compile(rb"([<|=>])\1{%d}(?:[ \t][^\r\n]*)?\r?\n?\Z" % (len(first[1]) - 1))
-    lines: dict[bytes, list[bytes]] = {OURS: [], BASE: [], THEIRS: []}
-    side, seen = b"", set()
+def unused_size(texts: Iterable[bytes], least: int = SIZE) -> int:
+    """A size of markers that no line of these texts has."""
+    return max([least, *(len(run[0]) + 1 for text in texts for run in RUN.finditer(text))])
+
+
+def has_markers(text: bytes, size: int) -> bool:
+    """Whether a line is a marker of this size, even one of equal signs."""
+    return any(map(_marker(size).match, LINES.findall(text)))
+
+
+def _marker(size: int) -> re.Pattern[bytes]:
+    return re.compile(rb"([<|=>])\1{%d}(?:[ \t][^\r\n]*)?\r?\n?\Z" % (size - 1))
+
+
+def signed_lines(text: bytes, size: int) -> list[tuple[bytes, bytes]]:
+    """Each line, with the sign of its side before it: none outside of conflicts, and END for a marker itself."""
+    marker = _marker(size)
+    side, lines = b"", []
     for line in LINES.findall(text):
         match = marker.match(line)
         if match and (side or match[1] == OURS):
             side = match[1].strip(END)
-            seen.add(match[1])
+            lines.append((END, line))
         else:
-            for name in (side,) if side else lines:
-                lines[name].append(line)
-    if side or not {OURS, THEIRS, END} <= seen:
-        return None
-    return {name: b"".join(lines[name]) for name in lines if name in seen}
+            lines.append((side, line))
+    return lines
+
+
+def lines_of_sides(text: bytes) -> list[tuple[bytes, bytes]]:
+    """The lines with the signs of their sides; empty if there is no whole conflict. The first marker has the size."""
+    first = FIRST.search(text) if OURS * SIZE in text else None
+    lines = signed_lines(text, len(first[1])) if first else []
+    markers = [line[:1] for sign, line in lines if sign == END]
+    return lines if {OURS, THEIRS, END} <= {*markers} and markers[-1] == END else []
+
+
+def sides(text: bytes) -> dict[bytes, bytes] | None:
+    """The text of each side, by the character of its first marker; None if there is no whole conflict."""
+    lines = lines_of_sides(text)
+    markers = {line[:1] for sign, line in lines if sign == END} - {END}
+    return {side: b"".join(line for sign, line in lines if sign in (b"", side)) for side in markers} or None
 
 
 def both(ours: bytes, theirs: bytes, size: int = SIZE) -> bytes:

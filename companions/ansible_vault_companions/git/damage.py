@@ -23,7 +23,6 @@ MERGE_AGAIN = (
     "set up the merge driver (see `ansible-vault-merge --help`), and run `git checkout --merge {}`; if a commit has "
     "these markers, `man ansible-vault-merge` says how to merge the file again"
 )
-WITHOUT_THEIRS = "is not merged: the merge driver failed, so the file has only your side's version"
 
 # The tool ignores further fields of a header, so they may be plaintext.
 MOST_FIELDS = 4
@@ -31,10 +30,9 @@ MOST_FIELDS = 4
 TAG_LENGTH = 32
 CIPHER_BLOCK = 16
 CONFLICT_MARKER = re.compile(rb"^(?:<<<<<<<|>>>>>>>|\|\|\|\|\|\|\|)(?:[ \t][^\r\n]*)?\r?$", re.MULTILINE)
-# The merge driver never leaves a line of an envelope directly below a marker.
+# Without the merge driver, git leaves digits directly below a marker.
 MARKER_IN_ENVELOPE = re.compile(
-    rb"^(?:<{7}|\|{7}|={7}|>{7})(?:[ \t][^\r\n]*)?\r?\n[ \t]*(?:[0-9a-fA-F]{32}|\$ANSIBLE_VAULT[^;\r\n]*;)",
-    re.MULTILINE,
+    rb"^(?:<{7}|\|{7}|={7}|>{7})(?:[ \t][^\r\n]*)?\r?\n[ \t]*[0-9a-fA-F]{32}", re.MULTILINE
 )
 # The text after a block, up to the first character that is not white space.
 NEXT_LINE = re.compile(rb"(?:\r?\n[ \t]*(?=[\r\n]))*\r?\n(?P<spaces> *)\S")

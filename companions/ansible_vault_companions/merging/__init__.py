@@ -1,7 +1,6 @@
-"""Merges three versions of a file, for git's merge driver.
+"""Merges three versions of a file, for git's merge driver and for an edit of a conflict.
 
-`texts` merges vaults and YAML files, and `values` merges single values; `versions` scans and decrypts the three
-versions of a file, and `alignment` tells equal values apart; `lines` merges lines with git, and `checks` refuses
-results that a merge must not produce.
-May import files, secrets, tool, yaml, git.
+`texts` merges vaults, and `values` files with envelopes; `keys` decides which envelope or password the result gets, and
+`lines` merges lines with git. `unmerged` opens a conflict for an edit.
+May import files, envelopes, secrets, tool, git.
 """

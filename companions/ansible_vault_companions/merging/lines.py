@@ -15,24 +15,38 @@ SIDES = OURS, BASE, THEIRS = ("ours", "base", "theirs")
 MOST_CONFLICTS = 127
 
 
-class Merged(NamedTuple):
-    content: bytes
+class Versions(NamedTuple):
+    """Three versions of a file or of its text."""
+
+    ours: bytes
+    base: bytes
+    theirs: bytes
+
+
+class Lines(NamedTuple):
+    text: bytes
     conflicts: int
 
 
-def merged_lines(ours: bytes, base: bytes, theirs: bytes) -> Merged:
-    """The result of git's merge of three texts."""
-    files = [_in_memory(text) for text in (ours, base, theirs)]
+class Merged(NamedTuple):
+    content: bytes
+    # Why it has a conflict; empty if it has none.
+    why: str = ""
+
+
+def merged_lines(versions: Versions, size: int) -> Lines:
+    """The result of git's merge, with markers of this size."""
+    files = [_in_memory(text) for text in versions]
     names = [word for side in SIDES for word in ("-L", side)]
-    paths = [f"/proc/self/fd/{file}" for file in files]
+    words = ["merge-file", "-p", f"--marker-size={size}", *names, *(f"/proc/self/fd/{file}" for file in files)]
     try:
-        done = commands.run("merge-file", "-p", *names, *paths, pass_fds=files, stderr=subprocess.PIPE)
+        done = commands.run(*words, pass_fds=files, stderr=subprocess.PIPE)
     finally:
         for file in files:
             os.close(file)
     if not 0 <= done.returncode <= MOST_CONFLICTS:
         raise Refused("git merge-file cannot merge it; it may be binary")
-    return Merged(done.stdout, done.returncode)
+    return Lines(done.stdout, done.returncode)
 
 
 def _in_memory(text: bytes) -> int:

@@ -14,7 +14,7 @@ from ansible_vault_companions.files import reading, replacing
 from ansible_vault_companions.files.envelopes import MAGIC
 from ansible_vault_companions.files.private_folder import PrivateFolder
 from ansible_vault_companions.git import damage
-from ansible_vault_companions.plaintext.loading import Values, Vault
+from ansible_vault_companions.plaintext.loading import Unmerged, Values, Vault
 from ansible_vault_companions.plaintext.setting import SingleValue
 from ansible_vault_companions.program import Refused
 from ansible_vault_companions.secrets import options
@@ -46,7 +46,7 @@ class Copies:
     """Keeps what the user typed in an edit of a file."""
 
     tool: Tool
-    vault: Vault | Values | SingleValue
+    vault: Vault | Values | Unmerged | SingleValue
     # The directory with the plaintext, which has the file's name there.
     folder: PrivateFolder
     # The path of the file, as on the command line.
@@ -131,7 +131,7 @@ def _mark(content: bytes | None) -> str:
     return f"of-{hashlib.sha256(content or b'').hexdigest()[:16]}"
 
 
-def newest(vault: Vault | Values) -> str:
+def newest(vault: Vault | Values | Unmerged) -> str:
     """The newest copy of an edit. Refuses it if the file has changed since: a text may only replace the content that it
     began with. Files of other users are ignored: in $TMPDIR, anybody can use such a name."""
     found = [each for each in replacing.copies(vault.target, OF) if os.lstat(each).st_uid == os.geteuid()]
@@ -143,7 +143,7 @@ def newest(vault: Vault | Values) -> str:
     return copy
 
 
-def taken_up(copy: str, vault: Vault | Values, decrypt: Decrypt) -> bytes:
+def taken_up(copy: str, vault: Vault | Values | Unmerged, decrypt: Decrypt) -> bytes:
     """The text of a copy, which is a vault or, if the text was finished, YAML with blocks. Refuses if copy and file use
     several secrets: the file may have a new password by now, which the text must not get."""
     content = reading.named(copy)

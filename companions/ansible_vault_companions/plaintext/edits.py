@@ -13,7 +13,7 @@ from ansible_vault_companions.files.last_save import LastSave
 from ansible_vault_companions.files.private_folder import PrivateFolder
 from ansible_vault_companions.git import facts
 from ansible_vault_companions.plaintext.copies import NAME, Copies
-from ansible_vault_companions.plaintext.loading import Values, Vault
+from ansible_vault_companions.plaintext.loading import Unmerged, Values, Vault
 from ansible_vault_companions.plaintext.setting import SingleValue
 from ansible_vault_companions.program import Refused, write_error
 from ansible_vault_companions.secrets import prompts
@@ -98,7 +98,7 @@ def by_signal() -> str:
 
 
 def edit(
-    tool: Tool, vault: Vault | Values, path: str, args: argparse.Namespace, text: bytes | None = None
+    tool: Tool, vault: Vault | Values | Unmerged, path: str, args: argparse.Namespace, text: bytes | None = None
 ) -> bytes | None:
     """Edits the plaintext, starting with `text` if given. Returns the saved text, or None if nothing changed."""
     with PrivateFolder() as folder:

@@ -10,6 +10,7 @@ from ansible_vault_companions import stopping
 from ansible_vault_companions.files import reading
 from ansible_vault_companions.files.envelopes import MAGIC, TAG_NAME, Envelope
 from ansible_vault_companions.git import damage
+from ansible_vault_companions.merging import unmerged
 from ansible_vault_companions.program import Refused
 from ansible_vault_companions.secrets import labels
 from ansible_vault_companions.secrets.sources import Secret
@@ -94,7 +95,16 @@ class Values:
         return inline.encrypted(self.showing, text, tool, self.choice)
 
 
-def load(tool: Tool, secrets: list[Secret], path: str, new_label: str | None) -> Vault | Values:
+class Unmerged(unmerged.Conflict):
+    """Two vaults between git's markers."""
+
+    IS_WHOLE: ClassVar[bool] = True
+
+    def label_faults(self) -> list[str]:
+        return []
+
+
+def load(tool: Tool, secrets: list[Secret], path: str, new_label: str | None) -> Vault | Values | Unmerged:
     """The vault at a path, a new vault if there is no file, or the values of a YAML file."""
     target = os.path.realpath(path)
     with stopping.interruptible():
@@ -106,6 +116,10 @@ def load(tool: Tool, secrets: list[Secret], path: str, new_label: str | None) ->
             raise Refused(UNCLEAR if new_label is None else NO_SUCH_LABEL)
         keys[0][0].require()
         return Vault(target, keys)
+    sides = unmerged.versions(target, content)
+    if sides and sides.ours.startswith(MAGIC) and sides.theirs.startswith(MAGIC):
+        decrypt = lambda vault: tool.decrypt(vault, secrets)
+        return Unmerged(**vars(unmerged.conflict(decrypt, target, content, sides, None)))
     if damage.is_torn(content):
         raise Refused(f"{damage.TORN}; {damage.merge_again(path)}")
     if not content.startswith(MAGIC):
