@@ -8,21 +8,24 @@ from ansible_vault_companions.envelopes import conflicts, document
 from ansible_vault_companions.envelopes.document import Document
 from ansible_vault_companions.envelopes.value import Value
 
-SIGNS = (conflicts.OURS, conflicts.BASE, conflicts.THEIRS)
+SIGNS = (conflicts.OURS, conflicts.THEIRS, conflicts.BASE)
 
 
 def read(data: bytes, every: bool = False) -> Document:
     """The envelopes of a file, or every node, on all sides. If one of its sides is no YAML, nor is the file."""
     lines = conflicts.lines_of_sides(data)
-    values: dict[tuple[int, int, str], Value] = {}
-    for sign in {line[:1] for sign, line in lines if sign == conflicts.END}.intersection(SIGNS):
+    markers = {line[:1] for sign, line in lines if sign == conflicts.END}
+    values: dict[tuple[int, ...], Value] = {}
+    for sign in filter(markers.__contains__, SIGNS):
         side = _Side(lines, sign)
         found = document.read(side.text, every)
         if found.fault:
             return document.read(data, every)
         for value in map(side.in_file, found.values):
-            values.setdefault((value.start, value.end, value.style), value)
-    return Document(data, [values[place] for place in sorted(values)]) if lines else document.read(data, every)
+            # A line of several sides may be part of a longer text on one of them.
+            values.setdefault((value.end, value.start) if every else (value.end,), value)
+    in_order = sorted(values.values(), key=lambda value: (value.start, value.end))
+    return Document(data, in_order) if lines else document.read(data, every)
 
 
 class _Side:
