@@ -211,7 +211,7 @@ def test_figures_in_words(program: str) -> None:
 
 
 # Sizes that are no limits of the code.
-OTHER_SIZES = {"14 bytes", "80 bytes", "4097 bytes", "20 MiB"}
+OTHER_SIZES = {"14 bytes", "80 bytes", "2048 bytes", "4097 bytes", "20 MiB"}
 
 
 def test_sizes() -> None:
