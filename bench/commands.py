@@ -56,7 +56,6 @@ TABLE = {
     "view, 1 KiB": "`view`, 1 KiB",
     "view, 1 MiB": "`view`, 1 MiB",
     "view, 16 MiB": "`view`, 16 MiB",
-    "encrypt, 1 MiB": "`encrypt`, 1 MiB",
     "view, 1 KiB, by the alias": "`view FILE`, 1 KiB, by the alias",
     "view, 1 KiB, the tenth password fits": "`view`, 1 KiB, nine wrong passwords and the right one",
 }

@@ -78,7 +78,7 @@ CHECKS = [
     (PAGE, unproved, "`Sink::begin`: `takes`", "`Sink::begin`: `took`"),
     (PAGE, untested, "`calls_of_refused_runs`", "`calls_of_refused_files`"),
     (PAGE, untested, "`tests/faults.py`", "`tests/no_faults.py`"),
-    (PAGE, undefined, "`opened_paths` (", "`opened_from` ("),
+    (PAGE, undefined, "`stdin_needed` (", "`stdin_wanted` ("),
     (REFERENCE, unproved, "`read_prefix`: ", "`read_suffix`: "),
     (REFERENCE, untested, "`devices`", "`device_files`"),
     (REFERENCE, undefined, "`cipher` (", "`ciphers` ("),
