@@ -9,10 +9,10 @@ MAGIC = b"$ANSIBLE_VAULT"
 LINE = re.compile(rb"[^\r\n]*")
 START = re.compile(rb"\$ANSIBLE_VAULT[^;\r\n]*;")
 # A header with digits behind it, which no text has that only speaks of envelopes. In a folded scalar a space takes the
-# place of the line end, and in JSON an escape does. The lookahead keeps the search linear.
+# place of the line end, and in JSON an escape does. The lookahead and the limits keep a search linear.
 WITH_DIGITS = re.compile(
     rb"\$ANSIBLE_VAULT[^;\r\n\\]{0,240};"
-    rb"(?:[^\r\n\\]{1,240}?[\s#]|[^\r\n\\]{1,240}(?=[\r\n\\])(?:\\[rn]|[\s#\\])+)[0-9a-fA-F]{16}"
+    rb"(?:[^\r\n\\]{1,240}?[\s#]|[^\r\n\\]{1,240}(?=[\r\n\\])(?:\\[rn]|[\s#\\]){1,2000})[0-9a-fA-F]{16}"
 )
 # What docs/formats.md says of a header. The tool ignores further fields, which may be plaintext.
 VERSIONS, CIPHER, LABEL = (b"1.1", b"1.2"), b"AES256", re.compile(rb"[\x20-\x7e]{0,128}")

@@ -8,7 +8,6 @@ from __future__ import annotations
 import codecs
 import io
 import re
-import sys
 from functools import lru_cache
 from typing import Any, Iterator, Union
 
@@ -49,12 +48,8 @@ class NotYaml(Refused):
 
 @lru_cache(maxsize=None)
 def pyyaml() -> Any:
-    """PyYAML. The companions start without `site`, by -S, but it is needed to find packages."""
+    """PyYAML, which a companion that reads no YAML can do without."""
     try:
-        if sys.flags.no_site and "yaml" not in sys.modules:
-            import site
-
-            site.main()
         import yaml
     except ImportError:
         raise Refused(NO_PYYAML) from None
