@@ -20,7 +20,7 @@ FILES |= {
     "400,000 lines of text": b"x\n" * LONG + COMMENT,
     "400,000 items in one line": BLOCK + b"x: [%s]\n" % b", ".join([b"1"] * LONG),
     "4 MB in no ASCII": BLOCK + b"x: '" + "ä".encode() * 2_000_000 + b"'\n",
-    "a long line": b"x" * 25_000_000 + b"\n" + COMMENT,
+    "a long line": b"x" * 20_000_000 + b"\n" + COMMENT,
     "headers in one line": COMMENT + b"$ANSIBLE_VAULT;1.1;AES256 " * 100_000,
     "blanks behind a header": COMMENT + b"$ANSIBLE_VAULT;1.1;AES256\n" + b" " * 16_000_000,
 }
