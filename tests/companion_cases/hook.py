@@ -7,10 +7,11 @@ from pathlib import Path
 
 import pytest
 
+from ansible_vault_companions.files import reading
 from ansible_vault_companions.git.commits import LINK_MODE
 from ansible_vault_companions.git.links import target
-from companion_cases import AWKWARD, CHANGE, HOOK, TEXT, WITH, Place, block, edit, ended, lines_of, run_changed, sealed
-from companion_cases import silent
+from companion_cases import AWKWARD, CHANGE, CHECK, HOOK, TEXT, WITH, Place, block, edit, ended, lines_of, run_changed
+from companion_cases import sealed, silent
 from companion_cases.repository import WHOLE, add_and_commit, again, commit, fork, leaked, refused, staged
 from companion_cases.repository import under_git, with_hooks
 from lib.needs import needs
@@ -239,6 +240,46 @@ def test_files(place: Place) -> None:
         ended("no file of the index", place.run(HOOK, *words), 1, "git ls-files failed", words[-1])
     for option in (["--all"], ["--since", "HEAD"], ["--install"], ["--uninstall"]):
         ended("an option", place.run(HOOK, *option, "plain.yml"), 2, "FILE cannot be used with an option")
+
+
+def test_bare_repository(place: Place) -> None:
+    """A directory of the repository that looks like a bare one is none, wherever the hook starts."""
+    under_git(place, ATTRIBUTES)
+    add_and_commit(place)
+    place.shell("git init -q --bare inner")
+    place.put("inner/a.vault.yml", TEXT)
+    place.shell("git add -A")
+    for line in (HOOK, f"{HOOK} a.vault.yml", f"{HOOK} ."):
+        refused(line, place.shell(line, folder="inner"), "inner/a.vault.yml")
+    check = place.run(CHECK, *place.by_file("old"), ".", folder="inner")
+    ended("the check", check, 1, "./a.vault.yml: is not encrypted")
+    done = place.run(HOOK, "--install", folder="inner")
+    assert done.stdout.startswith(f"{place.tree}/.git/hooks/pre-commit: installed\n")
+
+
+def test_work(place: Place) -> None:
+    """git is called as often for many files as for one, and a file that is longer than any vault is not read."""
+    under_git(place, ATTRIBUTES)
+    place.wrap_tool(f"echo >> {place.path}/calls", "git")
+    counts = set()
+    for number in (1, 40):
+        place.put("long.dat", b"")
+        os.truncate(place.tree / "long.dat", reading.LIMIT + 1)
+        for name in map(str, range(number)):
+            place.put(f"{name}.yml", sealed("old"))
+            place.put(f"{name}.vault.yml", block("old"))
+        place.shell("git add -A && git commit -qm one && git rm -qr . && git checkout -q HEAD .gitattributes")
+        for name in map(str, range(number)):
+            place.put(f"new/{name}.txt", TEXT)
+            place.put(f"new/{name}.vault.yml", block("new"))
+        place.shell("git add -A")
+        place.put("../calls", b"")
+        memory = "import atexit, resource as r; atexit.register(lambda: print(r.getrusage(r.RUSAGE_SELF).ru_maxrss))"
+        done = run_changed(place, HOOK, memory, [])
+        ended("it", done, 0)
+        assert int(done.stdout) < 40_000, "how much memory it takes, in kB"
+        counts.add(len(place.get("../calls")))
+    assert len(counts) == 1, counts
 
 
 def test_links(place: Place) -> None:
