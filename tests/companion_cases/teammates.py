@@ -7,6 +7,7 @@ from collections import Counter
 from copy import deepcopy
 from pathlib import Path
 from random import Random
+from typing import Any
 
 import pytest
 from hypothesis import given, settings
@@ -18,11 +19,9 @@ from companion_cases.repository import AUTHOR
 
 pytestmark = pytest.mark.usefixtures("git")
 
-# A value is the number of an envelope, or a text. A file has values or mappings of values by key, or is a vault.
-Value = int | str
-Values = dict[str, "Value | dict[str, Value]"]
-Content = int | Values
-Files = dict[str, Content]
+# By key, the number of an envelope, a plaintext, or a table below. A file is a table, or the number of a vault.
+Table = dict[str, Any]
+Files = dict[str, Any]
 
 
 def envelope(number: int) -> bytes:
@@ -33,7 +32,7 @@ def envelope(number: int) -> bytes:
     return b"\n".join([b"$ANSIBLE_VAULT;1.1;AES256", *lines, b""])
 
 
-def written(content: "Content | dict[str, Value] | Value", margin: bytes = b"") -> bytes:
+def written(content: int | str | Table, margin: bytes = b"") -> bytes:
     """Return the content of a file as YAML, with its values in several styles."""
     if isinstance(content, str):
         return content.encode()
@@ -47,7 +46,7 @@ def written(content: "Content | dict[str, Value] | Value", margin: bytes = b"") 
     return b"\n".join([*lines, b""])
 
 
-def below(value: "Value | dict[str, Value]", margin: bytes) -> bytes:
+def below(value: int | str | Table, margin: bytes) -> bytes:
     return (b"\n" if isinstance(value, dict) else b"") + written(value, margin).rstrip(b"\n")
 
 
@@ -63,7 +62,7 @@ class Team:
     def envelope(self) -> int:
         return self.random.randrange(1 << 60)
 
-    def plain(self) -> Value:
+    def plain(self) -> str:
         text = self.new("text")
         styles = ["{}", '"{}"', "'{{{{ x }}}}{}'", "[{}]", "{{x: {}}}", "!vault {}"]
         return self.random.choice(styles).format(text)
@@ -71,12 +70,12 @@ class Team:
     def vaults(self) -> list[str]:
         return [name for name, content in self.files.items() if isinstance(content, int)]
 
-    def tables(self) -> list[Values]:
+    def tables(self) -> list[Table]:
         """Return the mappings with values, in each file and below its keys."""
         files = [content for content in self.files.values() if isinstance(content, dict)]
         return files + [value for content in files for value in content.values() if isinstance(value, dict)]
 
-    def places(self, kind: type) -> list[tuple[Values, str]]:
+    def places(self, kind: type) -> list[tuple[Table, str]]:
         return [(table, key) for table in self.tables() for key, value in table.items() if isinstance(value, kind)]
 
     # What teammates do.
