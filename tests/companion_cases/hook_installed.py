@@ -109,6 +109,11 @@ def test_drivers(place: Place) -> None:
         assert (done.returncode, done.stderr, done.stdout.splitlines()[3:]) == (0, "", lines), status
     ended("git diff", place.shell("git show; git show HEAD^"), 0, "-one: 1\n+one: I", f"+{TEXT.decode()}")
     ended("git merge", place.shell("git merge --no-edit theirs && git show -m"), 0, "+one: I", "+four: IV")
+    (place.tools / MERGE).rename(place.tools / "moved")
+    done = place.shell("git reset -q --hard HEAD^ && git merge --no-edit theirs; grep -c '^<<<<<<< ' a.vault.yml")
+    assert done.stdout.endswith("fix conflicts and then commit the result.\n1\n"), "without the driver"
+    place.shell("git merge --abort")
+    (place.tools / "moved").rename(place.tools / MERGE)
     done = place.run(HOOK, "--install", *place.by_file("new"))
     ended("other secrets", done, 0, f"{DIFF}: set to {place.tools}/{TEXTCONV} {' '.join(place.by_file('new'))}\n")
     done = place.run(HOOK, "--uninstall")
