@@ -50,6 +50,11 @@ def test_marked_links(place: Place) -> None:
         (place.tree / name).symlink_to(place.tree / "deep" / target)
         done = place.run(CHECK, *place.by_file("old"), name)
         ended(name, done, 1, f"{name}: is not encrypted\n")
+    for name in ("a.yml", "z.yml"):
+        place.put(f"both/{name}", TEXT)
+        (place.tree / "both" / f"m{name}.vault.yml").symlink_to(name)
+        done = place.run(CHECK, *place.by_file("old"), "both")
+        ended("its file has an earlier or a later name", done, 1, f"both/m{name}.vault.yml: is not encrypted\n")
 
 
 def test_several_repositories(place: Place) -> None:

@@ -5,9 +5,10 @@ import re
 from itertools import product
 from operator import attrgetter
 
-from companion_cases import BODY, CHECK, NOBODY, ROTATE, TEXT, TEXTCONV, Place, block, decrypted, ended, lines_of
-from companion_cases import sealed, summary, texts, to_new, without_digits
+from companion_cases import BODY, CHECK, NOBODY, PASSWORDS, ROTATE, TEXT, TEXTCONV, Place, block, decrypted, ended
+from companion_cases import lines_of, sealed, summary, texts, to_new, without_digits
 from lib.needs import needs_root
+from model.vaults import seal
 
 # A plaintext with blocks, the last of which is under another secret than its label says.
 NAMES = [b"a", b"b", b"stray"]
@@ -129,6 +130,18 @@ def test_documents(place: Place) -> None:
     done = place.run(ROTATE, *to_new(place), ".")
     assert (done.returncode, done.stderr, done.stdout.splitlines()[-1]) == (0, "", summary(5, 1, 1, " (prod 1)"))
     assert {name: place.get(name) for name in stay} == stay, "examples stay"
+    place.put("vars.yml", block("dev"))
+    ended("a link to no document", place.run(ROTATE, *to_new(place), "link.md"), 1, summary(0, failed=1))
+
+
+def test_what_would_be_read_otherwise(place: Place) -> None:
+    """YAML reads no longer key than 1,024 characters without a mark, so the new envelope, whose salt is longer, does not
+    fit in the place of this one."""
+    vault = seal(PASSWORDS["old"], b"x" * 180, salt=b"s").replace(b"\n", b"\\n")
+    place.put("vars.yml", before := b'{!vault "%s": 1}\n' % vault)
+    why = "vars.yml: its values cannot be replaced where they are; write each as `NAME: !vault |`\n"
+    ended("the rotation", place.run(ROTATE, *to_new(place), "vars.yml"), 1, why, summary(0, failed=1))
+    assert place.get("vars.yml") == before, "it stays"
 
 
 def test_closed_output(place: Place) -> None:

@@ -46,13 +46,13 @@ class Rotation:
         if not found.values and contents.fault(found, path):
             raise Refused(found.fault)
         is_prose = contents.is_prose(path) and not found.is_vault
-        after = self._rotated(found, lambda value: value.place(path), report, self.pool.map, is_prose)
-        if after != found.data:
-            try:
+        try:
+            after = self._rotated(found, lambda value: value.place(path), report, self.pool.map, is_prose)
+            if after != found.data:
                 self._put(path, after, found.data)
-            except (Refused, OSError):
-                report.counts[CHANGED] = 0
-                raise
+        except (Refused, OSError):
+            report.counts[CHANGED] = 0
+            raise
         self._report_changes(path, found, report)
 
     def _put(self, path: str, after: bytes, before: bytes) -> None:
