@@ -2,12 +2,13 @@
 
 import os
 import re
+from collections import Counter
 from itertools import product
 from operator import attrgetter
 
 from companion_cases import BODY, CHECK, NOBODY, PASSWORDS, ROTATE, TEXT, TEXTCONV, Place, block, decrypted, ended
 from companion_cases import lines_of, sealed, summary, texts, to_new, without_digits
-from lib.needs import needs_root
+from lib.needs import needs, needs_root
 from model.vaults import seal
 
 # A plaintext with blocks, the last of which is under another secret than its label says.
@@ -135,13 +136,26 @@ def test_documents(place: Place) -> None:
 
 
 def test_what_would_be_read_otherwise(place: Place) -> None:
-    """YAML reads no longer key than 1,024 characters without a mark, so the new envelope, whose salt is longer, does not
-    fit in the place of this one."""
+    """YAML reads no longer key than 1,024 characters, so a new envelope, whose salt is longer, does not fit here."""
     vault = seal(PASSWORDS["old"], b"x" * 180, salt=b"s").replace(b"\n", b"\\n")
     place.put("vars.yml", before := b'{!vault "%s": 1}\n' % vault)
     why = "vars.yml: its values cannot be replaced where they are; write each as `NAME: !vault |`\n"
     ended("the rotation", place.run(ROTATE, *to_new(place), "vars.yml"), 1, why, summary(0, failed=1))
     assert place.get("vars.yml") == before, "it stays"
+
+
+def test_reads_and_writes(place: Place) -> None:
+    """Each file is read at most twice, and written once."""
+    needs("strace")
+    for name, content in {"a.yml": block("old"), "b.yml": sealed("old"), "c.yml": TEXT}.items():
+        place.put(name, content)
+    done, lines = place.traced("-y -e trace=openat,rename,renameat,renameat2", ROTATE, *to_new(place), str(place.tree))
+    ended("the rotation", done, 0, summary(2))
+    opened = Counter(re.findall(r'openat\(.*?"\S*/(?:tree)/(.*?)", O_(\w+)', "\n".join(lines)))
+    renamed = re.findall(r'rename\w*\(.*"\S*/tree/(\w\.yml)"', "\n".join(lines))
+    reads = {name: opened[name, "RDONLY"] for name in ("a.yml", "b.yml", "c.yml")}
+    written = [mode for name, mode in opened.elements() if name.startswith(".ansible-vault-")]
+    assert (reads, written, sorted(renamed)) == ({"a.yml": 2, "b.yml": 2, "c.yml": 1}, ["RDWR"] * 2, ["a.yml", "b.yml"])
 
 
 def test_closed_output(place: Place) -> None:
