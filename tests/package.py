@@ -22,6 +22,7 @@ PACKAGE_FILES = FILES | {
     "share/zsh/vendor-completions/_ansible-vault",
     "share/doc/ansible-vault/copyright",
     "share/doc/ansible-vault/changelog.gz",
+    "share/lintian/overrides/ansible-vault",
 }
 
 
