@@ -1,5 +1,6 @@
 """The testkit: its vectors are made anew, name rules of docs/formats.md, and are answered as expected."""
 
+import os
 import re
 import subprocess
 import sys
@@ -9,7 +10,8 @@ from pathlib import Path
 import pytest
 
 from ansible_answers import README, recorded, table_of
-from lib.paths import ROOT
+from lib.needs import needs_pyyaml
+from lib.paths import COMPANIONS, ROOT
 from model.faults import Fault
 
 TESTKIT = ROOT / "testkit"
@@ -93,6 +95,20 @@ def test_recorded() -> None:
         "| refused | accepted | accepted | `a-1` |",
         "| refused | accepted | refused | `b-1` |",
     ]
+
+
+# `--value` takes no alias, and in JSON the key below `secret` too.
+NO_VALUES = ["yaml-alias", "yaml-json", "yaml-json-escapes"]
+
+
+def test_values(program: str, tmp_path: Path) -> None:
+    """A companion reads the values in YAML and JSON."""
+    needs_pyyaml()
+    (tmp_path / "ansible-vault").symlink_to(program)
+    textconv = ["env", f"PATH={tmp_path}:{os.environ['PATH']}", str(COMPANIONS["ansible-vault-textconv"])]
+    options = ["--vault-password-file", "{password}", "--value", "secret", "{file}"]
+    *different, _ = run("--form", "yaml", "--", *textconv, *options)
+    assert [line.partition(":")[0] for line in different] == NO_VALUES, different
 
 
 # What a command does, and what the testkit says of the vectors of salts.
