@@ -2,9 +2,10 @@
 
 import pytest
 
-from ansible_vault_companions.files import finding
+from ansible_vault_companions.envelopes import document
 from companion_cases import CHECK, TEXT, Place, block, ended, sealed
 from companion_cases.repository import under_git
+from lib.needs import needs_pyyaml
 
 pytestmark = pytest.mark.usefixtures("git")
 
@@ -94,14 +95,17 @@ def test_some_labels(place: Place) -> None:
 
 
 def test_names_of_variables() -> None:
+    needs_pyyaml()
     lines = {
         b"a: !vault |\n": "a",
-        b"my_key: &x !vault |\n": "my_key",
         b"list:\n  - b: !vault |\n": "b",
-        b'"c d": !vault |-  # why\n': "c d",
+        b'"c d": &x !vault |-  # why\n': "c d",
         b"x:\n  nested:    !vault-encrypted |\n": "nested",
-        b"- !vault |\n": None,
+        b"- !vault |\n": "",
+        b"# e: !vault |\n": "",
     }
     rows = block("old").partition(b"\n")[2]
-    found = {line: [(each.name, each.line) for each in finding.envelopes(line + rows)] for line in lines}
+    found = {line: [(value.name, value.line) for value in document.read(line + rows).values] for line in lines}
     assert found == {line: [(name, line.count(b"\n") + 1)] for line, name in lines.items()}
+    [value] = document.read(b'{"f": {"__ansible_vault": "%s"}}' % sealed("old").replace(b"\n", b"\\n")).values
+    assert value.name == "f"

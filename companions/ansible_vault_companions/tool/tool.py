@@ -8,7 +8,7 @@ from subprocess import DEVNULL, PIPE
 from typing import Callable
 
 from ansible_vault_companions import running
-from ansible_vault_companions.files.envelopes import label_of, written_label
+from ansible_vault_companions.envelopes.envelope import label_of, written_label
 from ansible_vault_companions.program import Refused, shown
 from ansible_vault_companions.secrets import labels
 from ansible_vault_companions.secrets.sources import Secret
