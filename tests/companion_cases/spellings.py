@@ -69,6 +69,17 @@ def test_forms(place: Place) -> None:
     ended("again", place.run(*rotate), 1, summary(0, rotated, failed=failed))
 
 
+@pytest.mark.parametrize("name", [name for name, (_, why) in FORMS.items() if "joined" in why or "within" in why])
+def test_labels_of_joined_lines(place: Place, name: str) -> None:
+    """The label of an envelope that cannot be replaced ends where its line would."""
+    content = FORMS[name][0].replace(b"1.1;AES256", b"1.2;AES256;prod")
+    place.put("vars", content)
+    done = place.run(ROTATE, *place.by_id("prod", "old"), *place.by_id("prod", "new", "new-"), ".")
+    ended(name, done, 1, FORMS[name][1], summary(0, failed=1))
+    done = place.run(CHECK, *place.by_id("prod", "old"), "--label", "prod", ".")
+    ended(name, done, 1, f": prod: {FORMS[name][1]}", "0 decrypted, 1 not, 0 with other labels")
+
+
 def test_yaml_that_cannot_be_read(place: Place) -> None:
     """By its name it is meant as YAML, so the check cannot say that all is well. Only text that mentions a header is no
     envelope."""

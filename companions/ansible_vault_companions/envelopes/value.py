@@ -15,7 +15,8 @@ LITERAL, FOLDED, PLAIN, SINGLE, DOUBLE, NO_SCALAR, ALIAS = "|", ">", "", "'", '"
 WHOLE, STRAY, LOOSE = "vault", "stray", "loose"
 # The tags of an encrypted value in YAML, and its key in JSON.
 TAGS, JSON_KEY = ("!vault", "!vault-encrypted"), "__ansible_vault"
-JOINED_LINES = re.compile(rb"[^\r\n]*[ \t][0-9a-fA-F]{16}")
+# A header whose line goes on with digits: a space, a comment mark or an escape is in place of the line end.
+JOINED_LINES = re.compile(rb"(?P<header>[^\r\n]{0,300}?)(?:\\[rn]|[ \t#\\]){1,80}[0-9a-fA-F]{16}")
 
 ELSEWHERE = "an envelope within other text; write it as a value (`NAME: !vault |`), or encrypt the whole file"
 JOINED = (
@@ -66,7 +67,8 @@ class Value(NamedTuple):
 
     @property
     def label(self) -> str | None:
-        return envelope.label_of(self.text)
+        joined = JOINED_LINES.match(self.text)
+        return envelope.label_of(joined["header"] if joined else self.text)
 
     @property
     def is_envelope(self) -> bool:
