@@ -24,6 +24,11 @@ CONTENTS = {
     "one of two blocks": (MIXED, OTHER + b"secret: !vault |2+\n   shown\n\n", f":2: {NO_SECRET} (label x; tried "),
     "another vault": (sealed("dev"), sealed("dev"), f": {NO_SECRET} (no label; tried "),
     "a malformed header": (MALFORMED, MALFORMED, f": {AS_IT_IS}vault header line is malformed"),
+    "a conflict": (
+        b"<<<<<<< a\n%s=======\n%s>>>>>>> b\n" % (sealed("old", b"1\n2\n"), sealed("new", b"1\n3\n")),
+        b"1\n<<<<<<< ours\n2\n=======\n3\n>>>>>>> theirs\n",
+        "",
+    ),
     "plaintext": (TEXT, TEXT, NO_VAULT),
     "nothing": (b"", b"", NO_VAULT),
 }

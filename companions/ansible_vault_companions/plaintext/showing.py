@@ -7,8 +7,10 @@ from contextlib import suppress
 from ansible_vault_companions import parallel, program
 from ansible_vault_companions.envelopes import plaintexts
 from ansible_vault_companions.envelopes.document import Document
+from ansible_vault_companions.envelopes.envelope import MAGIC
 from ansible_vault_companions.envelopes.value import Value
 from ansible_vault_companions.files.changes import Change, changed
+from ansible_vault_companions.merging import texts, unmerged
 from ansible_vault_companions.plaintext import opening
 from ansible_vault_companions.program import Refused, write_error
 from ansible_vault_companions.secrets.sources import Secret
@@ -39,7 +41,12 @@ class SkippingTool(RememberingTool):
 
 
 def converted(found: Document, path: str, decrypt: Decrypt) -> bytes:
-    """The file's data with plaintext in place of its envelopes, as far as they can be decrypted and shown."""
+    """The file's data with plaintext in place of its envelopes, as far as they can be decrypted and shown; of two vaults
+    with a conflict, the merged text."""
+    with suppress(Refused):
+        sides = unmerged.versions(path, found.data)
+        if sides and sides.ours.startswith(MAGIC) and sides.theirs.startswith(MAGIC):
+            return texts.opened(decrypt, sides).merged().text
 
     def shown(value: Value) -> list[Change] | Refused:
         try:
