@@ -41,8 +41,8 @@ class SkippingTool(RememberingTool):
 
 
 def converted(found: Document, path: str, decrypt: Decrypt) -> bytes:
-    """The file's data with plaintext in place of its envelopes, as far as they can be decrypted and shown; of two vaults
-    with a conflict, the merged text."""
+    """The file's data with plaintext in place of its envelopes, as far as they can be decrypted and shown; for a
+    conflict of two vaults, the merged text."""
     with suppress(Refused):
         sides = unmerged.versions(path, found.data)
         if sides and sides.ours.startswith(MAGIC) and sides.theirs.startswith(MAGIC):
