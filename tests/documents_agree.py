@@ -15,7 +15,7 @@ from ansible_vault_companions.stopping import GRACE_PERIOD
 from completions import options_of
 from lib.needs import needs
 from lib.option_sets import OF_ANSIBLE, companion_options, described_options, sections
-from lib.paths import COMPANIONS, PAGE, README, ROOT, version
+from lib.paths import COMPANIONS, PAGE, README, ROOT
 from lib.processes import run_text
 from model.answers import WHITESPACE
 from model.faults import Fault
@@ -199,7 +199,6 @@ def test_figures_in_words(program: str) -> None:
     symbols = run_text(["nm", "--dynamic", "--with-symbol-versions", program]).stdout
     major, minor = max((int(major), int(minor)) for major, minor in re.findall(r"@GLIBC_(\d+)\.(\d+)", symbols))
     wanted = {
-        r"\*\*Status:\*\* ([\d.]+\d)": version(),
         r"glibc ([\d.]+\d)": f"{major}.{minor}",
         r"Python ([\d.]+\d)": ".".join(map(str, OLDEST)),
         r"([\d,]+) rounds of PBKDF2": "10,000",

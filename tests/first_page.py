@@ -20,7 +20,7 @@ from lib.scripts import searched_first
 def test_demo(program: str) -> None:
     """`make demo` prints the session as the README shows it."""
     session = steps(README.read_text())
-    assert len(session) == README.read_text().count("\n    $ ") > 5, "each example is a step"
+    assert len(session) == README.read_text().count("\n    $ ") > 4, "each example is a step"
     done = run_make(program, "demo")
     assert (done.returncode, done.stderr) == (0, ""), done.stdout
     wanted = "\n".join(f"$ {step.command}\n{step.wanted}".strip("\n") for step in session)

@@ -68,7 +68,7 @@ def test_session(clone: Path, prefix: Path, tmp_path: Path) -> None:
     session = steps(README.read_text())
     found = [(step, typed(step.command, tmp_path, PATH=path)) for step in session]
     assert [step.command for step, printed in found if not step.is_met_by(printed)] == []
-    assert len(found) > 5
+    assert len(found) > 4
 
 
 @pytest.mark.parametrize("command, wanted", SMALL.items(), ids=SMALL)
