@@ -13,7 +13,7 @@ from ansible_vault_companions.envelopes import conflicts, envelope
 from ansible_vault_companions.envelopes.document import Document, mentions
 from ansible_vault_companions.envelopes.scalars import BINARY, NotYaml, scalars
 from ansible_vault_companions.envelopes.strays import strays
-from ansible_vault_companions.envelopes.value import ALIAS, JSON_KEY, NO_SCALAR, Path, Value
+from ansible_vault_companions.envelopes.value import ALIAS, JSON_KEY, NO_SCALAR, Path
 from ansible_vault_companions.files.changes import Spans
 from ansible_vault_companions.git import marked
 from ansible_vault_companions.git.attributes import DIFF
@@ -22,9 +22,9 @@ from ansible_vault_companions.git.attributes import DIFF
 ITEM, MERGE = "[]", "<<"
 NOTHING = (b"", b"~", b"null")
 JINJA = re.compile(rb"(?:\s|\{\{(?:(?!\{\{|\}\}).)+\}\})+", re.DOTALL)
-# The most scalars that aliases may stand for.
-MOST = 1_000_000
-TOO_MANY = "its aliases stand for too many values"
+# The most texts of a file, with those that aliases stand for.
+MOST = 100_000
+TOO_MANY = f"it has more than {MOST:,} values"
 # What the value of an attribute cannot have, or what separates keys.
 UNWRITTEN = re.compile(r"[^\w$@/:+*-]")
 
@@ -32,6 +32,8 @@ Keys = tuple[str, ...]
 # For each text at some keys, a number that stands for it, and how often it is there.
 Texts = dict[Keys, "Counter[int]"]
 NONE: Counter[int] = Counter()
+# A path, whether an envelope is there, and the number of its text.
+Leaf = tuple[Path, bool, int]
 # With this word, every content matters.
 ANY = frozenset([b""])
 
@@ -59,48 +61,49 @@ def facts(data: bytes, words: frozenset[bytes] = frozenset()) -> Facts:
     # It may be a conflict of two vaults.
     is_vault = any(side.startswith(envelope.MAGIC) for side in (conflicts.sides(data) or {}).values())
     unencrypted = marked.fault(document, {DIFF})
-    made = Facts(is_vault, False, not document.fault, marked.damage(document), unencrypted, {}, {})
-    for path, value in leaves:
-        text, texts = value.text.strip(), made.encrypted if value.is_value and value.is_envelope else made.plain
-        if texts is made.encrypted or not (text.lower() in NOTHING or JINJA.fullmatch(text)):
-            texts.setdefault(_keys(path), Counter())[hash(text)] += 1
+    made = Facts(is_vault, False, not document.fault, _damage(document), unencrypted, {}, {})
+    for path, is_encrypted, text in leaves:
+        texts = made.encrypted if is_encrypted else made.plain
+        texts.setdefault(_keys(path), Counter())[text] += 1
     return made
 
 
-def _document(data: bytes) -> tuple[Document, list[tuple[Path, Value]]]:
-    """The envelopes, and all scalars at each path that leads to them, from one look at the nodes."""
-    document = Document(data)
-    leaves: list[tuple[Path, Value]] = []
+def _damage(document: Document) -> str:
+    return conflicts.UNMERGED if marked.is_unmerged(document) else marked.damage(document)
+
+
+def _document(data: bytes) -> tuple[Document, list[Leaf]]:
+    """The envelopes, and the texts at each path that leads to them, from one look at the nodes."""
+    document, leaves = Document(data), list[Leaf]()
+    # For each anchor its path, and the number of its first text.
+    anchors: dict[str, tuple[Path, int]] = {}
     try:
-        nodes = list(scalars(data, every=True))
-        leaves = _leaves(nodes)
-        document.values = [node for node in nodes if node.is_value]
+        for node in scalars(data, every=True):
+            if node.is_value:
+                document.values.append(node)
+            if node.style == ALIAS:
+                _add_again(leaves, node.path, *anchors.get(node.anchor, ((), len(leaves))))
+                continue
+            anchors[node.anchor] = node.path, len(leaves)
+            text, is_encrypted = node.text.strip(), node.is_value and node.is_envelope
+            if node.style != NO_SCALAR and not (text.lower() in NOTHING or JINJA.fullmatch(text)):
+                leaves.append((node.path, is_encrypted, hash(text)))
+            if len(leaves) > MOST:
+                raise NotYaml(TOO_MANY)
     except NotYaml as fault:
-        document.fault = str(fault)
+        document, leaves = Document(data, fault=str(fault)), []
     if BINARY not in data:
         document.values += strays(data, Spans((value.start, value.end) for value in document.values))
     return document, leaves
 
 
-def _leaves(nodes: list[Value]) -> list[tuple[Path, Value]]:
-    leaves: list[tuple[Path, Value]] = []
-    # For each anchor its path, and the number of its first scalar.
-    anchors: dict[str, tuple[Path, int]] = {}
-    for node in nodes:
-        if node.style == ALIAS:
-            base, first = anchors.get(node.anchor, ((), len(leaves)))
-            for number in range(first, len(leaves)):
-                path, value = leaves[number]
-                if path[: len(base)] != base:
-                    break
-                leaves.append((node.path + path[len(base) :], value))
-        elif node.anchor:
-            anchors[node.anchor] = node.path, len(leaves)
-        if node.style not in (NO_SCALAR, ALIAS):
-            leaves.append((node.path, node))
-        if len(leaves) > MOST:
-            raise NotYaml(TOO_MANY)
-    return leaves
+def _add_again(leaves: list[Leaf], path: Path, base: Path, first: int) -> None:
+    """Adds what is at and below an anchor, from its first text, for an alias at a path."""
+    for number in range(first, len(leaves)):
+        below, is_encrypted, text = leaves[number]
+        if below[: len(base)] != base or len(leaves) > MOST:
+            break
+        leaves.append((path + below[len(base) :], is_encrypted, text))
 
 
 def _keys(path: Path) -> Keys:

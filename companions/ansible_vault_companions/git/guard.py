@@ -73,7 +73,7 @@ class Guard:
 
     def _facts(self, blob: str, words: frozenset[bytes] = frozenset(), is_old: bool = False) -> Facts:
         content = self.blobs.read(blob, is_old)
-        return Facts() if content is None else facts.facts(content, words)
+        return Facts(is_yaml=False) if content is None else facts.facts(content, words)
 
     def _before(self, file: File) -> Facts:
         return self.olds[file.before] if file.before else Facts()
