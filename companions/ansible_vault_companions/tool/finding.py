@@ -8,11 +8,8 @@ from _collections_abc import Iterable, Iterator
 from ansible_vault_companions import stopping
 from ansible_vault_companions.program import Refused
 from ansible_vault_companions.secrets.sources import Secret
-from ansible_vault_companions.tool.faults import NOT_DECRYPTED
 
 NAME = "ansible-vault"
-# The first bytes of a compiled program, as opposed to a script.
-ELF = b"\x7fELF"
 
 
 def path_for(companion: str) -> str:
@@ -26,16 +23,6 @@ def path_for(companion: str) -> str:
 def beside(companion: str, name: str) -> str | None:
     """The path of another program beside a companion."""
     return _program(_folders(companion), name, companion)
-
-
-def has_messages(path: str) -> bool:
-    """Whether the file is a compiled program that contains a message of the tool. This identifies it without a run."""
-    try:
-        with open(path, "rb") as file:
-            program = file.read()
-    except OSError:
-        return False
-    return program.startswith(ELF) and NOT_DECRYPTED.encode() in program
 
 
 def take_over(path: str, words: list[str], secrets: list[Secret]) -> int:

@@ -24,9 +24,9 @@ Decrypt = Callable[[bytes], tuple[Secret, bytes]]
 class Tool:
     """The ansible-vault beside a companion, otherwise the one on PATH."""
 
-    def __init__(self, companion: str, is_known: bool = False) -> None:
+    def __init__(self, companion: str) -> None:
         self.path = finding.path_for(companion)
-        if not (is_known or finding.has_messages(self.path) or _says_its_name(self.path)):
+        if not _says_its_name(self.path):
             why = "is not the ansible-vault that the companions need; put the right one beside them or on PATH"
             raise Refused(f"{self.path} {why}")
 
