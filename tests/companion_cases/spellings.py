@@ -44,6 +44,7 @@ FORMS = {
     "a byte order mark": (b"\xef\xbb\xbf" + sealed("old"), "let the file begin with it"),
     "empty lines": (b" \r\n\t\n" + sealed("old"), "an envelope within other text"),
     "spaces": (b"  " + sealed("old").replace(b"\n", b"\n  "), "let the file begin with it"),
+    "a tagged text": (b"a: !vault |\n          # x\n" + BODY + b"\n", "an envelope within other text"),
     "a text": (f"PASSWORD=x:{LINE}\n\tx".encode(), "an envelope within other text"),
     "a damaged block": (b"a: !vault |\n  $ANSIBLE_VAULT;1.1;AES256\n  not digits\n", "vault body is not hexadecimal"),
     "a damaged header": (b"$ANSIBLE_VAULT;1.1\n61\n", " line is malformed"),

@@ -14,7 +14,7 @@ from ansible_vault_companions.envelopes import conflicts, envelope
 from ansible_vault_companions.envelopes.scalars import BINARY, NotYaml, scalars
 from ansible_vault_companions.envelopes.strays import strays
 from ansible_vault_companions.envelopes.value import WHOLE, Value
-from ansible_vault_companions.files.changes import Spans, changed
+from ansible_vault_companions.files.changes import changed
 from ansible_vault_companions.program import Refused
 
 # A file with an envelope has one of these words, or spells it with escapes, which take no more than OVERLAP bytes.
@@ -69,6 +69,6 @@ def read(data: bytes, every: bool = False) -> Document:
     except NotYaml as fault:
         document.fault = str(fault)
     if not every and BINARY not in data:
-        document.values += strays(data, Spans((value.start, value.end) for value in document.values))
+        document.values += strays(data, document.values)
         document.values.sort(key=lambda value: value.start)
     return document

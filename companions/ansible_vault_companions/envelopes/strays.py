@@ -17,8 +17,10 @@ LINES = re.compile(
 )
 
 
-def strays(data: bytes, known: Spans) -> Iterator[Value]:
-    """The envelopes that begin outside of these spans."""
+def strays(data: bytes, values: list[Value]) -> Iterator[Value]:
+    """The envelopes outside of these values, and those within the text of one that is no envelope, but has the tag."""
+    known = Spans((value.start, value.end) for value in values if value.is_envelope)
+    texts = Spans((value.start, value.end) for value in values if not value.is_envelope)
     number, place, line_start = 1, 0, 0
     # Behind empty lines alone, Ansible reads neither a vault nor a value.
     first = len(data) - len(data.lstrip())
@@ -30,7 +32,7 @@ def strays(data: bytes, known: Spans) -> Iterator[Value]:
         if place in known:
             continue
         lines = LINES.match(data, line_start)
-        if lines and lines.end("margin") == place > first:
+        if lines and lines.end("margin") == place > first and place not in texts:
             text = b"".join(line[len(lines["margin"]) :] + b"\n" for line in lines[0].splitlines())
             ending = b"\r\n" if b"\r\n" in lines[0] else b"\n"
             yield Value((), STRAY, number, place, line_start, lines.end(), lines["margin"], ending, text)

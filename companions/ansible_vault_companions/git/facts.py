@@ -14,7 +14,6 @@ from ansible_vault_companions.envelopes.document import Document, mentions
 from ansible_vault_companions.envelopes.scalars import BINARY, NotYaml, scalars
 from ansible_vault_companions.envelopes.strays import strays
 from ansible_vault_companions.envelopes.value import ALIAS, JSON_KEY, NO_SCALAR, Path
-from ansible_vault_companions.files.changes import Spans
 from ansible_vault_companions.git import marked
 from ansible_vault_companions.git.attributes import DIFF
 
@@ -93,7 +92,7 @@ def _document(data: bytes) -> tuple[Document, list[Leaf]]:
     except NotYaml as fault:
         document, leaves = Document(data, fault=str(fault)), []
     if BINARY not in data:
-        document.values += strays(data, Spans((value.start, value.end) for value in document.values))
+        document.values += strays(data, document.values)
     return document, leaves
 
 
