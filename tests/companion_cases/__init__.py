@@ -30,10 +30,10 @@ NOBODY = 65_534
 TEXT = b"db_password: correct horse\n"
 # Passwords by the names of their files.
 PASSWORDS = {name: f"the password {name}".encode() for name in ("old", "new", "dev", "dev2", "prod", "prod2")}
-# The edited text and the editor's command; the process ID of the companion, which starts the editor in a shell.
+# The edited text and the editor's command; the process ID of the companion.
 CHANGED = TEXT.replace(b"correct", b"wrong")
 CHANGE = 'sed -i s/correct/wrong/ "$1"'
-ABOVE_EDITOR = "$(cut -d ' ' -f 4 /proc/$PPID/stat)"
+ABOVE_EDITOR = "$PPID"
 # Matches a whole envelope.
 FOUND = re.compile(rb"(?m)^ *\$ANSIBLE_VAULT;1.*(?:\n *[0-9a-fA-F]+\r?$)+")
 ENCRYPTED = re.compile(r"; what you saved is encrypted in (.+)\n")
@@ -192,7 +192,7 @@ from ansible_vault_companions.files import reading, replacing
 {change}
 runpy.run_path(sys.argv[0], run_name="__main__")
 """
-    script = place.script(text, "changed", "/usr/bin/env -S python3 -ISB")
+    script = place.script(text, "changed", "/usr/bin/env -S python3 -IB")
     return place.run(script, str(place.tools / companion), *words, **variables)
 
 

@@ -104,7 +104,7 @@ signal.pthread_sigmask(signal.SIG_BLOCK, [signal.SIGTERM])
 def test_signals(place: Place) -> None:
     """A signal ends the script, too, and then the companion, as it would without a script."""
     place.put("a.yml", sealed("dev"))
-    place.script("sleep 600 & echo $! > ../sleeping; kill -TERM $PPID; wait")
+    place.script("echo $$ > ../sleeping; kill -TERM $PPID; exec sleep 600")
     done = run_changed(place, CHECK, BESIDE_A_THREAD, ["--vault-password-file", "../script", "a.yml"])
     assert (done.returncode, done.stdout, done.stderr) == (-15, "", ""), "it ends by the signal"
     assert has_ended(place.path / "sleeping"), "and nothing goes on"

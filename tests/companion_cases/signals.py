@@ -54,13 +54,17 @@ def tree(place: Place) -> dict[str, list[str]]:
 
 
 def check_whole(place: Place) -> None:
-    """Check that each vault is the old or the new one, or plaintext for its owner only, and that no file is left."""
+    """Check that each vault is the old or the new one, plaintext for its owner only, or a conflict of two whole ones,
+    and that no file is left."""
     vault, blocks = place.get("a.yml"), place.get("b.yml")
-    is_vault = vault.startswith(b"$ANSIBLE_VAULT")
-    found = {decrypted("old", vault), decrypted("new", vault)} if is_vault else {vault}
-    assert found & {TEXT, CHANGED}, ("the vault is whole", vault)
-    pairs = zip(texts(blocks, "old"), texts(blocks, "new"))
-    assert [TEXT in pair for pair in pairs] == [True, True], ("the blocks are whole", blocks)
+    is_vault = vault.startswith((b"$ANSIBLE_VAULT", b"<<<<<<<"))
+    pairs = [*zip(texts(vault, "old"), texts(vault, "new"))] if is_vault else [(vault, None)]
+    assert len(pairs) == (2 if b"<<<<<<<" in vault else 1), ("the vault is whole", vault)
+    assert all({TEXT, CHANGED}.intersection(pair) for pair in pairs), ("the vault is whole", vault)
+    pairs = [*zip(texts(blocks, "old"), texts(blocks, "new"))]
+    wanted = [{TEXT}, {TEXT}, {CHANGED}, {CHANGED}] if b"<<<<<<<" in blocks else [{TEXT}, {TEXT}]
+    assert len(pairs) == len(wanted), ("the blocks are whole", blocks)
+    assert all(either & {*pair} for either, pair in zip(wanted, pairs)), ("the blocks are whole", blocks)
     left = place.left() + os.listdir(place.temporary)
     assert (place.names(), left) == (["a.yml", "b.yml"], []), "nothing is left"
     modes = (place.mode("a.yml"), place.mode("b.yml"))
@@ -171,14 +175,12 @@ def test_stopped_editors(place: Place) -> None:
     assert decrypted("old", place.get("a.yml")) == b"typed", session.shown
 
 
-# A child of the editor writes when it is asked to end, as another one does twice.
+# The editor writes when it is asked to end, which happens twice.
 LAST_WORDS = f"""
-above={ABOVE_EDITOR}
 printf first > "$1"
-(trap 'sleep 0.3; printf last > "$1"; touch ../saved; exit' TERM; sleep {SECONDS} & touch ../ready; wait) &
-until [ -e ../ready ]; do sleep 0.02; done
-(trap '' TERM; kill -TERM $above; sleep 0.1; kill -TERM $above) &
-wait
+trap 'sleep 0.3; printf last > "$1"; touch ../saved; exit' TERM
+(trap '' TERM; sleep 0.1; kill -TERM {ABOVE_EDITOR}; sleep 0.1; kill -TERM {ABOVE_EDITOR}) > /dev/null 2>&1 &
+while :; do sleep 0.05; done
 """
 
 
@@ -190,26 +192,6 @@ def test_last_words(place: Place) -> None:
     assert done.returncode == -signal.SIGTERM, "the status"
     assert "a.yml: signal 15 ended the edit; " in done.stderr, "the reason"
     check_edit(place, done.stderr, b"last")
-
-
-# Runs a program from a thread, and signals the companion.
-OF_THREAD = """
-import os, subprocess, sys, threading, time
-words = ["sh", "-c", "echo $$ > ../new; mv ../new ../child; exec sleep 600 > /dev/null 2>&1"]
-threading.Thread(target=lambda: subprocess.run(words)).start()
-while not os.path.exists("../child"):
-    time.sleep(0.02)
-os.kill(int(sys.argv[1]), 15)
-time.sleep(600)
-"""
-
-
-def test_children_of_threads(place: Place) -> None:
-    tree(place)
-    (place.path / "thread.py").write_text(OF_THREAD)
-    done = edit(place, f"exec python3 ../thread.py {ABOVE_EDITOR}", *place.by_file("old"), "a.yml")
-    assert (done.returncode, has_ended(place.path / "child")) == (-signal.SIGTERM, True), "the child ends, too"
-    check_whole(place)
 
 
 def test_half_a_save(place: Place) -> None:
