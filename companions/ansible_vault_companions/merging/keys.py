@@ -12,6 +12,7 @@ from ansible_vault_companions.merging.lines import BASE, OURS, SIDES, THEIRS
 from ansible_vault_companions.program import Refused
 from ansible_vault_companions.secrets import labels
 from ansible_vault_companions.secrets.sources import Secret
+from ansible_vault_companions.tool.faults import SecretRefused
 from ansible_vault_companions.tool.tool import Decrypt, Key, Tool
 
 NOT_ENCRYPTED = "the new vault does not decrypt to the text that was encrypted; run the merge again"
@@ -138,6 +139,8 @@ class Choices:
         def opened(text: bytes) -> Opened | None:
             try:
                 return permitted(decrypt, text)
+            except SecretRefused:
+                raise
             except Refused:
                 return None
 
