@@ -4,8 +4,8 @@ import shutil
 
 import pytest
 
-from companion_cases import HOOK, TEXT, Place, block, sealed
-from companion_cases.repository import GONE, IN_PART, WHOLE, advice, under_git
+from companion_cases import HOOK, TEXT, Companions, Place, block, sealed
+from companion_cases.repository import GONE, IN_PART, WHOLE, add_and_commit, advice, again, under_git, with_hooks
 
 pytestmark = pytest.mark.usefixtures("git")
 
@@ -117,6 +117,10 @@ PASSING: dict[str, tuple[Files, Files]] = {
     "a document with a cut example": ({"a.md": X}, {"a.md": b"```\n" + PW[:200] + b"\n```\n"}),
     "a marked file with a value": ({".gitattributes": MARKED}, {".gitattributes": MARKED, "a.vault.yml": X + PW}),
     "another part of a vault, as allowed": ({"a.yml": CUT}, {"a.yml": CUT[:-1], ".gitattributes": b"* -ansible-vault"}),
+    "conflict markers, as allowed": (
+        {"a.txt": X},
+        {"a.txt": CONFLICT % (PW, PW2), ".gitattributes": b"*.txt -ansible-vault"},
+    ),
     "a test of the header": ({"a.py": X}, {"a.py": b'HEADER = "$ANSIBLE_VAULT;1.1;AES256"\n'}),
 }
 
@@ -222,6 +226,16 @@ REFUSED: dict[str, tuple[Files, Files, dict[str, str]]] = {
     ),
     "a cut vault again": ({"a.yml": CUT}, {"a.yml": CUT[:-1]}, {"a.yml": DAMAGED}),
     "text below a vault": ({"a.yml": VAULT}, {"a.yml": VAULT + TEXT}, {"a.yml": DAMAGED}),
+    "a cut comment": (
+        {"a.sh": X},
+        {"a.sh": X + b"# " + CUT.replace(b"\n", b"\n# ")},
+        {"a.sh": BLOCK},
+    ),
+    "a header in a conflict": (
+        {"a.txt": X},
+        {"a.txt": X + AES[:23] + CONFLICT % (b"31\n", b"32\n")},
+        {"a.txt": UNMERGED},
+    ),
     "a cut block": ({"a.yml": X}, {"a.yml": X + PW[:-100] + b"\n"}, {"a.yml": "has a damaged block in line 3"}),
     "no YAML any more": ({"a.yml": PW + X}, {"a.yml": b"\t" + PLAIN}, {"a.yml": NO_YAML}),
     "no YAML any more, without a suffix": ({"all": PW + X}, {"all": b"{% if x %}\n" + PLAIN}, {"all": NO_YAML}),
@@ -259,3 +273,46 @@ def test_refused(place: Place) -> None:
         for what, (_, _, whys) in REFUSED.items()
     }
     assert {what: (lines, wanted[what]) for what, lines in told.items() if lines != wanted[what]} == {}
+
+
+# Commands in a repository with a hook. The file a.yml is a vault, and b.yml has values. `new` encrypts both again, and
+# `other` is a branch with a further file.
+COMMANDS = {
+    "a merge of a renamed vault and a rotation": "git mv a.yml c.yml && git commit -qm one && git checkout -q other && "
+    "new && git commit -qam two && git merge -q --no-edit -",
+    "a merge of a renamed file with values": "git mv b.yml c.yml && git commit -qm one && git checkout -q other && "
+    "git merge -q --no-edit -",
+    "a merge of a removal": "git rm -q a.yml b.yml && git commit -qm one && git checkout -q other && "
+    "git merge -q --no-edit -",
+    "a merge of Jinja": "echo 'pw: \"{{ x }}\"' > b.yml && git commit -qam one && git checkout -q other && "
+    "git merge -q --no-edit -",
+    "a revert of a rotation": "new && git commit -qam one && git revert -n HEAD && git commit -qm two",
+    "a revert of a removal": "git rm -q a.yml && git commit -qm one && git revert -n HEAD && git commit -qm two",
+    "a cherry-pick": "new && git commit -qam one && git checkout -q other && git cherry-pick -n - && "
+    "git commit -qm two",
+    "an amended commit": "new && git commit -qam one && git mv a.yml c.yml && git commit -q --amend -m two",
+    "a stash": "new && git stash -q && git checkout -q other && git stash pop -q && git commit -qam one",
+    "a rebase": "new && git commit -qam one && git rebase -q other && git commit -q --allow-empty -m two",
+    "a squashed merge": "new && git commit -qam one && git checkout -q other && git merge -q --squash - && "
+    "git commit -qm two",
+    "a part of a commit": "new && echo 'x: 1' >> b.yml && git commit -qm one b.yml",
+}
+
+
+def test_commands(cases: Companions) -> None:
+    failed = {}
+    for what, line in COMMANDS.items():
+        place = cases.place()
+        with_hooks(place)
+        place.put("a.yml", VAULT)
+        place.put("b.yml", PW + LINES * 3)
+        add_and_commit(place)
+        place.shell("git checkout -qb other")
+        assert again(place, "other.yml", X).returncode == 0
+        place.shell("git checkout -q -")
+        place.put("../new/a.yml", OTHER)
+        place.put("../new/b.yml", PW2 + LINES * 3)
+        done = place.shell(f"set -e; new() {{ cp {place.path}/new/* .; }}; {line}; {HOOK} --since HEAD~1; {HOOK} --all")
+        if done.returncode or HOOK in done.stderr:
+            failed[what] = done
+    assert failed == {}

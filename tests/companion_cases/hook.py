@@ -68,21 +68,6 @@ def test_leftovers(place: Place) -> None:
     assert [*place.files()] == [*others[:3], ".gitattributes", others[3], "inner/a.yml"], "names are quoted"
 
 
-def test_awkward_names(place: Place) -> None:
-    """Marked files, and files that were vaults."""
-    with_hooks(place, ATTRIBUTES)
-    names = [f"{folder}/{name}" for folder in ("secrets", "others") for name in AWKWARD]
-    for name in names:
-        place.put(name, sealed("old"))
-    silent("each is let through", add_and_commit(place))
-    for name in names:
-        place.put(name, TEXT)
-    done = add_and_commit(place)
-    counts = [done.stderr.count(f"{HOOK}: "), done.stderr.count(WHOLE)]
-    assert (done.returncode, counts) == (1, [len(names), len(AWKWARD)]), "each is refused"
-    assert "'secrets/a\\nline.yml' is not" in done.stderr, "a line end is spelled out"
-
-
 LINES = block("old").splitlines(keepends=True)
 TAGGED = "has plaintext with the tag `!vault` in line {}"
 UNMERGED = "has git's conflict markers"
@@ -121,19 +106,6 @@ def test_marked_content(place: Place) -> None:
     assert done.stderr.splitlines()[::2] == [f"{HOOK}: {name} {why}" for name, why in sorted(whys.items())]
 
 
-def test_damage(place: Place) -> None:
-    """Files without a mark: envelopes have to be whole, except in documents, and where an attribute allows it."""
-    under_git(place, "")
-    place.put("README.md", b"".join(LINES[:3]))
-    damaged = {name: content for name, (content, why) in CONTENTS.items() if "damaged" in why or why == UNMERGED}
-    for name, content in damaged.items():
-        place.put(f"{name}.txt", content)
-    done = staged(place, "torn.txt", b"$ANSIBLE_VAULT;1.1;AES256\n<<<<<<< HEAD\n3132\n>>>>>>> a\n")
-    whys = {f"{name}.txt": why for name, (_, why) in CONTENTS.items() if name in damaged} | {"torn.txt": UNMERGED}
-    assert done.stderr.splitlines()[::2] == [f"{HOOK}: {name} {why}" for name, why in sorted(whys.items())]
-    silent("allowed", staged(place, ".gitattributes", b"*.txt -ansible-vault\n"))
-
-
 def test_plain_beside_vaults(place: Place) -> None:
     """The usual layout has plaintext beside vaults in one directory. The message says what to do."""
     with_hooks(place, "group_vars/** diff=ansible-vault\n")
@@ -165,6 +137,7 @@ def test_exemptions(place: Place) -> None:
     place.put(".gitattributes", b"")
     lines = place.shell(f"git add -A && {HOOK}").stderr.splitlines()
     assert len(lines) == 4 * len(AWKWARD)
+    assert any(line.startswith(f"{HOOK}: 'a\\nline.yml' has ") for line in lines), "a line end is spelled out"
     attributes = "\n".join(line.rpartition(".gitattributes: ")[2] for line in lines[1::2])
     assert attributes.count("ansible-vault-plain=a%20b%2C%25%3D%2Ec%5B%5D,x[].pw") == len(AWKWARD)
     marks = "*.vault.yml diff=ansible-vault\n"
