@@ -13,7 +13,7 @@ HEADER_LINES = {
     "1.1": (READ, "format 1.1 without a label", HEADER),
     "1.2-without-label": (READ, "format 1.2 without a label", MAGIC + b";1.2;AES256"),
     "several-blanks": (READ, "several blanks around fields", MAGIC + b"; \t1.1\f ;\v\vAES256 \t "),
-    "text-after-magic": (success("Reading, 2"), "the first field only begins so", MAGIC + b"X 2\x01;1.1;AES256"),
+    "text-after-magic": (success("Reading, 2"), "the first field begins with the magic", MAGIC + b"X 2\x01;1.1;AES256"),
     "later-fields": (READ, "fields after the fourth are ignored", HEADER + b";;;\x01;a\tb;" + MAGIC),
     "magic-cut": (outcomes.NOT_VAULT, "the last byte of the magic is missing", MAGIC[:-1]),
     "magic-lower-case": (outcomes.NOT_VAULT, "the magic is lower case", MAGIC.lower() + b";1.1;AES256"),
@@ -105,11 +105,10 @@ def labels() -> Iterator[Vector]:
 
 def bodies() -> Iterator[Vector]:
     half = len(DIGITS) // 2
-    cases = zip(DIGITS[::2], DIGITS.upper()[1::2])
-    mixed = bytes(digit for pair in cases for digit in pair)
+    # The only letters are in the line feeds between the parts, which are `0a`.
     layouts = {
         "upper-case": lines_of(DIGITS.upper()),
-        "mixed-case": lines_of(mixed),
+        "mixed-case": lines_of(DIGITS.replace(b"0a", b"0A", 1)),
         **{f"lines-of-{width}": lines_of(DIGITS, width) for width in (1, 79, 81)},
         "one-line": DIGITS,
         "without-last-newline": BODY[:-1],
@@ -148,8 +147,11 @@ def other_bodies() -> Iterator[Vector]:
 
 def inner_texts() -> Iterator[Vector]:
     salt, tag, text = INNER.split(b"\n")
-    upper = with_inner(INNER.upper())
-    yield Vector("inner-upper-case", success("Reading, 8"), "the digits of all three parts are upper case", upper)
+    cases = zip(INNER[::2], INNER.upper()[1::2] + b"\n")
+    mixed = bytes(digit for pair in cases for digit in pair)[: len(INNER)]
+    for name, inner in {"upper-case": INNER.upper(), "mixed-case": mixed}.items():
+        comment = f"the digits of all three parts are {name.replace('-', ' ')}"
+        yield Vector(f"inner-{name}", success("Reading, 8"), comment, with_inner(inner))
     inners = {
         "no-separator": ("no line feed", salt + tag + text),
         "one-separator": ("one line feed", salt + b"\n" + tag),
