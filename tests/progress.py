@@ -140,8 +140,8 @@ PACKAGES = dict.fromkeys(["awk", "bash", "dpkg-deb", "rt", "stty"], "") | dict.f
 PACKAGES |= {"dh": "debhelper", "groff": "groff-base", "localedef": "locales", "man": "man-db", "setfacl": "acl"}
 PACKAGES |= {"ansible-playbook": "ansible-core"}
 # Those of the modules and of the other programs that they use.
-OTHERS = "bash-completion fish openssl python3-coverage python3-cryptography python3-hypothesis "
-OTHERS += "python3-matplotlib python3-pytest python3-pytest-subtests python3-pytest-timeout python3-pytest-xdist python3-yaml"
+OTHERS = "bash-completion fish openssl python3-coverage python3-cryptography python3-hypothesis python3-matplotlib "
+OTHERS += "python3-pytest python3-pytest-subtests python3-pytest-timeout python3-pytest-xdist python3-yaml"
 
 
 def test_packages(tmp_path: Path) -> None:
