@@ -10,10 +10,9 @@ from pathlib import Path
 
 import pytest
 
-from ansible_vault_companions import program as companion
 from ansible_vault_companions.alias.command_line import COMMANDS
-from ansible_vault_companions.files import private_folder, replacing
-from ansible_vault_companions.plaintext import edits
+from ansible_vault_companions.editing import copies, editor, folder
+from ansible_vault_companions.files import replacing
 from ansible_vault_companions.secrets import settings
 from lib.needs import needs
 from lib.option_sets import companion_help, companion_options, companion_page, described_options
@@ -92,7 +91,7 @@ def test_settings() -> None:
 
 def test_choices() -> None:
     """The page of ansible-vault-edit names the editors and the directories that are tried, in the order of the code."""
-    chosen = [(edits, "editor = "), (private_folder, "for place in "), (companion, "TMPDIR")]
+    chosen = [(editor, "editor = "), (folder, "named = "), (copies, "state = ")]
     code = [re.findall(rf"^ +(.*{line}.*)$", inspect.getsource(module), re.MULTILINE) for module, line in chosen]
     named = re.findall(r"\b(?:Ev|Pa|Ql) ([\w/]+)(?=\n| ,)", companion_page("ansible-vault-edit")["ENVIRONMENT"])
     assert named == [name for [line] in code for name in re.findall(r'"([\w/]+)"', line)]
@@ -101,8 +100,8 @@ def test_choices() -> None:
 def test_files() -> None:
     """The pages name the files that companions make."""
     pages = "".join(companion_page(name).get("FILES", "") for name in COMPANIONS)
-    made = {f"{each}*" for each in (private_folder.PREFIX, replacing.PREFIX, replacing.SAVED)}
-    named = re.findall(r"^\.It Pa (.*ansible-vault-.*)$", pages, re.MULTILINE)
+    made = {f"{each}*" for each in (folder.PREFIX, replacing.PREFIX)} | {"~/.local/state/ansible-vault"}
+    named = re.findall(r"^\.It Pa (.*ansible-vault.*)$", pages, re.MULTILINE)
     assert {*named} == made
 
 
@@ -114,7 +113,7 @@ def plain(text: str) -> str:
 # What a help or a shown page lists on a line of its own, with a text.
 ENTRY = re.compile(r"^ +(--?\w.*?|[a-z_]+) {2,}(\S.*)$", re.MULTILINE)
 # The lines of a screen, and the helps that are longer.
-LINES, LONGER = 34, {SHARED, "ansible-vault-edit", "ansible-vault-hook", "ansible-vault-merge"}
+LINES, LONGER = 34, {SHARED}
 
 
 def joined(text: str) -> str:

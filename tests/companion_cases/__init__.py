@@ -37,6 +37,8 @@ ABOVE_EDITOR = "$PPID"
 # Matches a whole envelope.
 FOUND = re.compile(rb"(?m)^ *\$ANSIBLE_VAULT;1.*(?:\n *[0-9a-fA-F]+\r?$)+")
 ENCRYPTED = re.compile(r"; what you saved is encrypted in (.+)\n")
+# The first line of such a copy.
+HEAD = re.compile(rb"\A# ansible-vault-edit [0-9a-f]{64}: what was saved begins below\.\n")
 # Notes what other processes can see of a run of the program, and its limit for core dumps.
 NOTE = "{ tr '\\0' '\\n' < /proc/$$/cmdline; tr '\\0' '\\n' < /proc/$$/environ; } >> ../seen; ulimit -c >> ../cores"
 # The first line of an envelope, with its password and plaintext if they are known; or other content unchanged.
@@ -132,6 +134,16 @@ class Place:
     def left(self) -> list[str]:
         """Return what is left in the runtime directory."""
         return sorted(str(each) for each in self.runtime.rglob("*"))
+
+    def copies(self) -> list[Path]:
+        """Return the rescue copies of edits."""
+        return sorted((self.path / ".local/state/ansible-vault").glob("*"))
+
+    def kept(self, password: str = "old") -> list[bytes]:
+        """Return the texts in the copies, below the line that says what they are."""
+        texts = [decrypted(password, path.read_bytes()) or b"" for path in self.copies()]
+        assert all(HEAD.match(text) for text in texts), texts
+        return [HEAD.sub(b"", text) for text in texts]
 
     def script(self, text: str, name: str = "script", interpreter: str = "/bin/sh") -> str:
         """Write a program that runs this text, and return its path."""

@@ -7,7 +7,7 @@ import re
 
 import pytest
 
-from companion_cases import AWKWARD, CHANGE, CHANGED, EDIT, ENCRYPTED, TEXT, Done, Place, block, decrypted, edit, ended
+from companion_cases import AWKWARD, CHANGE, CHANGED, EDIT, TEXT, Done, Place, block, decrypted, edit, ended
 from companion_cases import envelope_of, sealed, silent, texts
 
 
@@ -21,13 +21,16 @@ def test_what_changes(place: Place, name: str) -> None:
     assert (place.names(), place.left()) == ([name], []), "no other file is left"
 
 
-@pytest.mark.parametrize("folder", ("../runtime", "/nowhere", ""))
+@pytest.mark.parametrize("folder", ("{}/runtime", "../runtime", "{}/repository/runtime", "/nowhere", ""))
 def test_where_the_plaintext_lies(place: Place, folder: str) -> None:
+    """What is relative, or in a repository, may belong to a stranger."""
     place.put("all.yml", sealed("old"))
+    for name in (".git", "runtime"):
+        (place.path / "repository" / name).mkdir(parents=True)
     look = 'stat -c "%a %n" "${1%/*}" "$1" > ../seen'
-    done = edit(place, look, *place.by_file("old"), "all.yml", XDG_RUNTIME_DIR=folder)
+    done = edit(place, look, *place.by_file("old"), "all.yml", XDG_RUNTIME_DIR=folder.format(place.path))
     ended("an editor that looks", done, 0, "nothing was changed")
-    wanted = place.runtime if folder == "../runtime" else "/dev/shm"
+    wanted = place.runtime if folder == "{}/runtime" else "/dev/shm"
     lines = (place.path / "seen").read_text().splitlines()
     private = lines[0].removeprefix("700 ")
     assert (lines[1:], os.path.dirname(private)) == ([f"600 {private}/all.yml"], str(wanted)), "both are private"
@@ -59,10 +62,10 @@ BOTH = "--vault-id dev@../secrets/dev --vault-id prod@../secrets/prod"
 REFUSED = [
     (OLD, "all.yml", "hard links"),
     (OLD, "plain.yml", "not a vault"),
-    (OLD, "marked.yml", "an envelope after a byte order mark; remove the mark"),
+    (OLD, "marked.yml", "if the file is to be a vault, let the file begin with it"),
     (OLD, "missing/new.yml", "No such file"),
     (PROD, "odd.yml", "its label a@b"),
-    (OLD, "vars.yml", "line 1: secret: no secret decrypts this vault (no label; tried ../secrets/old)"),
+    (OLD, "vars.yml", "line 2: secret: no secret decrypts this vault (no label; tried ../secrets/old)"),
     (OLD, "vars.yml", "; or, to add values without seeing the others, choose a secret for the new ones with"),
     (BOTH, "new.yml", "choose the secret for a new vault with --encrypt-vault-id"),
     (f"{BOTH} --encrypt-vault-id other", "new.yml", "no secret has the label of --encrypt-vault-id"),
@@ -96,14 +99,16 @@ def test_what_cannot_be_removed(place: Place) -> None:
 
 
 def test_labels(place: Place) -> None:
-    """The result is encrypted with the secret that decrypted the vault, under the vault's label. A message says if that
-    secret has another label."""
+    """A file is refused if a secret with another label opens it. If that is permitted, that secret encrypts it again,
+    under the label that it had."""
     place.put("all.yml", sealed("prod", label="prod"))
     place.put("vars.yml", block("prod", label="prod"))
     words = [*place.by_id("prod", "dev"), *place.by_id("dev", "prod"), "all.yml", "vars.yml"]
-    done = edit(place, CHANGE, *words)
+    done = edit(place, "touch ../started", *words)
     why = f"its label is prod, but dev@{place.secret('prod')}, a secret"
-    ended("the edit", done, 0, f"{EDIT}: all.yml: {why}", f"{EDIT}: vars.yml: line 1: secret: {why}")
+    ended("the edit", done, 1, f"{EDIT}: all.yml: {why}", f"{EDIT}: vars.yml: line 2: secret: {why}")
+    assert not (place.path / "started").exists(), "no editor is started"
+    silent("it is permitted", edit(place, CHANGE, "--any-label", *words))
     for envelope in (envelope_of(place.get(name)) or b"" for name in ("all.yml", "vars.yml")):
         assert envelope.startswith(b"$ANSIBLE_VAULT;1.2;AES256;prod\n"), "the label stays"
         assert decrypted("prod", envelope) == CHANGED, "the password stays"
@@ -129,29 +134,29 @@ TYPED = {
     "!vault x": b"x",
     "!vault it's # why": b"it's",
     "!vault 'it''s'": b"it's",
-    '!vault "a\\n\\u00e9\\x00"': "a\né\0".encode(),
+    '!vault "a\\n\\u00e9\\x00"': "a\n\u00e9\0".encode(),
     '!vault ""': b"",
     "!vault |-\n  a\n   b": b"a\n b",
     "!vault |2+\n   a\n\n": b" a\n\n\n",
+    "!vault |-\n  a\x01": b"a\x01",
     "!vault &x secret": b"secret",
+    "!vault a\n  b": b"a b",
+    "!vault 'a\n\n  b'": b"a\nb",
+    "!vault >-\n  a\n  b": b"a b",
+    "!vault\n  a": b"a",
+    "!vault\n# why\n  |-\n  a": b"a",
 }
 # What is refused if it is typed, because it may be misread or would not be encrypted, and why.
 MISREAD = {
     "b: !vault\n": "line 1: b is missing after `!vault`",
-    "b: !vault a\n  b\n": "line 1: b continues on further lines",
-    "b: !vault 'a\n  b'\n": "line 1: b continues on further lines",
-    "b: !vault >\n  a\n": "line 1: b is a folded scalar",
-    "b: !vault\n  a\n": "line 1: b is below its tag",
     "b: !vault [a]\n": "line 1: b is a list, a mapping or a key, not a string",
     "b: !vault {{ a }}\n": "line 1: b is a list, a mapping or a key, not a string",
     "? [!vault a]\n: b\n": "line 1: this value is a list, a mapping or a key, not a string",
-    "? {a: !vault b}\n: c\n": "line 1: this value is a list, a mapping or a key, not a string",
-    "b: !vault |-\n  a\x01\n": "line 1: b has control characters",
+    "!vault a: b\n": "line 1: this value is a list, a mapping or a key, not a string",
     'b: !vault "\\q"\n': "line 1: it cannot be read as YAML: found unknown escape character",
-    "b: !vault |-\n  x\ny\n": "line 3: it cannot be read as YAML: could not find expected ':'",
-    "b: {c: !vault x}\n": "line 1: c is within brackets",
-    "# b: !vault |-\n#   x\n": "line 1: `!vault` within a comment or a string is not a tag",
-    "t: |\n  b: !vault |-\n    x\n": "line 2: `!vault` within a comment or a string is not a tag",
+    "b: !vault |-\n  x\ny\n": "line 4: it cannot be read as YAML: could not find expected ':'",
+    "b: !vault x\u2028y\n": "it has an unusual end of a line",
+    "b: !vault $ANSIBLE_VAULT_TOKEN x\n": "line 1: b begins like a vault ($ANSIBLE_VAULT), but is none",
 }
 
 
@@ -179,52 +184,87 @@ def test_typed_forms(place: Place, form: str) -> None:
 def test_refused_forms(place: Place, text: str) -> None:
     """The file stays, and what was typed is kept."""
     done = type_into(place, before := block("old", b"x", name="b"), text)
-    ended("the edit", done, 1, f"vars.yml: {MISREAD[text]}", "; what you saved is encrypted in ")
-    [copy] = ENCRYPTED.findall(done.stderr)
-    assert (decrypted("old", place.get(copy)), place.get("vars.yml")) == (text.encode(), before)
+    ended("the edit", done, 1, f"vars.yml: {MISREAD[text]}", f"; what you saved is encrypted in {place.copies()[0]}\n")
+    assert (place.kept(), place.get("vars.yml")) == ([text.encode()], before)
 
 
-CLOSED = {b"a\r\nb": "control characters", b"\xff": "not UTF-8", "\u2028".encode(): "control characters"}
-CLOSED[b"$ANSIBLE_VAULT;1.1;AES256\n"] = "itself a vault"
+# Texts of a value, and how they are shown.
+SHOWN = {
+    b"a\nb\n": b"|\n  a\n  b\n",
+    b" a": b"|2-\n   a\n",
+    b"a\n\n": b"|+\n  a\n\n",
+    b"": b'""\n',
+    b"\na": b'"\\na"\n',
+    b"a\r\nb \x7f": b'"a\\r\\nb \\U0000007f"\n',
+    "\u2028\u00e9".encode(): '"\\U00002028\u00e9"\n'.encode(),
+}
+
+
+@pytest.mark.parametrize("text", SHOWN)
+def test_shown_forms(place: Place, text: bytes) -> None:
+    """A text is shown as a block, or in quotes if it could not be read back. If it stays, so does every byte."""
+    place.put("vars.yml", block("old", text, name="a") + block("old", b"b", name="b"))
+    done = edit(place, "cp \"$1\" ../shown; sed -i '$s/b/B/' \"$1\"", *place.by_file("old"), "vars.yml")
+    silent("the edit", done)
+    assert (place.path / "shown").read_bytes() == b"a: !vault " + SHOWN[text] + b"b: !vault |-\n  b\n"
+    after = place.get("vars.yml")
+    assert (after.startswith(block("old", text, name="a")), texts(after, "old")) == (True, [text, b"B"])
+
+
+CLOSED = {b"\xff": "it is not UTF-8", b"$ANSIBLE_VAULT;1.1;AES256\n": "its plaintext is itself a vault"}
 
 
 @pytest.mark.parametrize("text", CLOSED)
 def test_closed(place: Place, text: bytes) -> None:
-    """A text that YAML cannot show stays encrypted, and a comment says so during the edit. Other comments stay, and so
-    does an envelope in quotes."""
-    comments = b"# ansible-vault: one\n## ansible-vault: two\n"
-    quoted = b'q: !vault "' + sealed("old").replace(b"\n", b"\\n") + b'"\n'
-    closed = comments + block("old", text, name="a") + quoted
-    place.put("vars.yml", closed + block("old", b"b", name="b"))
-    done = edit(place, "cp \"$1\" ../shown; sed -i 's/^  b$/  B/' \"$1\"", *place.by_file("old"), "vars.yml")
-    silent("a change", done)
-    after = place.get("vars.yml")
-    assert (after.startswith(closed + b"b: !vault"), texts(after, "old")) == (True, [text, b"B"])
-    [note] = re.findall("# ansible-vault: a stays encrypted: (.*)", (place.path / "shown").read_text())
-    assert CLOSED[text] in note, "a comment"
+    """A text that YAML cannot show stays encrypted, and a message says so. An envelope in quotes stays in quotes."""
+    quoted = [b'"%s"' % sealed("old", text).replace(b"\n", b"\\n") for text in (b"q", b"r")]
+    closed = block("old", text, name="a") + b"q: !vault %s\nl: [!vault %s]\n" % (*quoted,)
+    place.put("vars.yml", closed)
+    done = edit(place, "sed -i '/^q/s/q\"/Q\"/' \"$1\"", *place.by_file("old"), "vars.yml")
+    ended("a change", done, 0, f"vars.yml: line 2: a stays encrypted: {CLOSED[text]}\n")
+    before, after = closed.splitlines(), place.get("vars.yml").splitlines()
+    assert [number for number in range(len(before)) if before[number] != after[number]] == [len(before) - 2]
+    assert after[-2].startswith(b'q: !vault "$ANSIBLE_VAULT;1.1;AES256\\n')
+    assert decrypted("old", after[-2][11:-1].replace(b"\\n", b"\n")) == b"Q"
 
 
 ITEMS = [("dev", b"one"), ("prod", b"two"), ("dev", b"three")]
 LIST = b"l:\n- " + b"- ".join(block(name, text, name, "") for name, text in ITEMS)
-# What may stand in the list afterwards, and an option that chooses a label for new values.
-UNCLEAR = {
-    "neu eins two three": "--encrypt-vault-id=prod",
-    "neu eins zwei drei": "--encrypt-vault-id=dev",
-    # After these, an item of dev might have come from one of prod.
-    "two three new": "",
-    "one! two! three": "",
+# What stands in the list afterwards, an option that chooses a label for new values, and the labels of the items. There
+# are none if it is refused, since an item of dev might have come from one of prod.
+LISTS = {
+    ("neu eins two three", "--encrypt-vault-id=prod"): "",
+    ("neu eins zwei drei", "--encrypt-vault-id=dev"): "",
+    ("two three new", ""): "",
+    ("one three!", ""): "",
+    ("one! two! three", ""): "dev prod dev",
+    ("three two one", ""): "dev prod dev",
+    ("two one", ""): "prod dev",
+    ("one two new three", "--encrypt-vault-id=prod"): "dev prod prod dev",
 }
 
 
-@pytest.mark.parametrize("items, option", UNCLEAR.items())
-def test_lists(place: Place, items: str, option: str) -> None:
+@pytest.mark.parametrize("typed, labels", LISTS.items())
+def test_lists(place: Place, typed: tuple[str, str], labels: str) -> None:
     """The texts and places of items identify them in a list. If they do not tell which secret an item gets, it is
-    refused."""
+    refused. Unchanged items keep their envelopes."""
+    items, option = typed
     place.put("vars.yml", LIST)
     words = [*place.by_id("dev", "dev"), *place.by_id("prod", "prod"), *option.split(), "vars.yml"]
-    lines = "".join(f"- !vault {each}\\n" for each in items.split())
-    ended("it", edit(place, f"printf 'l:\\n{lines}' > \"$1\"", *words), 1, "may be a new value or a changed one")
-    assert place.get("vars.yml") == LIST
+    lines = "".join(f"- !vault {item}\\n" for item in items.split())
+    done = edit(place, f"printf 'l:\\n{lines}' > \"$1\"", *words)
+    after = place.get("vars.yml")
+    if not labels:
+        ended("it", done, 1, "may be a new value or a changed one")
+        assert after == LIST
+        return
+    silent("it", done)
+    assert re.findall(r"AES256;(\w+)", after.decode()) == labels.split()
+    known = [(label, text.decode()) for label, text in ITEMS]
+    for label, text, envelope in zip(labels.split(), items.split(), after.split(b"- !vault |")[1:]):
+        assert texts(envelope, label) == [text.encode()], "its secret is that of its label"
+        is_kept = envelope.strip() in block(label, text.encode(), label, "")
+        assert is_kept == ((label, text) in known)
 
 
 def test_equal_items(place: Place) -> None:

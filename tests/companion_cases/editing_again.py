@@ -4,8 +4,8 @@ from __future__ import annotations
 
 import pytest
 
-from companion_cases import CHANGE, EDIT, NOBODY, TEXT, Place, block, decrypted, edit, ended, sealed, texts
-from companion_cases.mistakes import commands
+from companion_cases import CHANGE, CHANGED, EDIT, ROTATE, TEXT, Place, block, decrypted, edit, ended, sealed
+from companion_cases import silent, texts
 from companion_cases.terminal import READING, ask
 from lib.needs import needs, needs_pyyaml
 
@@ -21,7 +21,6 @@ if grep -q '^new' "$1"; then {{}}; else echo '{TYPO}' >> "$1"; fi
 """
 NO_YAML = "it cannot be read as YAML"
 NO, YES = b"no\n", b"yes\n"
-COPIES = ".ansible-vault-saved-*"
 # What the editor does when it opens again, what is typed at each question, the status, and a part of the message.
 ENDS = {
     "mended": (MEND, [YES], 0, ""),
@@ -34,14 +33,6 @@ ENDS = {
 }
 
 
-def copies(place: Place) -> list[str]:
-    return sorted(path.name for path in place.tree.glob(COPIES))
-
-
-def kept(place: Place) -> list[bytes | None]:
-    return [decrypted("old", place.get(name)) for name in copies(place)]
-
-
 @pytest.mark.parametrize("later, typed, status, why", ENDS.values(), ids=ENDS)
 def test_opened_again(place: Place, later: str, typed: list[bytes], status: int, why: str) -> None:
     """The text is there again. An edit that is given up is kept."""
@@ -51,8 +42,8 @@ def test_opened_again(place: Place, later: str, typed: list[bytes], status: int,
     editor = place.script(MISTAKES.format(later), "editor")
     words, answers = [*READING, EDIT, *place.by_file("old"), "vars.yml"], [(AGAIN, each) for each in typed]
     session = ask(place, *words, answers=answers, EDITOR=editor)
-    assert (session.returncode, kept(place), place.left()) == (status, [TYPED] if status else [], []), session
-    assert "vars.yml: line 3: it cannot be read as YAML: " in session.shown, "the reason is shown"
+    assert (session.returncode, place.kept(), place.left()) == (status, [TYPED] if status else [], []), session
+    assert "vars.yml: line 4: it cannot be read as YAML: " in session.shown, "the reason is shown"
     assert (place.path / "seen").read_text() == SHOWN + f"{SHOWN}{TYPO}\n" * typed.count(YES)
     assert (why in session.stderr, bool(session.stderr)) == (True, bool(why)), session
     assert ("what you saved is encrypted in" in session.stderr) == (status != 0), session
@@ -60,76 +51,123 @@ def test_opened_again(place: Place, later: str, typed: list[bytes], status: int,
     assert (after.startswith(block("old")), texts(after, "old")[1:]) == (True, [] if why else [b"more"])
 
 
+def command(stderr: str) -> str:
+    """Return the command in a message."""
+    [line] = [line.strip() for line in stderr.splitlines() if line.startswith("  ")]
+    return line
+
+
 def test_resumed(place: Place) -> None:
     """The command in the message resumes the edit. A text that is still wrong is kept again."""
     needs_pyyaml()
-    place.put("vars.yml", block("old"), 0o640)
-    done = edit(place, f"echo '{TYPO}' >> \"$1\"", *place.by_file("old"), "vars.yml")
-    [command] = commands(done.stderr)
-    ended("not mended", place.shell(command, EDITOR="true"), 1, NO_YAML)
-    assert kept(place) == [TYPED, TYPED], "it is kept twice"
-    done = place.shell(command, EDITOR=place.script(f'cp "$1" ../seen; {MEND}', "editor"))
+    name = "-rf it's.yml"
+    place.put(name, block("old"), 0o640)
+    done = edit(place, f"echo '{TYPO}' >> \"$1\"", *place.by_file("old"), "--", name)
+    resumes = command(done.stderr)
+    ended("not mended", place.shell(resumes, EDITOR="true"), 1, NO_YAML)
+    assert place.kept() == [TYPED, TYPED], "it is kept twice"
+    done = place.shell(resumes, EDITOR=place.script(f'cp "$1" ../seen; {MEND}', "editor"))
     assert (done.returncode, done.stderr.count("an earlier edit is encrypted in")) == (0, 1), done.stderr
     assert (place.path / "seen").read_bytes() == TYPED
-    assert texts(place.get("vars.yml"), "old") == [TEXT, b"more"]
-    assert (place.mode("vars.yml"), len(kept(place)), place.left()) == ("0o640", 1, []), "that copy is gone"
+    assert texts(place.get(name), "old") == [TEXT, b"more"]
+    assert (place.mode(name), place.names(), len(place.kept()), place.left()) == ("0o640", [name], 1, []), "it is gone"
 
 
 def test_new_vault(place: Place) -> None:
     """The edit of a vault that does not exist yet is resumed after the editor failed."""
     name, words = "-rf x.yml", [*place.by_file("old"), "--", "-rf x.yml"]
     ended("failed", edit(place, 'echo new > "$1"; echo typed > "$1.swp"; exit 3', *words), 1)
+    assert sorted(place.kept()) == [b"new\n", b"typed\n"], "what the editor left is kept, too"
     ended("resumed", edit(place, 'echo more >> "$1"', "--resume", *words), 0)
-    assert decrypted("old", place.get(name)) == b"new\nmore\n"
-    assert kept(place) == [b"typed\n"], "what the editor left stays"
+    assert (decrypted("old", place.get(name)), place.kept()) == (b"new\nmore\n", [b"typed\n"])
 
 
 def test_newest(place: Place) -> None:
     place.put("all.yml", sealed("old"))
     for number in range(3):
         edit(place, f'echo {number} > "$1"; exit 3', *place.by_file("old"), "all.yml")
-    _, newest, _ = copies(place)
-    text = decrypted("old", place.get(newest))
+    newest = place.copies()[1]
+    text = (decrypted("old", newest.read_bytes()) or b"").splitlines(keepends=True)[-1]
     place.put("../before", TEXT)
     words = [*place.by_file("old"), "--resume", "all.yml"]
     done = edit(place, 'cp ../before "$1"', *words)
-    assert (done.returncode, len(kept(place))) == (0, 3), "a copy stays if the edit takes its text back"
+    assert (done.returncode, len(place.kept())) == (0, 3), "a copy stays if the edit takes its text back"
     place.shell(f"touch -d 'now + 1 hour' {newest}")
     done = edit(place, "true", *words)
     assert (done.returncode, decrypted("old", place.get("all.yml"))) == (0, text), done.stderr
-    assert {*kept(place)} == {b"0\n", b"1\n", b"2\n"} - {text}
-    place.shell(f"chown {NOBODY} {COPIES} || rm {COPIES}")
-    ended("copies of another user", edit(place, "touch ../started", *words), 1, "no earlier edit left a copy")
-    ended("no editor", place.run(EDIT, "--value", "a", *words), 2, "--resume is for an editor")
-    assert not (place.path / "started").exists()
+    assert {*place.kept()} == {b"0\n", b"1\n", b"2\n"} - {text}
 
 
-# A file at first, and what somebody else changes it to.
+def break_off(place: Place, content: bytes, *words: str) -> None:
+    """Write a file, and leave a copy of an edit that changes its text."""
+    place.put("a.yml", content)
+    ended("a failed edit", edit(place, f"{CHANGE}; exit 3", *words, "a.yml"), 1, f"encrypted in {place.copies()[0]}\n")
+
+
+LABELLED = block("prod", label="prod", name="a") + block("prod", TEXT * 2, "prod", "b")
+
+
+@pytest.mark.parametrize("content", (sealed("prod", label="prod"), LABELLED))
+def test_rotated_meanwhile(place: Place, content: bytes) -> None:
+    """Somebody else gave the file a new password."""
+    needs_pyyaml()
+    prod, new = place.by_id("prod", "prod"), place.by_id("prod", "prod2")
+    break_off(place, content, *prod)
+    assert place.run(ROTATE, *prod, *place.by_id("prod", "prod2", "new-"), "a.yml").returncode == 0
+    silent("it is taken up", edit(place, "true", *prod, *new, "--resume", "a.yml"))
+    after = texts(b"a: !vault |\n" + place.get("a.yml"), "prod2")
+    assert (after[0], place.copies()) == (CHANGED, []), "it is under the new password, and no copy is left"
+
+
+# A file at first, what somebody else makes of it, and why the text of an edit is not taken up.
+OTHER_TEXT, OTHER_LABEL = "it has changed since the edit that left ", "is under the label prod, and the file is not"
+OF_PROD = block("prod", label="prod")
 CHANGES = {
-    "a vault": (sealed("prod", label="prod"), sealed("dev", label="prod")),
-    "a value": (block("prod", label="prod"), block("dev", label="prod")),
-    "a value of two": (
-        block("prod", label="prod") + block("dev", label="dev", name="b"),
-        block("dev", label="prod") + block("dev", label="dev", name="b"),
-    ),
+    "another text": (sealed("prod", label="prod"), sealed("prod", b"x", "prod"), OTHER_TEXT),
+    "another label": (sealed("prod", label="prod"), sealed("dev", label="dev"), OTHER_LABEL),
+    "a false label": (sealed("prod", label="prod"), sealed("dev", label="prod"), "its label is prod, but dev@"),
+    "a value": (OF_PROD, block("prod", label="prod", name="b"), OTHER_TEXT),
+    "two passwords": (OF_PROD, OF_PROD + block("dev", label="dev"), OTHER_LABEL),
 }
 
 
 @pytest.mark.parametrize("what", CHANGES)
 def test_changed_meanwhile(place: Place, what: str) -> None:
-    """If the file has changed, the resumed text does not replace it, and does not get its password."""
+    """If what the file says has changed, or for whom, the text does not replace it, and gets no other password."""
     needs_pyyaml()
-    before, changed = CHANGES[what]
+    before, changed, why = CHANGES[what]
     both = [*place.by_id("dev", "dev"), *place.by_id("prod", "prod")]
-    place.put("a.yml", before)
-    edit(place, f"{CHANGE}; exit 3", *both, "a.yml")
+    break_off(place, before, *both)
     place.put("a.yml", changed)
     done = edit(place, "touch ../started", *both, "--resume", "a.yml")
-    ended(what, done, 1, "a.yml: it has changed since the edit that left ")
+    ended(what, done, 1, why)
     assert (place.get("a.yml"), (place.path / "started").exists()) == (changed, False)
     place.put("a.yml", before)
-    done = edit(place, "true", *both, "--resume", "a.yml")
-    is_put_back = what != "a value of two"
-    why = "" if is_put_back else "a.yml: --resume cannot tell which value gets which secret, because "
-    ended("as it was", done, 0 if is_put_back else 1, why)
-    assert (place.get("a.yml") != before, place.names() == ["a.yml"]) == (is_put_back, is_put_back)
+    silent("as it was", edit(place, "true", *both, "--resume", "a.yml"))
+    assert (place.get("a.yml") != before, place.copies()) == (True, [])
+
+
+def test_copies_of_strangers(place: Place) -> None:
+    """What a repository contains is never taken for a copy, wherever the user's directories are. Nor is what is in a
+    directory that others may open."""
+    break_off(place, sealed("old"), *place.by_file("old"))
+    [copy] = place.copies()
+    state = place.tree / "state/ansible-vault"
+    state.mkdir(0o700, parents=True)
+    copy.rename(state / copy.name)
+    (place.tree / ".git").mkdir()
+    words, variables = [*place.by_file("old"), "--resume", "a.yml"], {"XDG_STATE_HOME": str(state.parent)}
+    done = edit(place, "touch ../started", *words, **variables)
+    ended("a repository", done, 1, f"{state} is in a git repository")
+    ended("a relative path", edit(place, "touch ../started", *words, XDG_STATE_HOME="state"), 1, "no earlier edit")
+    (place.tree / ".git").rmdir()
+    link = "mv state/* it; ln -s ../it state/ansible-vault"
+    for change, back in (("chmod 750 state/*", "chmod 700 state/*"), (link, "")):
+        assert place.shell(change).returncode == 0
+        done = edit(place, "touch ../started", *words, **variables)
+        ended(change, done, 1, f"{state} is not a directory that only you can open")
+        place.shell(back)
+    assert not (place.path / "started").exists()
+    place.shell("rm state/ansible-vault; mv it state/ansible-vault")
+    silent("as it was", edit(place, "true", *words, **variables))
+    assert decrypted("old", place.get("a.yml")) == CHANGED

@@ -10,7 +10,7 @@ import pytest
 from ansible_vault_companions.files import reading
 from ansible_vault_companions.git.commits import LINK_MODE
 from ansible_vault_companions.git.links import target
-from companion_cases import AWKWARD, CHANGE, CHECK, HOOK, TEXT, WITH, Place, block, edit, ended, lines_of, run_changed
+from companion_cases import AWKWARD, CHECK, HOOK, TEXT, WITH, Place, block, ended, lines_of, run_changed
 from companion_cases import sealed, silent
 from companion_cases.repository import WHOLE, add_and_commit, again, commit, fork, leaked, refused, staged
 from companion_cases.repository import under_git, with_hooks
@@ -51,10 +51,9 @@ def test_leftovers(place: Place) -> None:
     # It is killed when the new file would replace the old one.
     killed = "os.replace = lambda *_: os.kill(os.getpid(), 9)"
     assert run_changed(place, WITH, killed, ["decrypt", *place.by_file("old"), "inner/a.yml"]).returncode == -9
-    ended("an edit", edit(place, f"{CHANGE}; exit 1", *place.by_file("old"), "inner/a.yml"), 1, "is encrypted in")
     place.put(".ansible-vault-saved-$(touch pwned)", TEXT)
     names = sorted(name for name in place.files() if ".ansible-vault-" in name)
-    assert sorted(place.get(name) == TEXT for name in names) == [False, True, True], "one is encrypted"
+    assert [place.get(name) == TEXT for name in names] == [True, True]
     done = add_and_commit(place)
     whys, removing = (done.stderr.splitlines()[first::2] for first in range(2))
     wanted = [f"{HOOK}: {name} was left behind by a companion, and may be plaintext" for name in names]

@@ -10,10 +10,10 @@ from pathlib import Path
 
 import pytest
 
+from ansible_vault_companions.editing.matching import Choice
+from ansible_vault_companions.editing.yaml_file import YamlFile
 from ansible_vault_companions.envelopes import conflicts
 from ansible_vault_companions.merging.lines import Versions, merged_lines
-from ansible_vault_companions.yaml import inline
-from ansible_vault_companions.yaml.matching import Choice
 from companion_cases import CHECK, EDIT, HOOK, MERGE, PASSWORDS, Done, Place, block, decrypted, ended
 from companion_cases import sealed, silent, texts, versions
 from companion_cases.random_merges import ITEM, LABELS, SIMPLE, Merge, Model, Value, blocks_of, check_made, document
@@ -362,10 +362,11 @@ def test_secrets_of_edits() -> None:
     for pair, number in itertools.product(itertools.product(VAULTS, repeat=2), range(4)):
         values = [Value(key, b"same", *vault, 0, 10) for key, vault in zip(("a", "b", ITEM, ITEM), pair * 2)]
         tool = Model()
-        shown = inline.showing(document(values, [each.block() for each in values]), tool.opened, with_notes=True)
-        parts = shown.text().split(b"same")
+        data = document(values, [each.block() for each in values])
+        file = YamlFile("", data, tool.opened, choice)
+        parts = file.plaintext.split(b"same")
         text = b"same".join(parts[: number + 1]) + b"changed" + b"same".join(parts[number + 1 :])
-        after = inline.encrypted(shown, text, tool, choice)
+        after = file.encrypted(tool, text)
         [made] = tool.made.values()
         values[number] = values[number]._replace(text=b"changed", salt=made.salt)
         assert after == document(values, [each.block() for each in values]), (pair, number)

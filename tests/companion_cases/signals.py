@@ -23,8 +23,6 @@ from lib.processes import started
 from lib.subtests import SubTests
 from model.vaults import seal, yaml_block
 
-# The start of the name of a saved copy.
-COPY = ".ansible-vault-saved-a.yml-"
 RUNS = (EDIT, ROTATE, "merge", "merge of blocks", "rekey", "decrypt")
 Process = subprocess.Popen[str]
 
@@ -73,16 +71,15 @@ def check_whole(place: Place) -> None:
 
 def check_edit(place: Place, errors: str, wanted: bytes = CHANGED) -> None:
     """Check that a saved text is in the vault, or encrypted in a copy that the message names."""
-    copies = [*place.tree.glob(f"{COPY}????????-of-*")]
-    kept = [decrypted("old", each.read_bytes()) for each in copies]
+    copies, kept = place.copies(), place.kept()
     is_replaced = decrypted("old", place.get("a.yml")) == wanted
     # The editor may be ended before it notes that it has saved.
     is_unsaved = not kept and not (place.path / "saved").exists()
     assert kept == [wanted] * (not is_replaced) or is_unsaved, ("what was saved is kept", kept)
     assert ENCRYPTED.findall(errors) == [*map(str, copies)], "the message says where"
-    assert {place.mode(each.name) for each in copies} <= {"0o600"}, "it is for its owner alone"
-    for each in place.tree.glob(f"{COPY}*"):
-        each.unlink()
+    assert {path.stat().st_mode & 0o777 for path in copies} <= {0o600}, "it is for its owner alone"
+    for path in copies:
+        path.unlink()
     check_whole(place)
 
 
@@ -194,16 +191,24 @@ def test_last_words(place: Place) -> None:
     check_edit(place, done.stderr, b"last")
 
 
-def test_half_a_save(place: Place) -> None:
-    """If a signal ends the editor and the companion while the editor saves, the previous save is kept, too."""
-    words = tree(place)[EDIT]
-    editor = 'printf "the first of two" > "$1"; sleep 3; printf half > "$1"; : > ../saved; kill -TERM 0'
-    done = place.run("setsid", *words, EDITOR=place.script(editor, "editor"))
-    assert done.returncode == -signal.SIGTERM, "the status"
-    [before] = place.tree.glob(f"{COPY}*-before")
-    assert decrypted("old", before.read_bytes()) == b"the first of two", "the save before"
-    assert str(before) in done.stderr, "it is named"
-    check_edit(place, done.stderr, b"half")
+# Runs a program from a thread, and signals the companion.
+OF_THREAD = """
+import os, subprocess, sys, threading, time
+words = ["sh", "-c", "echo $$ > ../new; mv ../new ../child; exec sleep 600 > /dev/null 2>&1"]
+threading.Thread(target=lambda: subprocess.run(words)).start()
+while not os.path.exists("../child"):
+    time.sleep(0.02)
+os.kill(int(sys.argv[1]), 15)
+time.sleep(600)
+"""
+
+
+def test_children_of_threads(place: Place) -> None:
+    tree(place)
+    (place.path / "thread.py").write_text(OF_THREAD)
+    done = edit(place, f"exec python3 ../thread.py {ABOVE_EDITOR}", *place.by_file("old"), "a.yml")
+    assert (done.returncode, has_ended(place.path / "child")) == (-signal.SIGTERM, True), "the child ends, too"
+    check_whole(place)
 
 
 def test_signals_to_all(place: Place) -> None:

@@ -4,16 +4,15 @@ from __future__ import annotations
 
 import os
 from collections import Counter
-from collections.abc import Iterator
 
 import pytest
 
-from ansible_vault_companions.plaintext.setting import SingleValue
-from ansible_vault_companions.plaintext.single import value_of
+from ansible_vault_companions.editing.matching import Choice
+from ansible_vault_companions.editing.setting import SingleValue
+from ansible_vault_companions.editing.layout import nodes
+from ansible_vault_companions.envelopes.keypath import typed, values_at
+from ansible_vault_companions.envelopes.value import ALIAS
 from ansible_vault_companions.program import Refused
-from ansible_vault_companions.yaml.matching import Choice
-from ansible_vault_companions.yaml.nodes import nodes
-from ansible_vault_companions.yaml.typed_paths import typed
 from companion_cases import EDIT, TEXTCONV, Done, Place, block, ended, sealed, silent, texts
 from companion_cases.terminal import READING, ask
 from companion_cases.yaml_values import SECRET, Generator, Hexadecimal, composed, decrypt
@@ -133,6 +132,21 @@ def test_new(place: Place, both: list[str], path: str) -> None:
     check_values(place, both, VALUES | {path: b"new"})
 
 
+@pytest.mark.parametrize("content", (None, b"", b"# why", b"---\n", b"---", b"# a\n\n---  # b\n\n"))
+def test_begun(place: Place, content: bytes | None) -> None:
+    """A value may be the first one of a file, or the file itself may be new."""
+    needs_pyyaml()
+    if content is not None:
+        place.put("new.yml", content)
+    words = [*place.by_file("old"), "--encrypt-vault-id", "default", "--value", "db pw", "new.yml"]
+    silent("it is set", set_to(place, b"new", *words))
+    after, before = place.get("new.yml"), content or b""
+    begin = b"" if before.endswith(b"\n") or not before else b"\n"
+    assert after.startswith(before + begin + b'"db pw": !vault |\n          $ANSIBLE_VAULT;1.1;AES256\n'), after
+    assert (texts(after, "old"), after[-1:]) == ([b"new"], b"\n")
+    assert content is not None or place.mode("new.yml") == "0o600"
+
+
 # The standard input, the options and the file, and why the edit is refused. Most paths are refused before anything is
 # read.
 NEVER, TO_PROD = "<> ../never", "--encrypt-vault-id prod --value"
@@ -146,6 +160,9 @@ REFUSED = [
     (NEVER, "--value db.password vault.yml", 1, "the whole file is a vault"),
     (NEVER, "--value db_password conflict.yml", 1, "git's conflict markers"),
     (NEVER, "--value db_password new.yml", 1, "new.yml: No such file"),
+    (NEVER, f"{TO_PROD} a.b new.yml", 1, "there is no value a.b"),
+    (NEVER, f"{TO_PROD} a twice.yml", 1, "2 values are at a; a key is there twice, so rename one"),
+    (NEVER, f"{TO_PROD} app.users[].x vars.yml --resume", 1, "no earlier edit left a copy in "),
     (NEVER, "--value db_password vars.yml vars.yml", 2, "--value takes one FILE"),
     ("< vault.yml", "--value db_password vars.yml", 1, "standard input is a vault"),
     ("< /dev/null", "--value db_password vars.yml", 1, "standard input is empty"),
@@ -159,6 +176,7 @@ def test_refused(place: Place, both: list[str], standard_input: str, words: str,
     os.mkfifo(place.path / "never")
     place.put("vault.yml", VAULT)
     place.put("relabelled.yml", block("dev", b"one", "prod", "a"))
+    place.put("twice.yml", b"a: 1\na: 2\n")
     place.put("conflict.yml", b"<<<<<<< ours\n" + FILE + b"=======\n>>>>>>> theirs\n")
     place.put("../long", bytes((1 << 24) + 1))
     before = place.files()
@@ -174,34 +192,34 @@ def test_terminal(place: Place, both: list[str]) -> None:
 
 
 def test_not_lost(place: Place, both: list[str]) -> None:
-    """A text that cannot be put back is in an encrypted copy, and the message has the command that puts it back."""
+    """A text that cannot be put back is in an encrypted copy, and the message has the command that puts it back, but
+    only if nobody has changed the value meanwhile."""
     place.wrap_tool('[ "$1" = encrypt ] && mkdir ../once 2> /dev/null && exit 9')
-    done = set_to(place, b"typed", *both, "--value", "db_password", "vars.yml")
-    ended("the tool fails", done, 1, "what you saved is encrypted in ", "To put it into vars.yml:")
-    assert place.get("vars.yml") == FILE, "the file stays"
+    place.script('[ "$1" = encrypt ] && mkdir ../once 2> /dev/null && rm vars.yml; exec ../real "$@"', "tools/wrapped")
+    (place.path / "real").symlink_to(place.program)
+    (place.tools / "ansible-vault").unlink()
+    (place.tools / "wrapped").rename(place.tools / "ansible-vault")
+    done = set_to(place, b"typed\xff", *both, "--value", "db_password", "vars.yml")
+    ended("the file goes", done, 1, "what you saved is encrypted in ", "To put it into vars.yml:")
     command = done.stderr.splitlines()[-1].strip()
-    ended("the command puts it back", place.shell(command), 0, "an earlier edit is encrypted in")
-    assert texts(place.get("vars.yml"), "dev")[0] == b"typed"
+    place.put("vars.yml", FILE.replace(b"db_password", b"other"))
+    ended("another value", place.shell(command), 1, "there is no value db_password")
+    place.put("vars.yml", FILE)
+    silent("the command puts it back", place.shell(command))
+    assert (texts(place.get("vars.yml"), "dev")[0], place.copies()) == (b"typed\xff", [])
     assert (place.names(), place.left()) == (["vars.yml"], []), "nothing is left"
-
-
-def leaves(data: bytes) -> Iterator[tuple[str, bool, str | None, str]]:
-    for node in nodes(data, extend=typed):
-        # An alias may refer to the value.
-        tag, text = (None, "") if node.style == "*" else (node.tag, node.text)
-        yield "".join(node.path), node.is_key, tag, text
 
 
 def test_anything() -> None:
     """In random YAML, a value that is set is read back, and all others are as before."""
     needs_pyyaml()
     counts: Counter[str] = Counter()
-    for number in range(150):
+    for number in range(300):
         data = Generator(number).data()
-        if composed(data) is None:
+        if composed(data) is None or b"\xc2\x85" in data or b"\0" in data:
             continue
-        before = [*leaves(data)]
-        for path in {path for path, is_key, _, _ in before if not is_key}:
+        before = nodes(data).values
+        for path in {typed(value.path) for value in before if not value.is_key}:
             try:
                 value = SingleValue("", data, path, decrypt, Choice([SECRET], "default"))
                 after = value.encrypted(Hexadecimal(), b"neu")
@@ -209,7 +227,9 @@ def test_anything() -> None:
                 counts["refused"] += 1
                 continue
             counts["set" if value.before else "new"] += 1
-            assert value_of(after, path, decrypt) == b"neu", (data, path)
-            others = [[each for each in found if each[0] != value.path] for found in (before, [*leaves(after)])]
-            assert others[0] == others[1], (data, path)
+            [new] = values_at(nodes(after), path)
+            assert (new.is_tagged, decrypt(new.text)[1]) == (True, b"neu"), (data, path)
+            others = [[node for node in every if typed(node.path) != path] for every in (before, nodes(after).values)]
+            read = [[(node.path, node.style == ALIAS or node.text) for node in every] for every in others]
+            assert read[0] == read[1], (data, path)
     assert min(counts.values()) > 100 and len(counts) == 3, counts

@@ -1,28 +1,26 @@
 """Random YAML: PyYAML composes the same values with the tag `!vault`, even after they are shown, changed and encrypted
-again. Deeply nested YAML takes memory in proportion to the text. Most envelopes are not decrypted: they contain the
-digits of their plaintexts."""
+again. Most envelopes are not decrypted: they contain the digits of their plaintexts."""
 
 from __future__ import annotations
 
 import binascii
-import gc
 import os
 import random
 import re
-import tracemalloc
 from collections import Counter
-from collections.abc import Callable
 
 import pytest
 
+from ansible_vault_companions.editing import layout
+from ansible_vault_companions.editing.matching import Choice
+from ansible_vault_companions.editing.yaml_file import YamlFile
+from ansible_vault_companions.envelopes import plaintexts
+from ansible_vault_companions.envelopes.value import TAGS
 from ansible_vault_companions.files import reading
 from ansible_vault_companions.files.changes import Change, changed
 from ansible_vault_companions.program import Refused
 from ansible_vault_companions.secrets.sources import Secret
 from ansible_vault_companions.tool.tool import Tool
-from ansible_vault_companions.yaml import inline, nodes
-from ansible_vault_companions.yaml.matching import Choice
-from ansible_vault_companions.yaml.values import Scan
 from companion_cases import TEXT, TEXTCONV, Place, block, ended, run_changed
 from lib.needs import needs_pyyaml
 
@@ -36,7 +34,7 @@ SCALARS += ["word # no !vault", "&x 1", "~", ">-\n{}  folded\n{}  lines", "!othe
 # Each way in which a text can begin and end.
 PLAINTEXTS = ["", "x", "x\n", "x\n\n", "\n", "\n\n", " x", " x\ny", "\n x\n", "\tx", "x\n\ny", "x ", " ", "x\n  "]
 PLAINTEXTS += ["# x", "x: 'y", "größe\n", "- a\n- b\n", "<<<<<<< x\n", "---\n", "\n\n x\n\n\n", "!vault |\n  x"]
-PLAINTEXTS.append("a\n# ansible-vault: b\n")
+PLAINTEXTS += ["a\r\nb", "\u2028\x7f\x01", "\"\\n'", "$ANSIBLE_VAULT"]
 
 
 def envelope(plaintext: bytes) -> bytes:
@@ -113,7 +111,7 @@ def composed(data: bytes) -> list[tuple[tuple[str, ...], str]] | None:
     """Return the keys and the text of each value with the tag, as PyYAML composes them, or None if it is not YAML."""
     import yaml
 
-    text = re.sub(f"[{UNREADABLE}]", "?", nodes.decoded(data))
+    text = re.sub(f"[{UNREADABLE}]", "?", data.decode(errors="surrogateescape"))
     found: list[tuple[tuple[str, ...], str]] = []
     seen: set[int] = set()
 
@@ -121,7 +119,7 @@ def composed(data: bytes) -> list[tuple[tuple[str, ...], str]] | None:
         if id(node) in seen:
             return
         seen.add(id(node))
-        if node.tag in nodes.TAGS and isinstance(node, yaml.ScalarNode):
+        if node.tag in TAGS and isinstance(node, yaml.ScalarNode):
             found.append((path, node.value))
         elif isinstance(node, yaml.SequenceNode):
             for item in node.value:
@@ -140,9 +138,14 @@ def composed(data: bytes) -> list[tuple[tuple[str, ...], str]] | None:
     return found
 
 
-def test_shown_and_encrypted(monkeypatch: pytest.MonkeyPatch) -> None:
-    """PyYAML, with libyaml and without, reads each shown value as its plaintext, and what is not changed keeps every
-    byte."""
+# What may be typed for a value, with the indentation of its lines.
+TYPED = ['"neu\\n"', "neu", "'n''eu'", "|-\n{0}neu\n{0}eu\n", "|+\n{0}neu\n\n\n", ">\n{0}neu\n{0}eu\n", "|2\n{0} neu\n"]
+TYPED.append('"n\\x00\\u2028"')
+
+
+def test_edits(monkeypatch: pytest.MonkeyPatch) -> None:
+    """PyYAML, with libyaml and without, reads each shown value as its plaintext. If one of them is changed, in whatever
+    style, it is read as its envelope, and every other value keeps every byte."""
     needs_pyyaml()
     import yaml
 
@@ -154,52 +157,46 @@ def test_shown_and_encrypted(monkeypatch: pytest.MonkeyPatch) -> None:
         wanted = composed(data)
         if wanted is None:
             continue
-        assert [((*each.path,), each.content.decode()) for each in Scan(data).values] == wanted, data
-        showing = inline.showing(data, decrypt, with_notes=True)
-        counts.update(values=len(wanted), shown=len(showing.decrypted))
-        contents = [content.decode() for content in showing.contents()]
-        counts.update(map(repr, contents))
-        plain = [(path, content) for (path, _), content in zip(wanted, contents, strict=True)]
-        assert composed(showing.text()) == plain, data
-        assert encrypted(showing, showing.text()) == data, data
-        counts["changed"] += check_changed(showing, Generator(number).random)
+        file = YamlFile("", data, decrypt, Choice([SECRET], None))
+        plain = [(path, shown_text(text)) for path, text in wanted]
+        assert composed(file.plaintext) == plain, data
+        counts.update(values=len(wanted), shown=len(file.opened), **Counter(repr(text) for _, text in plain))
+        assert file.encrypted(Hexadecimal(), file.plaintext) == data, data
+        counts["changed"] += check_changed(file, random.Random(number))
     assert min(counts["values"], counts["shown"], counts["changed"]) > 300, counts
-    assert min(counts[repr(text)] for text in PLAINTEXTS) > 10, counts
+    assert min(counts[repr(text)] for text in PLAINTEXTS if not text.startswith("$")) > 10, counts
 
 
-def check_changed(showing: inline.Showing, generator: random.Random) -> bool:
-    """Change a literal of the shown text, and check that all values are encrypted. Return whether it has a place."""
-    literals = [value for value in Scan(showing.text()).values if value.style == nodes.LITERAL]
-    if not literals:
-        return False
-    value = generator.choice(literals)
-    new = [Change(value.start, value.header_end, b'"neu\\n"'), Change(value.line_end, value.end, b"")]
-    typed = changed(showing.text(), new)
-    after = encrypted(showing, typed)
-    if after == inline.NO_PLACE:
-        return False
-    read = composed(typed)
-    assert isinstance(after, bytes) and read is not None, (typed, after)
-    wanted = [text if text.startswith("$") else envelope(text.encode()).decode() for _, text in read]
-    found = [text.split() for _, text in composed(after) or []]
-    assert found == [text.split() for text in wanted], typed
-    return True
-
-
-def encrypted(showing: inline.Showing, text: bytes) -> bytes | str:
-    """Return the file, or why it is refused."""
+def shown_text(envelope: str) -> str:
+    """Return the plaintext of an envelope if an edit can show it, since it is not folded."""
     try:
-        return inline.encrypted(showing, text, Hexadecimal(), Choice([SECRET], None))
-    except Refused as fault:
-        return str(fault)
+        text = decrypt(envelope.encode())[1].decode()
+    except Refused:
+        return envelope
+    return envelope if text.startswith("$ANSIBLE_VAULT") or re.search(" [0-9a-f]{16}", envelope) else text
 
 
-@pytest.mark.parametrize("text", (b"a: !vault new\n            # a comment\n", b"a: !vault new\xe2\x80\xa8b: 1"))
-def test_no_place(text: bytes) -> None:
-    """A text that would not be read as intended is not written."""
-    needs_pyyaml()
-    data = b"a: !vault |\n  " + envelope(b"old").replace(b"\n", b"\n  ") + b"\n"
-    assert encrypted(inline.showing(data, decrypt, with_notes=True), text) == inline.NO_PLACE
+def check_changed(file: YamlFile, generator: random.Random) -> bool:
+    """Change a value of the shown text. Return whether there is one that PyYAML can still read."""
+    text = file.plaintext
+    shown = [value for value in layout.nodes(text).values if value.is_tagged and not value.is_envelope]
+    if not shown:
+        return False
+    value, typed = generator.choice(shown), generator.choice(TYPED)
+    lines = typed.format(" " * (plaintexts.column(text, value.begin) + 2)).removesuffix("\n").encode()
+    place = Change(value.begin, layout.end_of(text, value), lines.replace(b"\n", value.ending))
+    edited = changed(text, [place])
+    read = composed(edited)
+    if read is None:
+        return False
+    after = file.encrypted(Hexadecimal(), edited)
+    wanted = [(path, text if text.startswith("$ANSIBLE") else envelope(text.encode()).decode()) for path, text in read]
+    found = composed(after)
+    assert found and [(path, text.split()) for path, text in found] == [(path, text.split()) for path, text in wanted]
+    scalars_before = Counter(file.file.data[old.value.begin : old.value.end] for old in file.opened.values())
+    lost = scalars_before - Counter(after[value.begin : value.end] for value in layout.nodes(after).values)
+    assert sum(lost.values()) <= 1, (edited, after)
+    return True
 
 
 def test_conflicts() -> None:
@@ -208,8 +205,9 @@ def test_conflicts() -> None:
     ours, base, theirs = "b:\n  c: !vault |-\n    two\n", "b: !vault three\n", "d:\n- !vault 'fünf'\n"
     text = f"a: !vault one\n<<<<<<< ours\n{ours}||||||| base\n{base}=======\n{theirs}>>>>>>> theirs\n"
     data = text.encode()
-    found = [(*each.path, data[each.start : each.end].decode()) for each in Scan(data).values]
-    assert found == [("a", "one"), ("b", "c", "|-\n    two"), ("b", "three"), ("d", "'fünf'")]
+    values = [value for value in layout.nodes(data).values if value.is_tagged]
+    found = [(*value.path, data[value.begin : value.end].decode()) for value in values]
+    assert found == [("a", "one"), ("b", "c", "|-\n    two"), ("b", "three"), ("d", 0, "'fünf'")]
 
 
 def test_where_pyyaml_is(place: Place) -> None:
@@ -223,33 +221,6 @@ def test_where_pyyaml_is(place: Place) -> None:
     done = place.run(TEXTCONV, *place.by_file("old"), "vars.yml", PYTHONPATH=str(place.tree))
     assert (done.stdout, done.stderr) == (f"secret: !vault |\n  {TEXT.decode()}", ""), "it is found"
     assert not (place.path / "imported").exists(), "nothing of the current folder is imported"
-
-
-# How a collection begins, with at most one value before the collection within it, and how it ends.
-LAYERS = {"- ": "", "? ": "", "[": "]", "[1, ": "]", "{a: 1, b: ": "}", "{a: !vault x, b: ": "}"}
-LAYERS |= {"{? [a] : 1, <<: ": "}", "{? ": "}"}
-
-
-def peak(work: Callable[[], object]) -> int:
-    """Return the most memory that this work takes. It must find something."""
-    gc.collect()
-    tracemalloc.start()
-    try:
-        assert work()
-        return tracemalloc.get_traced_memory()[1]
-    finally:
-        tracemalloc.stop()
-
-
-@pytest.mark.parametrize("layer, end", LAYERS.items())
-def test_memory(layer: str, end: str) -> None:
-    needs_pyyaml()
-    count = 10_000 // len(layer + end)
-    deep = f"deep:\n  {layer * count}x{end * count}\n".encode()
-    text = b"secret: !vault |\n  " + envelope(b"x").replace(b"\n", b"\n  ") + b"\n" + deep
-    most = 500 * len(text)
-    assert peak(lambda: Scan(text).values) < most, "its values"
-    assert peak(lambda: encrypted(inline.showing(text, decrypt, with_notes=True), b"secret: !vault y\n" + deep)) < most
 
 
 def test_long_files(place: Place) -> None:

@@ -147,7 +147,7 @@ def _value(data: bytes, skipped: int, ending: bytes, steps: Steps, event: Any) -
         text = text.strip() + b"\n"
     ending = own_ending[0] if own_ending else ending
     tag, anchor = getattr(event, "tag", None) or "", event.anchor or ""
-    return Value(_path(steps), style, number, begin, start, end, margin, ending, text, tag, anchor)
+    return Value(_path(steps), style, number, begin, start, end, margin, ending, text, tag, anchor, None in steps)
 
 
 def _path(steps: Steps) -> Path:

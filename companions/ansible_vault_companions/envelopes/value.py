@@ -48,6 +48,8 @@ class Value(NamedTuple):
     tag: str = ""
     # The name of its anchor, or of the one that an alias stands for; empty if there is none.
     anchor: str = ""
+    # Whether it is a key, or part of one.
+    is_key: bool = False
 
     @property
     def name(self) -> str:

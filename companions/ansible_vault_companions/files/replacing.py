@@ -7,16 +7,11 @@ import os
 import re
 import stat
 import tempfile
-from contextlib import suppress
 
 from ansible_vault_companions.files import reading
-from ansible_vault_companions.program import Refused, temporary_folder
+from ansible_vault_companions.program import Refused
 
 PREFIX = ".ansible-vault-"
-# The name of a copy of an edit begins with this, and contains at most this many bytes of other names.
-SAVED = f"{PREFIX}saved-"
-LONGEST_NAME = 150
-LONGEST_END = 60
 # The part of a name that `mkstemp` chooses.
 RANDOM = "[a-z0-9_]{8}"
 # The mode of a file that only its owner may read.
@@ -51,40 +46,9 @@ def check_replaceable(target: str) -> None:
     os.unlink(_write_beside(target, b""))
 
 
-def save_copy(target: str, content: bytes, name: str) -> str:
-    """Writes a private copy beside the target, or else in $TMPDIR, and returns its path, which ends with `name`."""
-    suffix = f"-{_end_of(name, LONGEST_END)}"
-    (folder, prefix), (other_folder, other_prefix) = _places_of_copies(target)
-    try:
-        return _write_new(folder, content, prefix=prefix, suffix=suffix)
-    except OSError:
-        return _write_new(other_folder, content, prefix=other_prefix, suffix=suffix)
-
-
-def copies(target: str, name: str = "") -> list[str]:
-    """The paths of all copies for a target, or only of those whose `name` matches this pattern."""
-    found = []
-    end = rf"-{name}\Z" if name else r"(?:-|\Z)"
-    for folder, prefix in _places_of_copies(target):
-        is_copy = re.compile(f"{re.escape(prefix)}{RANDOM}{end}").match
-        with suppress(OSError):
-            found += [os.path.join(folder, name) for name in sorted(os.listdir(folder)) if is_copy(name)]
-    return found
-
-
 def is_leftover(name: str) -> bool:
-    """Whether a file has the name of a temporary file that was never renamed, or of a copy of an edit."""
-    return re.fullmatch(f"{re.escape(PREFIX)}{RANDOM}|{re.escape(SAVED)}.*", name, re.DOTALL) is not None
-
-
-def _places_of_copies(target: str) -> list[tuple[str, str]]:
-    """The directories for copies, with the beginning of the names there. In $TMPDIR it has the target's whole path."""
-    names = [(os.path.dirname(target), os.path.basename(target)), (temporary_folder(), target.replace("/", "%"))]
-    return [(folder, f"{SAVED}{_end_of(name, LONGEST_NAME)}-") for folder, name in names]
-
-
-def _end_of(name: str, length: int) -> str:
-    return os.fsencode(name)[-length:].decode(errors="ignore")
+    """Whether a file has the name of a temporary file that was never renamed, or of a copy of an edit by 0.5.0."""
+    return re.fullmatch(f"{re.escape(PREFIX)}(?:{RANDOM}|saved-.*)", name, re.DOTALL) is not None
 
 
 def _create(beside: str, target: str) -> None:
@@ -106,18 +70,14 @@ def _create(beside: str, target: str) -> None:
 def _write_beside(target: str, content: bytes, is_private: bool = False) -> str:
     """Writes a file beside the target, and returns its path. It gets the target's owner and mode if the target exists;
     otherwise only its owner may read it."""
-    return _write_new(os.path.dirname(target), content, target if os.path.lexists(target) else None, is_private)
+    return write_new(os.path.dirname(target), content, target if os.path.lexists(target) else None, is_private)
 
 
-def _write_new(
-    folder: str,
-    content: bytes,
-    like: str | None = None,
-    is_private: bool = False,
-    prefix: str = PREFIX,
-    suffix: str = "",
+def write_new(
+    folder: str, content: bytes, like: str | None = None, is_private: bool = False, prefix: str = PREFIX
 ) -> str:
-    descriptor, path = tempfile.mkstemp(suffix, prefix, folder)
+    """Writes a new file, and returns its path. Only its owner may read it, unless it is to be like another one."""
+    descriptor, path = tempfile.mkstemp(prefix=prefix, dir=folder)
     try:
         with open(descriptor, "wb") as file:
             file.write(content)

@@ -17,7 +17,7 @@ def top() -> str:
     looks like a bare repository may be a part of another one."""
     if "GIT_DIR" in os.environ:
         return os.fsdecode(git("rev-parse", "--show-toplevel").removesuffix(b"\n"))
-    folder = _repository(os.getcwd())
+    folder = repository_of(os.getcwd())
     if not folder:
         raise Refused("the current directory is not in a git repository")
     return folder
@@ -30,7 +30,7 @@ def by_repository(paths: list[str], follows: bool = True) -> dict[str, dict[byte
     for path in paths:
         folder, own = os.path.split(path)
         target = os.path.realpath(path) if follows else os.path.join(os.path.realpath(folder), own)
-        repository = _repository(os.path.dirname(target))
+        repository = repository_of(os.path.dirname(target))
         if repository:
             name = os.fsencode(os.path.relpath(target, repository))
             repositories.setdefault(repository, {})[name] = path
@@ -56,7 +56,7 @@ def _tracked(files: list[list[str]]) -> list[list[str]]:
 
 
 @lru_cache(maxsize=None)
-def _repository(folder: str) -> str | None:
+def repository_of(folder: str) -> str | None:
     """The top directory of the repository that contains this directory, if any."""
     while not os.path.lexists(os.path.join(folder, ".git")):
         above = os.path.dirname(folder)

@@ -50,6 +50,8 @@ class Conflict:
     key: Key
     plaintext: bytes
     marker_size: int
+    # None of its values stays encrypted.
+    faults: tuple[()] = ()
 
     @property
     def keys(self) -> list[Key]:

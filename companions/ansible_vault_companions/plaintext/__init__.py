@@ -1,7 +1,6 @@
-"""Shows the plaintext of files, and encrypts it again.
+"""Shows the plaintext of files, and rotates them.
 
-`showing` shows it to git. `single` shows one value to a script, and `setting` sets one. `loading` decrypts a vault, or
-YAML with blocks, and knows how to encrypt its text again. `edits` runs an editor on that text and puts it back, or else
-keeps it in one of its `copies`. `rotation` re-encrypts vaults and values with new secrets.
-May import files, secrets, tool, yaml, git, merging.
+`opening` decrypts the envelopes of a document. `checking` says which secret does, and `rotation` re-encrypts them
+with new secrets. `showing` shows them to git, and `single` shows one value to a script.
+May import files, envelopes, secrets, tool, git.
 """

@@ -14,7 +14,6 @@ from ansible_vault_companions.merging import texts, unmerged
 from ansible_vault_companions.plaintext import opening
 from ansible_vault_companions.program import Refused, write_error
 from ansible_vault_companions.secrets.sources import Secret
-from ansible_vault_companions.tool import layers
 from ansible_vault_companions.tool.faults import NOT_DECRYPTED, NotDecrypted, NotVault, SecretRefused
 from ansible_vault_companions.tool.remembering import RememberingTool
 from ansible_vault_companions.tool.tool import Decrypt
@@ -50,7 +49,7 @@ def converted(found: Document, path: str, decrypt: Decrypt) -> bytes:
 
     def shown(value: Value) -> list[Change] | Refused:
         try:
-            return plaintexts.shown(found.data, value, layers.decrypted(decrypt, value.readable())[1])
+            return plaintexts.shown(found.data, value, decrypt(value.readable())[1])
         except Refused as fault:
             return fault
 

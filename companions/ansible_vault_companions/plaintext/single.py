@@ -5,7 +5,6 @@ from __future__ import annotations
 from ansible_vault_companions.envelopes import document, keypath
 from ansible_vault_companions.envelopes.value import NO_SCALAR
 from ansible_vault_companions.program import Refused, shown
-from ansible_vault_companions.tool import layers
 from ansible_vault_companions.tool.tool import Decrypt
 
 NO_TEXT = "{} is a list, a mapping or an alias; name a value in it"
@@ -15,7 +14,7 @@ NOT_ENCRYPTED = "{} is not encrypted"
 def value_of(data: bytes, path: str, decrypt: Decrypt) -> bytes:
     """The plaintext of a value in YAML, or in the plaintext of a vault."""
     is_vault = document.Document(data).is_vault
-    text = layers.decrypted(decrypt, data)[1] if is_vault else data
+    text = decrypt(data)[1] if is_vault else data
     found = document.read(text, every=True)
     if found.fault:
         raise Refused(found.fault)
