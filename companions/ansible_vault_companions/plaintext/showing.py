@@ -2,6 +2,7 @@
 
 from __future__ import annotations
 
+import os
 from contextlib import suppress
 
 from ansible_vault_companions import parallel, program
@@ -19,6 +20,9 @@ from ansible_vault_companions.tool.remembering import RememberingTool
 from ansible_vault_companions.tool.tool import Decrypt
 
 NAME = "ansible-vault-textconv"
+# The file with git's commit message, and the directory that lists this process's open files.
+MESSAGE = "COMMIT_EDITMSG"
+DESCRIPTORS = "/proc/self/fd"
 
 
 class SkippingTool(RememberingTool):
@@ -61,3 +65,13 @@ def converted(found: Document, path: str, decrypt: Decrypt) -> bytes:
         else:
             changes += result
     return changed(found.data, changes)
+
+
+def is_for_message() -> bool:
+    """Whether `git commit -v` runs this program. git then has its message file open, and writes the diff below the
+    message. The file stays in the repository."""
+    for descriptor in os.listdir(DESCRIPTORS):
+        with suppress(OSError):
+            if os.path.basename(os.readlink(os.path.join(DESCRIPTORS, descriptor))) == MESSAGE:
+                return True
+    return False
