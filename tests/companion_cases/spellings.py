@@ -15,9 +15,8 @@ import pytest
 from hypothesis import given, settings
 from hypothesis import strategies as st
 
-from ansible_vault_companions.files.envelopes import has_valid_header, mentions_envelope
-from ansible_vault_companions.git import damage, facts
-from ansible_vault_companions.yaml.hidden import envelopes
+from ansible_vault_companions.envelopes import conflicts, document, envelope
+from ansible_vault_companions.envelopes.value import LOOSE, STRAY, TAGS, Path
 from companion_cases import BODY, CHECK, ROTATE, Place, block, ended, sealed, silent, summary, to_new
 from companion_cases.repository import IN_PART, again, leaked, staged, with_hooks
 from lib.needs import needs_pyyaml
@@ -105,7 +104,7 @@ def test_several_in_a_line(place: Place) -> None:
 
 
 # Each piece is repeated to make a hostile file.
-PIECES = [b"$ANSIBLE_VAULT", b"$ANSIBLE_VAULT;1.1;AES256", b'"\\x24ANSIBLE_VAULT', b'"\\\n $\\\n ', b"A\\\n ", b"\\\n"]
+PIECES = [b"$ANSIBLE_VAULT", b"$ANSIBLE_VAULT;1.1;AES256", b'"\\x24ANSIBLE_VAULT']
 PIECES += [b"  $ANSIBLE_VAULT;1.1;AES256\n  6162\n", b'"$ANSIBLE_VAULT;1.1;AES256\\n' + b"61" * 40 + b'", ']
 PIECES += [b"a: !vault |\n  $ANSIBLE_VAULT;1.1;AES256\n  6162\n", b" " * 4000 + b"$ANSIBLE_VAULT;1.1;AES256\n"]
 PIECES += [b"!vault &" + b"x" * 4000 + b"\n$ANSIBLE_VAULT;1.1;AES256\n", b"!vault | ", b"!vault &a ", b"# \\n"]
@@ -116,11 +115,11 @@ SMALL, TIMES = 1 << 15, 8
 MOST = 24
 START = b"x: !vault |\n  $ANSIBLE_VAULT;1.1;AES256\n  61\n"
 WORKS: dict[str, Callable[[bytes], object]] = {
-    "the envelopes": lambda data: envelopes(b"x: 1\n" + data),
-    "a marked file": lambda data: damage.fault_of_marked(b"x: 1\n" + data, {"diff"}),
-    "what is decrypted": lambda data: facts.names_of_plain(START + data, b"x: 1\n" + data),
-    "a whole vault": lambda data: damage.is_whole(b"$ANSIBLE_VAULT;1.1;AES256\n" + data),
-    "conflict markers": damage.is_unmerged,
+    "the envelopes": lambda data: document.read(START + data),
+    "every node": lambda data: document.read(START + data, every=True),
+    "a file that is no YAML": lambda data: document.read(b"[$ANSIBLE_VAULT;1.1;AES256" + data),
+    "a whole vault": lambda data: envelope.is_whole(b"$ANSIBLE_VAULT;1.1;AES256\n" + data),
+    "conflict markers": lambda data: (conflicts.is_unmerged(data), conflicts.sides(b"<<<<<<<\n" + data)),
 }
 
 

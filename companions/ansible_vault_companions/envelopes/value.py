@@ -10,7 +10,7 @@ from ansible_vault_companions.files.changes import Change, indented
 from ansible_vault_companions.program import Refused, shown
 
 # The styles of scalars; of a list or a mapping; and of an alias.
-LITERAL, FOLDED, PLAIN, SINGLE, DOUBLE, NO_SCALAR, ALIAS = "|", ">", "", "'", '"', "none", "alias"
+LITERAL, FOLDED, PLAIN, NO_SCALAR, ALIAS = "|", ">", "", "none", "alias"
 # A whole file; an envelope elsewhere whose lines have one margin, so that it can be replaced; and any other.
 WHOLE, STRAY, LOOSE = "vault", "stray", "loose"
 # The tags of an encrypted value in YAML, and its key in JSON.
