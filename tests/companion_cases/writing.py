@@ -40,7 +40,9 @@ def test_syncs(place: Place, subtests: SubTests) -> None:
     for what, words in runs.items():
         place.put("a.yml", before)
         # `check_replaceable` makes the first sync of an edit.
-        wanted = [*(["synced"] if words[0] == EDIT else []), "written", "synced", "named", "folder synced"]
+        written = ["written", "synced", "named", "folder synced"]
+        # A merge first writes both sides, as a conflict.
+        wanted = [*(["synced"] if words[0] == EDIT else []), *written * (2 if words[0] == MERGE else 1)]
         with subtests.test(what):
             done, lines = place.traced("-y -e trace=write,fsync,rename,link,linkat", *words)
             found = [step for line in lines for step, pattern in steps.items() if re.match(pattern, line)]
@@ -182,17 +184,20 @@ def test_named_paths(place: Place) -> None:
 MEANWHILE = 'case "$*" in *=prompt*) ;; encrypt*|decrypt*|rekey*) echo other > a.yml ;; esac'
 
 
+LINES = b"1\n2\n3\n"
+
+
 def test_changed_meanwhile(place: Place, subtests: SubTests) -> None:
     """What another program writes during a run is not overwritten."""
     old = place.by_file("old")
     runs = [
         [ROTATE, *to_new(place), "a.yml"],
         [WITH, "decrypt", *old, "a.yml"],
-        [MERGE, *old, *versions(place, "a.yml", sealed("old"), b"", sealed("old", TEXT * 2))],
+        [MERGE, *old, *versions(place, "a.yml", sealed("old", TEXT + LINES), b"", sealed("old", TEXT + LINES * 2))],
     ]
     place.wrap_tool(MEANWHILE)
     for words in runs:
-        place.put("a.yml", sealed("old", CHANGED))
+        place.put("a.yml", sealed("old", CHANGED + LINES))
         with subtests.test(" ".join(words[:2])):
             ended("it is refused", place.run(*words), 1, "a.yml: ", "another program changed it meanwhile")
             assert place.files() == {"a.yml": b"other\n"}, "their change stays, and nothing is left"
