@@ -3,7 +3,7 @@
 import pytest
 
 from companion_cases import CHECK, Place, block, decrypted, edit, ended, sealed, silent, texts
-from companion_cases.repository import AUTHOR
+from companion_cases.repository import AUTHOR, set_driver
 from lib.needs import needs_pyyaml
 
 pytestmark = pytest.mark.usefixtures("git")
@@ -33,7 +33,7 @@ def test_vaults(place: Place, style: str, end: bytes) -> None:
     merge(place, vaults, "-c", f"merge.conflictStyle={style}")
     before, words = place.get("a.yml"), [*place.by_file("old"), "a.yml"]
     done = edit(place, 'cp "$1" ../seen', *words)
-    ended("no choice", done, 0, "it has git's conflict markers", "nothing was changed")
+    ended("no choice", done, 1, "it still has git's conflict markers")
     seen = (place.path / "seen").read_bytes()
     assert seen.startswith(b"<<<<<<< ") and seen.count(b"x: ours\n") == seen.count(b"x: theirs\n") == 1
     assert (seen.endswith(b"\n" + LINES + b"y: ours\n"), place.get("a.yml")) == (True, before)
@@ -70,7 +70,7 @@ def test_values(place: Place) -> None:
     ))
     words = [*place.by_file("old"), "a.yml"]
     done = edit(place, 'cp "$1" ../seen', *words)
-    ended("no choice", done, 0, "it has git's conflict markers", "nothing was changed")
+    ended("no choice", done, 1, "it still has git's conflict markers")
     assert (place.path / "seen").read_bytes().count(b"secret: !vault |\n  x: ") == 2
     assert place.get("a.yml") == before
     ended("both", edit(place, "sed -i '/^[<=>]\\{7\\}/d' \"$1\"", *words), 1, "secret is there twice")
@@ -80,3 +80,20 @@ def test_values(place: Place) -> None:
     ended("both", edit(place, f"{TAKE_THEIRS}; sed -i s/theirs/both/ \"$1\"", *words), 0)
     assert texts(place.get("a.yml"), "old") == [b"x: both\n" + LINES]
     silent("no marker is left", place.shell(f"{CHECK} {' '.join(words)} > /dev/null"))
+
+
+def test_values_with_a_base(place: Place) -> None:
+    """What the driver could not merge without its password file is merged by the base in the index, and saved even if
+    nothing is left to choose."""
+    needs_pyyaml()
+    base, ours, theirs = (
+        block(name, a, name="a") + b"y: 1\n" + block(name, b, name="b")
+        for name, a, b in (("old", b"1", b"1"), ("old", b"2", b"1"), ("new", b"1", b"3"))
+    )
+    place.put(".gitattributes", b"*.yml merge=ansible-vault\n")
+    place.run("git", "init", "-q", "-b", "main")
+    set_driver(place, "--vault-password-file", "/missing")
+    merge(place, [base, ours, theirs])
+    assert place.get("a.yml") == b"<<<<<<< ours\n%s=======\n%s>>>>>>> theirs\n" % (ours, theirs), "both are whole"
+    silent("an edit", edit(place, "true", *place.by_file("old"), *place.by_file("new"), "a.yml"))
+    assert texts(place.get("a.yml"), "new") == [b"2", b"3"], "both changes are there, under the new password"

@@ -9,10 +9,10 @@ from ansible_vault_companions.editing import matching
 from ansible_vault_companions.editing.drafts import Draft, Vault
 from ansible_vault_companions.editing.matching import Choice
 from ansible_vault_companions.editing.yaml_file import YamlFile
-from ansible_vault_companions.envelopes import document
+from ansible_vault_companions.envelopes import conflicts, document
 from ansible_vault_companions.envelopes.envelope import MAGIC
 from ansible_vault_companions.files import reading
-from ansible_vault_companions.merging import unmerged
+from ansible_vault_companions.merging import texts, unmerged
 from ansible_vault_companions.program import Refused, shown
 from ansible_vault_companions.secrets import labels
 from ansible_vault_companions.secrets.sources import Secret
@@ -40,19 +40,25 @@ def load(tool: Tool, secrets: list[Secret], path: str, chosen: str | None, usual
     decrypt: Decrypt = lambda envelope: tool.decrypt(envelope, secrets)
     sides = unmerged.versions(target, content)
     are_vaults = [side.startswith(MAGIC) for side in (sides.ours, sides.theirs)] if sides else []
+    key = next(iter(Choice(secrets, chosen).keys()), None) if chosen else None
     if sides and all(are_vaults):
-        keys = Choice(secrets, chosen).keys() if chosen else []
-        return unmerged.conflict(decrypt, target, content, sides, keys[0] if keys else None)
+        return unmerged.conflict(decrypt, target, content, sides, key)
     if any(are_vaults):
         raise Refused(unmerged.ONE_SIDE.format(shown(path)))
+    if sides and sides.base:
+        # The driver may have lacked a password, or git may have merged without it.
+        merged = texts.merged(tool, decrypt, sides, conflicts.SIZE, key).content
+        draft = _yaml_file(decrypt, target, merged, choice)
+        draft.content = content
+        return draft
     found = document.read(content)
     if not found.is_vault:
         return _yaml_file(decrypt, target, content, choice)
     [envelope] = found.values
     secret, plaintext = decrypt(content)
-    key = (secret, envelope.label or "")
-    require_label(*key)
-    return Vault(target, [key], plaintext, envelope)
+    label = envelope.label or ""
+    require_label(secret, label)
+    return Vault(target, [(secret, label)], plaintext, envelope)
 
 
 def _new_key(choice: Choice) -> tuple[Secret, str]:

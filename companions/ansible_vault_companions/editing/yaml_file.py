@@ -67,7 +67,8 @@ class YamlFile:
         return [value for value in self.file.values if value.is_tagged]
 
     def is_as_it_was(self, text: bytes) -> bool:
-        return text == self.plaintext and all(value.is_envelope for value in self.tagged)
+        is_resolved = self.content != self.file.data and not conflicts.is_unmerged(text)
+        return text == self.plaintext and all(value.is_envelope for value in self.tagged) and not is_resolved
 
     def encrypted(self, tool: Tool, text: bytes) -> bytes:
         _check_encoding(self.plaintext, text)
