@@ -267,6 +267,15 @@ def test_lists(place: Place, typed: tuple[str, str], labels: str) -> None:
         assert is_kept == ((label, text) in known)
 
 
+def test_list_of_one_secret(place: Place) -> None:
+    """If another secret is chosen for new values, it has to be clear which item is new."""
+    place.put("vars.yml", content := b"l:\n- " + block("dev", b"one", "dev", ""))
+    words = [*place.by_id("dev", "dev"), *place.by_id("prod", "prod"), "--encrypt-vault-id=prod", "vars.yml"]
+    done = edit(place, "printf 'l:\\n- !vault neu\\n- !vault eins\\n' > \"$1\"", *words)
+    ended("it", done, 1, "line 2: this value may be a new value or a changed one")
+    assert place.get("vars.yml") == content
+
+
 def test_equal_items(place: Place) -> None:
     """An unchanged item of a list keeps its envelope, even if another item had the same text under another secret."""
     first, second = (block(name, b"same", name, "") for name in ("old", "prod"))
