@@ -129,9 +129,9 @@ def test_longest_password(place: Place) -> None:
 def test_help(name: str) -> None:
     """It fits a screen."""
     text, says = companion_help(name), ["git runs no hook with --no-verify"] if name == HOOK else []
-    assert [each for each in (*says, "Companions are tested, not proved. They leave ") if each not in text] == []
-    assert [line for line in text.splitlines() if len(line) > 80] == []
-    assert len(text.splitlines()) <= 34 or name == WITH
+    assert [each for each in (*says, "Companions are tested, not proved.") if each not in text] == []
+    lines = text.splitlines()
+    assert max(map(len, lines)) <= 80 and (len(lines) <= 34 or name == WITH)
 
 
 def test_same_password_in_another_file(place: Place) -> None:
