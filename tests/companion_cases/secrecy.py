@@ -50,7 +50,7 @@ RUNS = {
     f"{ROTATE} {OLD} {NEW} a.yml": {PIPE},
     f"{MERGE} {OLD} {VERSIONS.format('a.yml')}": {PIPE, VERSION},
     # Only one side has changed.
-    f"{MERGE} {OLD} {VERSIONS.format('b.yml')}": set(),
+    f"{MERGE} {OLD} {VERSIONS.format('b.yml')}": {PIPE},
     f"{WITH} encrypt {OLD} plain.yml": {PIPE},
     f"{WITH} rekey {OLD} {NEW} a.yml": set(),
     f"{WITH} decrypt {OLD} a.yml": {PIPE, BESIDE},
@@ -75,7 +75,8 @@ def test_plaintext(place: Place, line: str, places: set[str]) -> None:
     `decrypt` to a new file for its owner only, and by an edit to its private directory."""
     needs("strace", "git")
     versions(place, "a.yml", *(sealed("old", text) for text in TEXTS))
-    versions(place, "b.yml", *(block("old", text) for text in (TEXTS[0], TEXTS[0], TEXTS[2])))
+    values = ((TEXTS[0], b"1"), (TEXTS[0], b"2"), (TEXTS[2], b"1"))
+    versions(place, "b.yml", *(block("old", text) + b"y: 1\nz: %s\n" % number for text, number in values))
     place.put("plain.yml", TEXTS[0])
     place.environment["EDITOR"] = place.script('sed -i s/one/three/ "$1"', "editor")
     before, passwords = place.files(), [each.decode() for each in PASSWORDS.values()]
