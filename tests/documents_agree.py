@@ -203,7 +203,7 @@ def test_figures_in_words(program: str) -> None:
         r"Python ([\d.]+\d)": ".".join(map(str, OLDEST)),
         r"([\d,]+) rounds of PBKDF2": "10,000",
         r"(\w+) seconds later": IN_WORDS[int(GRACE_PERIOD)],
-        r"and (\w+) more characters": IN_WORDS[int(RANDOM[-2])],
+        r"(\w+) more characters": IN_WORDS[int(RANDOM[-2])],
     }
     found = {words: {*re.findall(words, " ".join(TEXT.split()))} for words in wanted}
     assert found == {words: {figure} for words, figure in wanted.items()}

@@ -48,6 +48,10 @@ PASSING: dict[str, tuple[Files, Files]] = {
     "Jinja, and a new vault": ({"all.yml": PW}, {"all/vars.yml": JINJA, "all/vault.yml": VAULT}),
     "a new vault for what was in a file": ({"all/a.yml": PW + X}, {"all/a.yml": JINJA + X, "all/vault.yml": VAULT}),
     "two expressions": ({"a.yml": DB}, {"a.yml": below("db", b'pw: "{{ one }} {{ two }}"\n')}),
+    "braces and strings in an expression": (
+        {"a.yml": DB},
+        {"a.yml": below("db", b"pw: \"{{ {'a': {'b': x, 'c': '}}'}} }}{{ '{{' ~ y }}\"\n")},
+    ),
     "an expression on several lines": ({"a.yml": PW}, {"a.yml": b"pw: >-\n  {{ lookup('env',\n  'PW') }}\n"}),
     "expressions below": ({"a.yml": PW}, {"a.yml": below("pw", b'user: "{{ user }}"\n' + JINJA)}),
     "null": ({"a.yml": PW + X}, {"a.yml": b"pw:\n" + X}),
@@ -57,6 +61,7 @@ PASSING: dict[str, tuple[Files, Files]] = {
     "a renamed vault": ({"a.yml": VAULT}, {"b.yml": VAULT}),
     "a vault that is renamed and encrypted again": ({"one/a.yml": VAULT}, {"two/a.yml": OTHER}),
     "a vault with another suffix": ({"a.yml": VAULT, "a.txt": X}, {"a.yaml": OTHER, "a.txt": X}),
+    "a host in place of another": ({"10.0.0.1.yml": VAULT}, {"10.0.0.2.yml": X, "a.b.yml": X, "a.c.yml": X}),
     "a renamed file with a value": ({"a.yml": PW + LINES}, {"b.yml": PW + LINES + X}),
     "a renamed folder": ({"w/a.yml": VAULT, "w/x.yml": LINES}, {"z/a.yml": OTHER, "z/x.yml": LINES + X}),
     "a renamed plain file near a vault": (

@@ -60,7 +60,7 @@ def test_leftovers(place: Place) -> None:
     assert (done.returncode, whys) == (1, wanted), "they are refused"
     for line in removing:
         assert place.shell(" && ".join(line.split("`")[1::2])).returncode == 0, "they are removed as the message says"
-    others = [".ansible-vault-abcdefgh.py", ".ansible-vault-me.py", ".ansible-vault-pass", "ansible-vault-saved-x"]
+    others = [".ansible-vault-abcdefgh.py", ".ansible-vault-me.py", ".ansible-vault-password", "ansible-vault-saved-x"]
     for name in others:
         place.put(name, TEXT)
     silent("files with other names", add_and_commit(place))

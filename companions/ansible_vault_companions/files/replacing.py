@@ -11,7 +11,7 @@ import tempfile
 from ansible_vault_companions.files import reading
 from ansible_vault_companions.program import Refused
 
-PREFIX = ".ansible-vault-"
+PREFIX, SUFFIX = ".ansible-vault-", ".new"
 # The part of a name that `mkstemp` chooses.
 RANDOM = "[a-z0-9_]{8}"
 # The mode of a file that only its owner may read.
@@ -48,7 +48,7 @@ def check_replaceable(target: str) -> None:
 
 def is_leftover(name: str) -> bool:
     """Whether a file has the name of a temporary file that was never renamed, or of a copy of an edit by 0.5.0."""
-    return re.fullmatch(f"{re.escape(PREFIX)}(?:{RANDOM}|saved-.*)", name, re.DOTALL) is not None
+    return re.fullmatch(rf"{re.escape(PREFIX)}(?:{RANDOM}{re.escape(SUFFIX)}|saved-.*)", name, re.DOTALL) is not None
 
 
 def _create(beside: str, target: str) -> None:
@@ -77,7 +77,7 @@ def write_new(
     folder: str, content: bytes, like: str | None = None, is_private: bool = False, prefix: str = PREFIX
 ) -> str:
     """Writes a new file, and returns its path. Only its owner may read it, unless it is to be like another one."""
-    descriptor, path = tempfile.mkstemp(prefix=prefix, dir=folder)
+    descriptor, path = tempfile.mkstemp(SUFFIX, prefix, folder)
     try:
         with open(descriptor, "wb") as file:
             file.write(content)

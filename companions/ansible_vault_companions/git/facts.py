@@ -7,6 +7,7 @@ from __future__ import annotations
 
 import re
 from collections import Counter
+from functools import reduce
 from typing import Iterable, NamedTuple
 
 from ansible_vault_companions.envelopes import conflicts, envelope
@@ -20,7 +21,10 @@ from ansible_vault_companions.git.attributes import DIFF
 # The key of every list item, and the key that merges a mapping into another, which is not part of a path.
 ITEM, MERGE = "[]", "<<"
 NOTHING = (b"", b"~", b"null")
-JINJA = re.compile(rb"(?:\s|\{\{(?:(?!\{\{|\}\}).)+\}\})+", re.DOTALL)
+# Jinja expressions and blanks. An expression has strings, and braces within braces, to a depth that nobody exceeds.
+STRING = r"'(?:[^'\\]|\\.)*'|\"(?:[^\"\\]|\\.)*\""
+WORDS = reduce(lambda inner, _: rf"[^{{}}'\"]|{STRING}|\{{(?:{inner})*\}}", range(4), rf"[^{{}}'\"]|{STRING}")
+JINJA = re.compile(rf"(?:\s|\{{\{{(?:{WORDS})+\}}\}})+".encode(), re.DOTALL)
 # The most texts of a file, with those that aliases stand for.
 MOST = 100_000
 TOO_MANY = f"it has more than {MOST:,} values"

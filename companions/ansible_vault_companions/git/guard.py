@@ -200,8 +200,9 @@ def _last_key(keys: Keys) -> bytes:
 def _places(name: bytes) -> Iterator[tuple[bytes, ...]]:
     """What two paths have in common that differ in the suffix alone, or in one directory."""
     *folders, base = name.split(b"/")
-    stem = base[:1] + base[1:].partition(b".")[0]
+    stem = os.path.splitext(base)[0]
     yield (b"stem", *folders, stem)
+    yield (b"stem", *folders, base)
     if stem != MAIN:
         for number in range(len(folders)):
             yield (b"folders", *folders[:number], b"", *folders[number + 1 :], base)
