@@ -164,7 +164,7 @@ _ansible_vault_companion_options() {
         echo "$common --new-vault-id --new-vault-password-file --any-label --dry-run"
         echo "--tracked --exclude --jobs"
         ;;
-    ansible-vault-merge) echo "$common --any-label" ;;
+    ansible-vault-merge) echo "$common --encrypt-vault-id --any-label" ;;
     ansible-vault-check) echo "$common --label --tracked --exclude" ;;
     ansible-vault-hook)
         echo "--all --since --install --uninstall --vault-id --vault-password-file --help -h --version -V"

@@ -105,8 +105,9 @@ for name in with edit rotate check textconv merge
     complete -c ansible-vault-$name -s J -l ask-vault-password -d 'Ask for a password of the label default'
     complete -c ansible-vault-$name -l ask-vault-pass -d 'Ask for a password of the label default'
 end
-complete -c ansible-vault-edit -l encrypt-vault-id -x \
-    -d 'The label of the secret to encrypt with'
+for name in edit merge
+    complete -c ansible-vault-$name -l encrypt-vault-id -x -d 'The label of the secret to encrypt with'
+end
 for name in edit merge rotate
     complete -c ansible-vault-$name -l any-label -d 'Encrypt again what a secret with another label decrypts'
 end

@@ -110,7 +110,7 @@ _ansible_vault_arguments() {
         rotate) _arguments -s -S $common $all_secrets $new_secrets $rotation $left_out '*:path:_ansible_vault_files' ;;
         check) _arguments -s -S $common $all_secrets $labels $left_out '*:path:_ansible_vault_files' ;;
         textconv) _arguments -s -S $common $all_secrets '--value=[print only this value]:path: ' $file ;;
-        merge) _arguments -s -S $common $all_secrets $any_label '*:file:_ansible_vault_files' ;;
+        merge) _arguments -s -S $common $all_secrets $encrypt_id $any_label '*:file:_ansible_vault_files' ;;
         hook) _arguments -s -S $common $commits $secrets '*:file:_ansible_vault_files' ;;
     esac
 }
