@@ -246,7 +246,9 @@ def test_work(place: Place) -> None:
             place.put(f"new/{name}.vault.yml", block("new"))
         place.shell("git add -A")
         place.put("../calls", b"")
-        memory = "import atexit, resource as r; atexit.register(lambda: print(r.getrusage(r.RUSAGE_SELF).ru_maxrss))"
+        # The peak of this process alone: getrusage counts what it was before it ran another program.
+        memory = "import atexit, re; status = lambda: open('/proc/self/status').read()"
+        memory += "; atexit.register(lambda: print(re.findall(r'VmHWM:\\s+(\\d+)', status())[0]))"
         done = run_changed(place, HOOK, memory, [])
         ended("it", done, 0)
         assert int(done.stdout) < 40_000, "how much memory it takes, in kB"

@@ -122,7 +122,8 @@ LABELLED = {
     "a label that somebody changed": ("dev", "prod", "dev", False),
     "a label whose secret is missing": ("dev", "prod", "missing", False),
     "a label of no secret": ("other", "prod", "dev", False),
-    "no label": ("", "prod", "dev", True),
+    "no label": ("", "prod", "dev", False),
+    "no label and a single secret": ("", "prod", None, True),
     "any label and a single secret": ("dev", "prod", None, True),
 }
 

@@ -11,7 +11,7 @@ from lib.needs import needs
 # Command lines that write to standard output, and others whose output is a file.
 OLD, NEW = "--vault-password-file ../secrets/old", "--new-vault-password-file ../secrets/new"
 WRITING = [f"{ROTATE} {OLD} {NEW} --dry-run a.yml", f"{CHECK} {OLD} a.yml", f"{TEXTCONV} {OLD} a.yml"]
-REPLACING = [f"{WITH} decrypt {OLD} a.yml", f"{MERGE} {OLD} a.yml a.yml a.yml a.yml"]
+REPLACING = [f"{WITH} decrypt {OLD} a.yml", f"{MERGE} {OLD} a.yml b.yml c.yml b.yml"]
 # Where standard output goes, and why it cannot be written.
 OUTPUTS = {">&-": "Bad file descriptor", "> /dev/full": "No space left on device", "| :": "Broken pipe"}
 
@@ -27,7 +27,8 @@ def test_outputs_that_fail(place: Place, line: str, redirection: str) -> None:
 @pytest.mark.parametrize("redirection", ("2>&-", "2> /dev/full", ">&- 2>&-"))
 @pytest.mark.parametrize("line", (*WRITING, *REPLACING))
 def test_messages_that_fail(place: Place, line: str, redirection: str) -> None:
-    place.put("a.yml", sealed("dev"))
+    for name in ("a.yml", "b.yml", "c.yml"):
+        place.put(name, sealed("dev", name.encode()))
     assert place.shell(f"{line} {redirection}").returncode == 1
 
 
@@ -53,7 +54,7 @@ def test_ignored_children(place: Place) -> None:
     ended("a wrong password", done, 1, "no secret decrypts this vault", "0 decrypted, 1 not")
     words = versions(place, "b.yml", sealed("old", b"a\n"), sealed("old", b"b\n"), sealed("old", b"c\n"))
     done = place.run(*ignoring, MERGE, *place.by_file("old"), *words)
-    ended("a conflict, which git counts by its status", done, 1, "b.yml: 1 conflict")
+    ended("a conflict, which git counts by its status", done, 1, "both sides changed the same lines")
 
 
 @pytest.mark.parametrize("name", ("INT", "HUP"))
