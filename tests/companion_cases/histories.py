@@ -165,6 +165,13 @@ REFUSED: dict[str, tuple[Files, Files, dict[str, str]]] = {
         {"a.yml": DB_PLAIN + PLAIN},
         {"a.yml": IN_PART.format("db.pw, pw").replace("was", "were")},
     ),
+    "a key twice": ({"a.yml": PW + X}, {"a.yml": PW + X + PLAIN}, {"a.yml": pw}),
+    "another document": ({"a.yml": PW + X}, {"a.yml": PW + X + b"---\n" + PLAIN}, {"a.yml": pw}),
+    "a merged mapping and a key": (
+        {"a.yml": below("x", DB).replace(b"x:", b"x: &x") + b"y: {<<: *x}\n"},
+        {"a.yml": below("x", DB).replace(b"x:", b"x: &x") + b"y: {<<: *x, db: plain}\n"},
+        {"a.yml": IN_PART.format("y.db.pw")},
+    ),
     "a merged mapping": ({"a.yml": DB}, {"a.yml": b"db:\n  <<: {pw: plain}\n"}, {"a.yml": db}),
     "an alias": ({"a.yml": b"x: &x plain\n" + DB}, {"a.yml": b"x: &x plain\ndb:\n  pw: *x\n"}, {"a.yml": db}),
     "an alias of a mapping": ({"a.yml": DB}, {"a.yml": b"x: &x {pw: plain}\ndb: *x\n"}, {"a.yml": db}),

@@ -150,8 +150,9 @@ def touched(paths: Iterable[Keys], others: set[Keys]) -> list[Keys]:
 
 
 def now_plain(before: Facts, after: Facts) -> list[Keys]:
-    """Where an envelope is gone, and there is new plaintext instead."""
-    return touched(lost(before, after), came(before, after))
+    """Where there is new plaintext in place of an envelope, or at its keys, which only items of a list may share."""
+    unshared = [keys for keys in before.encrypted if ITEM not in keys]
+    return touched(dict.fromkeys([*lost(before, after), *unshared]), came(before, after))
 
 
 def names_of_plain(before: bytes, after: bytes) -> list[str]:
