@@ -16,7 +16,7 @@ class Outcome(NamedTuple):
 
 
 # Sections of docs/formats.md.
-SECRETS, KEYS, VALUES = "Labels, passwords, secrets", "Ciphers and keys", "Values in YAML and JSON"
+SECRETS, KEYS, VALUES = "Labels and passwords", "Ciphers and keys", "Values in YAML and JSON"
 NOT_VAULT = Outcome("input is not vault encrypted data", "Reading, 2")
 LONG_HEADER = Outcome("vault header line is longer than 256 bytes", "Reading, 3")
 BAD_HEADER = Outcome("vault header line is malformed", "Reading, 4")

@@ -21,7 +21,12 @@ def block(text: bytes = ENVELOPE, margin: int = 2, header: str = "|", before: by
 
 def read_values() -> dict[str, bytes]:
     return {
-        **{f"header-{header}": block(margin=4, header=header) for header in ("|", "|-", "|+", "|4", "|4-", "|+4")},
+        "literal": block(),
+        "literal-strip": block(header="|-"),
+        "literal-keep": block(header="|+") + b"\n\n",
+        "literal-4": block(margin=4, header="|4"),
+        "literal-4-strip": block(margin=4, header="|4-"),
+        "literal-keep-4": block(margin=4, header="|+4"),
         "margin": block(margin=1),
         "comment": block(header="|- # a comment"),
         "anchor": block(header="&a |"),
@@ -32,7 +37,6 @@ def read_values() -> dict[str, bytes]:
         "next-line": block(before=b"secret:\n "),
         "cr-lf": block().replace(b"\n", b"\r\n"),
         "without-last-newline": block()[:-1],
-        "empty-lines-after": block(header="|+") + b"\n\n",
         "empty-lines-within": b"secret: !vault |\n  " + SPREAD + b"\n",
         "key-after": block() + block(before=b"other: "),
         "comments-around": b"# before\n---\n# then\n" + block() + b"# after\n",

@@ -146,12 +146,20 @@ def test_words(program: str, name: str) -> None:
     assert [(what, words) for what, words in said if not page.get(what, "").startswith(words)] == []
     others = [what for what, words in said if ("be repeated" in words) != ("be repeated" in page[what])]
     assert others == [], "and a page does not add that an option may be repeated"
-    if name in COMPANIONS:
-        rest = HEADING.sub("", ENTRY.sub("", joined(texts[0])).partition("\n\n")[2])
-        sentences = statements(rest) - {f"for more, see man {name}."}
-        assert len(sentences) > 8
-        assert [each for each in sentences if each.startswith("$ ") and name in each], "it has an example"
-        assert sentences - statements((wide(name) + wide(SHARED)).replace("\n", "\n\n")) == set()
+
+
+@pytest.mark.parametrize("name", COMPANIONS)
+def test_helps(name: str) -> None:
+    """A help has an example, says where to read on, and fits a screen; each option and argument has a text."""
+    lines = companion_help(name).splitlines()
+    assert lines[-1] == f"`man {name}` says more. Companions are tested, not proved."
+    parts = companion_help(name).split("\n\n")
+    assert [part for part in parts if "\n  $ " in part and name in part], "it has an example"
+    assert [line for line in lines if len(line) > COLUMNS] == []
+    assert (len(lines) > LINES) == (name in LONGER)
+    lists = joined("\n".join(lines))
+    without = [line for line in lists.splitlines() if re.match(r"  (?:--?\w|[A-Z]+$)", line) and not ENTRY.match(line)]
+    assert [line for line in without if line.strip() != "COMMAND"] == []
 
 
 def test_references() -> None:

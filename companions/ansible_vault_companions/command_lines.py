@@ -33,11 +33,6 @@ class Formatter(argparse.RawDescriptionHelpFormatter):
         return f"[OPTION ...] {super()._format_actions_usage(arguments, [])}"
 
 
-def formatter(prog: str) -> argparse.HelpFormatter:
-    """Leaves room for most options beside their texts, so that a help fits a screen."""
-    return argparse.RawDescriptionHelpFormatter(prog, max_help_position=34, width=80)
-
-
 class Parser(argparse.ArgumentParser):
     """A parser whose message is one write, with the words of the command line in printable form."""
 
@@ -53,11 +48,11 @@ class Parser(argparse.ArgumentParser):
 def parser(name: str, summary: str, example: str, allow_abbrev: bool = False, usage: str | None = None) -> Parser:
     """A parser that exits with status 2 if the command line is invalid."""
     made = Parser(
-        prog=name,
-        description=summary,
-        epilog=f"{example}\n\nFor more, see `man {name}`.\n{NOT_PROVED}",
-        formatter_class=formatter,
-        allow_abbrev=False,
+        name,
+        usage,
+        summary,
+        f"{example}\n\n`man {name}` says more. Companions are tested, not proved.",
+        formatter_class=Formatter,
         add_help=False,
         allow_abbrev=allow_abbrev,
     )

@@ -63,6 +63,8 @@ def test_sparse_gigabyte(place: Place, start: bytes) -> None:
     assert used(place, CHECK, *place.by_file("old"), ".") == (status, True, True), "check"
     assert used(place, ROTATE, *to_new(place), ".") == (1, True, True), "rotate"
     assert used(place, TEXTCONV, *place.by_file("old"), "image") == (0, True, True), "textconv"
+    done = place.shell(f"{' '.join([TEXTCONV, *place.by_file('old')])} image | wc -c")
+    assert int(done.stdout) == 1 << 30 and "image: shown as it is: it " in done.stderr, "all of it is shown"
 
 
 @pytest.mark.usefixtures("git")

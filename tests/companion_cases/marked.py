@@ -69,7 +69,7 @@ def test_several_repositories(place: Place) -> None:
     check = [CHECK, *place.by_file("old"), "."]
     assert place.run(*check).stderr == f"{CHECK}: ./one/a.vault.yml: is not encrypted\n", "one alone marks it"
     place.put("one/.git/config", b"[no config\n")
-    why = f"{CHECK}: cannot check which files have to be encrypted or merged: git check-attr failed\n"
+    why = f"{CHECK}: cannot check which files have to be encrypted: git check-attr failed\n"
     ended("git fails", place.run(*check), 1, why, "0 decrypted, 0 not\n", "bad config line 1 in file ")
 
 

@@ -66,4 +66,4 @@ def test_merge(place: Place) -> None:
     same = block("old", b"same", name="same")
     for name in texts:
         place.put(name, same + block("old", name.encode() if name == "ours" else b"base", name="a") + b"\n" + same)
-    assert derivations(place, *words) == [2, 0], "the value that differs, on both sides"
+    assert derivations(place, *words) == [0, 0], "only one side differs"

@@ -191,26 +191,6 @@ def test_last_words(place: Place) -> None:
     check_edit(place, done.stderr, b"last")
 
 
-# Runs a program from a thread, and signals the companion.
-OF_THREAD = """
-import os, subprocess, sys, threading, time
-words = ["sh", "-c", "echo $$ > ../new; mv ../new ../child; exec sleep 600 > /dev/null 2>&1"]
-threading.Thread(target=lambda: subprocess.run(words)).start()
-while not os.path.exists("../child"):
-    time.sleep(0.02)
-os.kill(int(sys.argv[1]), 15)
-time.sleep(600)
-"""
-
-
-def test_children_of_threads(place: Place) -> None:
-    tree(place)
-    (place.path / "thread.py").write_text(OF_THREAD)
-    done = edit(place, f"exec python3 ../thread.py {ABOVE_EDITOR}", *place.by_file("old"), "a.yml")
-    assert (done.returncode, has_ended(place.path / "child")) == (-signal.SIGTERM, True), "the child ends, too"
-    check_whole(place)
-
-
 def test_signals_to_all(place: Place) -> None:
     """Signals to the companion and to the program that encrypts do not stop them from keeping the text."""
     words = tree(place)[EDIT]

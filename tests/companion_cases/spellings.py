@@ -246,23 +246,44 @@ def walked(node: yaml.Node, path: Path, seen: set[int]) -> Iterator[tuple[Path, 
             yield from walked(item, (*path, key.value if isinstance(key, yaml.ScalarNode) else ""), seen)
 
 
-def test_spellings(place: Place, pytestconfig: pytest.Config) -> None:
-    """Whatever the spelling, the check with a wrong password fails, and the hook notices that it is plaintext now."""
-    needs_pyyaml()
-    counts: Counter[str] = Counter()
-    for number in range(600):
-        kind, text = document(Random(f"{pytestconfig.getoption('--seed')} {number}"))
-        if any(map(is_decrypted, loaded(kind, text))):
-            data = text.encode()
-            assert mentions_envelope(data) and envelopes(data), text
-            if kind != "JSON" and "secret" in text and "=:" not in text:
-                assert facts.names_of_plain(data, b"secret: plain\n"), text
-            counts[kind] += 1
-            place.put(f"{number}.yml", data)
-    assert [(kind, counts[kind]) for kind, least in LEAST.items() if counts[kind] < least] == [], counts
-    done = place.run(CHECK, *place.by_file("new"), ".")
-    unreported = [name for name in place.files() if f"./{name}:" not in done.stderr]
-    assert (done.returncode, unreported) == (1, []), "none is passed over"
+COUNTS: Counter[str] = Counter()
+
+
+@settings(max_examples=800, deadline=None)
+@given(st.integers(0, 1 << 64).map(Random), st.sampled_from(LOADERS))
+def check_random_yaml(random: Random, loader: type) -> None:
+    data = Generator(random).data()
+    wanted = composed(data)
+    if wanted is None:
+        COUNTS["no YAML"] += 1
+        return
+    with pytest.MonkeyPatch.context() as patch:
+        patch.setattr(yaml, "CSafeLoader", loader, raising=False)
+        read = document.read(data)
+        values = [value for value in read.values if value.style not in (STRAY, LOOSE)]
+        assert [(value.path, value.text.strip()) for value in values] == wanted, data
+        new = {number: NEW for number, value in enumerate(read.values) if random.random() < 0.5}
+        after = read.with_envelopes(new)
+    texts = [new.get(number, text).strip() for number, (_, text) in enumerate(wanted)]
+    assert composed(after) == [(path, text) for (path, _), text in zip(wanted, texts)], (data, after)
+    COUNTS.update(values=len(wanted), replaced=len(new), **{value.style: 1 for value in values})
+
+
+def test_random_yaml() -> None:
+    check_random_yaml()
+    print(COUNTS)
+    assert min(COUNTS["values"], COUNTS["replaced"]) > 500, COUNTS
+
+
+WORDS = [envelope.MAGIC, b";1.1;AES256\n", b"61" * 20, b"\n", b" ", b"!vault", b"|", b"[", b"\0", b": ", b'"']
+WORDS += [b"\\x24", b"%TAG ", b"\xef\xbb\xbf", b"\xff", b"# ", block("old"), sealed("old")]
+
+
+@settings(max_examples=500, deadline=None)
+@given(st.lists(st.sampled_from(WORDS) | st.binary(max_size=9)).map(b"".join))
+def test_random_bytes(data: bytes) -> None:
+    for value in [*document.read(data).values, *document.read(data, every=True).values]:
+        assert 0 <= value.begin <= value.start <= value.end <= len(data) or value.style == STRAY, value
 
 
 @pytest.mark.parametrize("header", [f"{MAGIC} ;1.2;AES256;old", f"{MAGIC}_x; 1.1 ;AES256", f"{MAGIC};1.1;\tAES256;x"])

@@ -56,8 +56,6 @@ def commit_files(place: Place) -> None:
     place.shell("git add -A && git commit -qm third && git checkout -q other")
     place.put("a.yml", sealed("dev", b"three\n"))
     place.shell("git commit -qam fourth && git checkout -q main")
-    blobs = place.shell("git rev-parse main:a.yml other:a.yml").stdout.split()
-    place.put(".git/ansible-vault-conflicts", f"{' '.join(blobs)} {b'a.yml'.hex()}\n".encode())
     place.shell("git rev-parse other > .git/MERGE_HEAD")
     place.put("c.yml", sealed("old", b"staged\n"))
     for name in ("b.yml", "plain.txt", "other.dat"):

@@ -4,7 +4,6 @@ again. Most envelopes are not decrypted: they contain the digits of their plaint
 from __future__ import annotations
 
 import binascii
-import os
 import random
 import re
 from collections import Counter
@@ -16,12 +15,10 @@ from ansible_vault_companions.editing.matching import Choice
 from ansible_vault_companions.editing.yaml_file import YamlFile
 from ansible_vault_companions.envelopes import plaintexts
 from ansible_vault_companions.envelopes.value import TAGS
-from ansible_vault_companions.files import reading
 from ansible_vault_companions.files.changes import Change, changed
 from ansible_vault_companions.program import Refused
 from ansible_vault_companions.secrets.sources import Secret
 from ansible_vault_companions.tool.tool import Tool
-from companion_cases import TEXT, TEXTCONV, Place, block, ended, run_changed
 from lib.needs import needs_pyyaml
 
 SECRET = Secret("default", "", "")
@@ -208,33 +205,3 @@ def test_conflicts() -> None:
     values = [value for value in layout.nodes(data).values if value.is_tagged]
     found = [(*value.path, data[value.begin : value.end].decode()) for value in values]
     assert found == [("a", "one"), ("b", "c", "|-\n    two"), ("b", "three"), ("d", 0, "'fünf'")]
-
-
-def test_where_pyyaml_is(place: Place) -> None:
-    """PyYAML is found even though the companions start without `site`, but never in the current directory."""
-    needs_pyyaml()
-    for name in ("yaml", "sitecustomize", "usercustomize"):
-        place.put(f"{name}.py", b"open('../imported', 'w')\n")
-        place.put(f"{name}/__init__.py", b"open('../imported', 'w')\n")
-    place.put("own.pth", b"import yaml\n")
-    place.put("vars.yml", block("old"))
-    done = place.run(TEXTCONV, *place.by_file("old"), "vars.yml", PYTHONPATH=str(place.tree))
-    assert (done.stdout, done.stderr) == (f"secret: !vault |\n  {TEXT.decode()}", ""), "it is found"
-    assert not (place.path / "imported").exists(), "nothing of the current folder is imported"
-
-
-def test_long_files(place: Place) -> None:
-    """git can show a file that is not a vault, whatever its length, and this takes no memory for its content."""
-    length = reading.LIMIT + 5_000_001
-    place.put("long.yml", b"a: 1\n")
-    os.truncate(place.tree / "long.yml", length)
-    show = """
-import atexit, os
-os.dup2(os.open("../shown", os.O_WRONLY | os.O_CREAT), 1)
-status = lambda: [line for line in open("/proc/self/status") if line.startswith("VmHWM")]
-atexit.register(lambda: open("../peak", "w").write(status()[0].split()[1]))
-"""
-    done = run_changed(place, TEXTCONV, show, [*place.by_file("old"), "long.yml"])
-    ended("it", done, 0, "long.yml: shown as it is: it is longer than any vault")
-    assert (place.path / "shown").stat().st_size == length, "all of it"
-    assert 5_000 < int(place.get("../peak")) < 40_000, "how much memory it takes, in kB"

@@ -31,7 +31,7 @@ COMMANDS = {
 ENCRYPTING, EDITING = (ENCRYPT, ENCRYPT_STRING), (CREATE, EDIT)
 WRITING, SEALING = (DECRYPT, *ENCRYPTING, REKEY), (*ENCRYPTING, REKEY)
 STANDARD_INPUT = "-"
-SUMMARY = f"""\
+SUMMARY = """\
 Runs a command of ansible-vault with the secrets that Ansible would use. Unlike
 ansible-vault, it reads ansible.cfg, runs password scripts, asks for passwords,
 and changes files in place. Options for secrets may also follow COMMAND. --help
@@ -96,9 +96,8 @@ def _add_options(parser: argparse.ArgumentParser, command: str) -> None:
     if command == CREATE:
         parser.add_argument("--skip-tty-check", help="ignored", **FLAG)
     if command == ENCRYPT_STRING:
-        parser.add_argument(
-            "-n", "--name", action="append", default=[], help="the name of a STRING; the first one is for the first STRING"
-        )
+        name = "the name of a STRING, in their order"
+        parser.add_argument("-n", "--name", action="append", default=[], help=name)
         parser.add_argument("-p", "--prompt", action="store_true", help="ask for one more text, and for its name")
         parser.add_argument("--show-input", action="store_true", help="show that text while it is typed")
     what = "STRING" if command == ENCRYPT_STRING else "FILE"

@@ -10,7 +10,6 @@ from ansible_vault_companions import program
 from ansible_vault_companions.alias.command_line import DECRYPT, ENCRYPT_STRING, NAME, STANDARD_INPUT, VIEW
 from ansible_vault_companions.alias.run import Run
 from ansible_vault_companions.files import reading, replacing
-from ansible_vault_companions.envelopes.envelope import written_label
 from ansible_vault_companions.program import Refused, write_error
 from ansible_vault_companions.secrets import prompts
 from ansible_vault_companions.tool.tool import Tool

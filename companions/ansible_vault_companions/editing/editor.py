@@ -23,6 +23,8 @@ ITSELF_A_VAULT = "you saved a vault, which ansible-vault does not encrypt again"
 GIVEN_A_VAULT = "standard input is a vault, which ansible-vault does not encrypt again; decrypt it first"
 AT_TERMINAL = "--value reads standard input, which is a terminal; use a pipe or a file"
 NO_FILE = "the editor left no file"
+# With these, a command is more than the name of a program and its arguments.
+SHELL_WORDS = frozenset("=;&|()<>{}`\n")
 
 
 class Edit:
@@ -41,7 +43,9 @@ class Edit:
         editor = os.environ.get("VISUAL") or os.environ.get("EDITOR") or "vi"
         path = os.path.join(self.folder.path, self.name)
         try:
-            status = running.run_on_terminal(["sh", "-c", f'{editor} "$@"', editor, path])
+            # Without a shell between, signals reach the editor, unless its command needs one.
+            command = editor if SHELL_WORDS.intersection(editor) else f"exec {editor}"
+            status = running.run_on_terminal(["sh", "-c", f'{command} "$@"', editor, path])
         except stopping.Stopped:
             # Keep the text that an earlier run of the editor saved.
             if self.text is None:

@@ -10,7 +10,8 @@ from ansible_vault_companions import stopping
 from ansible_vault_companions.envelopes.document import OVERLAP, Document, mentions
 from ansible_vault_companions.envelopes.envelope import occurs
 from ansible_vault_companions.envelopes.scalars import LONGEST
-from ansible_vault_companions.files.reading import LIMIT, TooLong, Unsearched, opened, parts, whole
+from ansible_vault_companions.files.reading import CHUNK_SIZE, LIMIT, TooLong, Unsearched, opened, parts
+from ansible_vault_companions.files.reading import read, whole
 
 # Documents. An envelope in one that no password opens is an example.
 PROSE = (".md", ".rst", ".adoc", ".html")
@@ -30,6 +31,11 @@ def is_yaml(path: str) -> bool:
 def fault(document: Document, path: str) -> str:
     """Why a file that is meant as YAML, and has an envelope, cannot be read; empty if it is none, or can."""
     return document.fault if document.fault and is_yaml(path) and occurs(document.data) else ""
+
+
+def is_empty(path: str) -> bool:
+    """Whether a file has no text."""
+    return os.path.getsize(path) < CHUNK_SIZE and not (read(path) or b"").strip()
 
 
 def contents(path: str) -> bytes:

@@ -57,7 +57,7 @@ def facts(data: bytes, words: frozenset[bytes] = frozenset()) -> Facts:
     if not data.strip():
         return Facts(is_empty=True, unencrypted="")
     if data.startswith(envelope.MAGIC):
-        return Facts(is_vault=True, unencrypted="", damage=marked.damage(Document(data)))
+        return Facts(is_vault=True, unencrypted="", damage=_damage(Document(data)))
     if not (mentions(data) or any(word in data for word in words)):
         return Facts()
     document, leaves = _document(data)

@@ -15,7 +15,7 @@ OR_ELSE = ' || { s=$?; [ "$s" -lt 2 ] || [ "$s" -gt 127 ] || git merge-file -q %
 # The git settings, each with the companion that it runs and the arguments after the secrets.
 SETTINGS = {
     "diff.ansible-vault.textconv": ("ansible-vault-textconv", ""),
-    "merge.ansible-vault.driver": ("ansible-vault-merge", f" %O %A %B %P{OR_ELSE}"),
+    "merge.ansible-vault.driver": ("ansible-vault-merge", f" %O %A %B %L %P{OR_ELSE}"),
 }
 # The last part of the settings that record which values --install has set.
 INSTALLED = "installed"

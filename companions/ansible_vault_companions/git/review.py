@@ -4,28 +4,15 @@ from __future__ import annotations
 
 import os
 
-from ansible_vault_companions.files import replacing
-from ansible_vault_companions.files.envelopes import MAGIC
-from ansible_vault_companions.git import attributes, commits, contents, damage, leaks, links
+from ansible_vault_companions.envelopes.envelope import MAGIC
+from ansible_vault_companions.git import commits
+from ansible_vault_companions.git.blobs import Blobs
 from ansible_vault_companions.git.commits import Change, File
 from ansible_vault_companions.git.guard import Fault, Guard
 from ansible_vault_companions.git.links import target
 from ansible_vault_companions.program import shown, write_error
 
-TO_MERGE = "  resolve the conflict with ansible-vault-edit"
-MEANT = "  if that is intended, commit with --no-verify, or add to .gitattributes: {} -ansible-vault"
-UNMARK = "  encrypt it, or unmark it with a line at the end of .gitattributes: {} !diff !ansible-vault"
-LEFTOVER = "was left behind by a failed companion, and may be plaintext"
-TO_REMOVE = "  look at its content, and remove it with `git rm --cached {0}` and `rm {0}`"
-
-
-class Fault(NamedTuple):
-    """The reason why a file is refused, and what to do."""
-
-    why: str
-    hint: str = ""
-    # The commit with which the file was compared, if any.
-    since: str = ""
+UNMERGED = Fault("is unmerged", "  resolve the conflict, for example with ansible-vault-edit, and run git add")
 
 
 class Review:
@@ -73,50 +60,6 @@ class Review:
         write_error(f"{self.program}: {where}{shown(os.fsdecode(file.name))} {why}")
         if fault.hint:
             write_error(fault.hint)
-
-    def present_fault(self, file: File, marks: set[str], index: str | None) -> Fault | None:
-        """The reason to refuse a file, apart from its earlier content."""
-        pattern = attributes.pattern(file.name)
-        is_leftover = replacing.is_leftover(os.path.basename(os.fsdecode(file.name)))
-        if is_leftover and not attributes.is_meant_plain(file.name, index):
-            remove = TO_REMOVE.format(shlex.quote(_shown(file.name)))
-            return Fault(LEFTOVER, f"{remove}\n{MEANT.format(pattern)}")
-        if file.is_link or not (marks or file.before):
-            return None
-        content = self.blobs.read(file.blob)
-        if damage.is_torn(content):
-            return Fault(damage.TORN, f"  {damage.merge_again(os.fsdecode(file.name))}")
-        why = damage.fault_of_marked(content, marks) if marks else None
-        if why:
-            is_hinted = why == damage.NOT_ENCRYPTED and self.is_beside_vault(file.name, index)
-            return Fault(why, UNMARK.format(pattern) if is_hinted else "")
-        return Fault(damage.UNMERGED, TO_MERGE) if damage.has_unmerged_envelopes(content) else None
-
-    def fault_since(self, file: File, change: Change, index: str | None) -> Fault | None:
-        """The reason to refuse a file because something in it was encrypted before."""
-        why = self.decrypted(file, index) if file.before else None
-        if not why or attributes.is_meant_plain(file.name, index):
-            return None
-        return Fault(why, MEANT.format(attributes.pattern(file.name)), change.since)
-
-    def decrypted(self, file: File, index: str | None) -> str | None:
-        before = self.blobs.read(file.before or "")
-        if not file.is_link:
-            return leaks.decrypted(before, self.blobs.read(file.blob))
-        target, blob = links.target(file.name, os.getcwdb(), partial(contents.entry, index=index), self.blobs.read)
-        why = leaks.decrypted(before, self.blobs.read(blob)) if target else None
-        return f"points to {_shown(target)}, and {why}" if why else None
-
-    def is_beside_vault(self, name: bytes, index: str | None) -> bool:
-        """Whether there is a vault in the same directory."""
-        folder = os.path.dirname(name)
-        files = contents.entries(folder, index=index).items()
-        near = (about for each, about in files if os.path.dirname(each) == folder)
-        return any(mode in contents.FILE_MODES and damage.is_whole(self.blobs.read(blob)) for mode, blob in near)
-
-
-def _shown(name: bytes) -> str:
-    return shown(os.fsdecode(name))
 
 
 def review_staged(review: Review, files: list[File]) -> None:

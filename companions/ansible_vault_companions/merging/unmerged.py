@@ -7,7 +7,6 @@ from dataclasses import dataclass
 
 from ansible_vault_companions.envelopes import conflicts
 from ansible_vault_companions.git.commands import git
-from ansible_vault_companions.git.contents import listed
 from ansible_vault_companions.git.repositories import by_repository
 from ansible_vault_companions.merging import keys, texts
 from ansible_vault_companions.merging.lines import Versions
@@ -31,8 +30,9 @@ def _base(path: str, ours: bytes, theirs: bytes) -> bytes:
     """The first stage in the index, if the others are these sides. Ends of lines may differ from those in the file."""
     for folder, names in by_repository([path]).items():
         for name in names:
-            entries = listed(git("ls-files", "-u", "-z", "--", os.fsdecode(name), folder=folder))
-            stages = {stage: git("cat-file", "blob", blob, folder=folder) for (_, blob, stage), _ in entries}
+            entries = git("ls-files", "-u", "-z", "--", os.fsdecode(name), folder=folder).decode(errors="replace")
+            words = [entry.partition("\t")[0].split() for entry in entries.split("\0")[:-1]]
+            stages = {stage: git("cat-file", "blob", blob, folder=folder) for _, blob, stage in words}
             known = [stages.get(stage, b"").split() for stage in ("2", "3")]
             if "1" in stages and known == [ours.split(), theirs.split()]:
                 return stages["1"]

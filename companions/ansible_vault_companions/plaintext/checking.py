@@ -10,7 +10,7 @@ from ansible_vault_companions.envelopes.document import Document
 from ansible_vault_companions.envelopes.value import Value
 from ansible_vault_companions.files.reading import Unsearched
 from ansible_vault_companions.files.reports import Report
-from ansible_vault_companions.git import damage, marked
+from ansible_vault_companions.git import marked
 from ansible_vault_companions.plaintext import opening
 from ansible_vault_companions.program import Refused, shown
 from ansible_vault_companions.secrets import labels
@@ -30,8 +30,6 @@ class Check:
     pool: ThreadPoolExecutor
     # The attributes that mark each path.
     marks: dict[str, set[str]] = field(default_factory=dict)
-    # The files that the merge driver could not merge.
-    unmerged: set[str] = field(default_factory=set)
 
     def file(self, paths: list[str], report: Report) -> None:
         """Checks the file to which these paths lead. It is marked if one of them is."""
@@ -47,15 +45,13 @@ class Check:
         for own in self.pool.map(lambda value: self._value(value.place(path), value, is_prose), values):
             report.add(own)
         why = marked.conflict(found, path) or self._fault(found, path, is_prose)
-        if not (why or report.faults) and marks:
+        if not (why or report.faults) and marks and not contents.is_empty(path):
             why = marked.fault(found, marks)
         if why:
             report.faults.append(f"{shown(path)}: {why}")
 
     def _fault(self, found: Document, path: str, is_prose: bool) -> str:
         """Why the file cannot be read, or its envelopes cannot be replaced."""
-        if path in self.unmerged:
-            return damage.WITHOUT_THEIRS
         why = contents.fault(found, path)
         if why:
             return why
@@ -85,7 +81,7 @@ class Check:
         return report if opened else Report()
 
     def _plaintext(self, where: str, what: str, value: Value, secret: Secret, plaintext: bytes, report: Report) -> None:
-        why = labels.fault(secret, value.text)
+        why = labels.fault(secret, value.label)
         if why:
             report.faults.append(f"{what}: {why}")
         else:

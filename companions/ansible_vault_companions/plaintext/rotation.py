@@ -109,7 +109,7 @@ class Rotation:
             report.labels.clear()
             return None
         secret, plaintext = opened
-        fault = labels.fault(secret, value.text)
+        fault = labels.fault(secret, label)
         if fault:
             raise Refused(fault)
         after = self._within(plaintext, where, report)

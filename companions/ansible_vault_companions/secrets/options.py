@@ -16,35 +16,32 @@ NONE = (
 )
 
 
-def add_options(parser: argparse.ArgumentParser, prefix: str = "") -> None:
-    """Adds the options that name secrets. Settings do not apply to options with a prefix."""
-    if not prefix:
+def add_options(parser: argparse.ArgumentParser, new: str = "", before: str = "") -> None:
+    """Adds the options that name secrets: old ones, to which settings belong, or with `new-` new ones. `before` begins
+    the names of the attributes that get the values."""
+    if not new:
         parser.set_defaults(new_vault_id=[], new_vault_password_file=[], any_label=False)
-    what = "the source of a new secret" if prefix else "the source of a secret"
+    ids, paths = (before + name for name in (f"{new}vault-id", f"{new}vault-password-file"))
     parser.add_argument(
-        f"--{prefix}vault-id",
+        f"--{new}vault-id",
+        dest=ids.replace("-", "_"),
         action="append",
         default=[],
         metavar="[LABEL@]SOURCE",
-        help=f"{what}; may be repeated",
+        help=f"the source of a {'new ' * bool(new)}secret; may be repeated",
     )
     parser.add_argument(
-        f"--{prefix}vault-password-file",
-        *([] if prefix else ["--vault-pass-file"]),
+        f"--{new}vault-password-file",
+        *([] if new else ["--vault-pass-file"]),
+        dest=paths.replace("-", "_"),
         action="append",
         default=[],
         metavar="SOURCE",
-        help=f"{what}{'' if prefix else '; may be repeated'}",
+        help=f"the source of a {'new ' * bool(new)}secret{'' if new else '; may be repeated'}",
     )
-    if not prefix:
-        parser.add_argument(
-            *ASKING,
-            action="append_const",
-            dest="vault_id",
-            default=[],
-            const=ASKED,
-            help="ask at the terminal for a password",
-        )
+    if not new:
+        asks = "ask at the terminal for a password"
+        parser.add_argument(*ASKING, dest=ids.replace("-", "_"), action="append_const", const=ASKED, help=asks)
 
 
 def add_any_label(parser: argparse.ArgumentParser) -> None:
