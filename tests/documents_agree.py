@@ -209,6 +209,16 @@ def test_figures_in_words(program: str) -> None:
     assert found == {words: {figure} for words, figure in wanted.items()}
 
 
+def test_binary(program: str) -> None:
+    """docs/security.md has how the program is linked."""
+    assert "is a position-independent executable with full RELRO and a non-executable stack" in TEXT
+    needs("readelf")
+    listed = run_text(["readelf", "--wide", "--program-headers", "--dynamic", program]).stdout
+    assert re.findall(r"GNU_STACK +(?:0x\w+ +)+(\w+) ", listed) == ["RW"]
+    assert ("GNU_RELRO" in listed, re.findall(r"Flags: (.*)", listed)) == (True, ["NOW PIE"])
+    assert re.findall(r"\(NEEDED\).*\[(.*)\]", listed) == ["libc.so.6"]
+
+
 # Sizes that are no limits of the code.
 OTHER_SIZES = {"14 bytes", "80 bytes", "2048 bytes", "4097 bytes", "20 MiB"}
 

@@ -138,7 +138,7 @@ def test_ci(tmp_path: Path, check: str, status: int, query: str, installs: bool,
 # The packages of the programs that tests ask for, if they have other names, or every system has them.
 PACKAGES = dict.fromkeys(["awk", "bash", "dpkg-deb", "rt", "stty"], "") | dict.fromkeys(["cc", "nm"], "build-essential")
 PACKAGES |= {"dh": "debhelper", "groff": "groff-base", "localedef": "locales", "man": "man-db", "setfacl": "acl"}
-PACKAGES |= {"ansible-playbook": "ansible-core"}
+PACKAGES |= {"ansible-playbook": "ansible-core", "readelf": "build-essential"}
 # Those of the modules and of the other programs that they use.
 OTHERS = "bash-completion fish openssl python3-coverage python3-cryptography python3-hypothesis python3-matplotlib "
 OTHERS += "python3-pytest python3-pytest-subtests python3-pytest-timeout python3-pytest-xdist python3-yaml"

@@ -86,7 +86,7 @@ class Recipe(NamedTuple):
 
 
 RECIPES = {
-    "Name your secrets once": Recipe(
+    "Name your passwords once": Recipe(
         CONFIGURED
         | playbook("shared")
         | {VAULT: b"shared: staple\n", "host_vars/web1/secrets.yml": b"port: 1\n"},
@@ -103,7 +103,7 @@ RECIPES = {
             git commit -qm one; git show; git config merge.ansible-vault.driver""",
         left="700\n600\nci.pass new.pass old.pass\n*\n+a: shown\n*ansible-vault-merge *",
     ),
-    "Vaults and blocks for playbooks": Recipe(
+    "Vaults and values for playbooks": Recipe(
         playbook("[shared, port, db_password] | join(', ')")
         | {"plain.yml": b"shared: staple\n", "group_vars/all/.keep": b"", BLOCKS: b"port: 5432\n"},
         printed='*"msg": "staple, 5432, correct horse"\n*',
