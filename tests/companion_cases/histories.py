@@ -30,6 +30,7 @@ VAULT, OTHER = sealed("old"), sealed("new")
 # Vaults that the tool does not read.
 CUT, AES = VAULT[:-100], b"$ANSIBLE_VAULT;1.0;AES\n" + b"61" * 40 + b"\n"
 PW, PW2 = block("old", name="pw"), block("new", name="pw")
+SCRIPT = b"[ -e x ] && echo x\n"
 PLAIN, JINJA, X = b"pw: plain\n", b'pw: "{{ vault_pw }}"\n', b"x: 1\n"
 HIDDEN = PW.replace(b"pw:", b"vault_pw:")
 DB, DB2, DB_PLAIN = below("db", PW), below("db", PW2), below("db", PLAIN)
@@ -37,6 +38,8 @@ QUOTED = b'pw: !vault "%s"\n' % VAULT.replace(b"\n", b"\\n")
 ANCHOR = b"one: &x" + PW.removeprefix(b"pw:")
 USERS = b"users:\n" + item(b"name: a\n" + PW) + item(b"name: b\n" + PW2) + item(b"name: c\n" + PLAIN)
 CONFLICT = b"<<<<<<< HEAD\n%b=======\n%b>>>>>>> branch\n"
+# An envelope that is shortened, in a comment.
+EXAMPLE = b"#   $ANSIBLE_VAULT;1.1;AES256\n#   %b\n#   ...\n" % (b"61" * 40)
 MARKED = b"*.vault.yml diff=ansible-vault\n"
 # A text that git compares with others, to find renames.
 LINES = b"".join(b"line%d: %d\n" % (number, number) for number in range(20))
@@ -126,19 +129,25 @@ PASSING: dict[str, tuple[Files, Files]] = {
         {"a.txt": X},
         {"a.txt": CONFLICT % (PW, PW2), ".gitattributes": b"*.txt -ansible-vault"},
     ),
+    "a shortened example in a comment": (
+        {".gitattributes": MARKED},
+        {".gitattributes": MARKED, "a.yml": X + EXAMPLE, "a.vault.yml": PW + EXAMPLE.replace(b"#", b"  #")},
+    ),
     "a test of the header": ({"a.py": X}, {"a.py": b'HEADER = "$ANSIBLE_VAULT;1.1;AES256"\n'}),
 }
 
 pw, db = IN_PART.format("pw"), IN_PART.format("db.pw")
-DAMAGED, BLOCK, UNMERGED = "is a damaged vault", "has a damaged block in line 2", "has git's conflict markers"
-NO_YAML = "had encrypted values, but cannot be read as YAML any more"
+DAMAGED, CUT_VALUE, UNMERGED = "is a damaged vault", "has a damaged value in line 2", "has git's conflict markers"
+JINJA_ALONE = f"{pw}; Jinja expressions without other text would pass"
+NO_YAML = "had encrypted values, but cannot be checked any more: line 1: it cannot be read as YAML: "
+NO_YAML += "found character that cannot start any token"
 # The files before and after a commit that is to be refused, and why.
 REFUSED: dict[str, tuple[Files, Files, dict[str, str]]] = {
     "a vault": ({"a.yml": VAULT}, {"a.yml": TEXT}, {"a.yml": WHOLE}),
     "a vault of another format": ({"a.yml": AES}, {"a.yml": TEXT}, {"a.yml": WHOLE}),
     "a cut vault": ({"a.yml": CUT}, {"a.yml": TEXT}, {"a.yml": WHOLE}),
     "a vault, now values": ({"a.yml": VAULT}, {"a.yml": PW}, {"a.yml": WHOLE}),
-    "a vault below a line": ({"a.yml": VAULT}, {"a.yml": b"---\n" + VAULT}, {"a.yml": BLOCK}),
+    "a vault below a line": ({"a.yml": VAULT}, {"a.yml": b"---\n" + VAULT}, {"a.yml": CUT_VALUE}),
     "a vault, now binary": ({"a.bin": VAULT}, {"a.bin": b"\0\1\2"}, {"a.bin": WHOLE}),
     "a vault in conflict": ({"a.yml": CONFLICT % (VAULT, OTHER)}, {"a.yml": TEXT}, {"a.yml": WHOLE}),
     "a vault that git calls renamed": ({"a.yml": VAULT}, {"b.txt": b"text:\n" + VAULT}, {"b.txt": WHOLE}),
@@ -175,8 +184,13 @@ REFUSED: dict[str, tuple[Files, Files, dict[str, str]]] = {
     "a merged mapping": ({"a.yml": DB}, {"a.yml": b"db:\n  <<: {pw: plain}\n"}, {"a.yml": db}),
     "an alias": ({"a.yml": b"x: &x plain\n" + DB}, {"a.yml": b"x: &x plain\ndb:\n  pw: *x\n"}, {"a.yml": db}),
     "an alias of a mapping": ({"a.yml": DB}, {"a.yml": b"x: &x {pw: plain}\ndb: *x\n"}, {"a.yml": db}),
-    "text with Jinja": ({"a.yml": PW}, {"a.yml": b'pw: "pw{{ x }}"\n'}, {"a.yml": pw}),
-    "text between expressions": ({"a.yml": PW}, {"a.yml": b'pw: "{{ x }}:{{ y }}"\n'}, {"a.yml": pw}),
+    "text with Jinja": ({"a.yml": PW}, {"a.yml": b'pw: "pw{{ x }}"\n'}, {"a.yml": JINJA_ALONE}),
+    "text between expressions": ({"a.yml": PW}, {"a.yml": b'pw: "{{ x }}:{{ y }}"\n'}, {"a.yml": JINJA_ALONE}),
+    "text beside an old one with Jinja": (
+        {"a.yml": b"a:\n" + item(PW) + item(b"pw: x{{ y }}\n")},
+        {"a.yml": b"a:\n" + item(PLAIN) + item(b"pw: x{{ y }}\n")},
+        {"a.yml": IN_PART.format("a[].pw")},
+    ),
     "a statement of Jinja": ({"a.yml": PW}, {"a.yml": b'pw: "{% set x = 1 %}"\n'}, {"a.yml": pw}),
     "in a second document": ({"a.yml": X + b"---\n" + PW}, {"a.yml": X + b"---\n" + PLAIN}, {"a.yml": pw}),
     "in JSON": ({"a.json": in_json(VAULT)}, {"a.json": b'{"db": "plain"}\n'}, {"a.json": IN_PART.format("db")}),
@@ -239,16 +253,21 @@ REFUSED: dict[str, tuple[Files, Files, dict[str, str]]] = {
     "a cut vault again": ({"a.yml": CUT}, {"a.yml": CUT[:-1]}, {"a.yml": DAMAGED}),
     "text below a vault": ({"a.yml": VAULT}, {"a.yml": VAULT + TEXT}, {"a.yml": DAMAGED}),
     "a cut comment": (
-        {"a.sh": X},
-        {"a.sh": X + b"# " + CUT.replace(b"\n", b"\n# ")},
-        {"a.sh": BLOCK},
+        {"a.sh": SCRIPT},
+        {"a.sh": SCRIPT + b"# " + CUT.replace(b"\n", b"\n# ")},
+        {"a.sh": CUT_VALUE},
+    ),
+    "a shortened example in a text": (
+        {"a.yml": X},
+        {"a.yml": below("x: |", EXAMPLE.replace(b"#", b" ")).replace(b":\n", b"\n", 1)},
+        {"a.yml": CUT_VALUE},
     ),
     "a header in a conflict": (
         {"a.txt": X},
         {"a.txt": X + AES[:23] + CONFLICT % (b"31\n", b"32\n")},
         {"a.txt": UNMERGED},
     ),
-    "a cut block": ({"a.yml": X}, {"a.yml": X + PW[:-100] + b"\n"}, {"a.yml": "has a damaged block in line 3"}),
+    "a cut block": ({"a.yml": X}, {"a.yml": X + PW[:-100] + b"\n"}, {"a.yml": "has a damaged value in line 3"}),
     "no YAML any more": ({"a.yml": PW + X}, {"a.yml": b"\t" + PLAIN}, {"a.yml": NO_YAML}),
     "no YAML any more, without a suffix": ({"all": PW + X}, {"all": b"{% if x %}\n" + PLAIN}, {"all": NO_YAML}),
 }

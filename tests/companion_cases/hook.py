@@ -12,8 +12,8 @@ from ansible_vault_companions.git.commits import LINK_MODE
 from ansible_vault_companions.git.links import target
 from companion_cases import AWKWARD, CHECK, HOOK, TEXT, WITH, Place, block, ended, lines_of, run_changed
 from companion_cases import sealed, silent
-from companion_cases.repository import WHOLE, add_and_commit, again, commit, fork, leaked, refused, staged
-from companion_cases.repository import under_git, with_hooks
+from companion_cases.repository import WHOLE, add_and_commit, again, commit, committed, fork, leaked, refused
+from companion_cases.repository import staged, under_git, with_hooks
 from lib.needs import needs
 from lib.paths import ROOT
 
@@ -67,6 +67,7 @@ def test_leftovers(place: Place) -> None:
     assert [*place.files()] == [*others[:3], ".gitattributes", others[3], "inner/a.yml"], "names are quoted"
 
 
+CUT = sealed("old")[:-100]
 LINES = block("old").splitlines(keepends=True)
 TAGGED = "has plaintext with the tag `!vault` in line {}"
 UNMERGED = "has git's conflict markers"
@@ -79,9 +80,9 @@ CONTENTS = {
     "plaintext below": (sealed("old") + TEXT, "is a damaged vault"),
     "digits of a text": (b"$ANSIBLE_VAULT;1.1;AES256\n" + TEXT.hex().encode() + b"\n", "is a damaged vault"),
     "without the last line": (sealed("old").rstrip().rpartition(b"\n")[0], "is a damaged vault"),
-    "plaintext in a block": (b"".join([*LINES[:3], b" " * 10 + TEXT, *LINES[3:]]), "has a damaged block in line 2"),
-    "plaintext below a block": (block("old") + b" " * 10 + TEXT, "has a damaged block in line 2"),
-    "a block that ends early": (b"".join([*LINES[:3], b"b: 1\n"]), "has a damaged block in line 2"),
+    "plaintext in a block": (b"".join([*LINES[:3], b" " * 10 + TEXT, *LINES[3:]]), "has a damaged value in line 2"),
+    "plaintext below a block": (block("old") + b" " * 10 + TEXT, "has a damaged value in line 2"),
+    "a block that ends early": (b"".join([*LINES[:3], b"b: 1\n"]), "has a damaged value in line 2"),
     "plaintext with the tag": (block("old") + b"b: !vault text\n", TAGGED.format(len(LINES) + 1)),
     "a literal with the tag": (b"b: !vault |\n  text\n" + block("old"), TAGGED.format(2)),
     "a text like a header": (b"b: !vault $ANSIBLE_VAULT_KEY=text\n" + block("old"), TAGGED.format(1)),
@@ -147,7 +148,7 @@ def test_exemptions(place: Place) -> None:
         place.put(f"{name}.vault.yml", sealed("new"))
         place.put(name, text)
     done = place.shell(f"git add -A && {HOOK}")
-    stale = "is encrypted again, but .gitattributes allows plaintext in it: remove `{}` there"
+    stale = "is encrypted again, but .gitattributes allows plaintext in it: remove `{}` there, or narrow its pattern"
     counts = [done.stderr.count(stale.format(what)) for what in ("-ansible-vault", "a%20b%2C%25%3D%2Ec%5B%5D, x[].pw")]
     assert (done.returncode, counts) == (1, [len(AWKWARD), len(AWKWARD)])
     silent("they are gone", staged(place, ".gitattributes", marks.encode()))
@@ -155,6 +156,40 @@ def test_exemptions(place: Place) -> None:
     done = staged(place, ".gitattributes", long % (b"x" * 2028) + long % (b"y" * 2029))
     ended("a long line", done, 1, f"{HOOK}: .gitattributes has a line of 2,048 bytes or more, which git ignores\n")
     silent("a shorter one", staged(place, ".gitattributes", long % (b"x" * 2028)))
+
+
+def test_attributes_of_directories(place: Place) -> None:
+    """The line that the message shows helps where it says, though the nearest .gitattributes has precedence."""
+    under_git(place, "*.yml diff=ansible-vault\n")
+    place.put("a b/.gitattributes", b"*.yml ansible-vault\n*.txt ansible-vault-plain=x\n")
+    place.put("a b/c/further/.gitattributes", b"")
+    contents = {"plain.txt": b"pw: plain\n", "cut.yml": CUT, "text.yml": TEXT}
+    names = [f"{folder}{name}" for folder in ("a b/", "a b/c/") for name in contents]
+    for name in names:
+        place.put(name, block("old", name="pw"))
+    add_and_commit(place)
+    for name in names:
+        place.put(name, contents[os.path.basename(name)])
+    place.put("text.yml", TEXT)
+    lines = place.shell(f"git add -A && {HOOK}").stderr.splitlines()
+    told = [line.rpartition(" to " if " to " in line else "end of ")[2].partition(": ") for line in lines[1::2]]
+    assert [path for path, _, _ in told] == ["a b/.gitattributes"] * len(names) + [".gitattributes"]
+    for path, _, line in told:
+        place.put(path, place.get(path) + f"{line}\n".encode())
+    silent("it helps", place.shell(f"git add -A && {HOOK}"))
+
+
+def test_restoring(place: Place) -> None:
+    under_git(place, "")
+    name = "a b$(touch pwned).yml"
+    for content, why in ((sealed("old"), "is a damaged vault"), (block("old"), "has a damaged value in line 2")):
+        committed(place, name, content)
+        done = staged(place, name, content[:-100] + b"\n")
+        ended("damage", done, 1, f"{HOOK}: {name} {why}\n")
+        place.shell(done.stderr.split("`")[1])
+        silent("what it says helps", place.run(HOOK))
+        assert place.get(name) == content
+    assert [*place.files()] == [".gitattributes", name]
 
 
 def test_unmerged(place: Place) -> None:

@@ -37,7 +37,8 @@ BLANKS = b" \t\r\n"
 
 NO_PYYAML = "PyYAML, which reads YAML, is missing: install Debian's python3-yaml, or PyYAML with pip"
 NOT_YAML = "it cannot be read as YAML: {}"
-TOO_DEEP, TOO_LONG, NULL = "it is nested too deeply", f"it has more than {LONGEST:,} bytes", "it has a null character"
+TOO_DEEP, NULL = "it is nested too deeply", "it has a null character"
+TOO_LONG = NOT_YAML.format(f"it has more than {LONGEST:,} bytes")
 # The key or number of the next node in each collection; None while a key comes next.
 Steps = list[Union[str, int, None]]
 
@@ -61,7 +62,7 @@ def scalars(data: bytes, every: bool = False) -> Iterator[Value]:
     if BINARY in data:
         raise NotYaml(NOT_YAML.format(NULL))
     if len(data) > LONGEST:
-        raise NotYaml(NOT_YAML.format(TOO_LONG))
+        raise NotYaml(TOO_LONG)
     yaml = pyyaml()
     skipped = len(BYTE_ORDER_MARK) if data.startswith(BYTE_ORDER_MARK) else 0
     ending = b"\r\n" if b"\r\n" in data else b"\n"

@@ -4,10 +4,11 @@ from __future__ import annotations
 
 import os
 import re
-from typing import Iterable, NamedTuple
+from typing import Container, Iterable, NamedTuple
 
 from ansible_vault_companions.git.commands import git
 from ansible_vault_companions.git.repositories import by_repository
+from ansible_vault_companions.program import shown
 
 # The attributes that mark a file. The first allows a vault or YAML with blocks, the second only a vault. Unset, the
 # second exempts a file. The third exempts the values at these key paths.
@@ -75,6 +76,16 @@ def marks_of(paths: list[str]) -> dict[str, set[str]]:
 
 def has_ignored_line(content: bytes) -> bool:
     return any(len(line) >= TOO_LONG for line in content.split(b"\n"))
+
+
+def line(name: bytes, attribute: str, names: Container[bytes]) -> str:
+    """The line that gives an attribute to this file alone, behind the path of its .gitattributes. Of those with these
+    names, git prefers the nearest one."""
+    *folders, _ = name.split(b"/")
+    while folders and b"/".join([*folders, FILE.encode()]) not in names:
+        folders.pop()
+    above = b"".join(folder + b"/" for folder in folders)
+    return f"{shown(os.fsdecode(above) + FILE)}: {pattern(name[len(above):])} {attribute}"
 
 
 def pattern(name: bytes) -> str:

@@ -5,6 +5,7 @@ from __future__ import annotations
 import os
 import tempfile
 from contextlib import contextmanager
+from functools import lru_cache
 from typing import Iterable, Iterator, NamedTuple
 
 from ansible_vault_companions.git.blobs import PARTIAL
@@ -162,6 +163,7 @@ def files_named(paths: list[str]) -> list[File]:
     return _files((name, mode, blob) for (mode, blob, stage), name in listed if stage == "0")
 
 
+@lru_cache(maxsize=1)
 def places(index: str | None) -> dict[bytes, tuple[str, str]]:
     """The mode and the blob of each file and link of an index."""
     return {name: (mode, blob) for (mode, blob, _), name in entries(git("ls-files", "-s", "-z", index=index))}

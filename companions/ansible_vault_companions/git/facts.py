@@ -8,7 +8,7 @@ from __future__ import annotations
 import re
 from collections import Counter
 from functools import reduce
-from typing import Iterable, NamedTuple
+from typing import Container, Iterable, NamedTuple
 
 from ansible_vault_companions.envelopes import conflicts, envelope
 from ansible_vault_companions.envelopes.document import Document, mentions
@@ -25,6 +25,7 @@ NOTHING = (b"", b"~", b"null")
 STRING = r"'(?:[^'\\]|\\.)*'|\"(?:[^\"\\]|\\.)*\""
 WORDS = reduce(lambda inner, _: rf"[^{{}}'\"]|{STRING}|\{{(?:{inner})*\}}", range(4), rf"[^{{}}'\"]|{STRING}")
 JINJA = re.compile(rf"(?:\s|\{{\{{(?:{WORDS})+\}}\}})+".encode(), re.DOTALL)
+EXPRESSION = b"{{"
 # The most texts of a file, with those that aliases stand for.
 MOST = 100_000
 TOO_MANY = f"it has more than {MOST:,} values"
@@ -44,12 +45,15 @@ ANY = frozenset([b""])
 class Facts(NamedTuple):
     is_vault: bool = False
     is_empty: bool = False
-    is_yaml: bool = True
+    # Why it cannot be read as YAML.
+    fault: str = ""
     # What is wrong with its envelopes, and with the whole if it is marked.
     damage: str = ""
     unencrypted: str = marked.NOT_ENCRYPTED
     encrypted: Texts = {}
     plain: Texts = {}
+    # The plaintexts that have a Jinja expression.
+    jinja: Container[int] = ()
 
 
 def facts(data: bytes, words: frozenset[bytes] = frozenset()) -> Facts:
@@ -60,11 +64,11 @@ def facts(data: bytes, words: frozenset[bytes] = frozenset()) -> Facts:
         return Facts(is_vault=True, unencrypted="", damage=_damage(Document(data)))
     if not (mentions(data) or any(word in data for word in words)):
         return Facts()
-    document, leaves = _document(data)
+    document, leaves, jinja = _document(data)
     # It may be a conflict of two vaults.
     is_vault = any(side.startswith(envelope.MAGIC) for side in (conflicts.sides(data) or {}).values())
     unencrypted = marked.fault(document, {DIFF})
-    made = Facts(is_vault, False, not document.fault, _damage(document), unencrypted, {}, {})
+    made = Facts(is_vault, False, document.fault, _damage(document), unencrypted, {}, {}, jinja)
     for path, is_encrypted, text in leaves:
         texts = made.encrypted if is_encrypted else made.plain
         texts.setdefault(_keys(path), Counter())[text] += 1
@@ -75,9 +79,9 @@ def _damage(document: Document) -> str:
     return conflicts.UNMERGED if marked.is_unmerged(document) else marked.damage(document)
 
 
-def _document(data: bytes) -> tuple[Document, list[Leaf]]:
-    """The envelopes, and the texts at each path that leads to them, from one look at the nodes."""
-    document, leaves = Document(data), list[Leaf]()
+def _document(data: bytes) -> tuple[Document, list[Leaf], set[int]]:
+    """The envelopes, the texts at each path that leads to them, and those with Jinja, from one look at the nodes."""
+    document, leaves, jinja = Document(data), list[Leaf](), set[int]()
     # For each anchor its path, and the number of its first text.
     anchors: dict[str, tuple[Path, int]] = {}
     try:
@@ -91,13 +95,14 @@ def _document(data: bytes) -> tuple[Document, list[Leaf]]:
             text, is_encrypted = node.text.strip(), node.is_value and node.is_envelope
             if node.style != NO_SCALAR and not (text.lower() in NOTHING or JINJA.fullmatch(text)):
                 leaves.append((node.path, is_encrypted, hash(text)))
+                jinja |= {hash(text)} if EXPRESSION in text else set()
             if len(leaves) > MOST:
                 raise NotYaml(TOO_MANY)
     except NotYaml as fault:
         document, leaves = Document(data, fault=str(fault)), []
     if BINARY not in data:
         document.values += strays(data, document.values)
-    return document, leaves
+    return document, leaves, jinja
 
 
 def _add_again(leaves: list[Leaf], path: Path, base: Path, first: int) -> None:
@@ -136,6 +141,12 @@ def lost(before: Facts, after: Facts) -> list[Keys]:
 def came(before: Facts, after: Facts) -> set[Keys]:
     """Where there is new plaintext."""
     return {keys for keys, texts in after.plain.items() if texts - before.plain.get(keys, NONE)}
+
+
+def has_new_jinja(before: Facts, after: Facts, at: Iterable[Keys]) -> bool:
+    """Whether new plaintext at these keys has a Jinja expression."""
+    new = (after.plain.get(keys, NONE) - before.plain.get(keys, NONE) for keys in at)
+    return any(text in after.jinja for texts in new for text in texts)
 
 
 def branches(paths: Iterable[Keys]) -> set[Keys]:

@@ -7,8 +7,8 @@
    of a value that the commit removes from any file is refused.
 4. A marked file is empty, a vault, or YAML with at least one envelope and no plaintext under `!vault`. A link counts as
    the file that it points to.
-5. An envelope is whole, and neither it nor a file with envelopes has conflict markers. YAML that had values still
-   parses. Documents are left out. A temporary file of a companion is refused by its name.
+5. An envelope is whole, except in a comment of YAML, and neither it nor a file with envelopes has conflict markers.
+   YAML that had values still parses. Documents are left out. A temporary file of a companion is refused by its name.
 
 A file that git calls renamed is not new: it was what it was under its old name.
 """
@@ -23,21 +23,26 @@ from typing import Iterator, NamedTuple
 
 from ansible_vault_companions.envelopes import conflicts
 from ansible_vault_companions.envelopes.contents import PROSE, YAML
+from ansible_vault_companions.envelopes.scalars import TOO_LONG
 from ansible_vault_companions.files import replacing
-from ansible_vault_companions.git import attributes, facts, marked
+from ansible_vault_companions.git import attributes, commits, facts, marked
 from ansible_vault_companions.git.attributes import PLAIN_VALUES, VAULT_ALONE
 from ansible_vault_companions.git.blobs import Blobs
 from ansible_vault_companions.git.commits import Change, File
 from ansible_vault_companions.git.facts import ANY, ITEM, NONE, Facts, Keys, written
 from ansible_vault_companions.program import shown
 
-MEANT = "  if that is intended, commit with --no-verify, or add to .gitattributes: {} {}"
-UNMARK = "  encrypt it, or unmark it with a line at the end of .gitattributes: {} !diff !ansible-vault"
+MEANT = "if that is intended, commit with --no-verify, or add to {}"
+RESTORE = "restore it, for example with `git checkout HEAD -- {}` if it is whole there; "
+REPAIR = "repair it; "
+UNMARK = "  encrypt it, or unmark it with a line at the end of {}"
+UNMARKED = "!diff !ansible-vault"
 RESOLVE = "  resolve the conflict with ansible-vault-edit"
 TO_REMOVE = "  look at its content, and remove it with `git rm --cached {0}` and `rm {0}`"
 LEFTOVER = "was left behind by a companion, and may be plaintext"
-NOT_YAML = "had encrypted values, but cannot be read as YAML any more"
-STALE = "is encrypted again, but .gitattributes allows plaintext in it: remove `{}` there"
+NOT_YAML = "had encrypted values, but cannot be checked any more: {}"
+ONLY_JINJA = "; Jinja expressions without other text would pass"
+STALE = "is encrypted again, but .gitattributes allows plaintext in it: remove `{}` there, or narrow its pattern"
 LONG_LINE = f"has a line of {attributes.TOO_LONG:,} bytes or more, which git ignores"
 EXEMPT = f"-{VAULT_ALONE}"
 # What a file with this name is, its directory says.
@@ -57,6 +62,7 @@ class Guard:
     def __init__(self, change: Change, blobs: Blobs, index: str | None) -> None:
         self.change = change
         self.blobs = blobs
+        self.index = index
         self.since = f" in {change.since}" if change.since else ""
         self.attributes = attributes.of([file.name for file in change.files], index)
         olds = {*change.gone.values(), *(file.before for file in change.files if file.before)}
@@ -73,7 +79,7 @@ class Guard:
 
     def _facts(self, blob: str, words: frozenset[bytes] = frozenset(), is_old: bool = False) -> Facts:
         content = self.blobs.read(blob, is_old)
-        return Facts(is_yaml=False) if content is None else facts.facts(content, words)
+        return Facts(fault=TOO_LONG) if content is None else facts.facts(content, words)
 
     def _before(self, file: File) -> Facts:
         return self.olds[file.before] if file.before else Facts()
@@ -121,13 +127,16 @@ class Guard:
     def _is_exempt(self, file: File) -> bool:
         return self.attributes[file.name].is_exempt
 
-    def _meant(self, file: File, attribute: str = EXEMPT) -> str:
-        return MEANT.format(attributes.pattern(file.name), attribute)
+    def _line(self, file: File, attribute: str) -> str:
+        return attributes.line(file.name, attribute, commits.places(self.index))
+
+    def _meant(self, file: File, attribute: str = EXEMPT, first: str = "") -> str:
+        return f"  {first}{MEANT.format(self._line(file, attribute))}"
 
     def _by_name(self, file: File, _: Facts, now: Facts) -> Fault | None:
         base = os.path.basename(os.fsdecode(file.name))
         if replacing.is_leftover(base) and not self._is_exempt(file):
-            return Fault(LEFTOVER, TO_REMOVE.format(shlex.quote(shown(os.fsdecode(file.name)))))
+            return Fault(LEFTOVER, TO_REMOVE.format(_quoted(file)))
         if base == attributes.FILE and attributes.has_ignored_line(self.blobs.read(file.blob) or b""):
             return Fault(LONG_LINE)
         return None
@@ -137,16 +146,19 @@ class Guard:
         if self._is_exempt(file) or name.endswith(PROSE) and not is_marked:
             return None
         if now.damage:
-            return Fault(now.damage, RESOLVE if now.damage == conflicts.UNMERGED else self._meant(file))
+            is_unmerged = now.damage == conflicts.UNMERGED
+            return Fault(now.damage, RESOLVE if is_unmerged else self._meant(file, first=RESTORE.format(_quoted(file))))
         is_yaml = name.endswith(YAML) or not os.path.splitext(name)[1]
-        return Fault(NOT_YAML, self._meant(file)) if before.encrypted and not now.is_yaml and is_yaml else None
+        if not (before.encrypted and now.fault and is_yaml):
+            return None
+        return Fault(NOT_YAML.format(now.fault), self._meant(file, first=REPAIR))
 
     def _unencrypted(self, file: File, _: Facts, now: Facts) -> Fault | None:
         marks = self.attributes[file.name].marks
         is_whole = now.is_vault or now.is_empty or VAULT_ALONE not in marks
         if not marks or is_whole and not now.unencrypted:
             return None
-        return Fault(now.unencrypted or marked.NOT_ENCRYPTED, UNMARK.format(attributes.pattern(file.name)))
+        return Fault(now.unencrypted or marked.NOT_ENCRYPTED, UNMARK.format(self._line(file, UNMARKED)))
 
     def _was_vault(self, file: File, before: Facts, now: Facts) -> Fault | None:
         if not before.is_vault or now.is_vault or now.is_empty or self._is_exempt(file):
@@ -166,15 +178,17 @@ class Guard:
     def _values(self, file: File, before: Facts, now: Facts) -> Fault | None:
         allowed = self.attributes[file.name].plain_values
         here = facts.now_plain(before, now)
-        names = {written(keys): written(keys) for keys in here}
+        sources = dict.fromkeys(here, "")
         for keys in self._from_elsewhere(file, now) - {*here}:
-            names[written(keys)] = f"{written(keys)} of {shown(os.fsdecode(self.removed[keys]))}"
-        refused = [name for keys, name in sorted(names.items()) if keys not in allowed]
+            sources[keys] = f" of {shown(os.fsdecode(self.removed[keys]))}"
+        refused = sorted((keys for keys in sources if written(keys) not in allowed), key=written)
         if not refused:
             return None
+        names = ", ".join(written(keys) + sources[keys] for keys in refused)
         were = "was" if len(refused) == 1 else "were"
-        hint = self._meant(file, f"{PLAIN_VALUES}={','.join(sorted({*names, *allowed}))}")
-        return Fault(f"has {', '.join(refused)} in plaintext, which {were} encrypted{self.since}", hint)
+        jinja = ONLY_JINJA if facts.has_new_jinja(before, now, refused) else ""
+        hint = self._meant(file, f"{PLAIN_VALUES}={','.join(sorted({*map(written, sources), *allowed}))}")
+        return Fault(f"has {names} in plaintext, which {were} encrypted{self.since}{jinja}", hint)
 
     def _from_elsewhere(self, file: File, now: Facts) -> set[Keys]:
         """The keys of values of other files at or below which there is new plaintext."""
@@ -191,6 +205,10 @@ class Guard:
         again = sorted(map(written, now.encrypted.keys() - {*facts.touched(now.encrypted, {*now.plain})}))
         names = [keys for keys in again if keys in given.plain_values]
         return Fault(STALE.format(", ".join(names))) if names else None
+
+
+def _quoted(file: File) -> str:
+    return shlex.quote(shown(os.fsdecode(file.name)))
 
 
 def _last_key(keys: Keys) -> bytes:

@@ -11,7 +11,7 @@ HEADER = envelope.MAGIC + b";"
 NOT_ENCRYPTED = "is not encrypted"
 DAMAGED = "is a damaged vault"
 ONLY_TAGGED = "has plaintext with the tag `!vault` in line {}"
-DAMAGED_VALUE = "has a damaged block in line {}"
+DAMAGED_VALUE = "has a damaged value in line {}"
 NOT_READ = "cannot be checked: {}"
 
 
@@ -26,11 +26,12 @@ def conflict(document: Document, path: str) -> str:
 
 
 def damage(document: Document) -> str:
-    """What is wrong with the envelopes of a file; empty if they are whole."""
+    """What is wrong with the envelopes of a file; empty if they are whole. A comment of YAML has no value."""
     if document.is_vault:
         return "" if envelope.is_whole(document.data) else DAMAGED
     envelopes = (value for value in document.values if value.is_envelope and value.style != LOOSE)
-    line = next((value.line for value in envelopes if not value.is_whole), 0)
+    values = (value for value in envelopes if document.fault or b"#" not in value.margin)
+    line = next((value.line for value in values if not value.is_whole), 0)
     return DAMAGED_VALUE.format(line) if line else ""
 
 
