@@ -6,6 +6,7 @@ import pytest
 
 from companion_cases import CHECK, HOOK, TEXT, Place, block, ended, sealed, silent
 from companion_cases.repository import GONE, IN_PART, WHOLE, committed, leaked, refused, staged, under_git
+from companion_cases.repository import unmarking
 
 pytestmark = pytest.mark.usefixtures("git")
 
@@ -172,4 +173,5 @@ def test_sparse(place: Place) -> None:
     place.put("other/x.yml", b"x: 1\n")
     place.shell("git add -A && git commit -qm one && git sparse-checkout set other")
     assert "deep" not in place.names()
-    refused("the hook", place.run(HOOK, "--all"), "deep/a.vault.yml")
+    wanted = f"{HOOK}: deep/a.vault.yml is not encrypted\n{unmarking('a.vault.yml', 'deep/')}\n"
+    assert place.run(HOOK, "--all").stderr == wanted

@@ -52,9 +52,9 @@ def refused(what: str, done: Done, *names: str, why: str = "is not encrypted") -
     leaked(what, done, dict.fromkeys(names, why))
 
 
-def unmarking(name: str) -> str:
-    """Return the advice for a marked file."""
-    return f"  encrypt it, or unmark it with a line at the end of .gitattributes: /{name} !diff !ansible-vault"
+def unmarking(name: str, folder: str = "") -> str:
+    """Return the advice for a marked file. The directory has its own .gitattributes."""
+    return f"  encrypt it, or unmark it with a line at the end of {folder}.gitattributes: /{name} !diff !ansible-vault"
 
 
 def meant(name: str, attribute: str = "-ansible-vault") -> str:
