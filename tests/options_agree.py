@@ -24,7 +24,7 @@ from model.options import COMMON, FLAGS, OPTIONS
 
 COLUMNS = 80
 PAGES = sorted(PAGE.parent.glob("*.1"))
-# The sections of a companion's page, in order, and the optional ones.
+# The sections of a companion's page, in order, and the optional ones. Its own sections follow OPTIONS.
 SECTIONS = ["NAME", "SYNOPSIS", "DESCRIPTION", "OPTIONS", "ENVIRONMENT", "FILES", "EXIT STATUS", "EXAMPLES", "SEE ALSO"]
 SECTIONS += ["CAVEATS", "SECURITY CONSIDERATIONS"]
 FURTHER = {"ENVIRONMENT", "FILES", "CAVEATS", "SECURITY CONSIDERATIONS"}
@@ -56,7 +56,9 @@ def referred(text: str) -> list[set[str]]:
 def test_companion(name: str) -> None:
     """The page of a companion describes the options of its help, or says where they are described."""
     page, in_help = companion_page(name), companion_options(name)
-    assert [*page] == [title for title in SECTIONS if title in page or title not in FURTHER]
+    usual = [title for title in SECTIONS if title in page or title not in FURTHER]
+    own, after_options = [title for title in page if title not in SECTIONS], usual.index("OPTIONS") + 1
+    assert [*page] == [*usual[:after_options], *own, *usual[after_options:]]
     described = spellings(page["OPTIONS"]) + referred(page["OPTIONS"])
     assert sorted(sorted(each) for each in described) == sorted(sorted(each) for each in in_help)
     named = options_in(page["SYNOPSIS"])
