@@ -38,7 +38,7 @@ SMALL = {
     "tools/write_documents && git diff --stat": r"^\Z",
     "tools/files_to_read": r"^For the theorem: \d+ lines\n(.*\n)+\nFor the other contracts: (.*\n)+\nFrom the kit:\n",
     "tests/store_texts bin/ansible-vault && git diff --stat": r"^\Z",
-    "make lint": r"\nlint: [1-9] passed, 0 failed\n\Z",
+    "make lint": r"\nlint: [1-9]\d* passed, 0 failed\n\Z",
 }
 
 
