@@ -167,7 +167,6 @@ bench: CHART := docs/speed.svg
 bench: all bin/vault_bench
 	bench/commands.py "$(PROGRAM)" --chart $(CHART) $(QUICKLY)
 	bench/parts.py "$(PROGRAM)" $(QUICKLY)
-	bench/rotation.py "$(PROGRAM)" $(QUICKLY)
 	bench/companions.py "$(PROGRAM)" $(QUICKLY)
 	bench/envelope.py $(QUICKLY)
 	bench/counter_mode.py $(QUICKLY)
