@@ -1,7 +1,7 @@
 -- The answer to a request, as a function of the request, the password files, the salt and the
--- input: steps 9 to 14 of docs/verification.md. The first step that refuses decides. The task has
--- steps 9 to 11: the passwords, the index of the secret to encrypt with, and the salt. Then the
--- text is read (12), its length is checked (13), and the command is carried out (14).
+-- input: steps 9 to 14 of docs/verification-reference.md. The first step that refuses decides. The
+-- task has steps 9 to 11: the passwords, the index of the secret to encrypt with, and the salt.
+-- Then the text is read (12), its length is checked (13), and the command is carried out (14).
 use Rattle.std.specs.Prelude.{ℕ, ◌*◌, if◌then◌else◌, List, Option, Some, None, unwrap_or}
 use Rattle.std.specs.Prelude.{Result, Ok, Err}
 use Rattle.vault_text.specs.Limits.{envelope_limit}

@@ -1,5 +1,5 @@
--- The task of a request, steps 9 to 11 of docs/verification.md: the passwords, the index of the
--- secret to encrypt with, and the salt.
+-- The task of a request, steps 9 to 11 of docs/verification-reference.md: the passwords, the
+-- index of the secret to encrypt with, and the salt.
 use Rattle.std.specs.Prelude.{ℕ, ◌<◌, nat_lt, if◌then◌else◌, List, [], ◌∷◌, length, take, zip}
 use Rattle.std.specs.Prelude.{slice_index_or, Option, Some, None, Result, Ok, Err}
 use Rattle.std.specs.Result.{result_map_both}
