@@ -3,7 +3,7 @@
 from __future__ import annotations
 
 import argparse
-from _collections_abc import Iterable
+from _collections_abc import Collection, Iterable
 from argparse import Namespace
 
 from ansible_vault_companions import command_lines
@@ -62,8 +62,8 @@ PASSED_ON: dict[str, tuple[tuple[str, ...], dict[str, Any]]] = {
 }
 
 
-def parsed(words: list[str]) -> Namespace:
-    """The command line. `rest` has the words that are passed on, except those for secrets and for arguments."""
+def command_line(words: Collection[str] = tuple(COMMANDS)) -> command_lines.Parser:
+    """The parser, with the options of the commands that are among the words."""
     parser = command_lines.parser(NAME, SUMMARY, EXAMPLE, allow_abbrev=True)
     options.add_options(parser, before="before_")
     parser.add_argument("-v", "--verbose", action="count", help=argparse.SUPPRESS)
@@ -72,9 +72,14 @@ def parsed(words: list[str]) -> Namespace:
         command = commands.add_parser(
             name, help=text, description=text, formatter_class=command_lines.Formatter, add_help=False
         )
-        # Only the options of the command that is given are needed.
         if name in words:
             _add_options(command, name)
+    return parser
+
+
+def parsed(words: list[str]) -> Namespace:
+    """The command line."""
+    parser = command_line(words)
     args = parser.parse_args(words)
     if not args.command:
         parser.error(f"no command is given; {NAME} --help lists the commands")
