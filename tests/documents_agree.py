@@ -8,9 +8,9 @@ from pathlib import Path
 
 from ansible_vault_companions import OLDEST
 from ansible_vault_companions.alias.command_line import COMMANDS
+from ansible_vault_companions.envelopes.document import PROSE
 from ansible_vault_companions.files import reading
 from ansible_vault_companions.files.replacing import RANDOM
-from ansible_vault_companions.envelopes.contents import PROSE
 from ansible_vault_companions.stopping import GRACE_PERIOD
 from completions import options_of
 from lib.needs import needs

@@ -7,11 +7,11 @@ from collections import Counter
 
 import pytest
 
+from ansible_vault_companions.editing.layout import nodes
 from ansible_vault_companions.editing.matching import Choice
 from ansible_vault_companions.editing.setting import SingleValue
-from ansible_vault_companions.editing.layout import nodes
+from ansible_vault_companions.envelopes.envelope import ALIAS
 from ansible_vault_companions.envelopes.keypath import typed, values_at
-from ansible_vault_companions.envelopes.value import ALIAS
 from ansible_vault_companions.program import Refused
 from companion_cases import EDIT, TEXTCONV, Done, Place, block, ended, sealed, silent, texts
 from companion_cases.terminal import READING, ask

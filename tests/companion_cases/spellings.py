@@ -16,7 +16,7 @@ from hypothesis import given, settings
 from hypothesis import strategies as st
 
 from ansible_vault_companions.envelopes import conflicts, document, envelope
-from ansible_vault_companions.envelopes.value import LOOSE, STRAY, TAGS, Path
+from ansible_vault_companions.envelopes.envelope import LOOSE, STRAY, TAGS, Path
 from companion_cases import BODY, CHECK, ROTATE, Place, block, ended, sealed, silent, summary, to_new
 from companion_cases.repository import IN_PART, again, leaked, staged, with_hooks
 from lib.needs import needs_pyyaml

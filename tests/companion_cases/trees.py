@@ -7,7 +7,7 @@ from pathlib import Path
 
 import pytest
 
-from ansible_vault_companions.envelopes import contents
+from ansible_vault_companions.envelopes import document
 from ansible_vault_companions.envelopes.envelope import MAGIC
 from ansible_vault_companions.files import reading
 from companion_cases import AWKWARD, CHECK, ROTATE, TEXT, Place, block, decrypted, ended, sealed, summary, to_new
@@ -97,13 +97,13 @@ def test_what_has_no_end(place: Place) -> None:
 def test_pieces(tmp_path: Path, monkeypatch: pytest.MonkeyPatch) -> None:
     """A long file is searched in pieces, and what tells of an envelope may be split between two of them."""
     path = tmp_path / "a.txt"
-    monkeypatch.setattr(contents, "LONGEST", 16)
+    monkeypatch.setattr(document, "LONGEST", 16)
     for size, before, start in product((80, 90), range(1, 100), (MAGIC, b'"\\U00000024', b"!" + b"x" * 60 + b"%61")):
         monkeypatch.setattr(reading, "CHUNK_SIZE", size)
         path.write_bytes(b"x" * before + start + b";1.1")
-        assert contents.contents(str(path)) == path.read_bytes(), (size, before, start)
+        assert document.content(str(path)) == path.read_bytes(), (size, before, start)
         path.write_bytes(b"x" * before + start[:-1])
-        assert contents.contents(str(path)) == b"", "a part of it is none"
+        assert document.content(str(path)) == b"", "a part of it is none"
 
 
 FILES = {"a.yml", "b.txt", "tests/a.yml", "tests/fixtures/c.yml", "roles/tests/d.yml", "[x]/e.yml"}

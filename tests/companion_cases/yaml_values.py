@@ -13,9 +13,8 @@ import pytest
 from ansible_vault_companions.editing import layout
 from ansible_vault_companions.editing.matching import Choice
 from ansible_vault_companions.editing.yaml_file import YamlFile
-from ansible_vault_companions.envelopes import plaintexts
-from ansible_vault_companions.envelopes.value import TAGS
-from ansible_vault_companions.files.changes import Change, changed
+from ansible_vault_companions.envelopes.changes import Change, changed, column
+from ansible_vault_companions.envelopes.envelope import TAGS
 from ansible_vault_companions.program import Refused
 from ansible_vault_companions.secrets.sources import Secret
 from ansible_vault_companions.tool.tool import Tool
@@ -180,7 +179,7 @@ def check_changed(file: YamlFile, generator: random.Random) -> bool:
     if not shown:
         return False
     value, typed = generator.choice(shown), generator.choice(TYPED)
-    lines = typed.format(" " * (plaintexts.column(text, value.begin) + 2)).removesuffix("\n").encode()
+    lines = typed.format(" " * (column(text, value.begin) + 2)).removesuffix("\n").encode()
     place = Change(value.begin, layout.end_of(text, value), lines.replace(b"\n", value.ending))
     edited = changed(text, [place])
     read = composed(edited)

@@ -5,7 +5,8 @@ from __future__ import annotations
 from dataclasses import dataclass
 from typing import Protocol, Sequence
 
-from ansible_vault_companions.envelopes.value import Value
+from ansible_vault_companions.envelopes.changes import replaced
+from ansible_vault_companions.envelopes.envelope import Value
 from ansible_vault_companions.program import Refused
 from ansible_vault_companions.tool.tool import Key, Tool
 
@@ -54,4 +55,4 @@ class Vault:
 
     def encrypted(self, tool: Tool, text: bytes) -> bytes:
         vault = tool.encrypt(text, *self.keys[0])
-        return self.envelope.replaced(vault).text if self.envelope else vault
+        return replaced(self.envelope, vault).text if self.envelope else vault

@@ -10,12 +10,11 @@ import json
 import re
 from typing import Callable
 
-from ansible_vault_companions.envelopes import plaintexts, sides
+from ansible_vault_companions.envelopes import conflicts
+from ansible_vault_companions.envelopes.changes import HEADER, UNSHOWN, Change, changed, column, in_plaintext, indented
 from ansible_vault_companions.envelopes.document import Document
-from ansible_vault_companions.envelopes.plaintexts import HEADER, UNSHOWN, column
+from ansible_vault_companions.envelopes.envelope import LITERAL, Path, Value
 from ansible_vault_companions.envelopes.scalars import LINE_END
-from ansible_vault_companions.envelopes.value import LITERAL, Path, Value
-from ansible_vault_companions.files.changes import Change, changed, indented
 from ansible_vault_companions.program import Refused
 
 # The indentation of an envelope relative to its key, as Ansible's tool writes it.
@@ -55,7 +54,7 @@ def nodes(data: bytes) -> Document:
     """All nodes of a YAML text, or of the sides of one with a conflict."""
     if UNUSUAL_END.search(data):
         raise Refused(UNUSUAL)
-    text = sides.read(data, every=True)
+    text = conflicts.read(data, every=True)
     if text.fault:
         raise Refused(text.fault)
     return text
@@ -83,7 +82,7 @@ def shown(data: bytes, value: Value, text: bytes) -> list[Way]:
 
 def _with_final_newline(data: bytes, value: Value, text: bytes) -> list[Change]:
     """The changes for a block. At the end of a file without a final newline, a text that ends with one needs one."""
-    *changes, lines = plaintexts.shown(data, value, text)
+    *changes, lines = in_plaintext(data, value, text)
     missing = value.ending if text.endswith(b"\n") and value.end == len(data) else b""
     return [*changes, lines._replace(text=lines.text + missing)]
 

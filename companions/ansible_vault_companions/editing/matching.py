@@ -10,7 +10,7 @@ import os
 from collections import Counter, defaultdict
 from typing import Callable, Iterable, Iterator, NamedTuple
 
-from ansible_vault_companions.envelopes.value import Path, Value
+from ansible_vault_companions.envelopes.envelope import Path, Value
 from ansible_vault_companions.program import Refused, shown
 from ansible_vault_companions.secrets import prompts
 from ansible_vault_companions.secrets.sources import Secret

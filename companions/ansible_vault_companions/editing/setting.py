@@ -7,15 +7,14 @@ import os
 import re
 
 from ansible_vault_companions.editing import layout
+from ansible_vault_companions.editing.layout import nodes
 from ansible_vault_companions.editing.loading import require_label
 from ansible_vault_companions.editing.matching import Choice, Opened
-from ansible_vault_companions.editing.layout import nodes
 from ansible_vault_companions.envelopes import conflicts, document, keypath
+from ansible_vault_companions.envelopes.changes import Change, changed
 from ansible_vault_companions.envelopes.document import Document
-from ansible_vault_companions.envelopes.envelope import MAGIC
+from ansible_vault_companions.envelopes.envelope import ALIAS, MAGIC, NO_SCALAR, Value
 from ansible_vault_companions.envelopes.scalars import LINE_END
-from ansible_vault_companions.envelopes.value import ALIAS, NO_SCALAR, Value
-from ansible_vault_companions.files.changes import Change, changed
 from ansible_vault_companions.program import Refused, shown
 from ansible_vault_companions.tool.tool import Decrypt, Key, Tool
 

@@ -11,9 +11,8 @@ from ansible_vault_companions.editing.layout import nodes
 from ansible_vault_companions.editing.matching import Choice, Match, Opened
 from ansible_vault_companions.envelopes import conflicts
 from ansible_vault_companions.envelopes.document import Document
-from ansible_vault_companions.envelopes.envelope import MAGIC
+from ansible_vault_companions.envelopes.envelope import ALIAS, MAGIC, NO_SCALAR, PLAIN, TAGS, Path, Value
 from ansible_vault_companions.envelopes.scalars import BYTE_ORDER_MARK
-from ansible_vault_companions.envelopes.value import ALIAS, NO_SCALAR, PLAIN, TAGS, Path, Value
 from ansible_vault_companions.program import Refused
 from ansible_vault_companions.secrets import prompts
 from ansible_vault_companions.tool.tool import Decrypt, Key, Tool

@@ -7,14 +7,21 @@ digits is a stray.
 
 from __future__ import annotations
 
+import os
 import re
+from bisect import bisect_right
+from contextlib import suppress
 from dataclasses import dataclass, field
+from typing import BinaryIO, Iterable, Iterator
 
-from ansible_vault_companions.envelopes import conflicts, envelope
-from ansible_vault_companions.envelopes.scalars import BINARY, NotYaml, scalars
-from ansible_vault_companions.envelopes.strays import strays
-from ansible_vault_companions.envelopes.value import WHOLE, Value
-from ansible_vault_companions.files.changes import changed
+from ansible_vault_companions import stopping
+from ansible_vault_companions.envelopes import envelope
+from ansible_vault_companions.envelopes.changes import changed, replaced
+from ansible_vault_companions.envelopes.envelope import LOOSE, STRAY, WHOLE, WITH_DIGITS, Value
+from ansible_vault_companions.envelopes.scalars import BINARY, LONGEST, NotYaml, scalars
+from ansible_vault_companions.files.reading import CHUNK_SIZE, LIMIT, TooLong, Unsearched, opened, parts
+from ansible_vault_companions.files.reading import read as read_file
+from ansible_vault_companions.files.reading import whole
 from ansible_vault_companions.program import Refused
 
 # A file with an envelope has one of these words, or spells it with escapes, which take no more than OVERLAP bytes.
@@ -22,6 +29,14 @@ WORDS = (b"ANSIBLE_VAULT", b"!vault", b"__ansible_vault", b"%TAG")
 ESCAPES = re.compile(rb"![^\s%]{0,64}%[0-9a-fA-F]{2}|\\(?:x|u00|U000000)(?:24|[4-7][0-9a-fA-F])")
 OVERLAP = 80
 NO_PLACE = "its values cannot be replaced where they are; write each as `NAME: !vault |`"
+# The lines of an envelope behind one margin.
+LINES_OF_STRAY = re.compile(
+    rb"(?P<margin>[ \t]*(?:#[ \t]*)?)\$ANSIBLE_VAULT[^;\r\n]*;[^\r\n]*"
+    rb"(?:\r?\n(?P=margin)[0-9a-fA-F]+(?=[ \t]*(?:\r?\n|\Z)))+"
+)
+# Documents. An envelope in one that no password opens is an example.
+PROSE = (".md", ".rst", ".adoc", ".html")
+YAML = (".yml", ".yaml", ".json")
 
 
 @dataclass
@@ -36,13 +51,9 @@ class Document:
     def is_vault(self) -> bool:
         return self.data.startswith(envelope.MAGIC)
 
-    @property
-    def is_unmerged(self) -> bool:
-        return conflicts.is_unmerged(self.data)
-
     def with_envelopes(self, new: dict[int, bytes]) -> bytes:
         """The data with other envelopes, by the numbers of their values. It is read again: only these may differ."""
-        after = changed(self.data, [self.values[number].replaced(text) for number, text in new.items()])
+        after = changed(self.data, [replaced(self.values[number], text) for number, text in new.items()])
         wanted = [(value.path, new.get(number, value.text).strip()) for number, value in enumerate(self.values)]
         if not self.is_vault and [(value.path, value.text.strip()) for value in read(after).values] != wanted:
             raise Refused(NO_PLACE)
@@ -72,3 +83,80 @@ def read(data: bytes, every: bool = False) -> Document:
         document.values += strays(data, document.values)
         document.values.sort(key=lambda value: value.start)
     return document
+
+
+class Spans:
+    """Ranges that do not overlap, each from a first position to the one behind its last."""
+
+    def __init__(self, spans: Iterable[tuple[int, int]]) -> None:
+        self.spans = sorted(spans)
+        self.starts = [start for start, _ in self.spans]
+
+    def __contains__(self, place: int) -> bool:
+        number = bisect_right(self.starts, place) - 1
+        return number >= 0 and place < self.spans[number][1]
+
+
+def strays(data: bytes, values: list[Value]) -> Iterator[Value]:
+    """The envelopes outside of these values, and those within the text of one that is no envelope, but has the tag."""
+    known = Spans((value.start, value.end) for value in values if value.is_envelope)
+    texts = Spans((value.start, value.end) for value in values if not value.is_envelope)
+    number, place, line_start = 1, 0, 0
+    # Behind empty lines alone, Ansible reads neither a vault nor a value.
+    first = len(data) - len(data.lstrip())
+    for header in WITH_DIGITS.finditer(data):
+        stopping.check()
+        number += data.count(b"\n", place, header.start())
+        line_start = max(line_start, data.rfind(b"\n", place, header.start()) + 1)
+        place = header.start()
+        if place in known:
+            continue
+        lines = LINES_OF_STRAY.match(data, line_start)
+        if lines and lines.end("margin") == place > first and place not in texts:
+            text = b"".join(line[len(lines["margin"]) :] + b"\n" for line in lines[0].splitlines())
+            ending = b"\r\n" if b"\r\n" in lines[0] else b"\n"
+            yield Value((), STRAY, number, place, line_start, lines.end(), lines["margin"], ending, text)
+        else:
+            yield Value((), LOOSE, number, place, place, header.end(), b"", b"\n", header[0])
+
+
+def is_prose(path: str) -> bool:
+    """Whether it is a document. A link is one if its file is."""
+    return os.path.realpath(path).lower().endswith(PROSE)
+
+
+def is_yaml(path: str) -> bool:
+    """Whether it is meant as YAML, by its name or by that of the file that it points to."""
+    return any(name.lower().endswith(YAML) for name in (path, os.path.realpath(path)))
+
+
+def fault(document: Document, path: str) -> str:
+    """Why a file that is meant as YAML, and has an envelope, cannot be read; empty if it is none, or can."""
+    return document.fault if document.fault and is_yaml(path) and envelope.occurs(document.data) else ""
+
+
+def is_empty(path: str) -> bool:
+    """Whether a file has no text."""
+    return os.path.getsize(path) < CHUNK_SIZE and not (read_file(path) or b"").strip()
+
+
+def content(path: str) -> bytes:
+    """The content of a file; empty if it has no envelopes. A signal ends the search."""
+    with opened(path) as file:
+        with suppress(TooLong):
+            data = whole(file, path, stopping.check, LONGEST)
+            return data if mentions(data) else b""
+        # It is longer than YAML may be, and is not kept in memory while it is searched.
+        return whole(file, path, stopping.check) if _mentions(file, path) else b""
+
+
+def _mentions(file: BinaryIO, path: str) -> bool:
+    before = b""
+    try:
+        for piece in parts(file, path, stopping.check):
+            if mentions(before[-OVERLAP:] + piece):
+                return True
+            before = piece
+    except TooLong:
+        raise Unsearched(f"it is longer than any vault, so only its first {LIMIT:,} bytes were searched") from None
+    return False

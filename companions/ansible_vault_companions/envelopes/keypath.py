@@ -9,7 +9,7 @@ from __future__ import annotations
 import re
 
 from ansible_vault_companions.envelopes.document import Document
-from ansible_vault_companions.envelopes.value import Path, Value
+from ansible_vault_companions.envelopes.envelope import Path, Value
 from ansible_vault_companions.program import Refused, shown
 
 KEY = re.compile(r'[^."\[\]\x00-\x1f]+')

@@ -13,8 +13,8 @@ from typing import Any, Iterator, Union
 
 from ansible_vault_companions import stopping
 from ansible_vault_companions.envelopes import envelope
-from ansible_vault_companions.envelopes.value import ALIAS, FOLDED, JSON_KEY, LITERAL, NO_SCALAR, PLAIN, TAGS, Path
-from ansible_vault_companions.envelopes.value import Value
+from ansible_vault_companions.envelopes.envelope import ALIAS, FOLDED, JSON_KEY, LITERAL, NO_SCALAR, PLAIN, TAGS, Path
+from ansible_vault_companions.envelopes.envelope import Value
 from ansible_vault_companions.program import Refused
 
 BYTE_ORDER_MARK = b"\xef\xbb\xbf"

@@ -11,10 +11,9 @@ from functools import reduce
 from typing import Container, Iterable, NamedTuple
 
 from ansible_vault_companions.envelopes import conflicts, envelope
-from ansible_vault_companions.envelopes.document import Document, mentions
+from ansible_vault_companions.envelopes.document import Document, mentions, strays
+from ansible_vault_companions.envelopes.envelope import ALIAS, JSON_KEY, NO_SCALAR, Path
 from ansible_vault_companions.envelopes.scalars import BINARY, NotYaml, scalars
-from ansible_vault_companions.envelopes.strays import strays
-from ansible_vault_companions.envelopes.value import ALIAS, JSON_KEY, NO_SCALAR, Path
 from ansible_vault_companions.git import marked
 from ansible_vault_companions.git.attributes import DIFF
 

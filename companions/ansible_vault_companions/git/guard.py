@@ -22,7 +22,7 @@ from functools import cached_property
 from typing import Iterator, NamedTuple
 
 from ansible_vault_companions.envelopes import conflicts
-from ansible_vault_companions.envelopes.contents import PROSE, YAML
+from ansible_vault_companions.envelopes.document import PROSE, YAML
 from ansible_vault_companions.envelopes.scalars import TOO_LONG
 from ansible_vault_companions.files import replacing
 from ansible_vault_companions.git import attributes, commits, facts, marked

@@ -5,7 +5,7 @@ from __future__ import annotations
 import os
 import shlex
 
-from ansible_vault_companions.envelopes.contents import is_prose
+from ansible_vault_companions.envelopes.document import is_prose
 from ansible_vault_companions.git import attributes, commands, repositories
 from ansible_vault_companions.program import Refused, shown, write_line
 

@@ -4,7 +4,7 @@ from __future__ import annotations
 
 from ansible_vault_companions.envelopes import conflicts, envelope
 from ansible_vault_companions.envelopes.document import Document
-from ansible_vault_companions.envelopes.value import LOOSE, STRAY
+from ansible_vault_companions.envelopes.envelope import LOOSE, STRAY
 from ansible_vault_companions.git.attributes import VAULT_ALONE
 
 HEADER = envelope.MAGIC + b";"
@@ -17,7 +17,7 @@ NOT_READ = "cannot be checked: {}"
 
 def is_unmerged(document: Document) -> bool:
     """Whether git's conflict markers are in an envelope or beside one, even if git has torn it."""
-    return document.is_unmerged and bool(document.values or HEADER in document.data)
+    return conflicts.is_unmerged(document.data) and bool(document.values or HEADER in document.data)
 
 
 def conflict(document: Document, path: str) -> str:

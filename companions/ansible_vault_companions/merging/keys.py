@@ -7,7 +7,7 @@ from typing import Callable, Hashable, Iterable, Iterator, NamedTuple, TypeVar
 
 from ansible_vault_companions import parallel
 from ansible_vault_companions.envelopes import envelope
-from ansible_vault_companions.envelopes.value import Value
+from ansible_vault_companions.envelopes.envelope import Value
 from ansible_vault_companions.merging.lines import BASE, OURS, SIDES, THEIRS
 from ansible_vault_companions.program import Refused
 from ansible_vault_companions.secrets import labels

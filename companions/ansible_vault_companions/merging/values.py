@@ -11,9 +11,9 @@ import secrets as randomness
 from collections import Counter
 from typing import Hashable, TypeVar
 
-from ansible_vault_companions.envelopes import conflicts, sides
-from ansible_vault_companions.envelopes.value import LITERAL, LOOSE, STRAY, Value
-from ansible_vault_companions.files.changes import Change, changed
+from ansible_vault_companions.envelopes import conflicts
+from ansible_vault_companions.envelopes.changes import Change, changed, replaced
+from ansible_vault_companions.envelopes.envelope import LITERAL, LOOSE, STRAY, Value
 from ansible_vault_companions.merging.keys import Choices
 from ansible_vault_companions.merging.lines import BASE, OURS, SIDES, THEIRS, Merged, Versions, merged_lines
 from ansible_vault_companions.program import Refused
@@ -37,7 +37,7 @@ class Values:
     """Three versions of a file, with tokens in place of their envelopes."""
 
     def __init__(self, decrypt: Decrypt, versions: Versions, chosen: Key | None) -> None:
-        self.documents = {side: sides.read(data) for side, data in zip(SIDES, versions)}
+        self.documents = {side: conflicts.read(data) for side, data in zip(SIDES, versions)}
         self.values = {side: [*filter(_has_token, self.documents[side].values)] for side in SIDES}
         self.choices = Choices(decrypt, self.values, chosen)
         # Whether the last line of each version has an end.
@@ -90,7 +90,7 @@ class Values:
             envelopes.append(self.choices.envelope(tool, meaning, source, used[source, number], is_merged=not side))
             used.update((each, number) for each in ([side] if side else SIDES))
             head, sample = self.samples[layout]
-            return self.written.get((envelopes[-1], layout)) or head + sample.replaced(envelopes[-1]).text
+            return self.written.get((envelopes[-1], layout)) or head + replaced(sample, envelopes[-1]).text
 
         lines: list[bytes] = []
         for sign, line in conflicts.signed_lines(text, inner):
@@ -103,7 +103,7 @@ class Values:
 
     def _check(self, content: bytes, envelopes: list[bytes], is_merged: bool) -> None:
         """Reads the result again. It must have these envelopes, and no others."""
-        result = sides.read(content)
+        result = conflicts.read(content)
         if is_merged and result.fault and not any(self.documents[side].fault for side in (OURS, THEIRS)):
             raise Refused(NOT_YAML.format(result.fault))
         there = Counter(value.text.strip() for value in result.values if _has_token(value))

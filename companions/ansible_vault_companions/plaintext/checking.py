@@ -5,13 +5,13 @@ from __future__ import annotations
 from concurrent.futures import ThreadPoolExecutor
 from dataclasses import dataclass, field
 
-from ansible_vault_companions.envelopes import conflicts, contents, document
+from ansible_vault_companions.envelopes import conflicts, document
 from ansible_vault_companions.envelopes.document import Document
-from ansible_vault_companions.envelopes.value import Value
+from ansible_vault_companions.envelopes.envelope import Value
 from ansible_vault_companions.files.reading import Unsearched
-from ansible_vault_companions.files.reports import Report
 from ansible_vault_companions.git import marked
 from ansible_vault_companions.plaintext import opening
+from ansible_vault_companions.plaintext.reports import Report
 from ansible_vault_companions.program import Refused, shown
 from ansible_vault_companions.secrets import labels
 from ansible_vault_companions.secrets.sources import Secret
@@ -37,22 +37,22 @@ class Check:
         marks = {mark for path in marked_paths for mark in self.marks[path]}
         path = (marked_paths or paths)[0]
         try:
-            found = document.read(contents.contents(path))
+            found = document.read(document.content(path))
         except Unsearched as fault:
             raise Refused(str(fault)) if marks else fault
-        is_prose = contents.is_prose(path) and not (marks or found.is_vault)
+        is_prose = document.is_prose(path) and not (marks or found.is_vault)
         values = opening.envelopes(found).values()
         for own in self.pool.map(lambda value: self._value(value.place(path), value, is_prose), values):
             report.add(own)
         why = marked.conflict(found, path) or self._fault(found, path, is_prose)
-        if not (why or report.faults) and marks and not contents.is_empty(path):
+        if not (why or report.faults) and marks and not document.is_empty(path):
             why = marked.fault(found, marks)
         if why:
             report.faults.append(f"{shown(path)}: {why}")
 
     def _fault(self, found: Document, path: str, is_prose: bool) -> str:
         """Why the file cannot be read, or its envelopes cannot be replaced."""
-        why = contents.fault(found, path)
+        why = document.fault(found, path)
         if why:
             return why
         try:
@@ -87,7 +87,7 @@ class Check:
         else:
             report.lines.append(f"{what}: decrypted by {shown(secret.given)}")
         inner = document.read(plaintext)
-        if inner.is_unmerged:
+        if conflicts.is_unmerged(inner.data):
             report.faults.append(f"{what}: its plaintext {conflicts.UNMERGED}")
         for within in opening.envelopes(inner).values():
             report.add(self._value(f"{where}: in its plaintext, line {max(within.line, 1)}", within))

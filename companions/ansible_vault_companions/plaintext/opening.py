@@ -3,7 +3,7 @@
 from __future__ import annotations
 
 from ansible_vault_companions.envelopes.document import Document
-from ansible_vault_companions.envelopes.value import WHOLE, Value
+from ansible_vault_companions.envelopes.envelope import WHOLE, Value
 from ansible_vault_companions.program import Refused
 from ansible_vault_companions.secrets.sources import Secret
 from ansible_vault_companions.tool.faults import NotDecrypted

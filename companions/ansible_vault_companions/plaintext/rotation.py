@@ -7,12 +7,12 @@ from concurrent.futures import ThreadPoolExecutor
 from dataclasses import dataclass
 from typing import Any, Callable, Iterable
 
-from ansible_vault_companions.envelopes import contents, document
+from ansible_vault_companions.envelopes import document
 from ansible_vault_companions.envelopes.document import Document
-from ansible_vault_companions.envelopes.value import Value
+from ansible_vault_companions.envelopes.envelope import Value
 from ansible_vault_companions.files import replacing
-from ansible_vault_companions.files.reports import Report
 from ansible_vault_companions.plaintext import opening
+from ansible_vault_companions.plaintext.reports import Report
 from ansible_vault_companions.program import Refused, shown
 from ansible_vault_companions.secrets import labels
 from ansible_vault_companions.secrets.sources import Secret
@@ -42,10 +42,10 @@ class Rotation:
     def rotate_file(self, paths: list[str], report: Report) -> None:
         """Rotates the file to which these paths lead."""
         path = paths[0]
-        found = document.read(contents.contents(path))
-        if not found.values and contents.fault(found, path):
+        found = document.read(document.content(path))
+        if not found.values and document.fault(found, path):
             raise Refused(found.fault)
-        is_prose = contents.is_prose(path) and not found.is_vault
+        is_prose = document.is_prose(path) and not found.is_vault
         try:
             after = self._rotated(found, lambda value: value.place(path), report, self.pool.map, is_prose)
             if after != found.data:

@@ -6,11 +6,10 @@ import os
 from contextlib import suppress
 
 from ansible_vault_companions import parallel, program
-from ansible_vault_companions.envelopes import plaintexts
+from ansible_vault_companions.envelopes import document, keypath
+from ansible_vault_companions.envelopes.changes import Change, changed, in_plaintext
 from ansible_vault_companions.envelopes.document import Document
-from ansible_vault_companions.envelopes.envelope import MAGIC
-from ansible_vault_companions.envelopes.value import Value
-from ansible_vault_companions.files.changes import Change, changed
+from ansible_vault_companions.envelopes.envelope import MAGIC, NO_SCALAR, Value
 from ansible_vault_companions.merging import texts, unmerged
 from ansible_vault_companions.plaintext import opening
 from ansible_vault_companions.program import Refused, write_error
@@ -23,6 +22,8 @@ NAME = "ansible-vault-textconv"
 # The file with git's commit message, and the directory that lists this process's open files.
 MESSAGE = "COMMIT_EDITMSG"
 DESCRIPTORS = "/proc/self/fd"
+NO_TEXT = "{} is a list, a mapping or an alias; name a value in it"
+NOT_ENCRYPTED = "{} is not encrypted"
 
 
 class SkippingTool(RememberingTool):
@@ -53,7 +54,7 @@ def converted(found: Document, path: str, decrypt: Decrypt) -> bytes:
 
     def shown(value: Value) -> list[Change] | Refused:
         try:
-            return plaintexts.shown(found.data, value, decrypt(value.readable())[1])
+            return in_plaintext(found.data, value, decrypt(value.readable())[1])
         except Refused as fault:
             return fault
 
@@ -65,6 +66,23 @@ def converted(found: Document, path: str, decrypt: Decrypt) -> bytes:
         else:
             changes += result
     return changed(found.data, changes)
+
+
+def value_of(data: bytes, path: str, decrypt: Decrypt) -> bytes:
+    """The plaintext of a value in YAML, or in the plaintext of a vault."""
+    is_vault = document.Document(data).is_vault
+    text = decrypt(data)[1] if is_vault else data
+    found = document.read(text, every=True)
+    if found.fault:
+        raise Refused(found.fault)
+    value = keypath.value_at(found, path)
+    if value.is_envelope:
+        return decrypt(value.readable())[1]
+    if not is_vault:
+        raise Refused(NOT_ENCRYPTED.format(program.shown(path)))
+    if value.style == NO_SCALAR:
+        raise Refused(NO_TEXT.format(program.shown(path)))
+    return value.text
 
 
 def is_for_message() -> bool:

@@ -1,12 +1,12 @@
-"""Shows plaintext in the place of an envelope: a block becomes a literal, and any other value gets double quotes."""
+"""Puts an envelope or a plaintext in the place of a value, and keeps all other bytes of the file."""
 
 from __future__ import annotations
 
 import json
 import re
+from typing import Iterable, NamedTuple
 
-from ansible_vault_companions.envelopes.value import LITERAL, STRAY, WHOLE, Value
-from ansible_vault_companions.files.changes import Change, indented
+from ansible_vault_companions.envelopes.envelope import LITERAL, STRAY, WHOLE, Value
 from ansible_vault_companions.program import Refused
 
 # What YAML does not allow, or takes for the end of a line.
@@ -18,7 +18,38 @@ DASHES = re.compile(rb" *(?:- +)*")
 NOT_UTF_8, CONTROL = "it is not UTF-8", "it has control characters"
 
 
-def shown(data: bytes, value: Value, text: bytes) -> list[Change]:
+class Change(NamedTuple):
+    """The bytes from `start` to `end`, and their replacement."""
+
+    start: int
+    end: int
+    text: bytes
+
+
+def changed(data: bytes, changes: Iterable[Change]) -> bytes:
+    pieces, place = [], 0
+    for change in sorted(changes):
+        pieces += [data[place : change.start], change.text]
+        place = change.end
+    return b"".join([*pieces, data[place:]])
+
+
+def indented(text: bytes, margin: bytes, end: bytes) -> bytes:
+    """The text with this line ending, and with a margin before each line that is not empty."""
+    return end.join(margin + line if line else b"" for line in text.split(b"\n"))
+
+
+def replaced(value: Value, envelope: bytes) -> Change:
+    """Puts another envelope in its place, in the same layout: a block stays one, and others get double quotes."""
+    if value.style == WHOLE:
+        return Change(value.start, value.end, envelope.replace(b"\n", value.ending))
+    if value.style in (LITERAL, STRAY):
+        return Change(value.start, value.end, indented(envelope.rstrip(b"\n"), value.margin, value.ending))
+    return Change(value.start, value.end, b'"%s"' % envelope.replace(b"\n", b"\\n"))
+
+
+def in_plaintext(data: bytes, value: Value, text: bytes) -> list[Change]:
+    """Puts plaintext in its place: a block becomes a literal, and any other value gets double quotes."""
     if value.style == WHOLE:
         return [Change(value.start, value.end, text)]
     if value.style == STRAY:
