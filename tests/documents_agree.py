@@ -11,7 +11,7 @@ from ansible_vault_companions.alias.command_line import COMMANDS
 from ansible_vault_companions.envelopes.document import PROSE
 from ansible_vault_companions.files import reading
 from ansible_vault_companions.files.replacing import RANDOM
-from ansible_vault_companions.stopping import GRACE_PERIOD
+from ansible_vault_companions.processes import GRACE_PERIOD
 from completions import options_of
 from lib.needs import needs
 from lib.option_sets import OF_ANSIBLE, companion_options, described_options, sections

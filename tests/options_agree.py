@@ -13,7 +13,7 @@ import pytest
 from ansible_vault_companions.alias.command_line import COMMANDS
 from ansible_vault_companions.editing import copies, editor, folder
 from ansible_vault_companions.files import replacing
-from ansible_vault_companions.secrets import settings
+from ansible_vault_companions.passwords import settings
 from lib.needs import needs
 from lib.option_sets import companion_help, companion_options, companion_page, described_options
 from lib.option_sets import help_commands, help_options, help_text, options_in, page_sets, sections, spellings

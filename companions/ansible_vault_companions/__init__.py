@@ -1,6 +1,6 @@
 """The modules that ansible-vault's companions share. They are tested, not proved.
 
-`files` finds, reads and replaces files, and `envelopes` finds the envelopes in them. `secrets` gets passwords, and
+`files` finds, reads and replaces files, and `envelopes` finds the envelopes in them. `passwords` gets passwords, and
 `tool` runs ansible-vault with them. `git` asks git, and has the rules of the hook. Above these are `merging`,
 `editing` and `plaintext` (check, rotate and textconv); `alias` takes the command lines of Ansible's tool.
 """

@@ -1,14 +1,23 @@
-"""Starts and ends every companion, and writes its output."""
+"""Starts and ends every companion: its command line and its help, its output, and its status."""
 
 from __future__ import annotations
 
+import argparse
 import io
 import os
 import resource
 import sys
-from _collections_abc import Callable
+from collections.abc import Callable, Iterable
 
-from ansible_vault_companions import stopping
+from ansible_vault_companions import VERSION, processes
+
+# The module `typing` takes long to import.
+TYPE_CHECKING = False
+if TYPE_CHECKING:
+    from typing import Any, NoReturn
+
+# The columns of a help, and the first one of an option's text. A help fits a screen.
+COLUMNS, TEXTS = 80, 30
 
 
 class Refused(Exception):
@@ -31,7 +40,7 @@ def shown(name: str) -> str:
 def write(data: bytes) -> None:
     """Writes to standard output. A signal ends the wait for a slow reader."""
     try:
-        with stopping.interruptible():
+        with processes.interruptible():
             sys.stdout.buffer.write(data)
             sys.stdout.flush()
     except OSError as fault:
@@ -68,14 +77,14 @@ def temporary_folder() -> str:
 def run(name: str, main: Callable[[list[str]], int]) -> None:
     """Runs a companion with the command line's words. Exits with its status, or by the signal that stopped it."""
     _prepare_streams()
-    stopping.prepare()
+    processes.prepare()
     # A core dump would contain plaintext and passwords.
     resource.setrlimit(resource.RLIMIT_CORE, (0, resource.getrlimit(resource.RLIMIT_CORE)[1]))
     try:
         status = _status_of(main)
     except Exception as fault:
         status = _status_of_fault(name, fault)
-    stopping.end_by_signal()
+    processes.end_by_signal()
     for stream in (sys.stdout, sys.stderr):
         try:
             stream.flush()
@@ -96,7 +105,7 @@ def _status_of(main: Callable[[list[str]], int]) -> int:
 
 
 def _status_of_fault(name: str, fault: Exception) -> int:
-    if isinstance(fault, stopping.Stopped):
+    if isinstance(fault, processes.Stopped):
         return 1
     if not isinstance(fault, (Refused, OSError)):
         raise fault
@@ -128,3 +137,51 @@ def _discard(descriptor: int) -> None:
     null = os.open(os.devnull, os.O_WRONLY)
     os.dup2(null, descriptor)
     os.close(null)
+
+
+class Formatter(argparse.RawDescriptionHelpFormatter):
+    """Names the value of an option once, after all spellings, and no options in the usage, since a list follows."""
+
+    def __init__(self, prog: str) -> None:
+        super().__init__(prog, max_help_position=TEXTS, width=COLUMNS)
+
+    def _format_action_invocation(self, action: argparse.Action) -> str:
+        if not action.option_strings or action.nargs == 0:
+            return super()._format_action_invocation(action)
+        return f"{', '.join(action.option_strings)} {action.metavar or action.dest.upper()}"
+
+    def _format_actions_usage(self, actions: Iterable[argparse.Action], _groups: Any) -> str:
+        arguments = [action for action in actions if not action.option_strings]
+        return f"[OPTION ...] {super()._format_actions_usage(arguments, [])}"
+
+
+class Parser(argparse.ArgumentParser):
+    """A parser whose message is one write, with the words of the command line in printable form."""
+
+    def error(self, message: str) -> NoReturn:
+        self.exit(2, f"{self.format_usage()}{self.prog}: error: {shown(message)}\n")
+
+    def _get_option_tuples(self, option_string: str) -> list[Any]:
+        """An abbreviation that fits several spellings of one option is not ambiguous."""
+        matches = super()._get_option_tuples(option_string)
+        return matches[:1] if len({id(match[0]) for match in matches}) == 1 else matches
+
+
+def parser(name: str, summary: str, example: str, allow_abbrev: bool = False, usage: str | None = None) -> Parser:
+    """A parser that exits with status 2 if the command line is invalid."""
+    made = Parser(
+        name,
+        usage,
+        summary,
+        f"{example}\n\n`man {name}` says more. Companions are tested, not proved.",
+        formatter_class=Formatter,
+        add_help=False,
+        allow_abbrev=allow_abbrev,
+    )
+    add_common(made, name)
+    return made
+
+
+def add_common(parser: argparse.ArgumentParser, name: str) -> None:
+    parser.add_argument("-h", "--help", action="help", help="print help")
+    parser.add_argument("-V", "--version", action="version", version=f"{name} {VERSION}", help="print version")

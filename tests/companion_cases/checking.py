@@ -8,7 +8,7 @@ import re
 import pytest
 
 from ansible_vault_companions import program
-from ansible_vault_companions.tool.faults import KINDS
+from ansible_vault_companions.tool.tool import KINDS
 from companion_cases import CHECK, EDIT, HOOK, MERGE, PASSWORDS, ROTATE, TEXT, TEXTCONV, WITH, Place, block, ended
 from companion_cases import sealed, summary
 from lib.option_sets import companion_help
@@ -191,5 +191,5 @@ def test_texts_of_faults() -> None:
     of_secrets = {text for text in texts if re.match("a password|a vault id label|asking for a password", text)}
     kinds = {text: kind.__name__ for text, kind in KINDS.items()}
     others = {"no secret decrypts this vault": "NotDecrypted", "input is not vault encrypted data": "NotVault"}
-    assert kinds == dict.fromkeys(of_secrets, "SecretRefused") | others
+    assert kinds == dict.fromkeys(of_secrets, "PasswordRefused") | others
     assert others.keys() <= set(texts), "these are in the table, too"

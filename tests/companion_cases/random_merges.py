@@ -23,10 +23,9 @@ from ansible_vault_companions.envelopes import conflicts
 from ansible_vault_companions.envelopes.envelope import MAGIC, label_of
 from ansible_vault_companions.merging import texts
 from ansible_vault_companions.merging.lines import Merged, Versions
-from ansible_vault_companions.secrets import labels
-from ansible_vault_companions.secrets.sources import Secret
-from ansible_vault_companions.tool.faults import NotDecrypted
-from ansible_vault_companions.tool.tool import Tool
+from ansible_vault_companions.passwords import sources
+from ansible_vault_companions.passwords.sources import Password
+from ansible_vault_companions.tool.tool import NotDecrypted, Tool
 from companion_cases import PASSWORDS, decrypted
 from companion_cases.repository import SALTS, by_git, repository
 from lib.needs import needs, needs_pyyaml
@@ -133,8 +132,8 @@ class Merge(NamedTuple):
 
 
 @functools.cache
-def secret_of(name: str) -> Secret:
-    secret = Secret(LABELS[name], name, f"{LABELS[name]}@{name}")
+def secret_of(name: str) -> Password:
+    secret = Password(LABELS[name], name, f"{LABELS[name]}@{name}")
     secret.descriptor = os.memfd_create("password")
     os.write(secret.descriptor, PASSWORDS[name])
     return secret
@@ -148,19 +147,19 @@ class Model(Tool):
         # The new values, by their envelopes.
         self.made: dict[bytes, Value] = {}
 
-    def view(self, envelope: bytes, secret: Secret) -> bytes:
+    def view(self, envelope: bytes, secret: Password) -> bytes:
         text = decrypted(secret.path, envelope)
         if text is None:
             raise NotDecrypted("no secret decrypts this vault")
         return text
 
-    def opened(self, envelope: bytes) -> tuple[Secret, bytes]:
-        for secret in labels.in_order([*map(secret_of, LABELS)], label_of(envelope)):
+    def opened(self, envelope: bytes) -> tuple[Password, bytes]:
+        for secret in sources.in_order([*map(secret_of, LABELS)], label_of(envelope)):
             with suppress(NotDecrypted):
                 return secret, self.view(envelope, secret)
         raise NotDecrypted("no secret decrypts this vault")
 
-    def encrypt(self, plaintext: bytes, secret: Secret, label: str) -> bytes:
+    def encrypt(self, plaintext: bytes, secret: Password, label: str) -> bytes:
         value = Value("", plaintext, "" if label == "default" else label, secret.path, next(self.salts), 0)
         self.made[value.envelope()] = value
         return value.envelope()

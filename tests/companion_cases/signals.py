@@ -202,9 +202,8 @@ def test_signals_to_all(place: Place) -> None:
     check_edit(place, done.stderr)
 
 
-@pytest.mark.parametrize("pause, least, most", ((0.1, 0, 4), (SECONDS, 4, 60)))
-def test_stubborn_programs(place: Place, pause: float, least: float, most: float) -> None:
-    """A program that does not end by a signal is killed at the next signal, after a pause, or after some seconds."""
+def test_stubborn_programs(place: Place) -> None:
+    """A program that does not end by a signal is killed after some seconds, however many signals come."""
     words, noted = tree(place)[EDIT], place.path / "noted"
     stubborn = f"{CHANGE}; touch ../saved; trap '' TERM; echo $$ > ../noted; exec sleep {2 * SECONDS}"
     place.environment["EDITOR"] = place.script(stubborn, "editor")
@@ -214,8 +213,8 @@ def test_stubborn_programs(place: Place, pause: float, least: float, most: float
     while process.poll() is None and time.monotonic() < begun + SECONDS:
         process.terminate()
         with suppress(subprocess.TimeoutExpired):
-            process.wait(pause)
-    assert least < time.monotonic() - begun < most, "how long it takes"
+            process.wait(0.1)
+    assert 4 < time.monotonic() - begun < SECONDS, "how long it takes"
     assert (process.returncode, has_ended(noted)) == (-signal.SIGTERM, True), "both end"
     check_edit(place, process.communicate()[1])
 

@@ -15,12 +15,12 @@ from ansible_vault_companions.editing.matching import Choice
 from ansible_vault_companions.editing.yaml_file import YamlFile
 from ansible_vault_companions.envelopes.changes import Change, changed, column
 from ansible_vault_companions.envelopes.envelope import TAGS
+from ansible_vault_companions.passwords.sources import Password
 from ansible_vault_companions.program import Refused
-from ansible_vault_companions.secrets.sources import Secret
 from ansible_vault_companions.tool.tool import Tool
 from lib.needs import needs_pyyaml
 
-SECRET = Secret("default", "", "")
+SECRET = Password("default", "", "")
 # Characters that YAML does not allow. The last one stands for a byte that is not UTF-8.
 UNREADABLE = "\f\x9f\ufffe\udcff"
 LINE_ENDS = ["\n"] * 3 + ["\r\n", "\r"]
@@ -37,7 +37,7 @@ def envelope(plaintext: bytes) -> bytes:
     return b"$ANSIBLE_VAULT;1.1;AES256\n" + binascii.hexlify(plaintext) + b"\n"
 
 
-def decrypt(text: bytes) -> tuple[Secret, bytes]:
+def decrypt(text: bytes) -> tuple[Password, bytes]:
     try:
         return SECRET, binascii.unhexlify(b"".join(text.split()[1:]))
     except ValueError:
@@ -50,7 +50,7 @@ class Hexadecimal(Tool):
     def __init__(self) -> None:
         pass
 
-    def encrypt(self, plaintext: bytes, secret: Secret, label: str) -> bytes:
+    def encrypt(self, plaintext: bytes, secret: Password, label: str) -> bytes:
         return envelope(plaintext)
 
 

@@ -6,9 +6,9 @@ import argparse
 from _collections_abc import Collection, Iterable
 from argparse import Namespace
 
-from ansible_vault_companions import command_lines
-from ansible_vault_companions.secrets import options
-from ansible_vault_companions.secrets.labels import ANY_LABEL
+from ansible_vault_companions import program
+from ansible_vault_companions.passwords import options
+from ansible_vault_companions.passwords.sources import ANY_LABEL
 
 # The module `typing` takes long to import.
 TYPE_CHECKING = False
@@ -62,15 +62,15 @@ PASSED_ON: dict[str, tuple[tuple[str, ...], dict[str, Any]]] = {
 }
 
 
-def command_line(words: Collection[str] = tuple(COMMANDS)) -> command_lines.Parser:
+def command_line(words: Collection[str] = tuple(COMMANDS)) -> program.Parser:
     """The parser, with the options of the commands that are among the words."""
-    parser = command_lines.parser(NAME, SUMMARY, EXAMPLE, allow_abbrev=True)
+    parser = program.parser(NAME, SUMMARY, EXAMPLE, allow_abbrev=True)
     options.add_options(parser, before="before_")
     parser.add_argument("-v", "--verbose", action="count", help=argparse.SUPPRESS)
     commands = parser.add_subparsers(dest="command", metavar="COMMAND", title="commands")
     for name, text in COMMANDS.items():
         command = commands.add_parser(
-            name, help=text, description=text, formatter_class=command_lines.Formatter, add_help=False
+            name, help=text, description=text, formatter_class=program.Formatter, add_help=False
         )
         if name in words:
             _add_options(command, name)
@@ -90,7 +90,7 @@ def parsed(words: list[str]) -> Namespace:
 
 
 def _add_options(parser: argparse.ArgumentParser, command: str) -> None:
-    command_lines.add_common(parser, NAME)
+    program.add_common(parser, NAME)
     options.add_options(parser)
     parser.add_argument("-v", "--verbose", action="count", help=argparse.SUPPRESS)
     for option, (commands, settings) in PASSED_ON.items():

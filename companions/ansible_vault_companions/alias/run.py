@@ -4,12 +4,12 @@ from __future__ import annotations
 
 from argparse import Namespace
 
-from ansible_vault_companions import stopping
+from ansible_vault_companions import processes
 from ansible_vault_companions.alias.command_line import ENCRYPTING, NAME, REKEY, passed_on
+from ansible_vault_companions.passwords import options, prompts, sources
+from ansible_vault_companions.passwords.settings import Settings
+from ansible_vault_companions.passwords.sources import ASKED, NoTerminal, Password
 from ansible_vault_companions.program import Refused, shown
-from ansible_vault_companions.secrets import options, prompts, sources
-from ansible_vault_companions.secrets.settings import Settings
-from ansible_vault_companions.secrets.sources import ASKED, NoTerminal, Secret
 
 SEVERAL = "several secrets were given; choose one with --encrypt-vault-id"
 MATCH, ENCRYPT_ID = "--require-id-match", "--encrypt-vault-id"
@@ -29,14 +29,14 @@ class Run:
         self.requires_match = args.command not in ENCRYPTING and settings.requires_match()
         named = sources.named(args.vault_id, args.vault_password_file, settings)
         if not named or any(secret.is_active() for secret in named) or args.command == REKEY:
-            stopping.listen()
+            processes.listen()
         encrypts = args.command in ENCRYPTING
         any_label = getattr(args, "any_label", False)
         named = sources.load(NAME, named, settings, options.password, encrypts, any_label) or _typed(encrypts)
         self.new = self._new(named) if args.command == REKEY else []
         self.secrets = self._to_encrypt_with(named) if encrypts else [each for each in named if not each.is_left_out]
 
-    def _to_encrypt_with(self, named: list[Secret]) -> list[Secret]:
+    def _to_encrypt_with(self, named: list[Password]) -> list[Password]:
         """The secret that encrypts. It is chosen among all that are named, and refused if it was left out."""
         if self.label:
             [secret] = [secret for secret in named if secret.label == self.label][:1] or named[:1]
@@ -46,7 +46,7 @@ class Run:
             raise Refused(SEVERAL)
         return named
 
-    def _new(self, old: list[Secret]) -> list[Secret]:
+    def _new(self, old: list[Password]) -> list[Password]:
         """The new secrets of options, else the one of the settings with the label to encrypt with, else a typed one."""
         new = options.new_secrets(self.args)
         fitting = [secret for secret in new or old if secret.label == self.label and (new or secret.is_setting)]
@@ -74,7 +74,7 @@ class Run:
         ]
 
 
-def _typed(encrypts: bool, none: str = options.NONE) -> list[Secret]:
+def _typed(encrypts: bool, none: str = options.NONE) -> list[Password]:
     """Asks for a password where nothing names a secret. Raises Refused with the text `none` if there is no terminal."""
     [secret] = options.of_options([ASKED], [], encrypts)
     if isinstance(secret.fault, NoTerminal):

@@ -10,8 +10,8 @@ from ansible_vault_companions import program
 from ansible_vault_companions.alias.command_line import DECRYPT, ENCRYPT_STRING, NAME, STANDARD_INPUT, VIEW
 from ansible_vault_companions.alias.run import Run
 from ansible_vault_companions.files import reading, replacing
+from ansible_vault_companions.passwords import prompts
 from ansible_vault_companions.program import Refused, write_error
-from ansible_vault_companions.secrets import prompts
 from ansible_vault_companions.tool.tool import Tool
 
 STDIN_NAME, OUTPUT = "--stdin-name", "--output"

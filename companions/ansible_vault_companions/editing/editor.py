@@ -6,16 +6,16 @@ import argparse
 import os
 import shlex
 
-from ansible_vault_companions import program, running, stopping
+from ansible_vault_companions import processes, program
 from ansible_vault_companions.editing import copies
 from ansible_vault_companions.editing.drafts import Draft
 from ansible_vault_companions.editing.folder import PrivateFolder
 from ansible_vault_companions.envelopes.envelope import MAGIC
 from ansible_vault_companions.files import reading, replacing
 from ansible_vault_companions.git import facts
+from ansible_vault_companions.passwords import options, prompts
+from ansible_vault_companions.passwords.sources import ANY_LABEL
 from ansible_vault_companions.program import Refused, shown, write_error
-from ansible_vault_companions.secrets import options, prompts
-from ansible_vault_companions.secrets.labels import ANY_LABEL
 from ansible_vault_companions.tool.tool import Tool
 
 NAME = "ansible-vault-edit"
@@ -45,8 +45,8 @@ class Edit:
         try:
             # Without a shell between, signals reach the editor, unless its command needs one.
             command = editor if SHELL_WORDS.intersection(editor) else f"exec {editor}"
-            status = running.run_on_terminal(["sh", "-c", f'{command} "$@"', editor, path])
-        except stopping.Stopped:
+            status = processes.run_on_terminal(["sh", "-c", f'{command} "$@"', editor, path])
+        except processes.Stopped:
             # Keep the text that an earlier run of the editor saved.
             if self.text is None:
                 raise
@@ -76,7 +76,7 @@ class Edit:
             why = "; ".join(filter(None, [fault, program.reason(failed)])) or by_signal()
             raise self._rescued(text, why) from None
         try:
-            if fault or stopping.ending_signal():
+            if fault or processes.ending_signal():
                 raise Refused(fault or by_signal())
             if content != draft.content:
                 replacing.replace(draft.target, content, draft.content)
@@ -104,7 +104,7 @@ class Edit:
         try:
             return prompts.agrees(f"{shown(self.path)}: {why}. Open the editor again?")
         # A signal arrived, or the terminal is gone.
-        except (stopping.Stopped, Refused, OSError):
+        except (processes.Stopped, Refused, OSError):
             return False
 
     def _rescued(self, text: bytes, why: str) -> Refused:
@@ -128,7 +128,7 @@ class Edit:
 
 
 def by_signal() -> str:
-    return f"signal {stopping.ending_signal()} ended the edit"
+    return f"signal {processes.ending_signal()} ended the edit"
 
 
 def edited(tool: Tool, draft: Draft, path: str, args: argparse.Namespace, text: bytes | None = None) -> bytes | None:
@@ -138,8 +138,8 @@ def edited(tool: Tool, draft: Draft, path: str, args: argparse.Namespace, text: 
         folder.create(edit.name, draft.plaintext if text is None else text)
         while True:
             saved, fault = edit.run_editor()
-            with stopping.postponed():
-                if stopping.ending_signal():
+            with processes.postponed():
+                if processes.ending_signal():
                     fault = by_signal()
                 if fault:
                     fault += edit.keep_others(saved)
@@ -159,7 +159,7 @@ def set_value(tool: Tool, draft: Draft, path: str, args: argparse.Namespace, tex
     """Sets the value of a draft to standard input, or to `text` if given."""
     with PrivateFolder() as folder:
         new = _standard_input() if text is None else text
-        with stopping.postponed():
+        with processes.postponed():
             if not draft.is_as_it_was(new):
                 Edit(tool, draft, path, args, folder).put_back(new)
 

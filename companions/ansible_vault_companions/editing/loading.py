@@ -4,7 +4,7 @@ from __future__ import annotations
 
 import os
 
-from ansible_vault_companions import stopping
+from ansible_vault_companions import processes
 from ansible_vault_companions.editing import matching
 from ansible_vault_companions.editing.drafts import Draft, Vault
 from ansible_vault_companions.editing.matching import Choice
@@ -13,11 +13,9 @@ from ansible_vault_companions.envelopes import conflicts, document
 from ansible_vault_companions.envelopes.envelope import MAGIC
 from ansible_vault_companions.files import reading
 from ansible_vault_companions.merging import texts, unmerged
+from ansible_vault_companions.passwords.sources import NO_OPTION, Password
 from ansible_vault_companions.program import Refused, shown
-from ansible_vault_companions.secrets import labels
-from ansible_vault_companions.secrets.sources import Secret
-from ansible_vault_companions.tool.faults import NotDecrypted
-from ansible_vault_companions.tool.tool import Decrypt, Tool
+from ansible_vault_companions.tool.tool import Decrypt, NotDecrypted, Tool
 
 NO_VAULT = (
     "it is not a vault, and no value in it has the tag `!vault`; encrypt it with `ansible-vault-with encrypt`, or "
@@ -28,11 +26,11 @@ UNCLEAR = "it does not exist; choose the secret for a new vault with --encrypt-v
 TO_ADD = "; or, to add values without seeing the others, choose a secret for the new ones with --encrypt-vault-id"
 
 
-def load(tool: Tool, secrets: list[Secret], path: str, chosen: str | None, usual: str | None) -> Draft:
+def load(tool: Tool, secrets: list[Password], path: str, chosen: str | None, usual: str | None) -> Draft:
     """The draft for the file at a path. Refuses one whose text could not be encrypted again. The label that the user
     has chosen is also for the text of a conflict, and the usual one for new vaults and values alone."""
     target = os.path.realpath(path)
-    with stopping.interruptible():
+    with processes.interruptible():
         content = reading.read(target)
     choice = Choice(secrets, chosen or usual)
     if content is None:
@@ -61,7 +59,7 @@ def load(tool: Tool, secrets: list[Secret], path: str, chosen: str | None, usual
     return Vault(target, [(secret, label)], plaintext, envelope)
 
 
-def _new_key(choice: Choice) -> tuple[Secret, str]:
+def _new_key(choice: Choice) -> tuple[Password, str]:
     keys = choice.keys()
     if not keys:
         raise Refused(UNCLEAR if choice.label is None else NO_SUCH_LABEL)
@@ -90,10 +88,10 @@ def _yaml_file(decrypt: Decrypt, target: str, content: bytes, choice: Choice) ->
     return draft
 
 
-def require_label(secret: Secret, label: str, where: str = "") -> None:
+def require_label(secret: Password, label: str, where: str = "") -> None:
     """Refuses an envelope whose text may not be encrypted again with the secret that opens it, or under its label."""
     if "@" in label:
-        raise Refused(where + labels.NO_OPTION.format(label))
-    fault = labels.fault(secret, label)
+        raise Refused(where + NO_OPTION.format(label))
+    fault = secret.label_fault(label)
     if fault:
         raise Refused(where + fault)

@@ -11,9 +11,9 @@ from collections import Counter, defaultdict
 from typing import Callable, Iterable, Iterator, NamedTuple
 
 from ansible_vault_companions.envelopes.envelope import Path, Value
+from ansible_vault_companions.passwords import prompts
+from ansible_vault_companions.passwords.sources import Password
 from ansible_vault_companions.program import Refused, shown
-from ansible_vault_companions.secrets import prompts
-from ansible_vault_companions.secrets.sources import Secret
 from ansible_vault_companions.tool.tool import Key
 
 NEW = "is new; choose its secret with --encrypt-vault-id"
@@ -44,7 +44,7 @@ class Match(NamedTuple):
 class Choice(NamedTuple):
     """Chooses the secret for a new value."""
 
-    secrets: list[Secret]
+    secrets: list[Password]
     # The label from --encrypt-vault-id.
     label: str | None
 
@@ -58,7 +58,7 @@ class Choice(NamedTuple):
         prompts.confirm(fitting[0])
         return fitting[0], fitting[0].label
 
-    def _asked(self, value: Value, secrets: list[Secret]) -> list[Secret]:
+    def _asked(self, value: Value, secrets: list[Password]) -> list[Password]:
         """The secrets with the label that the user types. Refuses the value if there is nobody to ask."""
         labels = [*dict.fromkeys(secret.label for secret in secrets)]
         if len(labels) == 1 or not os.isatty(0):
@@ -72,7 +72,7 @@ class Choice(NamedTuple):
         is_clear = self.label is not None or len(fitting) == 1
         return [(fitting[0], fitting[0].label)] if fitting and is_clear else []
 
-    def _fitting(self) -> list[Secret]:
+    def _fitting(self) -> list[Password]:
         return [secret for secret in self.secrets if self.label in (None, secret.label)]
 
 

@@ -13,8 +13,8 @@ from ansible_vault_companions.envelopes import conflicts
 from ansible_vault_companions.envelopes.document import Document
 from ansible_vault_companions.envelopes.envelope import ALIAS, MAGIC, NO_SCALAR, PLAIN, TAGS, Path, Value
 from ansible_vault_companions.envelopes.scalars import BYTE_ORDER_MARK
+from ansible_vault_companions.passwords import prompts
 from ansible_vault_companions.program import Refused
-from ansible_vault_companions.secrets import prompts
 from ansible_vault_companions.tool.tool import Decrypt, Key, Tool
 
 # Bytes that are not UTF-8, as `surrogateescape` has them, and the null characters that UTF-16 leaves in a text.

@@ -14,14 +14,14 @@ from contextlib import suppress
 from dataclasses import dataclass, field
 from typing import BinaryIO, Iterable, Iterator
 
-from ansible_vault_companions import stopping
+from ansible_vault_companions import processes
 from ansible_vault_companions.envelopes import envelope
 from ansible_vault_companions.envelopes.changes import changed, replaced
 from ansible_vault_companions.envelopes.envelope import LOOSE, STRAY, WHOLE, WITH_DIGITS, Value
 from ansible_vault_companions.envelopes.scalars import BINARY, LONGEST, NotYaml, scalars
 from ansible_vault_companions.files.reading import CHUNK_SIZE, LIMIT, TooLong, Unsearched, opened, parts
-from ansible_vault_companions.files.reading import read as read_file
 from ansible_vault_companions.files.reading import whole
+from ansible_vault_companions.files.reading import read as read_file
 from ansible_vault_companions.program import Refused
 
 # A file with an envelope has one of these words, or spells it with escapes, which take no more than OVERLAP bytes.
@@ -105,7 +105,7 @@ def strays(data: bytes, values: list[Value]) -> Iterator[Value]:
     # Behind empty lines alone, Ansible reads neither a vault nor a value.
     first = len(data) - len(data.lstrip())
     for header in WITH_DIGITS.finditer(data):
-        stopping.check()
+        processes.check()
         number += data.count(b"\n", place, header.start())
         line_start = max(line_start, data.rfind(b"\n", place, header.start()) + 1)
         place = header.start()
@@ -144,16 +144,16 @@ def content(path: str) -> bytes:
     """The content of a file; empty if it has no envelopes. A signal ends the search."""
     with opened(path) as file:
         with suppress(TooLong):
-            data = whole(file, path, stopping.check, LONGEST)
+            data = whole(file, path, processes.check, LONGEST)
             return data if mentions(data) else b""
         # It is longer than YAML may be, and is not kept in memory while it is searched.
-        return whole(file, path, stopping.check) if _mentions(file, path) else b""
+        return whole(file, path, processes.check) if _mentions(file, path) else b""
 
 
 def _mentions(file: BinaryIO, path: str) -> bool:
     before = b""
     try:
-        for piece in parts(file, path, stopping.check):
+        for piece in parts(file, path, processes.check):
             if mentions(before[-OVERLAP:] + piece):
                 return True
             before = piece

@@ -11,7 +11,7 @@ import re
 from functools import lru_cache
 from typing import Any, Iterator, Union
 
-from ansible_vault_companions import stopping
+from ansible_vault_companions import processes
 from ansible_vault_companions.envelopes import envelope
 from ansible_vault_companions.envelopes.envelope import ALIAS, FOLDED, JSON_KEY, LITERAL, NO_SCALAR, PLAIN, TAGS, Path
 from ansible_vault_companions.envelopes.envelope import Value
@@ -102,7 +102,7 @@ def _nodes(yaml: Any, text: _Shadow) -> Iterator[tuple[Steps, bool, Any]]:
     starts, ends = (mapping, yaml.SequenceStartEvent), (yaml.MappingEndEvent, yaml.SequenceEndEvent)
     nodes = (scalar, yaml.AliasEvent, *starts)
     for event in yaml.parse(text, getattr(yaml, "CSafeLoader", yaml.SafeLoader)):
-        stopping.check()
+        processes.check()
         kind = type(event)
         if kind in ends:
             steps.pop()

@@ -7,7 +7,7 @@ import os
 import stat
 from typing import BinaryIO, Callable, Iterator
 
-from ansible_vault_companions import stopping
+from ansible_vault_companions import processes
 from ansible_vault_companions.program import Refused
 
 # Bytes to read at once, since a file may be huge. Some files in /proc refuse reads of an odd size.
@@ -41,7 +41,7 @@ def read(path: str) -> bytes | None:
 
 def named(path: str) -> bytes:
     """The content of a file that must exist. A signal ends the reading at once."""
-    with stopping.interruptible():
+    with processes.interruptible():
         content = read(path)
     if content is None:
         raise FileNotFoundError(errno.ENOENT, os.strerror(errno.ENOENT), path)
@@ -50,14 +50,14 @@ def named(path: str) -> bytes:
 
 def input_of(file: str | int) -> bytes:
     """The whole of an input such as standard input, or a bit more than any vault has. A signal ends the wait for it."""
-    with stopping.interruptible(), open(file, "rb", closefd=file != 0) as opened_file:
+    with processes.interruptible(), open(file, "rb", closefd=file != 0) as opened_file:
         return opened_file.read(LIMIT + 1)
 
 
 def pieces(path: str) -> Iterator[bytes]:
     """Yields the content of a file, up to its stated size if that exceeds LIMIT. A signal ends the reading."""
     with opened(path) as file:
-        yield from parts(file, path, stopping.check, max(LIMIT, os.fstat(file.fileno()).st_size))
+        yield from parts(file, path, processes.check, max(LIMIT, os.fstat(file.fileno()).st_size))
 
 
 def whole(file: BinaryIO, path: str, check: Check = lambda: None, limit: int = LIMIT) -> bytes:

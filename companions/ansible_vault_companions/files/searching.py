@@ -9,7 +9,7 @@ import stat
 from fnmatch import fnmatchcase
 from typing import Callable, Collection, Iterator
 
-from ansible_vault_companions import stopping
+from ansible_vault_companions import processes
 from ansible_vault_companions.program import Refused
 
 def add_options(parser: argparse.ArgumentParser) -> None:
@@ -27,7 +27,7 @@ def files_below(
     files: dict[str, list[str]] = {}
     for path in paths:
         for file, is_named in _candidates(path, refuse, excluded):
-            stopping.check()
+            processes.check()
             try:
                 is_file = stat.S_ISREG(os.stat(file).st_mode)
             except OSError as fault:
@@ -55,7 +55,7 @@ def _candidates(
             yield path, True
         return
     for folder, folders, names in os.walk(path, onerror=lambda fault: refuse(fault.filename, fault)):
-        stopping.check()
+        processes.check()
         below = os.path.relpath(folder, path)
         paths = {name: os.path.normpath(os.path.join(below, name)) for name in [*folders, *names]}
         left = {name for name, each in paths.items() if not _is_excluded(each, excluded)}

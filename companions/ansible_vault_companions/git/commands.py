@@ -6,7 +6,7 @@ import os
 import subprocess
 from typing import Any
 
-from ansible_vault_companions import running
+from ansible_vault_companions import processes
 from ansible_vault_companions.program import Refused, write_error
 
 # A stranger's repository has its own settings, hooks and attributes, which name programs. git would start the program
@@ -38,9 +38,8 @@ def run(
     *words: str, data: bytes = b"", index: str | None = None, **options: Any
 ) -> subprocess.CompletedProcess[bytes]:
     """Runs a git command to its end, whatever its status."""
-    pipes = {"stdin": subprocess.PIPE, "stdout": subprocess.PIPE}
     try:
-        return running.run(command(words), data, env=environment(index), **pipes, **options)
+        return processes.run(command(words), data, env=environment(index), **options)
     except FileNotFoundError:
         raise Refused("git is not installed; install it") from None
 

@@ -9,11 +9,9 @@ from ansible_vault_companions import parallel
 from ansible_vault_companions.envelopes import envelope
 from ansible_vault_companions.envelopes.envelope import Value
 from ansible_vault_companions.merging.lines import BASE, OURS, SIDES, THEIRS
+from ansible_vault_companions.passwords.sources import Password
 from ansible_vault_companions.program import Refused
-from ansible_vault_companions.secrets import labels
-from ansible_vault_companions.secrets.sources import Secret
-from ansible_vault_companions.tool.faults import SecretRefused
-from ansible_vault_companions.tool.tool import Decrypt, Key, Tool
+from ansible_vault_companions.tool.tool import Decrypt, Key, PasswordRefused, Tool
 
 NOT_ENCRYPTED = "the new vault does not decrypt to the text that was encrypted; run the merge again"
 
@@ -22,7 +20,7 @@ class Opened(NamedTuple):
     """An envelope that a secret opens."""
 
     envelope: bytes
-    secret: Secret
+    secret: Password
     label: str
     text: bytes
 
@@ -46,7 +44,7 @@ def opened(decrypt: Decrypt, vault: bytes) -> Opened:
 def permitted(decrypt: Decrypt, vault: bytes) -> Opened:
     """Refuses an envelope whose label does not allow the secret that opens it to encrypt the text again."""
     known = opened(decrypt, vault)
-    fault = labels.fault(*known.key)
+    fault = known.secret.label_fault(known.label)
     if fault:
         raise Refused(fault)
     return known
@@ -139,7 +137,7 @@ class Choices:
         def opened(text: bytes) -> Opened | None:
             try:
                 return permitted(decrypt, text)
-            except SecretRefused:
+            except PasswordRefused:
                 raise
             except Refused:
                 return None

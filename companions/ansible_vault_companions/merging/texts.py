@@ -13,8 +13,7 @@ from ansible_vault_companions.merging.keys import Opened
 from ansible_vault_companions.merging.lines import Lines, Merged, Versions, merged_lines
 from ansible_vault_companions.merging.values import Values
 from ansible_vault_companions.program import Refused, shown
-from ansible_vault_companions.tool.faults import NotDecrypted
-from ansible_vault_companions.tool.tool import Decrypt, Key, Tool
+from ansible_vault_companions.tool.tool import Decrypt, Key, NotDecrypted, Tool
 
 NOT_MERGED = "not merged, so both sides are whole in the file: {}"
 KINDS_DIFFER = "one side is a vault and the other is not"

@@ -10,20 +10,19 @@ from ansible_vault_companions.envelopes.document import Document
 from ansible_vault_companions.envelopes.envelope import Value
 from ansible_vault_companions.files.reading import Unsearched
 from ansible_vault_companions.git import marked
+from ansible_vault_companions.passwords.sources import Password
 from ansible_vault_companions.plaintext import opening
 from ansible_vault_companions.plaintext.reports import Report
 from ansible_vault_companions.program import Refused, shown
-from ansible_vault_companions.secrets import labels
-from ansible_vault_companions.secrets.sources import Secret
-from ansible_vault_companions.tool.remembering import RememberingTool
+from ansible_vault_companions.tool.tool import Tool
 
 
 @dataclass
 class Check:
     """Checks files with these secrets."""
 
-    tool: RememberingTool
-    secrets: list[Secret]
+    tool: Tool
+    secrets: list[Password]
     # Only envelopes with these labels are decrypted; if the list is empty, all are.
     labels: list[str]
     # Decrypts the envelopes of all files.
@@ -80,8 +79,8 @@ class Check:
             self._plaintext(where, what, value, *opened, report)
         return report if opened else Report()
 
-    def _plaintext(self, where: str, what: str, value: Value, secret: Secret, plaintext: bytes, report: Report) -> None:
-        why = labels.fault(secret, value.label)
+    def _plaintext(self, where: str, what: str, value: Value, secret: Password, plaintext: bytes, report: Report) -> None:
+        why = secret.label_fault(value.label)
         if why:
             report.faults.append(f"{what}: {why}")
         else:

@@ -4,10 +4,9 @@ from __future__ import annotations
 
 from ansible_vault_companions.envelopes.document import Document
 from ansible_vault_companions.envelopes.envelope import WHOLE, Value
+from ansible_vault_companions.passwords.sources import Password
 from ansible_vault_companions.program import Refused
-from ansible_vault_companions.secrets.sources import Secret
-from ansible_vault_companions.tool.faults import NotDecrypted
-from ansible_vault_companions.tool.tool import Tool
+from ansible_vault_companions.tool.tool import NotDecrypted, Tool
 
 WITHIN_VAULT = "its plaintext is itself a vault, which ansible-vault does not encrypt; decrypt it first"
 
@@ -17,7 +16,7 @@ def envelopes(document: Document) -> dict[int, Value]:
     return {n: value for n, value in enumerate(document.values) if value.style == WHOLE or value.is_envelope}
 
 
-def opened(tool: Tool, value: Value, secrets: list[Secret], is_prose: bool) -> tuple[Secret, bytes] | None:
+def opened(tool: Tool, value: Value, secrets: list[Password], is_prose: bool) -> tuple[Password, bytes] | None:
     """The secret that decrypts an envelope, and the plaintext. None if it is an example: in prose, one that is damaged
     or that no secret decrypts."""
     try:

@@ -11,12 +11,11 @@ from ansible_vault_companions.envelopes import document
 from ansible_vault_companions.envelopes.document import Document
 from ansible_vault_companions.envelopes.envelope import Value
 from ansible_vault_companions.files import replacing
+from ansible_vault_companions.passwords.sources import Password
 from ansible_vault_companions.plaintext import opening
 from ansible_vault_companions.plaintext.reports import Report
 from ansible_vault_companions.program import Refused, shown
-from ansible_vault_companions.secrets import labels
-from ansible_vault_companions.secrets.sources import Secret
-from ansible_vault_companions.tool.remembering import RememberingTool
+from ansible_vault_companions.tool.tool import Tool
 
 # What is counted: envelopes that get a new secret, those of them in a plaintext, and those that have it already.
 CHANGED, WITHIN, HAD_IT = "changed", "within", "had it"
@@ -30,9 +29,9 @@ OUTSIDE = "it points to {}, outside the paths you named; name that file to rotat
 class Rotation:
     """Rotates files with these secrets."""
 
-    tool: RememberingTool
-    old: list[Secret]
-    new: dict[str, Secret]
+    tool: Tool
+    old: list[Password]
+    new: dict[str, Password]
     # The real paths of the files and directories that the user named.
     places: list[str]
     is_dry: bool
@@ -109,7 +108,7 @@ class Rotation:
             report.labels.clear()
             return None
         secret, plaintext = opened
-        fault = labels.fault(secret, label)
+        fault = secret.label_fault(label)
         if fault:
             raise Refused(fault)
         after = self._within(plaintext, where, report)
@@ -137,7 +136,7 @@ class Rotation:
         report.counts[WITHIN] += report.counts[CHANGED] - before
         return after
 
-    def _encrypted(self, envelope: bytes, plaintext: bytes, secret: Secret, label: str) -> bytes:
+    def _encrypted(self, envelope: bytes, plaintext: bytes, secret: Password, label: str) -> bytes:
         return DRY if self.is_dry else self.tool.encrypt_again(envelope, plaintext, secret, label)
 
     def _report_changes(self, path: str, found: Document, report: Report) -> None:

@@ -2,12 +2,12 @@
 
 from __future__ import annotations
 
+import _signal  # type: ignore
 import os
-from _collections_abc import Iterable, Iterator
+from collections.abc import Iterable, Iterator
 
-from ansible_vault_companions import stopping
+from ansible_vault_companions.passwords.sources import Password
 from ansible_vault_companions.program import Refused
-from ansible_vault_companions.secrets.sources import Secret
 
 NAME = "ansible-vault"
 
@@ -25,12 +25,14 @@ def beside(companion: str, name: str) -> str | None:
     return _program(_folders(companion), name, companion)
 
 
-def take_over(path: str, words: list[str], secrets: list[Secret]) -> int:
+def take_over(path: str, words: list[str], secrets: list[Password]) -> int:
     """Replaces this process with the tool, which inherits its streams. Does not return."""
     for secret in secrets:
         if secret.descriptor is not None:
             os.set_inheritable(secret.descriptor, True)
-    stopping.restore()
+    # Python ignores these, and the program would inherit that.
+    for number in (_signal.SIGPIPE, _signal.SIGXFSZ):
+        _signal.signal(number, _signal.SIG_DFL)
     os.execv(path, [path, *words])
 
 

@@ -3,81 +3,138 @@
 from __future__ import annotations
 
 import re
+import threading
+from concurrent.futures import Future
 from contextlib import suppress
-from subprocess import DEVNULL, PIPE
-from typing import Callable
+from typing import Callable, Hashable
 
-from ansible_vault_companions import running
+from ansible_vault_companions import processes
 from ansible_vault_companions.envelopes.envelope import label_of, written_label
+from ansible_vault_companions.passwords import sources
+from ansible_vault_companions.passwords.sources import Password
 from ansible_vault_companions.program import Refused, shown
-from ansible_vault_companions.secrets import labels
-from ansible_vault_companions.secrets.sources import Secret
-from ansible_vault_companions.tool import faults, finding
-from ansible_vault_companions.tool.faults import NOT_DECRYPTED, NotDecrypted, NotVault, SecretRefused
+from ansible_vault_companions.tool import finding
 
-# A secret, and the label that the envelope gets.
-Key = tuple[Secret, str]
-# Decrypts an envelope, and also returns the secret that worked.
-Decrypt = Callable[[bytes], tuple[Secret, bytes]]
+# A password, and the label that the envelope gets.
+Key = tuple[Password, str]
+# Decrypts an envelope, and also returns the password that worked.
+Decrypt = Callable[[bytes], tuple[Password, bytes]]
+NOT_DECRYPTED = "no secret decrypts this vault"
+# The beginning of an error message.
+ERROR = "ERROR! "
+# Limits the total size, in bytes, of remembered envelopes and texts, since there may be any number of files.
+MOST_REMEMBERED = 1 << 26
+
+
+class PasswordRefused(Refused):
+    """The tool refuses a password, whatever the input."""
+
+
+class NotDecrypted(Refused):
+    """No password decrypts a vault."""
+
+
+class NotVault(Refused):
+    """The input is not a vault. The tool checks passwords first, so it has accepted them."""
+
+
+# The exceptions for error messages, which say more than the status.
+KINDS: dict[str, type[Refused]] = {
+    NOT_DECRYPTED: NotDecrypted,
+    "input is not vault encrypted data": NotVault,
+    "a password file is longer than 4096 bytes": PasswordRefused,
+    "a password file is a script": PasswordRefused,
+    "a password file is itself a vault": PasswordRefused,
+    "a password is empty": PasswordRefused,
+    "a vault id label is not allowed": PasswordRefused,
+    "asking for a password is not supported": PasswordRefused,
+    "a password file cannot be read": PasswordRefused,
+    "a password file cannot be opened": PasswordRefused,
+}
 
 
 class Tool:
-    """The ansible-vault beside a companion, otherwise the one on PATH."""
+    """The ansible-vault beside a companion, otherwise the one on PATH. Each run derives a key, and the same envelope may
+    occur more than once, so results are remembered, including refusals."""
 
     def __init__(self, companion: str) -> None:
         self.path = finding.path_for(companion)
-        if not _says_its_name(self.path):
+        if re.match(rb"ansible-vault \d", processes.run([self.path, "--version"]).stdout) is None:
             why = "is not the ansible-vault that the companions need; put the right one beside them or on PATH"
             raise Refused(f"{self.path} {why}")
+        self.lock = threading.Lock()
+        self.results: dict[Hashable, Future[bytes]] = {}
+        self.room = MOST_REMEMBERED
 
-    def run(self, words: list[str], data: bytes, secrets: list[Secret]) -> bytes:
+    def run(self, words: list[str], data: bytes, secrets: list[Password]) -> bytes:
         """The tool's output. Raises Refused with the tool's message if it fails."""
         kept = [secret.descriptor for secret in secrets if secret.descriptor is not None]
-        done = running.run([self.path, *words], data, pass_fds=kept, stdin=PIPE, stdout=PIPE, stderr=PIPE)
+        done = processes.run([self.path, *words], data, pass_fds=kept)
         if done.returncode < 0:
             raise Refused(f"signal {-done.returncode} ended {finding.NAME}; run this again")
         if done.returncode > 0:
-            raise faults.refused(done.returncode, done.stderr)
+            text = done.stderr.decode(errors="replace").strip().removeprefix(ERROR)
+            fault = text or f"ansible-vault ended with status {done.returncode}"
+            raise KINDS.get(text, Refused)(fault, done.returncode)
         return done.stdout
 
-    def view(self, envelope: bytes, secret: Secret) -> bytes:
-        """The plaintext, decrypted with this secret."""
+    def view(self, envelope: bytes, secret: Password) -> bytes:
+        """The plaintext, decrypted with this password, once for the same envelope."""
+        return self.once((envelope, secret), len(envelope), lambda: self._view(envelope, secret))
+
+    def _view(self, envelope: bytes, secret: Password) -> bytes:
         if secret.fault:
-            raise SecretRefused(f"{shown(secret.given)}: {secret.fault}")
+            raise PasswordRefused(f"{shown(secret.given)}: {secret.fault}")
         try:
             return self.run(["view", secret.option()], envelope, [secret])
-        except SecretRefused as fault:
-            raise SecretRefused(f"{shown(secret.given)}: {fault}", fault.status) from None
+        except PasswordRefused as fault:
+            raise PasswordRefused(f"{shown(secret.given)}: {fault}", fault.status) from None
 
-    def accept(self, secrets: list[Secret]) -> None:
-        """Refuses a secret that the tool refuses. An empty input makes the tool check the secret alone."""
+    def accept(self, secrets: list[Password]) -> None:
+        """Refuses a password that the tool refuses. An empty input makes the tool check the password alone."""
         for secret in secrets:
             if secret.is_left_out:
                 continue
             try:
                 with suppress(NotVault):
                     self.view(b"", secret)
-            except SecretRefused:
+            except PasswordRefused:
                 raise
             except Refused as fault:
                 raise Refused(f"{shown(secret.given)}: {fault}", fault.status) from None
 
-    def decrypt(self, envelope: bytes, secrets: list[Secret]) -> tuple[Secret, bytes]:
-        """The secret that decrypts the envelope, and the plaintext. Tries secrets one at a time, those with its label
-        first, so it is certain which one worked. `labels.fault` says whether the label allows that secret."""
-        tried = labels.in_order(secrets, label_of(envelope))
+    def decrypt(self, envelope: bytes, secrets: list[Password]) -> tuple[Password, bytes]:
+        """The password that decrypts the envelope, and the plaintext. Tries passwords one at a time, those with its
+        label first, so it is certain which one worked. `label_fault` says whether the label allows that password."""
+        tried = sources.in_order(secrets, label_of(envelope))
         for secret in tried:
             with suppress(NotDecrypted):
                 plaintext = self.view(envelope, secret)
                 secret.is_certain = True
                 return secret, plaintext
-        raise NotDecrypted(f"{NOT_DECRYPTED} {labels.tried(written_label(envelope), tried)}")
+        raise NotDecrypted(f"{NOT_DECRYPTED} {sources.tried(written_label(envelope), tried)}")
 
-    def encrypt(self, plaintext: bytes, secret: Secret, label: str) -> bytes:
-        """The plaintext, encrypted with a secret and labeled with this label."""
+    def encrypt(self, plaintext: bytes, secret: Password, label: str) -> bytes:
+        """The plaintext, encrypted with a password and labeled with this label."""
         return self.run(["encrypt", secret.option(label=label)], plaintext, [secret])
 
+    def encrypt_again(self, envelope: bytes, plaintext: bytes, secret: Password, label: str) -> bytes:
+        """Encrypts the plaintext to replace an envelope. Identical envelopes get the same replacement, so that copies
+        stay copies. Different envelopes with the same plaintext get different ones."""
+        size = len(envelope) + len(plaintext)
+        return self.once((envelope, plaintext, secret, label), size, lambda: self.encrypt(plaintext, secret, label))
 
-def _says_its_name(path: str) -> bool:
-    done = running.run([path, "--version"], stdin=DEVNULL, stdout=PIPE, stderr=DEVNULL)
-    return re.match(rb"ansible-vault \d", done.stdout) is not None
+    def once(self, what: Hashable, size: int, make: Callable[[], bytes]) -> bytes:
+        """Calls `make`, or returns the remembered result of an equal call. Waits for one that is still running."""
+        with self.lock:
+            is_first = what not in self.results
+            result = self.results.get(what) or Future()
+            if is_first and size <= self.room:
+                self.room -= size
+                self.results[what] = result
+        if is_first:
+            try:
+                result.set_result(make())
+            except BaseException as fault:
+                result.set_exception(fault)
+        return result.result()

@@ -3,12 +3,13 @@
 from __future__ import annotations
 
 import os
+import shlex
 import stat
-from _collections_abc import Callable, Iterable, Iterator
+from collections.abc import Callable, Iterable, Iterator
 
-from ansible_vault_companions import stopping
+from ansible_vault_companions import processes
+from ansible_vault_companions.passwords.settings import ASK, PROMPT, Settings, expanded
 from ansible_vault_companions.program import Refused, shown, write_error
-from ansible_vault_companions.secrets.settings import ASK, PROMPT, Settings, expanded
 
 # The maximum length of a password file, in bytes.
 LIMIT = 4096
@@ -17,6 +18,8 @@ READ_AT_MOST = LIMIT + 1
 DEFAULT = "default"
 # The most secrets that the tool takes.
 MOST = 16
+ANY_LABEL = "--any-label"
+NO_OPTION = "its label {} has an @, so no option can name it; change it in its first line"
 BY_PATH = "--vault-password-file"
 # The options that ask for a password without a label, and the word for them in place of [LABEL@]FILE.
 ASKING = ("-J", "--ask-vault-password", "--ask-vault-pass")
@@ -29,7 +32,7 @@ class NoTerminal(Refused):
     """There is no terminal to ask for a password."""
 
 
-class Secret:
+class Password:
     """A password, with its label and where it comes from."""
 
     def __init__(self, label: str, place: str, given: str, is_prompt: bool = False, is_path: bool = False) -> None:
@@ -83,7 +86,7 @@ class Secret:
         """The password, stripped as the tool strips it."""
         return None if self.descriptor is None else os.pread(self.descriptor, READ_AT_MOST, 0).strip()
 
-    def is_same(self, other: Secret) -> bool:
+    def is_same(self, other: Password) -> bool:
         """Whether both have the same password."""
         return self.password() == other.password()
 
@@ -98,6 +101,26 @@ class Secret:
         if self.is_left_out:
             raise Refused(f"{shown(self.given)}: {self.why_missing()}, and no other secret encrypts in its place")
 
+    def label_fault(self, label: str | None) -> str:
+        """Says why it may not encrypt again what it decrypts under this label; empty if it may. No label counts as
+        `default`.
+
+        A label is a hint, not a proof: anybody can change it, or copy the envelope, without a password. So if several
+        passwords are given, all are tried, but only one with the envelope's label may encrypt the text again, or the
+        text would get the password that belongs to another label. With one password, no other can be meant."""
+        label = label or DEFAULT
+        if self.label == label or self.serves_any_label:
+            return ""
+        other, meant = shown(self.label), shown(label)
+        *mends, last = [f"write {other} as the label in its first line", f"permit it with {ANY_LABEL} when you change it"]
+        if "@" not in label:
+            option = shlex.quote(shown(f"{label}@{PROMPT if self.is_prompt else self.place}"))
+            mends, last = [*mends, last], f"if that secret also belongs to {meant}, name it with --vault-id {option}"
+        return (
+            f"its label is {meant}, but {shown(self.given)}, a secret with the label {other}, decrypts it; find out who "
+            f"changed the label or copied the text here; then {', '.join(mends)}, or {last}"
+        )
+
     def is_plain(self) -> bool:
         """Whether the tool is certain to accept the password and the label."""
         letters = self.label.replace("_", "").replace("-", "")
@@ -108,10 +131,10 @@ class Secret:
 
 
 # Gets a password; the second argument says whether it is for encrypting.
-Password = Callable[[Secret, bool], bytes]
+Source = Callable[[Password, bool], bytes]
 
 
-def named(ids: list[str], paths: list[str], settings: Settings) -> list[Secret]:
+def named(ids: list[str], paths: list[str], settings: Settings) -> list[Password]:
     """All secrets that are named, in Ansible's order, without their passwords."""
     password_file = settings.password_file()
     asked = [ASKED] if ASKED in ids or settings.asks() else []
@@ -128,8 +151,8 @@ def named(ids: list[str], paths: list[str], settings: Settings) -> list[Secret]:
 
 
 def load(
-    companion: str, secrets: list[Secret], settings: Settings, password: Password, encrypts: bool, any_label: bool
-) -> list[Secret]:
+    companion: str, secrets: list[Password], settings: Settings, password: Source, encrypts: bool, any_label: bool
+) -> list[Password]:
     """The same secrets, with their passwords. Leaves out those from the settings that cannot be obtained, if any other
     is left. They stay in the list, since the secret to encrypt with is chosen among all that are named."""
     obtain(secrets, encrypts, password)
@@ -144,33 +167,33 @@ def load(
     return secrets
 
 
-def _may_be_left_out(secret: Secret) -> bool:
+def _may_be_left_out(secret: Password) -> bool:
     """Whether it is a secret from the settings that cannot be obtained. As with Ansible, a mistyped password still ends
     the run."""
     is_missing = secret.is_setting and bool(secret.why_missing())
     return is_missing and (not secret.is_prompt or isinstance(secret.fault, NoTerminal))
 
 
-def _by_setting(found: Iterable[Secret]) -> Iterator[Secret]:
+def _by_setting(found: Iterable[Password]) -> Iterator[Password]:
     for secret in found:
         secret.is_setting = True
         yield secret
 
 
-def of_id(text: str) -> Secret:
+def of_id(text: str) -> Password:
     label, at, place = text.partition("@")
     if not at:
         label, place = "", text
     if place in (PROMPT, ASK):
-        return Secret(label, place, ASKING[1] if text == ASKED else text, is_prompt=True)
-    return Secret(label, expanded(place), text)
+        return Password(label, place, ASKING[1] if text == ASKED else text, is_prompt=True)
+    return Password(label, expanded(place), text)
 
 
-def of_path(path: str) -> Secret:
-    return Secret(DEFAULT, expanded(path), path, is_path=True)
+def of_path(path: str) -> Password:
+    return Password(DEFAULT, expanded(path), path, is_path=True)
 
 
-def obtain(secrets: list[Secret], encrypts: bool, password: Password) -> None:
+def obtain(secrets: list[Password], encrypts: bool, password: Source) -> None:
     """Reads the passwords, and keeps them in memory for all runs of the tool: a file such as `<(..)` can be read only
     once, or may be gone before the last run. If one cannot be read, the tool will report that."""
     for secret in secrets:
@@ -187,11 +210,26 @@ def obtain(secrets: list[Secret], encrypts: bool, password: Password) -> None:
             secret.path = f"/dev/fd/{secret.descriptor}"
 
 
-def password_of_file(secret: Secret, encrypts: bool) -> bytes:
+def password_of_file(secret: Password, encrypts: bool) -> bytes:
     """The password of a secret that is not active."""
     if os.path.isfile(secret.place):
         with open(secret.place, "rb") as file:
             return file.read(READ_AT_MOST)
     # A pipe may block until something is written to it.
-    with stopping.interruptible(), open(secret.place, "rb") as file:
+    with processes.interruptible(), open(secret.place, "rb") as file:
         return file.read(READ_AT_MOST)
+
+
+def in_order(secrets: list[Password], label: str | None) -> list[Password]:
+    """The secrets that may be tried on an envelope with this label. Those with the same label come first."""
+    fitting = [secret for secret in secrets if secret.label == label or not secret.requires_match]
+    return sorted((secret for secret in fitting if not secret.is_left_out), key=lambda secret: secret.label != label)
+
+
+def tried(label: str | None, secrets: list[Password]) -> str:
+    """For a message: which of these secrets were tried on an envelope that none decrypts, and what to do."""
+    names = ", ".join(shown(secret.given) for secret in secrets) or "none: no secret has its label"
+    has = f"label {shown(label)}" if label else "no label"
+    if label and "@" in label:
+        return f"({has}; tried {names}): {NO_OPTION.format(shown(label))}"
+    return f"({has}; tried {names}): name its secret with --vault-id {shlex.quote(shown(label or DEFAULT))}@FILE"

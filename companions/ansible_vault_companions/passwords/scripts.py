@@ -3,10 +3,13 @@
 from __future__ import annotations
 
 import os
-import subprocess
 
-from ansible_vault_companions import running
+from ansible_vault_companions import processes
 from ansible_vault_companions.program import Refused, reason, shown
+
+TYPE_CHECKING = False
+if TYPE_CHECKING:
+    from subprocess import CompletedProcess
 
 # A script gets the label if its name, without the suffix, ends with this.
 CLIENT = "-client"
@@ -20,9 +23,9 @@ def password(path: str, label: str) -> bytes:
     words = [os.path.abspath(path), *(["--vault-id", label] if is_client and label else [])]
     # A script may ask at the terminal through its standard streams, but must not read the companion's input. Messages
     # of a client are shown only if it fails.
-    stdin = None if os.isatty(0) else subprocess.DEVNULL
+    streams = {**({"stdin": None} if os.isatty(0) else {}), **({} if is_client else {"stderr": None})}
     try:
-        done = running.run(words, stdin=stdin, stdout=subprocess.PIPE, stderr=subprocess.PIPE if is_client else None)
+        done = processes.run(words, **streams)
     except OSError as fault:
         raise Refused(f"this script cannot be run: {reason(fault)}; if it is not a script, `chmod -x` it") from None
     if done.returncode != 0:
@@ -30,7 +33,7 @@ def password(path: str, label: str) -> bytes:
     return _whole(done.stdout.strip(b"\r\n"))
 
 
-def _failure(done: subprocess.CompletedProcess[bytes], is_client: bool) -> str:
+def _failure(done: CompletedProcess[bytes], is_client: bool) -> str:
     if done.returncode < 0:
         why = f"signal {-done.returncode} ended this script"
     elif is_client and done.returncode == UNKNOWN_LABEL:

@@ -5,10 +5,10 @@ from __future__ import annotations
 import argparse
 from _collections_abc import Callable
 
+from ansible_vault_companions.passwords import prompts, scripts, sources
+from ansible_vault_companions.passwords.settings import Settings
+from ansible_vault_companions.passwords.sources import ANY_LABEL, ASKED, ASKING, READ_AT_MOST, Password
 from ansible_vault_companions.program import write_error
-from ansible_vault_companions.secrets import labels, prompts, sources
-from ansible_vault_companions.secrets.settings import Settings
-from ansible_vault_companions.secrets.sources import ASKED, ASKING, READ_AT_MOST, Secret
 
 NONE = (
     "no secret is given: name one with --vault-id or --vault-password-file, in ANSIBLE_VAULT_PASSWORD_FILE or "
@@ -46,11 +46,11 @@ def add_options(parser: argparse.ArgumentParser, new: str = "", before: str = ""
 
 def add_any_label(parser: argparse.ArgumentParser) -> None:
     parser.add_argument(
-        labels.ANY_LABEL, action="store_true", help="a secret may encrypt what it decrypts under another label"
+        ANY_LABEL, action="store_true", help="a secret may encrypt what it decrypts under another label"
     )
 
 
-def from_options(parser: argparse.ArgumentParser, args: argparse.Namespace, encrypts: bool = False) -> list[Secret]:
+def from_options(parser: argparse.ArgumentParser, args: argparse.Namespace, encrypts: bool = False) -> list[Password]:
     """The secrets from a command line and from the settings, in Ansible's order. To encrypt, the user has to type each
     password twice."""
     settings = settings_beside(args, lambda text: write_error(f"{parser.prog}: {text}"))
@@ -60,24 +60,21 @@ def from_options(parser: argparse.ArgumentParser, args: argparse.Namespace, encr
     return sources.load(parser.prog, named, settings, password, encrypts, args.any_label)
 
 
-def new_secrets(args: argparse.Namespace) -> list[Secret]:
+def new_secrets(args: argparse.Namespace) -> list[Password]:
     """The new secrets from a command line."""
     return of_options(args.new_vault_id, args.new_vault_password_file, encrypts=True)
 
 
-def password(secret: Secret, encrypts: bool) -> bytes:
+def password(secret: Password, encrypts: bool) -> bytes:
     """The password from a prompt, a script or a file. To encrypt, the user has to type it twice."""
     if secret.is_prompt:
         return prompts.password(secret.place, secret.label, encrypts)
     if secret.is_script():
-        # Imported here, since most runs of ansible-vault-with start no program.
-        from ansible_vault_companions.secrets import scripts
-
         return scripts.password(secret.place, secret.given_label)[:READ_AT_MOST]
     return sources.password_of_file(secret, encrypts)
 
 
-def of_options(ids: list[str], paths: list[str], encrypts: bool = False) -> list[Secret]:
+def of_options(ids: list[str], paths: list[str], encrypts: bool = False) -> list[Password]:
     secrets = [*map(sources.of_id, ids), *map(sources.of_path, paths)]
     sources.obtain(secrets, encrypts, password)
     return secrets

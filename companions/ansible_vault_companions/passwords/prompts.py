@@ -8,10 +8,10 @@ from _collections_abc import Iterator
 from contextlib import contextmanager
 from io import FileIO
 
-from ansible_vault_companions import stopping
+from ansible_vault_companions import processes
+from ansible_vault_companions.passwords.settings import ASK, PROMPT
+from ansible_vault_companions.passwords.sources import NoTerminal, Password
 from ansible_vault_companions.program import Refused, shown
-from ansible_vault_companions.secrets.settings import ASK, PROMPT
-from ansible_vault_companions.secrets.sources import NoTerminal, Secret
 
 TERMINAL = "/dev/tty"
 DIFFER = "the two passwords differ; try again"
@@ -34,7 +34,7 @@ def password(kind: str, label: str, encrypts: bool) -> bytes:
     return typed[0]
 
 
-def confirm(secret: Secret) -> None:
+def confirm(secret: Password) -> None:
     """Asks again for a password before it encrypts, if it was typed once and has decrypted nothing: after a typing
     mistake, nobody could read the vault."""
     if secret.is_prompt and not secret.is_certain:
@@ -54,7 +54,7 @@ def string(is_hidden: bool) -> bytes:
 def line(question: str) -> bytes:
     """A line that the user types. It is shown."""
     _require_terminal()
-    with stopping.interruptible(), open(TERMINAL, "r+b", buffering=0) as terminal:
+    with processes.interruptible(), open(TERMINAL, "r+b", buffering=0) as terminal:
         terminal.write(question.encode())
         return _typed(terminal)
 
@@ -90,7 +90,7 @@ def _hidden(question: str) -> bytes:
     """A line that the user types. It is not shown. It must be UTF-8, whatever the locale, so that the same keys always
     give the same password."""
     _require_terminal()
-    with stopping.interruptible(), open(TERMINAL, "r+b", buffering=0) as terminal:
+    with processes.interruptible(), open(TERMINAL, "r+b", buffering=0) as terminal:
         with _without_echo(terminal):
             terminal.write(question.encode())
             text = _typed(terminal).replace(SUSPEND, b"")

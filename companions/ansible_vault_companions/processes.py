@@ -1,0 +1,180 @@
+"""Runs programs, and ends a companion when a signal arrives: only between its steps, and with nothing left behind.
+
+The handler notes the first signal and passes it on to the running programs. It raises an exception only before or after
+the run of a program, or during a wait, so it never interrupts a `finally` block. Code that must not lose anything
+postpones signals.
+"""
+
+from __future__ import annotations
+
+# The module `signal` makes an enumeration of each number, which takes long.
+import _signal  # type: ignore
+import os
+from collections.abc import Iterator
+from contextlib import contextmanager, suppress
+
+# The module `typing` takes long to import, and so does `subprocess`, which most runs of ansible-vault-with do not need.
+TYPE_CHECKING = False
+if TYPE_CHECKING:
+    from subprocess import CompletedProcess, Popen
+    from typing import Any
+
+# Signals that cannot be caught, that do not end a program by default, or that a crash of Python itself would raise
+# again at once.
+NOT_NOTED = ("KILL", "STOP", "CHLD", "CONT", "URG", "WINCH", "TSTP", "TTIN", "TTOU", "SEGV", "BUS", "FPE", "ILL")
+# All others, including real-time signals.
+ENDING: list[int] = sorted(_signal.valid_signals() - {getattr(_signal, f"SIG{name}") for name in NOT_NOTED})
+# Signals that a terminal sends to all its foreground processes.
+KEYBOARD_SIGNALS = (_signal.SIGINT, _signal.SIGQUIT)
+# Seconds that programs have to end by themselves before they are killed.
+GRACE_PERIOD = 5
+# Seconds between wake-ups. A signal that arrives just before a blocking system call does not interrupt that call.
+WAITING_PERIOD = 1
+
+
+class Stopped(Exception):
+    """A signal has asked the companion to end."""
+
+
+class State:
+    """The first signal received, and how the next one is handled."""
+
+    def __init__(self) -> None:
+        self.noted: int | None = None
+        # Whether keyboard signals are left to the running program.
+        self.leaves_keys = False
+        self.is_interruptible = False
+        self.is_postponed = False
+        self.programs: set[Popen[bytes]] = set()
+
+
+state = State()
+
+
+def prepare() -> None:
+    """Lets signals end the companion without a traceback until `listen` is called."""
+    # If SIGCHLD is ignored, the system keeps no exit statuses of child processes.
+    _signal.signal(_signal.SIGCHLD, _signal.SIG_DFL)
+    if _signal.getsignal(_signal.SIGINT) == _signal.default_int_handler:
+        _signal.signal(_signal.SIGINT, _signal.SIG_DFL)
+
+
+def listen() -> None:
+    """Starts noting signals. Signals that are already ignored stay ignored."""
+    for number in ENDING:
+        if _signal.getsignal(number) != _signal.SIG_IGN:
+            _signal.signal(number, _note)
+
+
+def _note(number: int, _frame: object) -> None:
+    if state.leaves_keys and number in KEYBOARD_SIGNALS:
+        return
+    if state.noted is not None:
+        # Only the first signal counts, so that nothing interrupts the restoring of the terminal.
+        if number == _signal.SIGALRM:
+            _send(_signal.SIGKILL, state.programs)
+        return
+    state.noted = number
+    _signal.alarm(GRACE_PERIOD)
+    _send(number, state.programs)
+    if state.is_interruptible:
+        raise Stopped
+
+
+def _send(number: int, programs: set[Popen[bytes]]) -> None:
+    """Sends a signal, which also ends a program that is stopped. What it has started is its own concern."""
+    for program in [*programs]:
+        program.send_signal(number)
+        program.send_signal(_signal.SIGCONT)
+
+
+def check() -> None:
+    if state.noted is not None and not state.is_postponed:
+        raise Stopped
+
+
+@contextmanager
+def postponed() -> Iterator[None]:
+    """A context in which signals wait until its end. Programs started in it inherit this. A signal that arrived before
+    does not end it either."""
+    mask = _signal.pthread_sigmask(_signal.SIG_BLOCK, ENDING)
+    state.is_postponed = True
+    try:
+        yield
+    finally:
+        state.is_postponed = False
+        _signal.pthread_sigmask(_signal.SIG_SETMASK, mask)
+
+
+@contextmanager
+def interruptible() -> Iterator[None]:
+    """A context for waiting for the user or another program. A signal ends the wait at once, even where signals are
+    postponed."""
+    mask = _signal.pthread_sigmask(_signal.SIG_UNBLOCK, ENDING if state.is_postponed else ())
+    state.is_interruptible = True
+    try:
+        if state.noted is not None:
+            raise Stopped
+        yield
+    finally:
+        state.is_interruptible = False
+        _signal.pthread_sigmask(_signal.SIG_SETMASK, mask)
+
+
+def ending_signal() -> int | None:
+    """The signal that asked the companion to end, even if it is postponed."""
+    return state.noted or next(iter(sorted(_signal.sigpending().intersection(ENDING))), None)
+
+
+def end_by_signal() -> None:
+    """If a signal was noted, dies of that signal, so that the shell sees the cause."""
+    if state.noted is not None:
+        _signal.signal(state.noted, _signal.SIG_DFL)
+        os.kill(os.getpid(), state.noted)
+        raise SystemExit(128 + state.noted)
+
+
+def run(words: list[str], data: bytes | None = None, **options: Any) -> CompletedProcess[bytes]:
+    """Runs a program to its end. Its output and errors are kept, unless these options of Popen say something else.
+    Raises Stopped if a signal arrived before or during the run."""
+    check()
+    done = _run(words, data, **options)
+    check()
+    return done
+
+
+def run_on_terminal(words: list[str]) -> int:
+    """Runs a program that owns the terminal, and so handles Ctrl-C itself. A signal during the run raises nothing
+    afterwards, so that the caller can first look at what the program wrote."""
+    check()
+    state.leaves_keys = True
+    try:
+        return _run(words, None, stdin=None, stdout=None, stderr=None).returncode
+    finally:
+        state.leaves_keys = False
+
+
+def _run(words: list[str], data: bytes | None, **options: Any) -> CompletedProcess[bytes]:
+    from subprocess import DEVNULL, PIPE, CompletedProcess, Popen
+
+    streams: dict[str, Any] = {"stdin": DEVNULL if data is None else PIPE, "stdout": PIPE, "stderr": PIPE}
+    with Popen(words, **streams | options) as program:
+        state.programs.add(program)
+        try:
+            if state.noted is not None and not state.is_postponed:
+                _send(state.noted, {program})
+            output, errors = _wait_for_end(program, data)
+        finally:
+            state.programs.discard(program)
+    return CompletedProcess(words, program.returncode, output, errors)
+
+
+def _wait_for_end(program: Popen[bytes], data: bytes | None) -> tuple[bytes, bytes]:
+    from subprocess import TimeoutExpired
+
+    # A program that reads data ends by itself. Besides, Python does not write the rest of the data after a timeout.
+    if data is not None:
+        return program.communicate(data)
+    while True:
+        with suppress(TimeoutExpired):
+            return program.communicate(timeout=WAITING_PERIOD)
