@@ -169,7 +169,7 @@ RECIPES = {
         after=f"head -n 1 {VAULT}; cat other.yml",
         left=f"{FIRST_LINE}\nplain: text\n",
     ),
-    "Make a block": Recipe(
+    "Make a value": Recipe(
         {"vars.yml": b"first: 1\n"},
         after="head -n 2 vars.yml; ansible-vault-textconv --vault-id prod@prod.pass --value db_password vars.yml",
         left="first: 1\ndb_password: !vault |\ncorrect horse",
