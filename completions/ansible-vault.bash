@@ -1,32 +1,70 @@
 # Completion of ansible-vault's commands, options and files for bash, and of its companions.
 
-# The options of a companion that name secrets and the tool has not.
-_ansible_vault_asking="--vault-pass-file --ask-vault-password --ask-vault-pass -J"
-
-# The commands of the program of this name, the tool or ansible-vault-with.
+# tools/write_documents writes what follows.
+# The commands of a program.
 _ansible_vault_commands() {
-    local commands="encrypt decrypt view rekey encrypt_string"
-    [[ $1 == ansible-vault-with ]] && commands+=" create edit"
-    echo "$commands"
-}
-
-# The options that a command of the tool takes; without one, those of the tool itself.
-_ansible_vault_options() {
-    local common="--vault-id --vault-password-file --help -h"
-    local salt="--salt-file --salt"
     case $1 in
-    encrypt) echo "$common --encrypt-vault-id $salt --output" ;;
-    decrypt) echo "$common --require-id-match --output" ;;
-    view) echo "$common --require-id-match" ;;
-    rekey)
-        echo "$common --new-vault-id --new-vault-password-file --require-id-match $salt --output"
-        ;;
-    encrypt_string)
-        echo "$common --encrypt-vault-id $salt --name -n --stdin-name --output"
-        ;;
-    *) echo "--help -h --version -V" ;;
+    ansible-vault) echo encrypt decrypt view rekey encrypt_string ;;
+    ansible-vault-with) echo encrypt decrypt view rekey encrypt_string create edit ;;
     esac
 }
+
+# The options of a program, or of one of its commands.
+_ansible_vault_options() {
+    case $1 in
+    "ansible-vault") echo -h --help -V --version ;;
+    "ansible-vault encrypt") echo --vault-id --vault-password-file --salt-file --salt --encrypt-vault-id --output \
+        -h --help ;;
+    "ansible-vault decrypt") echo --vault-id --vault-password-file --require-id-match --output -h --help ;;
+    "ansible-vault view") echo --vault-id --vault-password-file --require-id-match -h --help ;;
+    "ansible-vault rekey") echo --vault-id --vault-password-file --salt-file --salt --new-vault-id \
+        --new-vault-password-file --require-id-match --output -h --help ;;
+    "ansible-vault encrypt_string") echo --vault-id --vault-password-file --salt-file --salt -n --name \
+        --stdin-name --encrypt-vault-id --output -h --help ;;
+    "ansible-vault-check") echo -h --help -V --version --vault-id --vault-password-file --vault-pass-file -J \
+        --ask-vault-password --ask-vault-pass --label --tracked --exclude ;;
+    "ansible-vault-edit") echo -h --help -V --version --vault-id --vault-password-file --vault-pass-file -J \
+        --ask-vault-password --ask-vault-pass --any-label --encrypt-vault-id --value --resume ;;
+    "ansible-vault-hook") echo -h --help -V --version --all --since --install --uninstall --vault-id \
+        --vault-password-file ;;
+    "ansible-vault-merge") echo -h --help -V --version --vault-id --vault-password-file --vault-pass-file -J \
+        --ask-vault-password --ask-vault-pass --any-label --encrypt-vault-id ;;
+    "ansible-vault-rotate") echo -h --help -V --version --vault-id --vault-password-file --vault-pass-file -J \
+        --ask-vault-password --ask-vault-pass --new-vault-id --new-vault-password-file --any-label --dry-run \
+        --jobs --tracked --exclude ;;
+    "ansible-vault-textconv") echo -h --help -V --version --vault-id --vault-password-file --vault-pass-file -J \
+        --ask-vault-password --ask-vault-pass --value ;;
+    "ansible-vault-with") echo -h --help -V --version --vault-id --vault-password-file --vault-pass-file -J \
+        --ask-vault-password --ask-vault-pass ;;
+    "ansible-vault-with encrypt") echo -h --help -V --version --vault-id --vault-password-file --vault-pass-file \
+        -J --ask-vault-password --ask-vault-pass --encrypt-vault-id --output --salt --salt-file ;;
+    "ansible-vault-with decrypt") echo -h --help -V --version --vault-id --vault-password-file --vault-pass-file \
+        -J --ask-vault-password --ask-vault-pass --require-id-match --output ;;
+    "ansible-vault-with view") echo -h --help -V --version --vault-id --vault-password-file --vault-pass-file -J \
+        --ask-vault-password --ask-vault-pass --require-id-match ;;
+    "ansible-vault-with rekey") echo -h --help -V --version --vault-id --vault-password-file --vault-pass-file -J \
+        --ask-vault-password --ask-vault-pass --encrypt-vault-id --require-id-match --any-label --output --salt \
+        --salt-file --new-vault-id --new-vault-password-file ;;
+    "ansible-vault-with encrypt_string") echo -h --help -V --version --vault-id --vault-password-file \
+        --vault-pass-file -J --ask-vault-password --ask-vault-pass --encrypt-vault-id --output --salt --salt-file \
+        --stdin-name -n --name -p --prompt --show-input ;;
+    "ansible-vault-with create") echo -h --help -V --version --vault-id --vault-password-file --vault-pass-file -J \
+        --ask-vault-password --ask-vault-pass --encrypt-vault-id --any-label --value --resume --skip-tty-check ;;
+    "ansible-vault-with edit") echo -h --help -V --version --vault-id --vault-password-file --vault-pass-file -J \
+        --ask-vault-password --ask-vault-pass --encrypt-vault-id --any-label --value --resume ;;
+    esac
+}
+
+# What the value of an option is: a file, perhaps after a label, or any text.
+_ansible_vault_kind() {
+    case $1 in
+    --vault-id | --new-vault-id) echo id ;;
+    --vault-password-file | --salt-file | --output | --new-vault-password-file | --vault-pass-file) echo file ;;
+    --salt | --encrypt-vault-id | -n | --name | --stdin-name | --label | --exclude | --value | --since | --jobs) \
+        echo text ;;
+    esac
+}
+# Here it ends.
 
 # The command of the program of this name among the words before the one that is completed.
 _ansible_vault_command() {
@@ -95,18 +133,10 @@ _ansible_vault_labelled_files() {
 
 # Completes the word where it is the value of an option; fails where it is none.
 _ansible_vault_value() {
-    local word=$1
-    case $(_ansible_vault_before) in
-    --vault-id | --new-vault-id)
-        case $word in
-        *@*) _ansible_vault_labelled_files "$word" ;;
-        *) _ansible_vault_files "$word" ;;
-        esac
-        ;;
-    --vault-password-file | --vault-pass-file | --new-vault-password-file | --salt-file | --output)
-        _ansible_vault_files "$word"
-        ;;
-    --encrypt-vault-id | --salt | --name | -n | --stdin-name | --jobs | --label | --since | --exclude | --value) ;;
+    case $(_ansible_vault_kind "$(_ansible_vault_before)"),$1 in
+    id,*@*) _ansible_vault_labelled_files "$1" ;;
+    id,* | file,*) _ansible_vault_files "$1" ;;
+    text,*) ;;
     *) return 1 ;;
     esac
     return 0
@@ -119,76 +149,23 @@ _ansible_vault_name() {
     echo "${words##*/}"
 }
 
-# Of the tool, and of ansible-vault-with, whose secrets may precede the command.
+# Options for secrets may precede the command of ansible-vault-with.
 _ansible_vault() {
-    local name
+    local name word=$2 command words
     name=$(_ansible_vault_name "$1")
-    local word=$2
-    local command
     command=$(_ansible_vault_command "$name")
     COMPREPLY=()
-    if _ansible_vault_is_argument; then
-        [[ $command == encrypt_string ]] || _ansible_vault_files "$word"
-    elif _ansible_vault_value "$word"; then
-        return 0
-    elif [[ $word == -* && $name == ansible-vault-with ]]; then
-        mapfile -t COMPREPLY < <(compgen -W "$(_ansible_vault_with_options "$command")" -- "$word")
-    elif [[ $word == -* ]]; then
-        mapfile -t COMPREPLY < <(compgen -W "$(_ansible_vault_options "$command")" -- "$word")
-    elif [[ -z $command ]]; then
-        mapfile -t COMPREPLY < <(compgen -W "$(_ansible_vault_commands "$name")" -- "$word")
-    elif [[ $command != encrypt_string ]]; then
-        _ansible_vault_files "$word"
+    if ! _ansible_vault_is_argument; then
+        _ansible_vault_value "$word" && return 0
+        words=$(_ansible_vault_commands "$name")
+        [[ $word == -* ]] && words=$(_ansible_vault_options "$name${command:+ $command}")
+        if [[ $word == -* || -z $command && -n $words ]]; then
+            mapfile -t COMPREPLY < <(compgen -W "$words" -- "$word")
+            return 0
+        fi
     fi
+    [[ $command == encrypt_string ]] || _ansible_vault_files "$word"
     return 0
 }
 
-# The options of ansible-vault-with, before a command or after it.
-_ansible_vault_with_options() {
-    case $1 in
-    create | edit) _ansible_vault_companion_options ansible-vault-edit ;;
-    "") _ansible_vault_companion_options ansible-vault-with ;;
-    encrypt_string) echo "$(_ansible_vault_options "$1") $_ansible_vault_asking --prompt -p --show-input" ;;
-    rekey) echo "$(_ansible_vault_options "$1") $_ansible_vault_asking --encrypt-vault-id --any-label" ;;
-    *) echo "$(_ansible_vault_options "$1") $_ansible_vault_asking" ;;
-    esac
-}
-
-# The options of a companion.
-_ansible_vault_companion_options() {
-    local common="--vault-id --vault-password-file $_ansible_vault_asking --help -h --version -V"
-    case $1 in
-    ansible-vault-edit) echo "$common --encrypt-vault-id --any-label --value --resume" ;;
-    ansible-vault-textconv) echo "$common --value" ;;
-    ansible-vault-rotate)
-        echo "$common --new-vault-id --new-vault-password-file --any-label --dry-run"
-        echo "--tracked --exclude --jobs"
-        ;;
-    ansible-vault-merge) echo "$common --encrypt-vault-id --any-label" ;;
-    ansible-vault-check) echo "$common --label --tracked --exclude" ;;
-    ansible-vault-hook)
-        echo "--all --since --install --uninstall --vault-id --vault-password-file --help -h --version -V"
-        ;;
-    *) echo "$common" ;;
-    esac
-}
-
-_ansible_vault_companion() {
-    local name=${1##*/}
-    local word=$2
-    COMPREPLY=()
-    if ! _ansible_vault_is_argument && _ansible_vault_value "$word"; then
-        return 0
-    elif [[ $word == -* ]] && ! _ansible_vault_is_argument; then
-        mapfile -t COMPREPLY < <(
-            compgen -W "$(_ansible_vault_companion_options "$name")" -- "$word"
-        )
-    else
-        _ansible_vault_files "$word"
-    fi
-    return 0
-}
-
-complete -F _ansible_vault ansible-vault ansible-vault-with
-complete -F _ansible_vault_companion ansible-vault-edit ansible-vault-rotate ansible-vault-check \
-    ansible-vault-textconv ansible-vault-hook ansible-vault-merge
+complete -F _ansible_vault ansible-vault ansible-vault-{with,edit,rotate,check,textconv,hook,merge}

@@ -35,97 +35,104 @@ function __ansible_vault_ids
     __ansible_vault_paths "$label" (string replace -r '^[^@]*@' '' -- $value)
 end
 
-# The tool, and ansible-vault-with, which takes its commands.
-set -l commands encrypt decrypt view rekey encrypt_string
-set -l given __fish_seen_subcommand_from
-for name in ansible-vault ansible-vault-with
-    set -l none "not $given $commands create edit"
-    complete -c $name -f
-    complete -c $name -n "$none" -a encrypt -d 'Encrypt a file'
-    complete -c $name -n "$none" -a decrypt -d 'Decrypt a vault'
-    complete -c $name -n "$none" -a view -d 'Print the plaintext of a vault'
-    complete -c $name -n "$none" -a rekey -d 'Re-encrypt a vault with a new secret'
-    complete -c $name -n "$none" -a encrypt_string -d 'Encrypt text as a YAML block'
-    complete -c $name -n "not $given $commands" -s V -l version -d 'Print version'
-    complete -c $name -s h -l help -d 'Print help'
-    complete -c $name -n "$given rekey" -l new-vault-id -x -a '(__ansible_vault_ids)' \
-        -d 'The new password file, with its label'
-    complete -c $name -n "$given rekey" -l new-vault-password-file -x -a '(__ansible_vault_files)' \
-        -d 'A new password file for the label default'
-    complete -c $name -n "$given encrypt encrypt_string" -l encrypt-vault-id -x \
-        -d 'The label of the secret to encrypt with'
-    complete -c $name -n "$given decrypt view rekey" -l require-id-match \
-        -d 'Try only the secrets with the label of the encrypted file'
-    complete -c $name -n "$given encrypt rekey encrypt_string" -l salt-file -x -a '(__ansible_vault_files)' \
-        -d 'The file whose first 32 bytes are the salt'
-    complete -c $name -n "$given encrypt rekey encrypt_string" -l salt -x \
-        -d 'The salt itself, used once'
-    complete -c $name -n "$given encrypt_string" -s n -l name -x \
-        -d 'The name of the variable'
-    complete -c $name -n "$given encrypt_string" -l stdin-name -x \
-        -d 'The name of the variable, for standard input'
-    complete -c $name -n "$given encrypt decrypt rekey encrypt_string" -l output -x -a '(__ansible_vault_files)' \
-        -d 'The file to write'
-    complete -c $name -n "$given encrypt decrypt view rekey" -F
-end
-complete -c ansible-vault -n "$given $commands" -l vault-id -x -a '(__ansible_vault_ids)' \
-    -d 'A password file, with its label'
-complete -c ansible-vault -n "$given $commands" -l vault-password-file -x -a '(__ansible_vault_files)' \
-    -d 'A password file for the label default'
-set -l none "not $given $commands create edit"
-complete -c ansible-vault-with -n "$none" -a create -d 'Edit a new vault'
-complete -c ansible-vault-with -n "$none" -a edit -d 'Edit a vault'
-complete -c ansible-vault-with -n "$given create edit rekey" -l encrypt-vault-id -x \
-    -d 'The label of the secret to encrypt with'
-complete -c ansible-vault-with -n "$given create edit rekey" -l any-label \
-    -d 'Encrypt again what a secret with another label decrypts'
-complete -c ansible-vault-with -n "$given create edit" -l value -x -d 'Set this YAML value from standard input'
-complete -c ansible-vault-with -n "$given create edit" -l resume -d 'Begin with what the last edit kept'
-complete -c ansible-vault-with -n "$given encrypt_string" -s p -l prompt -d 'Ask for a string'
-complete -c ansible-vault-with -n "$given encrypt_string" -l show-input -d 'Show the string while you type'
-complete -c ansible-vault-with -n "$given create edit" -F
-
-for name in edit rotate check textconv hook merge
-    complete -c ansible-vault-$name -f
-    complete -c ansible-vault-$name -s h -l help -d 'Print help'
-    complete -c ansible-vault-$name -s V -l version -d 'Print version'
-end
-for name in edit rotate check textconv hook merge
-    complete -c ansible-vault-$name -F
-end
-for name in with edit rotate check textconv hook merge
-    complete -c ansible-vault-$name -l vault-id -x -a '(__ansible_vault_ids)' \
-        -d 'A password file, with its label'
-    complete -c ansible-vault-$name -l vault-password-file -x -a '(__ansible_vault_files)' \
-        -d 'A password file for the label default'
-end
-for name in with edit rotate check textconv merge
-    complete -c ansible-vault-$name -l vault-pass-file -x -a '(__ansible_vault_files)' \
-        -d 'A password file for the label default'
-    complete -c ansible-vault-$name -s J -l ask-vault-password -d 'Ask for a password of the label default'
-    complete -c ansible-vault-$name -l ask-vault-pass -d 'Ask for a password of the label default'
-end
-for name in edit merge
-    complete -c ansible-vault-$name -l encrypt-vault-id -x -d 'The label of the secret to encrypt with'
-end
-for name in edit merge rotate
-    complete -c ansible-vault-$name -l any-label -d 'Encrypt again what a secret with another label decrypts'
-end
-complete -c ansible-vault-edit -l value -x -d 'Set this YAML value from standard input'
-complete -c ansible-vault-edit -l resume -d 'Begin with what the last edit kept'
-complete -c ansible-vault-textconv -l value -x -d 'Print only this value'
-complete -c ansible-vault-rotate -l new-vault-id -x -a '(__ansible_vault_ids)' \
-    -d 'A new password file, with its label'
-complete -c ansible-vault-rotate -l new-vault-password-file -x -a '(__ansible_vault_files)' \
-    -d 'A new password file for the label default'
-complete -c ansible-vault-rotate -l dry-run -d 'Write nothing, and report what would be done'
-complete -c ansible-vault-rotate -l jobs -x -d 'How many vaults and blocks to work on at once'
-complete -c ansible-vault-check -l label -x -d 'Decrypt only what has this label, and count the rest'
-for name in check rotate
-    complete -c ansible-vault-$name -l tracked -d 'Look only at files that git tracks'
-    complete -c ansible-vault-$name -l exclude -x -d 'Leave out files and directories with this name or path'
-end
-complete -c ansible-vault-hook -l all -d 'Check every file in the current commit'
-complete -c ansible-vault-hook -l since -x -d 'Check each commit after this one'
-complete -c ansible-vault-hook -l install -d 'Set up this clone'
-complete -c ansible-vault-hook -l uninstall -d 'Undo what --install has set up'
+# tools/write_documents writes what follows.
+complete -c ansible-vault -f
+complete -c ansible-vault -n '__fish_seen_subcommand_from encrypt decrypt view rekey' -F
+complete -c ansible-vault -n 'not __fish_seen_subcommand_from encrypt decrypt view rekey encrypt_string' -a encrypt -d 'Encrypts a file'
+complete -c ansible-vault -n 'not __fish_seen_subcommand_from encrypt decrypt view rekey encrypt_string' -a decrypt -d 'Decrypts a vault'
+complete -c ansible-vault -n 'not __fish_seen_subcommand_from encrypt decrypt view rekey encrypt_string' -a view -d 'Prints the plaintext of a vault'
+complete -c ansible-vault -n 'not __fish_seen_subcommand_from encrypt decrypt view rekey encrypt_string' -a rekey -d 'Re-encrypts a vault with a new secret'
+complete -c ansible-vault -n 'not __fish_seen_subcommand_from encrypt decrypt view rekey encrypt_string' -a encrypt_string -d 'Encrypts text as a YAML block'
+complete -c ansible-vault -s h -l help -d 'Print help'
+complete -c ansible-vault -n 'not __fish_seen_subcommand_from encrypt decrypt view rekey encrypt_string' -s V -l version -d 'Print version'
+complete -c ansible-vault -n '__fish_seen_subcommand_from encrypt decrypt view rekey encrypt_string' -l vault-id -x -a '(__ansible_vault_ids)' -d 'A password file, with the label of its secret (default: `default`)'
+complete -c ansible-vault -n '__fish_seen_subcommand_from encrypt decrypt view rekey encrypt_string' -l vault-password-file -x -a '(__ansible_vault_files)' -d 'A password file, with the label `default`'
+complete -c ansible-vault -n '__fish_seen_subcommand_from encrypt rekey encrypt_string' -l salt-file -x -a '(__ansible_vault_files)' -d 'Take the first 32 bytes of this file as the salt (default: /dev/urandom)'
+complete -c ansible-vault -n '__fish_seen_subcommand_from encrypt rekey encrypt_string' -l salt -x -d 'Take this text, 1 to 64 bytes, as the salt'
+complete -c ansible-vault -n '__fish_seen_subcommand_from encrypt encrypt_string' -l encrypt-vault-id -x -d 'The label of the secret to encrypt with'
+complete -c ansible-vault -n '__fish_seen_subcommand_from encrypt decrypt rekey encrypt_string' -l output -x -a '(__ansible_vault_files)' -d 'The file to write, or - for standard output (default: -)'
+complete -c ansible-vault -n '__fish_seen_subcommand_from decrypt view rekey' -l require-id-match -d 'Try only secrets that have the vault\'s label'
+complete -c ansible-vault -n '__fish_seen_subcommand_from rekey' -l new-vault-id -x -a '(__ansible_vault_ids)' -d 'The password file of the new secret, with its label (default: `default`)'
+complete -c ansible-vault -n '__fish_seen_subcommand_from rekey' -l new-vault-password-file -x -a '(__ansible_vault_files)' -d 'The password file of the new secret, with the label `default`'
+complete -c ansible-vault -n '__fish_seen_subcommand_from encrypt_string' -s n -l name -x -d 'The name of the variable, if STRING is given (default: none)'
+complete -c ansible-vault -n '__fish_seen_subcommand_from encrypt_string' -l stdin-name -x -d 'The name of the variable, if standard input is read (default: none)'
+complete -c ansible-vault-check -s h -l help -d 'print help'
+complete -c ansible-vault-check -s V -l version -d 'print version'
+complete -c ansible-vault-check -l vault-id -x -a '(__ansible_vault_ids)' -d 'the source of a secret'
+complete -c ansible-vault-check -l vault-password-file -l vault-pass-file -x -a '(__ansible_vault_files)' -d 'the source of a secret'
+complete -c ansible-vault-check -s J -l ask-vault-password -l ask-vault-pass -d 'ask at the terminal for a password'
+complete -c ansible-vault-check -l label -x -d 'decrypt only this label, and count the others'
+complete -c ansible-vault-check -l tracked -d 'only files that git tracks'
+complete -c ansible-vault-check -l exclude -x -d 'no files whose name or path matches PATTERN'
+complete -c ansible-vault-edit -s h -l help -d 'print help'
+complete -c ansible-vault-edit -s V -l version -d 'print version'
+complete -c ansible-vault-edit -l vault-id -x -a '(__ansible_vault_ids)' -d 'the source of a secret'
+complete -c ansible-vault-edit -l vault-password-file -l vault-pass-file -x -a '(__ansible_vault_files)' -d 'the source of a secret'
+complete -c ansible-vault-edit -s J -l ask-vault-password -l ask-vault-pass -d 'ask at the terminal for a password'
+complete -c ansible-vault-edit -l any-label -d 'a secret may encrypt what it decrypts under another label'
+complete -c ansible-vault-edit -l encrypt-vault-id -x -d 'the label of the secret for new vaults and values'
+complete -c ansible-vault-edit -l value -x -d 'set this value to standard input, without an editor'
+complete -c ansible-vault-edit -l resume -d 'take up what the last edit of FILE could not put back'
+complete -c ansible-vault-hook -s h -l help -d 'print help'
+complete -c ansible-vault-hook -s V -l version -d 'print version'
+complete -c ansible-vault-hook -l all -d 'check the current commit and all former vaults'
+complete -c ansible-vault-hook -l since -x -d 'check each commit after it, and all together'
+complete -c ansible-vault-hook -l install -d 'set up hooks'
+complete -c ansible-vault-hook -l uninstall -d 'undo what --install has set up'
+complete -c ansible-vault-hook -l vault-id -x -a '(__ansible_vault_ids)' -d 'for --install: a labelled password file'
+complete -c ansible-vault-hook -l vault-password-file -x -a '(__ansible_vault_files)' -d 'for --install: a password file'
+complete -c ansible-vault-merge -s h -l help -d 'print help'
+complete -c ansible-vault-merge -s V -l version -d 'print version'
+complete -c ansible-vault-merge -l vault-id -x -a '(__ansible_vault_ids)' -d 'the source of a secret'
+complete -c ansible-vault-merge -l vault-password-file -l vault-pass-file -x -a '(__ansible_vault_files)' -d 'the source of a secret'
+complete -c ansible-vault-merge -s J -l ask-vault-password -l ask-vault-pass -d 'ask at the terminal for a password'
+complete -c ansible-vault-merge -l any-label -d 'a secret may encrypt what it decrypts under another label'
+complete -c ansible-vault-merge -l encrypt-vault-id -x -d 'the label of the secret to use if the secrets of both sides differ'
+complete -c ansible-vault-rotate -s h -l help -d 'print help'
+complete -c ansible-vault-rotate -s V -l version -d 'print version'
+complete -c ansible-vault-rotate -l vault-id -x -a '(__ansible_vault_ids)' -d 'the source of a secret'
+complete -c ansible-vault-rotate -l vault-password-file -l vault-pass-file -x -a '(__ansible_vault_files)' -d 'the source of a secret'
+complete -c ansible-vault-rotate -s J -l ask-vault-password -l ask-vault-pass -d 'ask at the terminal for a password'
+complete -c ansible-vault-rotate -l new-vault-id -x -a '(__ansible_vault_ids)' -d 'the source of a new secret'
+complete -c ansible-vault-rotate -l new-vault-password-file -x -a '(__ansible_vault_files)' -d 'the source of a new secret'
+complete -c ansible-vault-rotate -l any-label -d 'a secret may encrypt what it decrypts under another label'
+complete -c ansible-vault-rotate -l dry-run -d 'write nothing, and report what would be done'
+complete -c ansible-vault-rotate -l jobs -x -d 'run N programs at once'
+complete -c ansible-vault-rotate -l tracked -d 'only files that git tracks'
+complete -c ansible-vault-rotate -l exclude -x -d 'no files whose name or path matches PATTERN'
+complete -c ansible-vault-textconv -s h -l help -d 'print help'
+complete -c ansible-vault-textconv -s V -l version -d 'print version'
+complete -c ansible-vault-textconv -l vault-id -x -a '(__ansible_vault_ids)' -d 'the source of a secret'
+complete -c ansible-vault-textconv -l vault-password-file -l vault-pass-file -x -a '(__ansible_vault_files)' -d 'the source of a secret'
+complete -c ansible-vault-textconv -s J -l ask-vault-password -l ask-vault-pass -d 'ask at the terminal for a password'
+complete -c ansible-vault-textconv -l value -x -d 'print only this value\'s plaintext, byte for byte'
+complete -c ansible-vault-with -f
+complete -c ansible-vault-with -n '__fish_seen_subcommand_from encrypt decrypt view rekey create edit' -F
+complete -c ansible-vault-with -n 'not __fish_seen_subcommand_from encrypt decrypt view rekey encrypt_string create edit' -a encrypt -d 'encrypt files in place'
+complete -c ansible-vault-with -n 'not __fish_seen_subcommand_from encrypt decrypt view rekey encrypt_string create edit' -a decrypt -d 'decrypt vaults in place'
+complete -c ansible-vault-with -n 'not __fish_seen_subcommand_from encrypt decrypt view rekey encrypt_string create edit' -a view -d 'print the plaintext of vaults'
+complete -c ansible-vault-with -n 'not __fish_seen_subcommand_from encrypt decrypt view rekey encrypt_string create edit' -a rekey -d 're-encrypt vaults with a new secret, in place'
+complete -c ansible-vault-with -n 'not __fish_seen_subcommand_from encrypt decrypt view rekey encrypt_string create edit' -a encrypt_string -d 'encrypt texts as YAML blocks'
+complete -c ansible-vault-with -n 'not __fish_seen_subcommand_from encrypt decrypt view rekey encrypt_string create edit' -a create -d 'edit a new vault'
+complete -c ansible-vault-with -n 'not __fish_seen_subcommand_from encrypt decrypt view rekey encrypt_string create edit' -a edit -d 'edit vaults'
+complete -c ansible-vault-with -s h -l help -d 'print help'
+complete -c ansible-vault-with -s V -l version -d 'print version'
+complete -c ansible-vault-with -l vault-id -x -a '(__ansible_vault_ids)' -d 'the source of a secret'
+complete -c ansible-vault-with -l vault-password-file -l vault-pass-file -x -a '(__ansible_vault_files)' -d 'the source of a secret'
+complete -c ansible-vault-with -s J -l ask-vault-password -l ask-vault-pass -d 'ask at the terminal for a password'
+complete -c ansible-vault-with -n '__fish_seen_subcommand_from encrypt rekey encrypt_string create edit' -l encrypt-vault-id -x -d 'the label of the secret to encrypt with, among those that are given'
+complete -c ansible-vault-with -n '__fish_seen_subcommand_from encrypt decrypt rekey encrypt_string' -l output -x -a '(__ansible_vault_files)' -d 'the file to write, or - for standard output (default: FILE)'
+complete -c ansible-vault-with -n '__fish_seen_subcommand_from encrypt rekey encrypt_string' -l salt -x -d 'the salt itself, used once'
+complete -c ansible-vault-with -n '__fish_seen_subcommand_from encrypt rekey encrypt_string' -l salt-file -x -a '(__ansible_vault_files)' -d 'the file whose first 32 bytes are the salt'
+complete -c ansible-vault-with -n '__fish_seen_subcommand_from decrypt view rekey' -l require-id-match -d 'try only secrets with the label of the vault'
+complete -c ansible-vault-with -n '__fish_seen_subcommand_from rekey create edit' -l any-label -d 'a secret may encrypt what it decrypts under another label'
+complete -c ansible-vault-with -n '__fish_seen_subcommand_from rekey' -l new-vault-id -x -a '(__ansible_vault_ids)' -d 'the source of a new secret'
+complete -c ansible-vault-with -n '__fish_seen_subcommand_from rekey' -l new-vault-password-file -x -a '(__ansible_vault_files)' -d 'the source of a new secret'
+complete -c ansible-vault-with -n '__fish_seen_subcommand_from encrypt_string' -l stdin-name -x -d 'read standard input, a text with this name'
+complete -c ansible-vault-with -n '__fish_seen_subcommand_from encrypt_string' -s n -l name -x -d 'the name of a STRING, in their order'
+complete -c ansible-vault-with -n '__fish_seen_subcommand_from encrypt_string' -s p -l prompt -d 'ask for one more text, and for its name'
+complete -c ansible-vault-with -n '__fish_seen_subcommand_from encrypt_string' -l show-input -d 'show that text while it is typed'
+complete -c ansible-vault-with -n '__fish_seen_subcommand_from create edit' -l value -x -d 'set this value of YAML to the bytes of standard input'
+complete -c ansible-vault-with -n '__fish_seen_subcommand_from create edit' -l resume -d 'start from the text that the last edit of FILE saved in a copy'
+complete -c ansible-vault-with -n '__fish_seen_subcommand_from create' -l skip-tty-check -d 'ignored'
+# Here it ends.

@@ -16,127 +16,268 @@ _ansible_vault_id() {
     _ansible_vault_files
 }
 
-_ansible_vault_commands() {
-    local -a commands=(
-        'encrypt:plaintext to an encrypted file'
-        'decrypt:an encrypted file to its plaintext'
-        'view:an encrypted file to its plaintext, on standard output'
-        'rekey:an encrypted file to one under a new secret'
-        'encrypt_string:a text to a block of YAML'
-    )
-    [[ $service == ansible-vault-with ]] && commands+=(
-        'create:a new encrypted file in an editor'
-        'edit:an encrypted file in an editor'
-    )
-    _describe command commands
-}
-
-# The options and the positional of a command, or of a companion.
-_ansible_vault_arguments() {
-    local -a help=('(- *)'{-h,--help}'[print help]')
-    # Of a companion.
-    local -a common=($help '(- *)'{-V,--version}'[print version]')
-    local -a labels=('*--label=[decrypt only what has this label, and count the rest]:label: ')
-    local -a commits=(
-        '(--since --install --uninstall)--all[check every file in the current commit]'
-        '(--all --install --uninstall)--since=[check each commit after this one]:commit: '
-        '(--all --since --uninstall)--install[set up this clone]'
-        '(--all --since --install)--uninstall[undo what --install has set up]'
-    )
-    local -a secrets=(
-        '*--vault-id=[a password file, with its label]:[label@]file:_ansible_vault_id'
-        '*--vault-password-file=[a password file for the label default]:file:_ansible_vault_files'
-    )
-    # Those that a companion takes.
-    local -a all_secrets=(
-        $secrets
-        '*--vault-pass-file=[a password file for the label default]:file:_ansible_vault_files'
-        '*'{-J,--ask-vault-password,--ask-vault-pass}'[ask for a password of the label default]'
-    )
-    local -a encrypt_id=('--encrypt-vault-id=[the label of the secret to encrypt with]:label: ')
-    local -a any_label=('--any-label[encrypt again what a secret with another label decrypts]')
-    # Those that ansible-vault-with takes for rekey and encrypt_string, as Ansible's tool does.
-    local -a rekey_id=() typed=()
-    if [[ $service == ansible-vault-with ]]; then
-        secrets=($all_secrets)
-        rekey_id=($encrypt_id $any_label)
-        typed=('(-p --prompt)'{-p,--prompt}'[ask for a string]' '--show-input[show the string while you type]')
-    fi
-    local -a label_match=('--require-id-match[try only the secrets with the label of the encrypted file]')
-    local -a salt=(
-        '(--salt)--salt-file=[the file whose first 32 bytes are the salt]:file:_ansible_vault_files'
-        '(--salt-file)--salt=[the salt itself, used once]:text: '
-    )
-    local -a rekey_options=(
-        '(--new-vault-password-file)--new-vault-id=[the new password file, with its label]:[label@]file:_ansible_vault_id'
-        '(--new-vault-id)--new-vault-password-file=[a new password file for the label default]:file:_ansible_vault_files'
-    )
-    local -a names=(
-        '(--stdin-name)'{-n,--name=}'[the name of the variable]:name: '
-        '(-n --name)--stdin-name=[the name of the variable, for standard input]:name: '
-    )
-    local -a output=('--output=[the file to write]:file:_ansible_vault_files')
-    local -a file=('1:file:_ansible_vault_files')
-    # These take several.
-    [[ $service == ansible-vault-with && $1 != create || $1 == edit ]] && file=('*:file:_ansible_vault_files')
-    local -a new_secrets=(
-        '*--new-vault-id=[a new password file, with its label]:[label@]file:_ansible_vault_id'
-        '*--new-vault-password-file=[a new password file for the label default]:file:_ansible_vault_files'
-    )
-    local -a rotation=(
-        $any_label
-        '--dry-run[write nothing, and report what would be done]'
-        '--jobs=[how many vaults and blocks to work on at once]:number: '
-    )
-
-    local -a edits=(
-        $any_label
-        '(--resume)--value=[set this YAML value from standard input]:path: '
-        '(--value)--resume[begin with what the last edit kept]'
-    )
-    # Of what is searched.
-    local -a left_out=(
-        '--tracked[look only at files that git tracks]'
-        '*--exclude=[leave out files and directories with this name or path]:pattern: '
-    )
-
+# tools/write_documents writes what follows.
+# The commands of a program, and what they do.
+_ansible_vault_listed() {
     case $1 in
-        encrypt) _arguments -s -S $help $secrets $encrypt_id $salt $output $file ;;
-        decrypt) _arguments -s -S $help $secrets $label_match $output $file ;;
-        view) _arguments -s -S $help $secrets $label_match $file ;;
-        rekey) _arguments -s -S $help $secrets $rekey_options $rekey_id $label_match $salt $output $file ;;
-        encrypt_string) _arguments -s -S $help $secrets $encrypt_id $salt $names $output $typed '1:text: ' ;;
-        create|edit) _arguments -s -S $common $all_secrets $encrypt_id $edits $file ;;
-        rotate) _arguments -s -S $common $all_secrets $new_secrets $rotation $left_out '*:path:_ansible_vault_files' ;;
-        check) _arguments -s -S $common $all_secrets $labels $left_out '*:path:_ansible_vault_files' ;;
-        textconv) _arguments -s -S $common $all_secrets '--value=[print only this value]:path: ' $file ;;
-        merge) _arguments -s -S $common $all_secrets $encrypt_id $any_label '*:file:_ansible_vault_files' ;;
-        hook) _arguments -s -S $common $commits $secrets '*:file:_ansible_vault_files' ;;
+        'ansible-vault') listed=(
+            'encrypt:Encrypts a file'
+            'decrypt:Decrypts a vault'
+            'view:Prints the plaintext of a vault'
+            'rekey:Re-encrypts a vault with a new secret'
+            'encrypt_string:Encrypts text as a YAML block'
+        ) ;;
+        'ansible-vault-with') listed=(
+            'encrypt:encrypt files in place'
+            'decrypt:decrypt vaults in place'
+            'view:print the plaintext of vaults'
+            'rekey:re-encrypt vaults with a new secret, in place'
+            'encrypt_string:encrypt texts as YAML blocks'
+            'create:edit a new vault'
+            'edit:edit vaults'
+        ) ;;
     esac
 }
 
-_ansible_vault() {
-    local context state line
-    local -A opt_args
-    local -a secrets=()
-    [[ $service == ansible-vault-with ]] && secrets=(
-        '*--vault-id=[a password file, with its label]:[label@]file:_ansible_vault_id'
-        '*--'{vault-password-file,vault-pass-file}'=[a password file for the label default]:file:_ansible_vault_files'
-        '*'{-J,--ask-vault-password,--ask-vault-pass}'[ask for a password of the label default]'
-    )
-    _arguments -C -A '-*' \
-        $secrets \
-        '(- *)'{-h,--help}'[print help]' \
-        '(- *)'{-V,--version}'[print version]' \
-        '1:command:_ansible_vault_commands' \
-        '*::argument:->arguments'
-    [[ $state == arguments ]] && _ansible_vault_arguments $line[1]
+# The options and arguments of a program, or of one of its commands.
+_ansible_vault_specifications() {
+    case $1 in
+        'ansible-vault') specifications=(
+            '(- *)'{-h,--help}'[Print help]'
+            '(- *)'{-V,--version}'[Print version]'
+        ) ;;
+        'ansible-vault encrypt') specifications=(
+            '*--vault-id=[A password file, with the label of its secret (default: `default`)]:[LABEL@]SOURCE:_ansible_vault_id'
+            '*--vault-password-file=[A password file, with the label `default`]:PATH:_ansible_vault_files'
+            '(--salt --salt-file)--salt-file=[Take the first 32 bytes of this file as the salt (default: /dev/urandom)]:PATH:_ansible_vault_files'
+            '(--salt --salt-file)--salt=[Take this text, 1 to 64 bytes, as the salt]:TEXT: '
+            '--encrypt-vault-id=[The label of the secret to encrypt with]:LABEL: '
+            '--output=[The file to write, or - for standard output (default: -)]:PATH:_ansible_vault_files'
+            '(- *)'{-h,--help}'[Print help]'
+            '1:file:_ansible_vault_files'
+        ) ;;
+        'ansible-vault decrypt') specifications=(
+            '*--vault-id=[A password file, with the label of its secret (default: `default`)]:[LABEL@]SOURCE:_ansible_vault_id'
+            '*--vault-password-file=[A password file, with the label `default`]:PATH:_ansible_vault_files'
+            '--require-id-match[Try only secrets that have the vault'\''s label]'
+            '--output=[The file to write, or - for standard output (default: -)]:PATH:_ansible_vault_files'
+            '(- *)'{-h,--help}'[Print help]'
+            '1:file:_ansible_vault_files'
+        ) ;;
+        'ansible-vault view') specifications=(
+            '*--vault-id=[A password file, with the label of its secret (default: `default`)]:[LABEL@]SOURCE:_ansible_vault_id'
+            '*--vault-password-file=[A password file, with the label `default`]:PATH:_ansible_vault_files'
+            '--require-id-match[Try only secrets that have the vault'\''s label]'
+            '(- *)'{-h,--help}'[Print help]'
+            '1:file:_ansible_vault_files'
+        ) ;;
+        'ansible-vault rekey') specifications=(
+            '*--vault-id=[A password file, with the label of its secret (default: `default`)]:[LABEL@]SOURCE:_ansible_vault_id'
+            '*--vault-password-file=[A password file, with the label `default`]:PATH:_ansible_vault_files'
+            '(--salt --salt-file)--salt-file=[Take the first 32 bytes of this file as the salt (default: /dev/urandom)]:PATH:_ansible_vault_files'
+            '(--salt --salt-file)--salt=[Take this text, 1 to 64 bytes, as the salt]:TEXT: '
+            '(--new-vault-id --new-vault-password-file)--new-vault-id=[The password file of the new secret, with its label (default: `default`)]:[LABEL@]SOURCE:_ansible_vault_id'
+            '(--new-vault-id --new-vault-password-file)--new-vault-password-file=[The password file of the new secret, with the label `default`]:PATH:_ansible_vault_files'
+            '--require-id-match[Try only secrets that have the vault'\''s label]'
+            '--output=[The file to write, or - for standard output (default: -)]:PATH:_ansible_vault_files'
+            '(- *)'{-h,--help}'[Print help]'
+            '1:file:_ansible_vault_files'
+        ) ;;
+        'ansible-vault encrypt_string') specifications=(
+            '*--vault-id=[A password file, with the label of its secret (default: `default`)]:[LABEL@]SOURCE:_ansible_vault_id'
+            '*--vault-password-file=[A password file, with the label `default`]:PATH:_ansible_vault_files'
+            '(--salt --salt-file)--salt-file=[Take the first 32 bytes of this file as the salt (default: /dev/urandom)]:PATH:_ansible_vault_files'
+            '(--salt --salt-file)--salt=[Take this text, 1 to 64 bytes, as the salt]:TEXT: '
+            '(--name --stdin-name -n)'{-n,--name=}'[The name of the variable, if STRING is given (default: none)]:NAME: '
+            '(--name --stdin-name -n)--stdin-name=[The name of the variable, if standard input is read (default: none)]:NAME: '
+            '--encrypt-vault-id=[The label of the secret to encrypt with]:LABEL: '
+            '--output=[The file to write, or - for standard output (default: -)]:PATH:_ansible_vault_files'
+            '(- *)'{-h,--help}'[Print help]'
+            '1:text: '
+        ) ;;
+        'ansible-vault-check') specifications=(
+            '(- *)'{-h,--help}'[print help]'
+            '(- *)'{-V,--version}'[print version]'
+            '*--vault-id=[the source of a secret]:[LABEL@]SOURCE:_ansible_vault_id'
+            '*'{--vault-password-file=,--vault-pass-file=}'[the source of a secret]:SOURCE:_ansible_vault_files'
+            '*'{-J,--ask-vault-password,--ask-vault-pass}'[ask at the terminal for a password]'
+            '*--label=[decrypt only this label, and count the others]:LABEL: '
+            '--tracked[only files that git tracks]'
+            '*--exclude=[no files whose name or path matches PATTERN]:PATTERN: '
+            '*:file:_ansible_vault_files'
+        ) ;;
+        'ansible-vault-edit') specifications=(
+            '(- *)'{-h,--help}'[print help]'
+            '(- *)'{-V,--version}'[print version]'
+            '*--vault-id=[the source of a secret]:[LABEL@]SOURCE:_ansible_vault_id'
+            '*'{--vault-password-file=,--vault-pass-file=}'[the source of a secret]:SOURCE:_ansible_vault_files'
+            '*'{-J,--ask-vault-password,--ask-vault-pass}'[ask at the terminal for a password]'
+            '--any-label[a secret may encrypt what it decrypts under another label]'
+            '--encrypt-vault-id=[the label of the secret for new vaults and values]:LABEL: '
+            '(--resume --value)--value=[set this value to standard input, without an editor]:KEY.PATH: '
+            '(--resume --value)--resume[take up what the last edit of FILE could not put back]'
+            '*:file:_ansible_vault_files'
+        ) ;;
+        'ansible-vault-hook') specifications=(
+            '(- *)'{-h,--help}'[print help]'
+            '(- *)'{-V,--version}'[print version]'
+            '(--all --install --since --uninstall)--all[check the current commit and all former vaults]'
+            '(--all --install --since --uninstall)--since=[check each commit after it, and all together]:COMMIT: '
+            '(--all --install --since --uninstall)--install[set up hooks]'
+            '(--all --install --since --uninstall)--uninstall[undo what --install has set up]'
+            '*--vault-id=[for --install: a labelled password file]:[LABEL@]FILE:_ansible_vault_id'
+            '*--vault-password-file=[for --install: a password file]:FILE:_ansible_vault_files'
+            '*:file:_ansible_vault_files'
+        ) ;;
+        'ansible-vault-merge') specifications=(
+            '(- *)'{-h,--help}'[print help]'
+            '(- *)'{-V,--version}'[print version]'
+            '*--vault-id=[the source of a secret]:[LABEL@]SOURCE:_ansible_vault_id'
+            '*'{--vault-password-file=,--vault-pass-file=}'[the source of a secret]:SOURCE:_ansible_vault_files'
+            '*'{-J,--ask-vault-password,--ask-vault-pass}'[ask at the terminal for a password]'
+            '--any-label[a secret may encrypt what it decrypts under another label]'
+            '--encrypt-vault-id=[the label of the secret to use if the secrets of both sides differ]:LABEL: '
+            '*:file:_ansible_vault_files'
+        ) ;;
+        'ansible-vault-rotate') specifications=(
+            '(- *)'{-h,--help}'[print help]'
+            '(- *)'{-V,--version}'[print version]'
+            '*--vault-id=[the source of a secret]:[LABEL@]SOURCE:_ansible_vault_id'
+            '*'{--vault-password-file=,--vault-pass-file=}'[the source of a secret]:SOURCE:_ansible_vault_files'
+            '*'{-J,--ask-vault-password,--ask-vault-pass}'[ask at the terminal for a password]'
+            '*--new-vault-id=[the source of a new secret]:[LABEL@]SOURCE:_ansible_vault_id'
+            '*--new-vault-password-file=[the source of a new secret]:SOURCE:_ansible_vault_files'
+            '--any-label[a secret may encrypt what it decrypts under another label]'
+            '--dry-run[write nothing, and report what would be done]'
+            '--jobs=[run N programs at once]:N: '
+            '--tracked[only files that git tracks]'
+            '*--exclude=[no files whose name or path matches PATTERN]:PATTERN: '
+            '*:file:_ansible_vault_files'
+        ) ;;
+        'ansible-vault-textconv') specifications=(
+            '(- *)'{-h,--help}'[print help]'
+            '(- *)'{-V,--version}'[print version]'
+            '*--vault-id=[the source of a secret]:[LABEL@]SOURCE:_ansible_vault_id'
+            '*'{--vault-password-file=,--vault-pass-file=}'[the source of a secret]:SOURCE:_ansible_vault_files'
+            '*'{-J,--ask-vault-password,--ask-vault-pass}'[ask at the terminal for a password]'
+            '--value=[print only this value'\''s plaintext, byte for byte]:KEY.PATH: '
+            '1:file:_ansible_vault_files'
+        ) ;;
+        'ansible-vault-with') specifications=(
+            '(- *)'{-h,--help}'[print help]'
+            '(- *)'{-V,--version}'[print version]'
+            '*--vault-id=[the source of a secret]:[LABEL@]SOURCE:_ansible_vault_id'
+            '*'{--vault-password-file=,--vault-pass-file=}'[the source of a secret]:SOURCE:_ansible_vault_files'
+            '*'{-J,--ask-vault-password,--ask-vault-pass}'[ask at the terminal for a password]'
+        ) ;;
+        'ansible-vault-with encrypt') specifications=(
+            '(- *)'{-h,--help}'[print help]'
+            '(- *)'{-V,--version}'[print version]'
+            '*--vault-id=[the source of a secret]:[LABEL@]SOURCE:_ansible_vault_id'
+            '*'{--vault-password-file=,--vault-pass-file=}'[the source of a secret]:SOURCE:_ansible_vault_files'
+            '*'{-J,--ask-vault-password,--ask-vault-pass}'[ask at the terminal for a password]'
+            '--encrypt-vault-id=[the label of the secret to encrypt with, among those that are given]:LABEL: '
+            '--output=[the file to write, or - for standard output (default: FILE)]:PATH:_ansible_vault_files'
+            '(--salt --salt-file)--salt=[the salt itself, used once]:TEXT: '
+            '(--salt --salt-file)--salt-file=[the file whose first 32 bytes are the salt]:PATH:_ansible_vault_files'
+            '*:file:_ansible_vault_files'
+        ) ;;
+        'ansible-vault-with decrypt') specifications=(
+            '(- *)'{-h,--help}'[print help]'
+            '(- *)'{-V,--version}'[print version]'
+            '*--vault-id=[the source of a secret]:[LABEL@]SOURCE:_ansible_vault_id'
+            '*'{--vault-password-file=,--vault-pass-file=}'[the source of a secret]:SOURCE:_ansible_vault_files'
+            '*'{-J,--ask-vault-password,--ask-vault-pass}'[ask at the terminal for a password]'
+            '--require-id-match[try only secrets with the label of the vault]'
+            '--output=[the file to write, or - for standard output (default: FILE)]:PATH:_ansible_vault_files'
+            '*:file:_ansible_vault_files'
+        ) ;;
+        'ansible-vault-with view') specifications=(
+            '(- *)'{-h,--help}'[print help]'
+            '(- *)'{-V,--version}'[print version]'
+            '*--vault-id=[the source of a secret]:[LABEL@]SOURCE:_ansible_vault_id'
+            '*'{--vault-password-file=,--vault-pass-file=}'[the source of a secret]:SOURCE:_ansible_vault_files'
+            '*'{-J,--ask-vault-password,--ask-vault-pass}'[ask at the terminal for a password]'
+            '--require-id-match[try only secrets with the label of the vault]'
+            '*:file:_ansible_vault_files'
+        ) ;;
+        'ansible-vault-with rekey') specifications=(
+            '(- *)'{-h,--help}'[print help]'
+            '(- *)'{-V,--version}'[print version]'
+            '*--vault-id=[the source of a secret]:[LABEL@]SOURCE:_ansible_vault_id'
+            '*'{--vault-password-file=,--vault-pass-file=}'[the source of a secret]:SOURCE:_ansible_vault_files'
+            '*'{-J,--ask-vault-password,--ask-vault-pass}'[ask at the terminal for a password]'
+            '--encrypt-vault-id=[the label of the secret to encrypt with, among those that are given]:LABEL: '
+            '--require-id-match[try only secrets with the label of the vault]'
+            '--any-label[a secret may encrypt what it decrypts under another label]'
+            '--output=[the file to write, or - for standard output (default: FILE)]:PATH:_ansible_vault_files'
+            '(--salt --salt-file)--salt=[the salt itself, used once]:TEXT: '
+            '(--salt --salt-file)--salt-file=[the file whose first 32 bytes are the salt]:PATH:_ansible_vault_files'
+            '*--new-vault-id=[the source of a new secret]:[LABEL@]SOURCE:_ansible_vault_id'
+            '*--new-vault-password-file=[the source of a new secret]:SOURCE:_ansible_vault_files'
+            '*:file:_ansible_vault_files'
+        ) ;;
+        'ansible-vault-with encrypt_string') specifications=(
+            '(- *)'{-h,--help}'[print help]'
+            '(- *)'{-V,--version}'[print version]'
+            '*--vault-id=[the source of a secret]:[LABEL@]SOURCE:_ansible_vault_id'
+            '*'{--vault-password-file=,--vault-pass-file=}'[the source of a secret]:SOURCE:_ansible_vault_files'
+            '*'{-J,--ask-vault-password,--ask-vault-pass}'[ask at the terminal for a password]'
+            '--encrypt-vault-id=[the label of the secret to encrypt with, among those that are given]:LABEL: '
+            '--output=[the file to write, or - for standard output (default: FILE)]:PATH:_ansible_vault_files'
+            '(--salt --salt-file)--salt=[the salt itself, used once]:TEXT: '
+            '(--salt --salt-file)--salt-file=[the file whose first 32 bytes are the salt]:PATH:_ansible_vault_files'
+            '--stdin-name=[read standard input, a text with this name]:NAME: '
+            '*'{-n,--name=}'[the name of a STRING, in their order]:NAME: '
+            '(--prompt -p)'{-p,--prompt}'[ask for one more text, and for its name]'
+            '--show-input[show that text while it is typed]'
+            '*:text: '
+        ) ;;
+        'ansible-vault-with create') specifications=(
+            '(- *)'{-h,--help}'[print help]'
+            '(- *)'{-V,--version}'[print version]'
+            '*--vault-id=[the source of a secret]:[LABEL@]SOURCE:_ansible_vault_id'
+            '*'{--vault-password-file=,--vault-pass-file=}'[the source of a secret]:SOURCE:_ansible_vault_files'
+            '*'{-J,--ask-vault-password,--ask-vault-pass}'[ask at the terminal for a password]'
+            '--encrypt-vault-id=[the label of the secret to encrypt with, among those that are given]:LABEL: '
+            '--any-label[a secret may encrypt what it decrypts under another label]'
+            '(--resume --value)--value=[set this value of YAML to the bytes of standard input]:KEY.PATH: '
+            '(--resume --value)--resume[start from the text that the last edit of FILE saved in a copy]'
+            '--skip-tty-check[ignored]'
+            '*:file:_ansible_vault_files'
+        ) ;;
+        'ansible-vault-with edit') specifications=(
+            '(- *)'{-h,--help}'[print help]'
+            '(- *)'{-V,--version}'[print version]'
+            '*--vault-id=[the source of a secret]:[LABEL@]SOURCE:_ansible_vault_id'
+            '*'{--vault-password-file=,--vault-pass-file=}'[the source of a secret]:SOURCE:_ansible_vault_files'
+            '*'{-J,--ask-vault-password,--ask-vault-pass}'[ask at the terminal for a password]'
+            '--encrypt-vault-id=[the label of the secret to encrypt with, among those that are given]:LABEL: '
+            '--any-label[a secret may encrypt what it decrypts under another label]'
+            '(--resume --value)--value=[set this value of YAML to the bytes of standard input]:KEY.PATH: '
+            '(--resume --value)--resume[start from the text that the last edit of FILE saved in a copy]'
+            '*:file:_ansible_vault_files'
+        ) ;;
+    esac
+}
+# Here it ends.
+
+_ansible_vault_commands() {
+    local -a listed
+    _ansible_vault_listed $service
+    _describe command listed
 }
 
 # An alias that zsh does not expand, by its option complete_aliases.
 [[ $service == ansible-vault && ${aliases[ansible-vault]} == ansible-vault-with* ]] && service=ansible-vault-with
-if [[ $service == ansible-vault-* && $service != ansible-vault-with ]]; then
-    _ansible_vault_arguments ${service#ansible-vault-}
-else
-    _ansible_vault "$@"
+local context state line
+local -A opt_args
+local -a listed specifications
+_ansible_vault_listed $service
+_ansible_vault_specifications $service
+if (( $#listed )); then
+    _arguments -C -A '-*' $specifications '1:command:_ansible_vault_commands' '*::argument:->arguments'
+    [[ $state == arguments ]] || return
+    _ansible_vault_specifications "$service $line[1]"
 fi
+_arguments -s -S $specifications

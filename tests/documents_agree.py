@@ -7,18 +7,16 @@ import runpy
 from pathlib import Path
 
 from ansible_vault_companions import OLDEST
-from ansible_vault_companions.alias.command_line import COMMANDS
 from ansible_vault_companions.envelopes.document import PROSE
 from ansible_vault_companions.files import reading
 from ansible_vault_companions.processes import GRACE_PERIOD
-from completions import options_of
 from lib.needs import needs
-from lib.option_sets import OF_ANSIBLE, companion_options, described_options, sections
-from lib.paths import COMPANIONS, PAGE, README, ROOT
+from lib.paths import COMPANIONS, PAGE, README, ROOT, sections
 from lib.processes import run_text
 from model.answers import WHITESPACE
 from model.faults import Fault
-from model.options import is_label
+from model.options import COMMON, OPTIONS, is_label
+from programs import PROGRAM, commands
 
 FORMATS = (ROOT / "docs" / "formats.md").read_text()
 CRATES = ROOT / "crates"
@@ -26,6 +24,8 @@ CRATES = ROOT / "crates"
 STATUSES = {fault.line.decode().removeprefix("ERROR! ").strip(): fault.status for fault in Fault}
 DOCUMENTS = [README, ROOT / "CONTRIBUTING.md", *sorted((ROOT / "docs").glob("*.md")), *sorted(PAGE.parent.glob("*.1"))]
 TEXT = "".join(document.read_text() for document in DOCUMENTS)
+# The options of each program and of each of its commands.
+SPELLINGS = {command.line: command.spellings for command in commands()}
 
 # The constants whose values appear in each row of the table of limits, here without commas.
 LIMITS = {
@@ -40,14 +40,6 @@ LIMITS = {
 }
 
 
-def code_faults() -> dict[int, list[str]]:
-    """Return the texts of each fault in the code, one for each role if there are several, by the fault's number."""
-    code, texts = (CRATES / "vault_fault" / "src" / "fault.rt").read_text(), dict[str, list[str]]()
-    for name, text in re.findall(r'Fault::(\w+)(?:\(Role::\w+\))? =>\s*"(.*)",', code):
-        texts.setdefault(name, []).append(text)
-    return {int(number): texts[name] for name, number in re.findall(r"Fault::(\w+)(?:\(_\))? => (\d+),", code)}
-
-
 def code_limits() -> dict[str, int]:
     """Return the constants of the files `limits.rt`."""
     values: dict[str, int] = {}
@@ -57,14 +49,9 @@ def code_limits() -> dict[str, int]:
     return values
 
 
-def test_faults() -> None:
-    """docs/formats.md has the faults of the code with their statuses, and the manual page explains every message."""
-    rows = re.findall(r"^ +(\d+) +(\d) +(\S.*(?:\n {5,}\D.*)*)$", FORMATS, re.MULTILINE)
-    listed = {int(number): (int(status), re.split(r"\n +", texts)) for number, status, texts in rows}
-    assert {number: texts for number, (_, texts) in listed.items()} == code_faults()
-    assert {text: status for status, texts in listed.values() for text in texts} == STATUSES
-    messages = re.findall(r"^\.It (.*)$", sections(PAGE.read_text())["DIAGNOSTICS"], re.MULTILINE)
-    assert sorted(messages) == sorted(STATUSES)
+def test_messages() -> None:
+    """The manual page explains every message."""
+    assert sorted(re.findall(r"^\.It (.*)$", sections(PAGE)["DIAGNOSTICS"], re.MULTILINE)) == sorted(STATUSES)
 
 
 def test_limits() -> None:
@@ -96,7 +83,7 @@ def test_suffixes() -> None:
 
 def test_exit_statuses() -> None:
     """The manual page has the exit statuses, and says of each what its faults say in their last word."""
-    texts = dict(re.findall(r"^\.It (\d)\n(.+)$", sections(PAGE.read_text())["EXIT STATUS"], re.MULTILINE))
+    texts = dict(re.findall(r"^\.It (\d)\n(.+)$", sections(PAGE)["EXIT STATUS"], re.MULTILINE))
     assert [int(status) for status in texts] == sorted({0, 2, *STATUSES.values()})
     ends = {(status, text.split()[-1]) for text, status in STATUSES.items() if status > 1}
     assert ends == {(3, "opened"), (3, "read"), (3, "written"), (4, "memory")}
@@ -129,12 +116,14 @@ OTHER_OPTIONS = """--cached --clean --filter --global --merge --no-edit --no-ver
 
 
 def test_options() -> None:
-    """Every option in a document belongs to the program, a companion, Ansible's tool or another known program."""
+    """Every option in a document belongs to one of the programs or to another known one; and the model has those of
+    the program."""
     named = set(re.findall(r"(?<![\w\\-])--[a-z][\w-]+", re.sub(r"\bFl -", " --", TEXT)))
-    of_companions = (each for name in COMPANIONS for each in companion_options(name))
-    ours = described_options().union(*OF_ANSIBLE.values(), *of_companions)
+    ours = set().union(*SPELLINGS.values())
     assert len(named & ours) > 20
     assert named - ours - {*OTHER_OPTIONS} == set()
+    of_program = {name: SPELLINGS[f"{PROGRAM} {name}"] - {"-n", "-h", "--help"} for name in OPTIONS}
+    assert of_program == {name: options | COMMON for name, options in OPTIONS.items()}
 
 
 def test_commands() -> None:
@@ -142,9 +131,9 @@ def test_commands() -> None:
     lines = re.findall(r"\b(ansible-vault-\w+)((?: +[^\s`|;&'\"<>()]+)*)", re.sub(r" (?:\\e|\\)\n +", " ", TEXT))
     unknown, tried = [], 0
     for name, words in ((name, words.split()) for name, words in lines if name in COMPANIONS):
-        command = next((word for word in words if name == "ansible-vault-with" and word in COMMANDS), "")
-        options = [word.partition("=")[0] for word in words if re.match(r"--?[A-Za-z]", word)]
-        unknown += [(name, *words) for each in {*options} - options_of(f"{name} {command}".strip()) - {"-v"}]
+        command = next((word for word in words if f"{name} {word}" in SPELLINGS), "")
+        options = {word.partition("=")[0] for word in words if re.match(r"--?[A-Za-z]", word)}
+        unknown += [(name, *words) for each in options - SPELLINGS[f"{name} {command}".strip()] - {"-v"}]
         tried += len(options)
     assert (unknown, tried > 30) == ([], True)
 
@@ -262,18 +251,3 @@ def test_speed() -> None:
     speed = (ROOT / "docs" / "speed.md").read_text()
     [measured] = re.findall(r"^\| `view`, 1 KiB \|.*\| ([\d.]+) \([^|]*\) \|$", speed, re.MULTILINE)
     assert parts[part] == min(parts.values(), key=lambda each: abs(each - float(measured)))
-
-
-def texts_in_zsh(text: str) -> set[tuple[str, str]]:
-    """Return the options with their descriptions. Several options in braces share one description."""
-    found = re.findall(r"(--[\w-]+|\{-[^}]*\})=?'?=?\[([^\]]*)\]", text)
-    return {(name, said) for names, said in found for name in re.findall(r"--([a-z][\w-]+)", names.replace("{", "{--"))}
-
-
-def test_texts_of_completions() -> None:
-    """fish and zsh describe each option alike."""
-    fish, zsh = ((ROOT / "completions" / f"ansible-vault.{shell}").read_text() for shell in ("fish", "zsh"))
-    commands = re.findall(r"^ *complete .* -l ([\w-]+) .*-d '([^']*)'", fish.replace("\\\n", ""), re.MULTILINE)
-    in_fish = {(name, text[:1].lower() + text[1:]) for name, text in commands}
-    assert len(in_fish) > 20
-    assert in_fish == texts_in_zsh(zsh)

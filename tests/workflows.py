@@ -10,8 +10,7 @@ from typing import NamedTuple
 import pytest
 
 from lib.needs import needs
-from lib.option_sets import companion_page
-from lib.paths import COMPANIONS, ROOT
+from lib.paths import COMPANIONS, ROOT, sections
 from lib.repository import MARKS, PASSWORDS, SETTINGS, Repository, block, vault
 
 DOCUMENT = (ROOT / "docs" / "workflows.md").read_text()
@@ -56,7 +55,7 @@ def recipes() -> dict[str, str]:
 def examples(name: str) -> dict[str, str]:
     """Return the shell commands of each of a page's EXAMPLES, by the first three words of the text before them."""
     display = r"(?:\A|^\.Pp)\n((?:(?!\.Pp$).+\n)+?)\.Bd .*\n((?:.*\n)+?)\.Ed$"
-    found = re.findall(display, companion_page(name)["EXAMPLES"], re.MULTILINE)
+    found = re.findall(display, sections(ROOT / "man" / f"{name}.1")["EXAMPLES"], re.MULTILINE)
     return {" ".join(words.split()[:3]): shown(text) for words, text in found}
 
 

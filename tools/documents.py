@@ -1,5 +1,6 @@
 """Update what the documents take from the code: code, places and numbers of lines in docs/verification.md and
-docs/verification-reference.md, and the programs in docs/library.md.
+docs/verification-reference.md, the programs in docs/library.md, the faults in docs/formats.md, and the options in the
+manual pages and completions.
 """
 
 import re
@@ -7,12 +8,16 @@ from collections.abc import Callable
 from functools import partial
 from pathlib import Path
 
+import completing
+import manual
 from contracts import CRATES, code, crates, declared_in, needed
+from programs import NAMES, PROGRAM
 
 ROOT = CRATES.parent
 PAGE = ROOT / "docs" / "verification.md"
 REFERENCE = ROOT / "docs" / "verification-reference.md"
 LIBRARY = ROOT / "docs" / "library.md"
+FORMATS = ROOT / "docs" / "formats.md"
 
 # The code that docs/verification.md prints, in this order: a small contract with its definition, and the theorem.
 EXPLAINED = [
@@ -40,6 +45,11 @@ CONTRACTS = re.compile(
 # The programs of docs/library.md, and how the page prints one, after the path of its file.
 PROGRAMS = "crates/vault_program_tests/src/library"
 LISTING = re.compile(r"(?<=\bFrom `)crates/\S+/(\w+\.rt)`:\n\n```rust\n(?:.*\n)*?```$", re.MULTILINE)
+FAULTS = re.compile(r"(?<=The columns are number, exit status and text\.\n\n)(?: .*\n)+")
+# What the parsers give to the completion of a shell.
+OF_PARSERS = re.compile(
+    r"(?<=^# tools/write_documents writes what follows\.\n).*(?=^# Here it ends\.$)", re.MULTILINE | re.DOTALL
+)
 
 
 def length(file: Path) -> int:
@@ -97,5 +107,31 @@ def listing(found: re.Match[str]) -> str:
     return f"{path}`:\n\n```rust\n{(ROOT / path).read_text()}```"
 
 
-# The function that updates each page.
+def faults() -> str:
+    """Return the number, the exit status and the texts of each fault."""
+    code = (CRATES / "vault_fault" / "src" / "fault.rt").read_text()
+    definitions = (CRATES / "vault_cli" / "specs" / "runs" / "Status.antt").read_text()
+    numbers = re.findall(r"Fault::(\w+)(?:\(_\))? => (\d+),", code)
+    texts = re.findall(r'Fault::(\w+)(?:\(Role::\w+\))? =>\s*"(.*)",', code)
+    codes = dict(re.findall(r"^code_of (\w+) = (\d)$", definitions, re.MULTILINE))
+    statuses = dict(re.findall(r"^status_of \(?(\w+).* = (\w+)$", definitions, re.MULTILINE))
+    lines = []
+    for fault, number in numbers:
+        status = codes[statuses.get(fault, statuses["fault"])]
+        of_fault = f"\n{' ' * 11}".join(text for name, text in texts if name == fault)
+        lines.append(f"{number:>6}{status:>3}  {of_fault}\n")
+    return "".join(lines)
+
+
+def completion(script: str, shell: str) -> str:
+    """Return a shell's completion with all options."""
+    text = completing.WRITTEN[shell]()
+    return OF_PARSERS.sub(lambda _: text, script)
+
+
+# The function that updates each page and each completion.
 WRITTEN: dict[Path, Callable[[str], str]] = {PAGE: written, REFERENCE: written, LIBRARY: partial(LISTING.sub, listing)}
+WRITTEN[FORMATS] = partial(FAULTS.sub, lambda _: faults())
+WRITTEN |= {ROOT / "man" / f"{name}.1": partial(manual.with_options, program=name) for name in NAMES}
+WRITTEN[ROOT / "man" / f"{PROGRAM}.1"] = manual.program_page
+WRITTEN |= {ROOT / f"completions/{PROGRAM}.{shell}": partial(completion, shell=shell) for shell in completing.WRITTEN}

@@ -11,8 +11,8 @@ from ansible_vault_companions import program
 from ansible_vault_companions.tool.tool import KINDS
 from companion_cases import CHECK, EDIT, HOOK, MERGE, PASSWORDS, ROTATE, TEXT, TEXTCONV, WITH, Place, block, ended
 from companion_cases import sealed, summary
-from lib.option_sets import companion_help
 from lib.paths import COMPANIONS, ROOT
+from lib.processes import run_text
 from model.vaults import seal
 
 
@@ -128,8 +128,10 @@ def test_longest_password(place: Place) -> None:
 @pytest.mark.parametrize("name", COMPANIONS)
 def test_help(name: str) -> None:
     """It fits a screen."""
-    text, says = companion_help(name), ["git runs no hook with --no-verify"] if name == HOOK else []
-    assert [each for each in (*says, "Companions are tested, not proved.") if each not in text] == []
+    text = run_text([str(COMPANIONS[name]), "--help"]).stdout
+    says = ["\n  $ ", f"`man {name}` says more. Companions are tested, not proved."]
+    says += ["git runs no hook with --no-verify"] if name == HOOK else []
+    assert [each for each in says if each not in text] == []
     lines = text.splitlines()
     assert max(map(len, lines)) <= 80 and (len(lines) <= 34 or name == WITH)
 

@@ -9,7 +9,7 @@ import pytest
 from companion_cases import AWKWARD, EDIT, PASSWORDS, TEXT, WITH, Place, decrypted, described, ended, sealed, silent
 from companion_cases import texts
 from lib.needs import needs
-from lib.option_sets import OF_ANSIBLE, page_sets
+from programs import PROGRAM, commands
 
 # Command lines that the tool takes, too, if a secret is added.
 SAME = """
@@ -68,17 +68,20 @@ def test_the_answers_of_the_tool(place: Place, line: str, option: str) -> None:
     assert [run(place, f"{WITH} {each}") for each in lines] == [wanted] * len(lines), lines
 
 
-ADDED = {"-J", "--ask-vault-password", "--ask-vault-pass", "--vault-pass-file"}
+ADDED = {"-J", "--ask-vault-password", "--ask-vault-pass", "--vault-pass-file", "-V", "--version"}
+# Options of Ansible's tool, by command.
+OF_ANSIBLE = {"encrypt_string": {"--prompt", "-p", "--show-input"}, "rekey": {"--encrypt-vault-id", "--any-label"}}
+OF_PROGRAM = {each.name: each.spellings for each in commands() if each.program == PROGRAM and each.name}
 
 
-@pytest.mark.parametrize("command", [command for command in page_sets() if command])
+@pytest.mark.parametrize("command", OF_PROGRAM)
 def test_help(place: Place, command: str) -> None:
     """The help of a command lists what this program takes, and that of the program lists the commands."""
     done = place.run(WITH, "-v", command, "-h")
     assert (done.returncode, done.stderr) == (0, "")
     lines = re.findall(r"^  (-.*?)(?:  |$)", done.stdout, re.MULTILINE)
     options = {option for line in lines for option in re.findall(r"(?<!\S)--?[A-Za-z][\w-]*", line)}
-    assert options - {"-V", "--version"} == page_sets()[command] | ADDED | OF_ANSIBLE.get(command, set())
+    assert options == OF_PROGRAM[command] | ADDED | OF_ANSIBLE.get(command, set())
     takes = "STRING" if command == "encrypt_string" else "FILE"
     assert done.stdout.startswith(f"usage: {WITH} {command} [OPTION ...] [{takes} ...]\n")
     assert f"\n    {command}  " in place.run(WITH, "--help").stdout

@@ -10,6 +10,12 @@ COMPANIONS = {path.name: path for path in sorted((ROOT / "companions").glob("ans
 COMMAND_LINE = ROOT / "crates" / "vault_request" / "src" / "command_line.rt"
 
 
+def sections(page: Path) -> dict[str, str]:
+    """Return the sections of a manual page, by title."""
+    _, *parts = re.split(r"^\.Sh (.+)$", page.read_text(), flags=re.MULTILINE)
+    return dict(zip(parts[::2], parts[1::2]))
+
+
 def version() -> str:
     """Return the program's version, from the one place that defines it."""
     [found] = re.findall(r'^const VERSION: &str = "(.*)";$', COMMAND_LINE.read_text(), re.MULTILINE)

@@ -1,0 +1,133 @@
+"""What the completions for bash, fish and zsh take from the programs' parsers."""
+
+import shlex
+import textwrap
+from collections.abc import Iterable
+
+from programs import NAMES, Command, Option, commands
+
+SEEN = "__fish_seen_subcommand_from"
+# How fish and zsh complete each kind of value.
+FISH_VALUES = {
+    "id": " -x -a '(__ansible_vault_ids)'",
+    "file": " -x -a '(__ansible_vault_files)'",
+    "text": " -x",
+    "": "",
+}
+ZSH_VALUES = {"id": "_ansible_vault_id", "file": "_ansible_vault_files", "text": " "}
+
+
+def of_program(program: str) -> list[Command]:
+    """Return a program and its commands."""
+    return [command for command in commands() if command.program == program]
+
+
+def bash_table(name: str, rows: Iterable[tuple[str, Iterable[str]]]) -> str:
+    """Return a function of bash that prints the words that belong to its argument."""
+    lines = [f"_ansible_vault_{name}() {{", "    case $1 in"]
+    for pattern, words in rows:
+        text = f"{pattern}) echo {' '.join(words)} ;;"
+        parts = textwrap.wrap(text, 110, subsequent_indent="    ", break_on_hyphens=False, break_long_words=False)
+        lines.append(textwrap.indent(" \\\n".join(parts), "    "))
+    return "\n".join([*lines, "    esac", "}\n"])
+
+
+def bash() -> str:
+    listed = [(name, [command.name for command in of_program(name)[1:]]) for name in NAMES if of_program(name)[1:]]
+    options = [(f'"{each.line}"', (name for option in each.options for name in option.names)) for each in commands()]
+    kinds = {name: option.kind for command in commands() for option in command.options for name in option.names}
+    values = [(" | ".join(name for name in kinds if kinds[name] == kind), [kind]) for kind in ("id", "file", "text")]
+    return "\n".join(
+        [
+            "# The commands of a program.",
+            bash_table("commands", listed),
+            "# The options of a program, or of one of its commands.",
+            bash_table("options", options),
+            "# What the value of an option is: a file, perhaps after a label, or any text.",
+            bash_table("kind", values),
+        ]
+    )
+
+
+def fish_text(text: str) -> str:
+    escaped = text.replace("\\", r"\\").replace("'", r"\'")
+    return f"'{escaped}'"
+
+
+def fish_option(option: Option) -> str:
+    names = " ".join(f"-l {name[2:]}" if name.startswith("--") else f"-s {name[1:]}" for name in option.names)
+    return f"{names}{FISH_VALUES[option.kind]} -d {fish_text(option.summary)}"
+
+
+def fish_program(program: str) -> list[str]:
+    own, *inner = of_program(program)
+    names = " ".join(command.name for command in inner)
+    lines, taking = [], dict[str, list[str]]()
+    if inner:
+        of_files = " ".join(command.name for command in inner if command.takes_files)
+        lines += [" -f", f" -n '{SEEN} {of_files}' -F"]
+        lines += [f" -n 'not {SEEN} {names}' -a {command.name} -d {fish_text(command.text)}" for command in inner]
+    for command in (own, *inner):
+        for option in command.options:
+            taking.setdefault(fish_option(option), []).append(command.name)
+    for option_text, of_commands in taking.items():
+        if len(of_commands) == 1 + len(inner):
+            condition = ""
+        else:
+            condition = f" -n '{SEEN} {' '.join(of_commands)}'" if of_commands != [""] else f" -n 'not {SEEN} {names}'"
+        lines.append(f"{condition} {option_text}")
+    return [f"complete -c {program}{line}" for line in lines]
+
+
+def fish() -> str:
+    return "".join(f"{line}\n" for program in NAMES for line in fish_program(program))
+
+
+def zsh_option(option: Option, single: set[str]) -> str:
+    """Return the specification of an option. It excludes those of its alternatives that cannot be repeated."""
+    excluded = sorted(option.alternatives & single)
+    before = f"({' '.join(excluded)})" if len(excluded) > 1 else ""
+    if option.names[-1] in ("--help", "--version"):
+        before = "(- *)"
+    names = [f"{name}=" if option.value and name.startswith("--") else name for name in option.names]
+    spelled = f"'{{{','.join(names)}}}'" if len(names) > 1 else names[0]
+    said = option.summary.replace("]", r"\]").replace("'", r"'\''")
+    value = f":{option.value}:{ZSH_VALUES[option.kind]}" if option.value else ""
+    return f"'{'*' * option.repeats or before}{spelled}[{said}]{value}'"
+
+
+def zsh_command(command: Command) -> list[str]:
+    single = {name for option in command.options if not option.repeats for name in option.names}
+    specifications = [zsh_option(option, single) for option in command.options]
+    if command.argument:
+        number = "*" if command.argument.repeats else "1"
+        what = "file:_ansible_vault_files" if command.takes_files else "text: "
+        specifications.append(f"'{number}:{what}'")
+    return specifications
+
+
+def zsh_table(name: str, array: str, rows: dict[str, list[str]]) -> list[str]:
+    """Return a function of zsh that puts the words that belong to its argument into an array."""
+    lines = [f"_ansible_vault_{name}() {{", "    case $1 in"]
+    for pattern, words in rows.items():
+        lines += [f"        '{pattern}') {array}=(", *(f"            {word}" for word in words), "        ) ;;"]
+    return [*lines, "    esac", "}"]
+
+
+def zsh() -> str:
+    listed = {
+        program: [shlex.quote(f"{command.name}:{command.text}") for command in of_program(program)[1:]]
+        for program in NAMES
+        if of_program(program)[1:]
+    }
+    lines = [
+        "# The commands of a program, and what they do.",
+        *zsh_table("listed", "listed", listed),
+        "",
+        "# The options and arguments of a program, or of one of its commands.",
+        *zsh_table("specifications", "specifications", {each.line: zsh_command(each) for each in commands()}),
+    ]
+    return "".join(f"{line}\n" for line in lines)
+
+
+WRITTEN = {"bash": bash, "fish": fish, "zsh": zsh}
