@@ -30,7 +30,7 @@ OUTCOMES = "outcomes"
 # With --floors, at least this many tests of each part must run, and not many more, so that the floor is raised in time
 # (OUTCOMES counts the tests without a marker listed here); and the tests must record at least the amounts in LEAST.
 # Subtests count as one of these amounts.
-FLOORS = {OUTCOMES: 1450, "fuzz": 4, "faults": 44, "allocations": 40, "valgrind": 65, "newcomer": 16}
+FLOORS = {OUTCOMES: 1200, "fuzz": 4, "faults": 44, "allocations": 40, "valgrind": 65, "newcomer": 16}
 Report = pytest.TestReport | pytest.CollectReport
 HAS_FAILED = pytest.StashKey[bool]()
 LEAST = {"subtests": 550, "random requests": 200, "refused calls": 700, "signals": 36, "refused allocations": 1200}
