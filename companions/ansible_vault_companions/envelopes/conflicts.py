@@ -4,7 +4,7 @@ from __future__ import annotations
 
 import re
 import shlex
-from bisect import bisect_right
+from bisect import bisect_left
 from typing import Iterable
 
 from ansible_vault_companions.envelopes import document
@@ -40,18 +40,18 @@ def is_unmerged(text: bytes) -> bool:
     return any(sign * SIZE in text for sign in (OURS, END, BASE)) and MARKER.search(text) is not None
 
 
-def unused_size(texts: Iterable[bytes], least: int = SIZE) -> int:
+def unused_size(texts: Iterable[bytes]) -> int:
     """A size of markers that no line of these texts has."""
-    return max([least, *(len(run[0]) + 1 for text in texts for run in RUN.finditer(text))])
+    return max([SIZE, *(len(run[0]) + 1 for text in texts for run in RUN.finditer(text))])
+
+
+def _marker(size: int) -> re.Pattern[bytes]:
+    return re.compile(rb"^([<|=>])\1{%d}(?:[ \t][^\r\n]*)?\r?$" % (size - 1), re.MULTILINE)
 
 
 def has_markers(text: bytes, size: int) -> bool:
     """Whether a line is a marker of this size, even one of equal signs."""
-    return any(map(_marker(size).match, LINES.findall(text)))
-
-
-def _marker(size: int) -> re.Pattern[bytes]:
-    return re.compile(rb"([<|=>])\1{%d}(?:[ \t][^\r\n]*)?\r?\n?\Z" % (size - 1))
+    return _marker(size).search(text) is not None
 
 
 def signed_lines(text: bytes, size: int) -> list[tuple[bytes, bytes]]:
@@ -68,19 +68,19 @@ def signed_lines(text: bytes, size: int) -> list[tuple[bytes, bytes]]:
     return lines
 
 
-def lines_of_sides(text: bytes) -> list[tuple[bytes, bytes]]:
-    """The lines with the signs of their sides; empty if there is no whole conflict. The first marker has the size."""
+def sides(text: bytes, is_masked: bool = False) -> dict[bytes, bytes]:
+    """The text of each side, by the character of its first marker; empty if there is no whole conflict. The first
+    marker has the size. If they are masked, the bytes of other lines become newlines, so that all places stay."""
     first = FIRST.search(text) if OURS * SIZE in text else None
     lines = signed_lines(text, len(first[1])) if first else []
     markers = [line[:1] for sign, line in lines if sign == END]
-    return lines if {OURS, THEIRS, END} <= {*markers} and markers[-1] == END else []
-
-
-def sides(text: bytes) -> dict[bytes, bytes] | None:
-    """The text of each side, by the character of its first marker; None if there is no whole conflict."""
-    lines = lines_of_sides(text)
-    markers = {line[:1] for sign, line in lines if sign == END} - {END}
-    return {side: b"".join(line for sign, line in lines if sign in (b"", side)) for side in markers} or None
+    if not {OURS, THEIRS, END} <= {*markers} or markers[-1] != END:
+        return {}
+    return {
+        side: b"".join(line if sign in (b"", side) else b"\n" * len(line) * is_masked for sign, line in lines)
+        for side in dict.fromkeys(markers)
+        if side != END
+    }
 
 
 def both(ours: bytes, theirs: bytes, size: int = SIZE) -> bytes:
@@ -93,40 +93,15 @@ def both(ours: bytes, theirs: bytes, size: int = SIZE) -> bytes:
 
 def read(data: bytes, every: bool = False) -> Document:
     """The envelopes of a file, or every node, on all sides. If one of its sides is no YAML, nor is the file."""
-    lines = lines_of_sides(data)
-    markers = {line[:1] for sign, line in lines if sign == END}
-    values: dict[tuple[int, ...], Value] = {}
-    for sign in filter(markers.__contains__, (OURS, THEIRS, BASE)):
-        side = _Side(lines, sign)
-        found = document.read(side.text, every)
-        if found.fault:
+    line_ends = [end.start() for end in re.finditer(b"\n", data)]
+    values: dict[tuple[int, int], Value] = {}
+    texts = sides(data, is_masked=True).values()
+    for side in (document.read(text, every) for text in texts):
+        if side.fault:
             return document.read(data, every)
-        for value in map(side.in_file, found.values):
+        for value in side.values:
             # A line of several sides may be part of a longer text on one of them.
-            values.setdefault((value.end, value.start) if every else (value.end,), value)
+            place = (value.end, value.start if every else 0)
+            values.setdefault(place, value._replace(line=bisect_left(line_ends, value.start) + 1))
     in_order = sorted(values.values(), key=lambda value: (value.start, value.end))
-    return Document(data, in_order) if lines else document.read(data, every)
-
-
-class _Side:
-    """The text of a side, and the places of its lines there and in the file."""
-
-    def __init__(self, lines: list[tuple[bytes, bytes]], sign: bytes) -> None:
-        self.starts: list[int] = []
-        self.moved: list[tuple[int, int]] = []
-        pieces, place, moved = [], 0, (0, 0)
-        for side, line in lines:
-            if side in (b"", sign):
-                self.starts.append(place)
-                self.moved.append(moved)
-                pieces.append(line)
-                place += len(line)
-            else:
-                moved = (moved[0] + len(line), moved[1] + 1)
-        self.text = b"".join(pieces)
-
-    def in_file(self, value: Value) -> Value:
-        """A value of the side, with its place in the file."""
-        moved, lines = self.moved[bisect_right(self.starts, value.start) - 1]
-        begin, start, end = (place + moved for place in (value.begin, value.start, value.end))
-        return value._replace(line=value.line + lines, begin=begin, start=start, end=end)
+    return Document(data, in_order) if texts else document.read(data, every)
