@@ -13,7 +13,7 @@ import pytest
 from ansible_vault_companions.editing.matching import Choice
 from ansible_vault_companions.editing.yaml_file import YamlFile
 from ansible_vault_companions.envelopes import conflicts
-from ansible_vault_companions.merging.lines import Versions, merged_lines
+from ansible_vault_companions.merging.versions import Versions, merged_lines
 from companion_cases import CHECK, EDIT, HOOK, MERGE, PASSWORDS, Done, Place, block, decrypted, ended
 from companion_cases import sealed, silent, texts, versions
 from companion_cases.random_merges import ITEM, LABELS, SIMPLE, Merge, Model, Value, blocks_of, check_made, document

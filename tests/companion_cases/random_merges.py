@@ -9,8 +9,7 @@ import functools
 import itertools
 import os
 import re
-from collections import Counter, defaultdict
-from collections.abc import Collection, Iterator
+from collections import Counter
 from contextlib import suppress
 from pathlib import Path
 from typing import NamedTuple
@@ -22,7 +21,8 @@ from hypothesis import strategies as st
 from ansible_vault_companions.envelopes import conflicts
 from ansible_vault_companions.envelopes.envelope import MAGIC, label_of
 from ansible_vault_companions.merging import texts
-from ansible_vault_companions.merging.lines import Merged, Versions
+from ansible_vault_companions.merging.values import Merged
+from ansible_vault_companions.merging.versions import Versions
 from ansible_vault_companions.passwords import sources
 from ansible_vault_companions.passwords.sources import Password
 from ansible_vault_companions.tool.tool import NotDecrypted, Tool
@@ -40,7 +40,7 @@ ITEM = ""
 KINDS = ["text", "encrypted anew", "rekeyed", "removed", "indented", "added", "unlabelled"]
 BLOCK = re.compile(rb"(?m)^((?:\w+:|  -) )!vault \|\r?\n((?: +\S+(?:\r?\n|\Z))+)")
 # The line below a value in a plaintext, which separates it from the next.
-BELOW = re.compile(rb"(?m)^# \w*(?:\r?\n|\Z)")
+BELOW = re.compile(rb"(?m)^# \w*\r?\n|\r?\n# \w*\Z")
 STYLES, ENDS = ["merge", "diff3", "zdiff3"], [b"\n", b"\r\n"]
 EXAMPLES = 900
 # The least number of merges of each kind, of changes of each kind, and of conflicts in each layout.
@@ -74,9 +74,10 @@ class Value(NamedTuple):
     def is_closed(self) -> bool:
         return self.password == UNNAMED or self.is_mislabelled()
 
-    def known_by(self, closed: Collection[bytes]) -> bytes:
-        """Return what stays the same if nothing is changed: for a closed envelope all, otherwise label and text."""
-        own = f"{self.password} {self.salt}" if self.is_closed() or self.envelope() in closed else ""
+    def known_by(self, keeps: bool, is_shared: bool = False) -> bytes:
+        """Return what stays the same if nothing is changed: for a closed envelope all, otherwise label and text, and
+        its password if it keeps that."""
+        own = f"{self.password} {self.salt}" if self.is_closed() or is_shared else self.password * keeps
         return f"{self.label or 'default'} {own} {self.indentation} {self.text!r}".encode()
 
 
@@ -100,11 +101,6 @@ class Layout(NamedTuple):
         ended = [content if is_ended else content.removesuffix(b"\n") for content, is_ended in pairs]
         return [each.replace(b"\n", self.end) for each in ended]
 
-    def is_ended(self, versions: tuple[list[Value], ...]) -> bool:
-        """Return whether the result has an end of its last line, by the side that changed that. An empty file has."""
-        base, ours, theirs = (each or not version for each, version in zip(self.are_ended, versions))
-        return theirs if ours == base else ours
-
 
 SIMPLE = Layout("merge", b"\n", (True, True, True))
 ARE_ENDED = st.tuples(*[st.sampled_from([True, True, False])] * 3)
@@ -123,12 +119,28 @@ class Merge(NamedTuple):
         """Return the envelopes that all versions have. Nothing opens these."""
         return set.intersection(*({value.envelope() for value in values} for values in self))
 
-    def plain(self, layout: Layout, closed: Collection[bytes]) -> list[bytes]:
-        """Return the versions with plaintexts, each with a line that separates it from the next, and with final line
-        ends, which are merged apart."""
-        rows = [[b"%s%s\n# %s\n" % (v.head(), v.known_by(closed), v.key.encode()) for v in values] for values in self]
-        ended = layout._replace(are_ended=(True, True, True))
-        return ended.written([document(values, own) for values, own in zip(self, rows)])
+    def keeping(self) -> set[str]:
+        """Return the labels whose values keep their passwords, as neither both sides have all under the same one, nor
+        one side put all under another one."""
+        shared = self.shared()
+        labels = {value.label for values in self for value in values}
+        return {label for label in labels if not self._is_one(label, shared)}
+
+    def _is_one(self, label: str, shared: set[bytes]) -> bool:
+        base, ours, theirs = (
+            {value.salt if value.is_closed() or value.envelope() in shared else value.password for value in values}
+            for values in ([value for value in values if value.label == label] for values in self)
+        )
+        are_open = len(ours) == len(theirs) == 1 and not any(isinstance(each, int) for each in ours | theirs)
+        return are_open and (ours == theirs or base in (ours, theirs))
+
+    def known_by(self, value: Value) -> bytes:
+        return value.known_by(value.label in self.keeping(), value.envelope() in self.shared())
+
+    def plain(self, layout: Layout) -> list[bytes]:
+        """Return the versions with plaintexts, each with a line that separates it from the next."""
+        rows = [[b"%s%s\n# %s\n" % (v.head(), self.known_by(v), v.key.encode()) for v in values] for values in self]
+        return layout.written([document(values, own) for values, own in zip(self, rows)])
 
 
 @functools.cache
@@ -231,14 +243,14 @@ def blocks_of(content: bytes) -> list[tuple[str, bytes]]:
     return [(head.decode().strip(" -:"), b"".join(line + b"\n" for line in own)) for head, own in lines]
 
 
-def in_plaintext(content: bytes, known: dict[bytes, Value], closed: Collection[bytes]) -> bytes:
+def in_plaintext(content: bytes, known: dict[bytes, Value], merge: Merge) -> bytes:
     """Return a result with what each block is known by in place of the block."""
 
     def shown(match: re.Match[bytes]) -> bytes:
         [(_, envelope)] = blocks_of(match[0])
         indentation = len(match[2]) - len(match[2].lstrip(b" "))
         end = match[0][len(match[0].rstrip(b"\r\n")) :]
-        return match[1] + known[envelope]._replace(indentation=indentation).known_by(closed) + end
+        return match[1] + merge.known_by(known[envelope]._replace(indentation=indentation)) + end
 
     return BLOCK.sub(shown, content)
 
@@ -253,18 +265,6 @@ def check_made(merge: Merge, made: Value) -> None:
     [before] = used[0]
     assert LABELS[before] == LABELS[made.password] == (made.label or "default")
     assert {before} in used[1:] and {made.password} in used[1:], "the password is not that of the other side"
-
-
-def ways_to_close(merge: Merge) -> Iterator[set[bytes]]:
-    """Yield the sets of envelopes that may have stayed closed. An envelope that all versions have is never opened, and
-    the envelopes with one label and text may all stay closed if they have several passwords."""
-    shared, same = merge.shared(), defaultdict[object, dict[bytes, str]](dict)
-    for value in itertools.chain(*merge):
-        if not (value.is_closed() or value.envelope() in shared):
-            same[value.label or "default", value.text][value.envelope()] = value.password
-    unclear = [{*group} for group in same.values() if len({*group.values()}) > 1]
-    for count in range(len(unclear) + 1):
-        yield from (shared.union(*groups) for groups in itertools.combinations(unclear, count))
 
 
 def check_rotations(merge: Merge, after: dict[str, Value]) -> None:
@@ -295,14 +295,10 @@ def check_merge(folder: Path, merge: Merge, layout: Layout) -> list[str]:
     if not result.why:
         yaml.load(result.content, Loader=yaml.BaseLoader)
         check_rotations(merge, {key: known[envelope] for key, envelope in blocks})
-    for number, closed in enumerate(ways_to_close(merge)):
-        text, count = by_git(folder, merge.plain(layout, closed))
-        text = BELOW.sub(b"", text)
-        if not count and not layout.is_ended(merge):
-            text = text.removesuffix(layout.end)
-        if (in_plaintext(result.content, known, closed), bool(result.why)) == (text, count > 0):
-            return [*kinds, "some stay closed" if number else "all are opened"]
-    raise AssertionError("the merge is not git's")
+    text, count = by_git(folder, merge.plain(layout))
+    assert bool(result.why) == (count > 0)
+    assert in_plaintext(result.content, known, merge) == BELOW.sub(b"", text), "the merge is git's"
+    return kinds
 
 
 def test_of_values(request: pytest.FixtureRequest, tmp_path: Path, monkeypatch: pytest.MonkeyPatch) -> None:

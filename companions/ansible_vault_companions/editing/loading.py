@@ -12,7 +12,7 @@ from ansible_vault_companions.editing.yaml_file import YamlFile
 from ansible_vault_companions.envelopes import conflicts, document
 from ansible_vault_companions.envelopes.envelope import MAGIC
 from ansible_vault_companions.files import reading
-from ansible_vault_companions.merging import texts, unmerged
+from ansible_vault_companions.merging import texts
 from ansible_vault_companions.passwords.sources import NO_OPTION, Password
 from ansible_vault_companions.program import Refused, shown
 from ansible_vault_companions.tool.tool import Decrypt, NotDecrypted, Tool
@@ -36,13 +36,13 @@ def load(tool: Tool, secrets: list[Password], path: str, chosen: str | None, usu
     if content is None:
         return Vault(target, [_new_key(choice)])
     decrypt: Decrypt = lambda envelope: tool.decrypt(envelope, secrets)
-    sides = unmerged.versions(target, content)
+    sides = texts.unmerged(target, content)
     are_vaults = [side.startswith(MAGIC) for side in (sides.ours, sides.theirs)] if sides else []
     key = next(iter(Choice(secrets, chosen).keys()), None) if chosen else None
     if sides and all(are_vaults):
-        return unmerged.conflict(decrypt, target, content, sides, key)
+        return texts.Conflict(decrypt, target, content, sides, key)
     if any(are_vaults):
-        raise Refused(unmerged.ONE_SIDE.format(shown(path)))
+        raise Refused(texts.ONE_SIDE.format(shown(path)))
     if sides and sides.base:
         # The driver may have lacked a password, or git may have merged without it.
         merged = texts.merged(tool, decrypt, sides, conflicts.SIZE, key).content

@@ -1,22 +1,26 @@
 """Merges three versions of a vault, or of a file with envelopes.
 
-What cannot be merged becomes a conflict of whole envelopes, so nothing is decrypted into the file.
+What cannot be merged becomes a conflict of whole envelopes, so nothing is decrypted into the file. An edit of such a
+conflict shows the texts of two vaults merged, and makes one vault of them.
 """
 
 from __future__ import annotations
 
-from typing import NamedTuple
+import os
 
-from ansible_vault_companions.envelopes import conflicts, envelope
-from ansible_vault_companions.merging import keys
-from ansible_vault_companions.merging.keys import Opened
-from ansible_vault_companions.merging.lines import Lines, Merged, Versions, merged_lines
-from ansible_vault_companions.merging.values import Values
+from ansible_vault_companions.envelopes import conflicts
+from ansible_vault_companions.envelopes.envelope import MAGIC
+from ansible_vault_companions.git.commands import answer
+from ansible_vault_companions.git.repositories import repository_of
+from ansible_vault_companions.merging.values import Merged, Values
+from ansible_vault_companions.merging.versions import Keys, Opened, Versions, common_key, merged_lines, opened
+from ansible_vault_companions.merging.versions import permitted, sealed
 from ansible_vault_companions.program import Refused, shown
 from ansible_vault_companions.tool.tool import Decrypt, Key, NotDecrypted, Tool
 
 NOT_MERGED = "not merged, so both sides are whole in the file: {}"
 KINDS_DIFFER = "one side is a vault and the other is not"
+ONE_SIDE = f"{KINDS_DIFFER}; take one with `git checkout --ours {{0}}` or `--theirs`"
 BOTH_CHANGED = "both sides changed the same lines"
 LABELS_DIFFER = "the labels differ: {} in ours, {} in theirs; choose one with --encrypt-vault-id"
 SECRETS_DIFFER = "the passwords of the two sides differ; choose one with --encrypt-vault-id"
@@ -30,85 +34,111 @@ def merged(tool: Tool, decrypt: Decrypt, versions: Versions, size: int, chosen: 
     if base in (ours, theirs) or ours == theirs:
         return Merged(theirs if base == ours else ours)
     try:
-        are_vaults = [text.startswith(envelope.MAGIC) for text in (ours, theirs)]
+        are_vaults = [text.startswith(MAGIC) for text in (ours, theirs)]
         if all(are_vaults):
-            return _merged_vaults(tool, decrypt, versions, chosen)
+            return Merged(_merged_vault(tool, decrypt, versions, chosen))
         if any(are_vaults):
             raise Refused(KINDS_DIFFER)
         # A base that was a vault has no lines for a conflict.
-        before = b"" if base.startswith(envelope.MAGIC) else base
+        before = b"" if base.startswith(MAGIC) else base
         return Values(decrypt, versions._replace(base=before), chosen).merged(tool, size)
     except Refused as fault:
         return Merged(conflicts.both(ours, theirs, size), NOT_MERGED.format(fault))
 
 
-def _merged_vaults(tool: Tool, decrypt: Decrypt, versions: Versions, chosen: Key | None) -> Merged:
-    vaults = opened(decrypt, versions)
-    key, merge = vaults.key(chosen), vaults.merged()
-    if merge.conflicts:
-        raise Refused(vaults.base.fault or BOTH_CHANGED)
-    return Merged(keys.sealed(tool, merge.text, key, [vaults.ours, vaults.theirs]))
+def _merged_vault(tool: Tool, decrypt: Decrypt, versions: Versions, chosen: Key | None) -> bytes:
+    vaults = Vaults(decrypt, versions)
+    key = vaults.key(chosen)
+    if vaults.merge.conflicts:
+        raise Refused(vaults.why)
+    return vaults.sealed(tool, vaults.merge.text, key)
 
 
-class Base(NamedTuple):
-    """The text of the common ancestor, and its vault, if it is one under one password; or why it is not known."""
+class Vaults:
+    """The vaults of two sides, and the text of their base, which need not be a vault."""
 
-    text: bytes
-    vault: Opened | None = None
-    fault: str = ""
-
-
-class Vaults(NamedTuple):
-    """The vaults of two sides."""
-
-    ours: Opened
-    base: Base
-    theirs: Opened
-
-    def marker_size(self) -> int:
-        """A size of markers that no text has."""
-        return conflicts.unused_size(self.texts())
-
-    def texts(self) -> Versions:
-        return Versions(self.ours.text, self.base.text, self.theirs.text)
-
-    def merged(self) -> Lines:
-        return merged_lines(self.texts(), self.marker_size())
+    def __init__(self, decrypt: Decrypt, versions: Versions) -> None:
+        # Why their merge may have a conflict.
+        self.why = BOTH_CHANGED
+        self.ours = _of_side("ours", decrypt, versions.ours)
+        self.theirs = _of_side("theirs", decrypt, versions.theirs)
+        text, self.base_keys = self._base(decrypt, versions.base)
+        texts = Versions(self.ours.text, text, self.theirs.text)
+        self.marker_size = conflicts.unused_size(texts)
+        self.merge = merged_lines(texts, self.marker_size)
 
     def key(self, chosen: Key | None) -> Key:
-        newer = keys.newer(self.ours, self.base.vault, self.theirs)
-        if newer:
-            return newer.key
-        if chosen:
-            return chosen
-        labels = [shown(self.ours.label), shown(self.theirs.label)]
-        raise Refused(SECRETS_DIFFER if labels[0] == labels[1] else LABELS_DIFFER.format(*labels))
+        key = common_key({self.ours.key}, self.base_keys, {self.theirs.key}) or chosen
+        if key:
+            return key
+        ours, theirs = (shown(vault.key[1]) for vault in (self.ours, self.theirs))
+        raise Refused(SECRETS_DIFFER if ours == theirs else LABELS_DIFFER.format(ours, theirs))
+
+    def sealed(self, tool: Tool, text: bytes, key: Key) -> bytes:
+        """The vault of a side, if it has this text under this key, or else a new one."""
+        known = (vault.envelope for vault in (self.ours, self.theirs) if (vault.text, vault.key) == (text, key))
+        return next(known, b"") or sealed(tool, text, key)
+
+    def _base(self, decrypt: Decrypt, data: bytes) -> tuple[bytes, Keys]:
+        """The text of the base, and its keys. In a crossed history it is a merge of bases, and may be a conflict."""
+        sides = conflicts.sides(data)
+        if sides:
+            ours, our_keys = self._base(decrypt, sides[conflicts.OURS])
+            theirs, their_keys = self._base(decrypt, sides[conflicts.THEIRS])
+            texts = Versions(ours, b"", theirs)
+            return merged_lines(texts, conflicts.unused_size(texts)).text, our_keys | their_keys
+        if not data.startswith(MAGIC):
+            return data, set()
+        try:
+            vault = opened(decrypt, data)
+        except NotDecrypted as fault:
+            self.why = f"base: {fault}"
+            return b"", set()
+        return vault.text, {vault.key}
 
 
-def opened(decrypt: Decrypt, versions: Versions) -> Vaults:
-    ours, base, theirs = versions
-    return Vaults(_of_side("ours", decrypt, ours), _of_base(decrypt, base), _of_side("theirs", decrypt, theirs))
+class Conflict:
+    """Two vaults between markers, for an edit: their texts are merged, and what is saved becomes one vault."""
+
+    # None of its values stays encrypted.
+    faults: tuple[()] = ()
+
+    def __init__(self, decrypt: Decrypt, target: str, content: bytes, versions: Versions, chosen: Key | None) -> None:
+        # The path of the file, and what it has.
+        self.target, self.content = target, content
+        self.vaults = Vaults(decrypt, versions)
+        self.keys = [self.vaults.key(chosen)]
+        self.plaintext = self.vaults.merge.text
+
+    def is_as_it_was(self, text: bytes) -> bool:
+        return text == self.plaintext and self._has_markers(text)
+
+    def encrypted(self, tool: Tool, text: bytes) -> bytes:
+        if self._has_markers(text):
+            raise Refused(conflicts.STILL)
+        return self.vaults.sealed(tool, text, self.keys[0])
+
+    def _has_markers(self, text: bytes) -> bool:
+        return conflicts.has_markers(text, self.vaults.marker_size)
 
 
 def _of_side(side: str, decrypt: Decrypt, vault: bytes) -> Opened:
     try:
-        return keys.permitted(decrypt, vault)
+        return permitted(decrypt, vault)
     except Refused as fault:
         raise Refused(f"{side}: {fault}") from None
 
 
-def _of_base(decrypt: Decrypt, data: bytes) -> Base:
-    """In a crossed history the base is itself a merge of bases, and may be a conflict."""
+def unmerged(path: str, data: bytes) -> Versions | None:
+    """The sides of a file with a conflict, and their base if the index has this conflict; None if there is none."""
     sides = conflicts.sides(data)
-    if sides:
-        ours, theirs = (_of_base(decrypt, sides[sign]) for sign in (conflicts.OURS, conflicts.THEIRS))
-        texts = Versions(ours.text, b"", theirs.text)
-        text = merged_lines(texts, conflicts.unused_size(texts)).text
-        return Base(text, keys.one_of([ours.vault, theirs.vault]), ours.fault or theirs.fault)
-    if not data.startswith(envelope.MAGIC):
-        return Base(data)
-    try:
-        vault = keys.opened(decrypt, data)
-    except NotDecrypted as fault:
-        return Base(b"", fault=f"base: {fault}")
-    return Base(vault.text, vault)
+    if not sides:
+        return None
+    ours, theirs = sides[conflicts.OURS], sides[conflicts.THEIRS]
+    target = os.path.realpath(path)
+    folder = repository_of(os.path.dirname(target))
+    names = [f":{stage}:{os.path.relpath(target, folder)}" for stage in (1, 2, 3)]
+    base, *stages = (answer("cat-file", "blob", name, folder=folder) if folder else b"" for name in names)
+    # Ends of lines may differ from those in the file.
+    is_same = [stage.split() for stage in stages] == [ours.split(), theirs.split()]
+    return Versions(ours, base if is_same else b"", theirs)

@@ -10,7 +10,7 @@ from ansible_vault_companions.envelopes import document, keypath
 from ansible_vault_companions.envelopes.changes import Change, changed, in_plaintext
 from ansible_vault_companions.envelopes.document import Document
 from ansible_vault_companions.envelopes.envelope import MAGIC, NO_SCALAR, Value
-from ansible_vault_companions.merging import texts, unmerged
+from ansible_vault_companions.merging import texts
 from ansible_vault_companions.passwords.sources import Password
 from ansible_vault_companions.plaintext import opening
 from ansible_vault_companions.program import Refused, write_error
@@ -46,9 +46,9 @@ def converted(found: Document, path: str, decrypt: Decrypt) -> bytes:
     """The file's data with plaintext in place of its envelopes, as far as they can be decrypted and shown; for a
     conflict of two vaults, the merged text."""
     with suppress(Refused):
-        sides = unmerged.versions(path, found.data)
+        sides = texts.unmerged(path, found.data)
         if sides and sides.ours.startswith(MAGIC) and sides.theirs.startswith(MAGIC):
-            return texts.opened(decrypt, sides).merged().text
+            return texts.Vaults(decrypt, sides).merge.text
 
     def shown(value: Value) -> list[Change] | Refused:
         try:
