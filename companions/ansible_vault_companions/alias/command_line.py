@@ -22,8 +22,8 @@ COMMANDS = {
     ENCRYPT: "encrypt files in place",
     DECRYPT: "decrypt vaults in place",
     VIEW: "print the plaintext of vaults",
-    REKEY: "re-encrypt vaults with a new secret, in place",
-    ENCRYPT_STRING: "encrypt texts as YAML blocks",
+    REKEY: "re-encrypt vaults with a new password, in place",
+    ENCRYPT_STRING: "encrypt texts as values for YAML",
     CREATE: "edit a new vault",
     EDIT: "edit vaults",
 }
@@ -32,11 +32,11 @@ ENCRYPTING, EDITING = (ENCRYPT, ENCRYPT_STRING), (CREATE, EDIT)
 WRITING, SEALING = (DECRYPT, *ENCRYPTING, REKEY), (*ENCRYPTING, REKEY)
 STANDARD_INPUT = "-"
 SUMMARY = """\
-Runs a command of ansible-vault with the secrets that Ansible would use. Unlike
-ansible-vault, it reads ansible.cfg, runs password scripts, asks for passwords,
-and changes files in place. Options for secrets may also follow COMMAND. --help
-after COMMAND prints the help for that command. If you give no secret, you are
-asked for a password at the terminal."""
+Runs a command of ansible-vault with the passwords that Ansible would use.
+Unlike ansible-vault, it reads ansible.cfg, runs password scripts, asks for
+passwords, and changes files in place. Options for passwords may also follow
+COMMAND. --help after COMMAND prints the help for that command. If you give no
+password, you are asked for one at the terminal."""
 EXAMPLE = f"""\
 Decrypt two files in place, with a password that is typed:
   $ {NAME} --vault-id prod@prompt decrypt a.yml b.yml
@@ -49,10 +49,10 @@ FLAG: dict[str, Any] = {"action": "store_true"}
 PASSED_ON: dict[str, tuple[tuple[str, ...], dict[str, Any]]] = {
     "--encrypt-vault-id": (
         (*SEALING, *EDITING),
-        {"metavar": "LABEL", "help": "the label of the secret to encrypt with, among those that are given"},
+        {"metavar": "LABEL", "help": "the label of the password to encrypt with, among those that are given"},
     ),
-    "--require-id-match": ((VIEW, DECRYPT, REKEY), {**FLAG, "help": "try only secrets with the label of the vault"}),
-    ANY_LABEL: ((REKEY, *EDITING), {**FLAG, "help": "a secret may encrypt what it decrypts under another label"}),
+    "--require-id-match": ((VIEW, DECRYPT, REKEY), {**FLAG, "help": "try only passwords with the label of the vault"}),
+    ANY_LABEL: ((REKEY, *EDITING), {**FLAG, "help": "a password may encrypt what it decrypts under another label"}),
     "--output": (WRITING, {"metavar": "PATH", "help": "the file to write, or - for standard output (default: FILE)"}),
     "--salt": (SEALING, {"metavar": "TEXT", "help": "the salt itself, used once"}),
     "--salt-file": (SEALING, {"metavar": "PATH", "help": "the file whose first 32 bytes are the salt"}),

@@ -28,7 +28,7 @@ def add_options(parser: argparse.ArgumentParser, new: str = "", before: str = ""
         action="append",
         default=[],
         metavar="[LABEL@]SOURCE",
-        help=f"the source of a {'new ' * bool(new)}secret; may be repeated",
+        help=f"the source of a {'new ' * bool(new)}password; may be repeated",
     )
     parser.add_argument(
         f"--{new}vault-password-file",
@@ -37,7 +37,7 @@ def add_options(parser: argparse.ArgumentParser, new: str = "", before: str = ""
         action="append",
         default=[],
         metavar="SOURCE",
-        help=f"the source of a {'new ' * bool(new)}secret{'' if new else '; may be repeated'}",
+        help=f"the source of a {'new ' * bool(new)}password{'' if new else '; may be repeated'}",
     )
     if not new:
         asks = "ask at the terminal for a password"
@@ -46,7 +46,7 @@ def add_options(parser: argparse.ArgumentParser, new: str = "", before: str = ""
 
 def add_any_label(parser: argparse.ArgumentParser) -> None:
     parser.add_argument(
-        ANY_LABEL, action="store_true", help="a secret may encrypt what it decrypts under another label"
+        ANY_LABEL, action="store_true", help="a password may encrypt what it decrypts under another label"
     )
 
 
