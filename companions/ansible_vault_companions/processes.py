@@ -51,16 +51,10 @@ class State:
 state = State()
 
 
-def prepare() -> None:
-    """Lets signals end the companion without a traceback until `listen` is called."""
-    # If SIGCHLD is ignored, the system keeps no exit statuses of child processes.
-    _signal.signal(_signal.SIGCHLD, _signal.SIG_DFL)
-    if _signal.getsignal(_signal.SIGINT) == _signal.default_int_handler:
-        _signal.signal(_signal.SIGINT, _signal.SIG_DFL)
-
-
 def listen() -> None:
     """Starts noting signals. Signals that are already ignored stay ignored."""
+    # If SIGCHLD is ignored, the system keeps no exit statuses of child processes.
+    _signal.signal(_signal.SIGCHLD, _signal.SIG_DFL)
     for number in ENDING:
         if _signal.getsignal(number) != _signal.SIG_IGN:
             _signal.signal(number, _note)

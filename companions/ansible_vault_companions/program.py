@@ -16,6 +16,8 @@ TYPE_CHECKING = False
 if TYPE_CHECKING:
     from typing import Any, NoReturn
 
+# Otherwise argparse looks for translations of each of its texts on the disk, whenever it makes a parser.
+setattr(argparse, "_", str)
 # The columns of a help, and the first one of an option's text. A help fits a screen.
 COLUMNS, TEXTS = 80, 30
 
@@ -77,7 +79,7 @@ def temporary_folder() -> str:
 def run(name: str, main: Callable[[list[str]], int]) -> None:
     """Runs a companion with the command line's words. Exits with its status, or by the signal that stopped it."""
     _prepare_streams()
-    processes.prepare()
+    processes.listen()
     # A core dump would contain plaintext and passwords.
     resource.setrlimit(resource.RLIMIT_CORE, (0, resource.getrlimit(resource.RLIMIT_CORE)[1]))
     try:
@@ -114,7 +116,7 @@ def _status_of_fault(name: str, fault: Exception) -> int:
         write_error(f"{name}: {where}{shown(reason(fault))}")
     except OSError:
         pass
-    return 1
+    return fault.status if isinstance(fault, Refused) else 1
 
 
 def _prepare_streams() -> None:

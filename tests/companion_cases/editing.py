@@ -105,7 +105,7 @@ def test_labels(place: Place) -> None:
     place.put("vars.yml", block("prod", label="prod"))
     words = [*place.by_id("prod", "dev"), *place.by_id("dev", "prod"), "all.yml", "vars.yml"]
     done = edit(place, "touch ../started", *words)
-    why = f"its label is prod, but dev@{place.secret('prod')}, a secret"
+    why = f"its label is prod, but dev@{place.secret('prod')}, a password"
     ended("the edit", done, 1, f"{EDIT}: all.yml: {why}", f"{EDIT}: vars.yml: line 2: secret: {why}")
     assert not (place.path / "started").exists(), "no editor is started"
     silent("it is permitted", edit(place, CHANGE, "--any-label", *words))

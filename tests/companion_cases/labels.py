@@ -29,7 +29,7 @@ SECRETS: list[tuple[list[Pair], list[Pair]]] = [
 VAULTS = {f"{pair[0]}-{pair[1]}.yml": pair for pair in product(["", DEFAULT, "dev", "prod"], ["old", "dev", "prod"])}
 # The new passwords of labels.
 NEW = {DEFAULT: "new", "dev": "dev2", "prod": "prod2"}
-NEXT_STEP = re.compile(r"its label is (\S+), but \S+, a secret with the label \S+, decrypts it; .* --vault-id (\S+)$")
+TOLD = re.compile(r"its label is (\S+), but \S+, a password with the label \S+, decrypts it; .*; then write (\S+) as the label")
 
 
 def prepare(place: Place, options: list[Pair], by_settings: list[Pair]) -> list[str]:
@@ -60,18 +60,20 @@ def test_check_and_rotate(place: Place, options: list[Pair], by_settings: list[P
     words = prepare(place, options, by_settings)
     done = place.run(CHECK, *words, ".")
     assert done.returncode == 1, "some are not decrypted"
-    steps: list[str] = []
     unknown = 0
     for name, (label, password) in VAULTS.items():
         serves = may_encrypt([*options, *by_settings], label, password)
         lines = [line for line in done.stderr.splitlines() if f"./{name}" in line]
-        told = [found for found in map(NEXT_STEP.search, lines) if found]
+        told = [found for found in map(TOLD.search, lines) if found]
         named = [found[1] for found in told]
         assert (bool(lines), named) == (serves is not True, [label or DEFAULT] * (serves is False)), (name, done.stderr)
-        steps += [f"--vault-id={found[2]}" for found in told]
+        for found in told:
+            place.put(name, sealed(password, name.encode(), found[2]))
         unknown += serves is None
-    again = place.run(CHECK, *words, *steps, ".")
+    again = place.run(CHECK, *words, ".")
     assert again.stdout.endswith(f"{len(VAULTS) - unknown} decrypted, {unknown} not\n"), "as told, it is repaired"
+    for name, (label, password) in VAULTS.items():
+        place.put(name, sealed(password, name.encode(), label))
     new = [word for label, password in NEW.items() for word in place.by_id(label, password, "new-")]
     for permitting in ("", "--any-label"):
         done = place.run(ROTATE, *words, *new, *permitting.split(), ".")
@@ -85,24 +87,12 @@ def test_check_and_rotate(place: Place, options: list[Pair], by_settings: list[P
             assert (text_after, stays, f"./{name}" in done.stderr) == (text, not is_rotated, not is_rotated), name
 
 
-def test_awkward_labels(place: Place) -> None:
-    """A message does not name a label with an @ in an option, and quotes one for the shell."""
-    place.put("a.yml", sealed("prod", label="$(x)"))
-    place.put("b.yml", sealed("prod", label="a@b"))
-    dev, prod = place.by_id("dev", "dev"), place.by_id("prod", "prod")
-    parts = ["name its secret with --vault-id '$(x)'@FILE", "its label a@b has an @, so no option can name it"]
-    ended("no secret", place.run(CHECK, *dev, "."), 1, *parts)
-    done = place.run(CHECK, *dev, *prod, ".")
-    ended("a false label", done, 1, f"name it with --vault-id '$(x)@{place.secret('prod')}'")
-    assert "a@b@" not in done.stderr
-
-
 def test_within_a_plaintext(place: Place) -> None:
     """A block within the plaintext of a vault is trusted only with its own label, too."""
     inner = block("prod", label="dev")
     place.put("a.yml", sealed("dev", inner, "dev"))
     secrets = [*place.by_id("dev", "dev"), *place.by_id("prod", "prod")]
-    why = f"its label is dev, but prod@{place.secret('prod')}, a secret with the label prod, decrypts it"
+    why = f"its label is dev, but prod@{place.secret('prod')}, a password with the label prod, decrypts it"
     ended("check", place.run(CHECK, *secrets, "."), 1, "./a.yml: in its plaintext, line 2: ", why)
     done = place.run(ROTATE, *secrets, *place.by_id("dev", "dev2", "new-"), ".")
     ended("rotate", done, 1, "./a.yml: in its plaintext, line 2: ", why)

@@ -85,7 +85,7 @@ def test_some_labels(place: Place) -> None:
     both = [CHECK, *dev, *place.by_file("old"), "--label", "dev", "--label", "default"]
     ended("a label within a vault", place.run(*both, "a.yml"), 0, "2 decrypted, 0 not, 0 with other labels")
     done = place.run(CHECK, *dev, "--label", "prdo", "--label", "prod", "--label", "none", "b.yml")
-    tried = f"(label prod; tried {dev[1]}): name its secret with --vault-id prod@FILE"
+    tried = f"(label prod; tried {dev[1]}): name its password with --vault-id LABEL@SOURCE"
     nothing = [f"{CHECK}: no vault or block has the label {label}" for label in ("none", "prdo")]
     wanted = [f"{CHECK}: b.yml: prod: no secret decrypts this vault {tried}", *nothing]
     assert (done.returncode, done.stderr.splitlines()) == (1, wanted), "labels that nothing has"

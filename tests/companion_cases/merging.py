@@ -337,7 +337,7 @@ def test_secrets_of_vaults(tmp_path: Path, monkeypatch: pytest.MonkeyPatch) -> N
         secret, text = tool.opened(result.content)
         counts["under a new secret"] += ours.password != theirs.password
         merged = BOTH if changed == plaintexts else next(iter({ours.text, theirs.text} - {before.text}), BASE)
-        assert (secret.path, text) == (wanted, merged), vaults
+        assert (secret.place, text) == (wanted, merged), vaults
     assert counts["refused"] > 10 and counts["under a new secret"] == 24, counts
 
 

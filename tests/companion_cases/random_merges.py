@@ -7,7 +7,6 @@ which password a text goes: then it may be a conflict. Nothing is torn, lost, in
 
 import functools
 import itertools
-import os
 import re
 from collections import Counter
 from contextlib import suppress
@@ -146,8 +145,7 @@ class Merge(NamedTuple):
 @functools.cache
 def secret_of(name: str) -> Password:
     secret = Password(LABELS[name], name, f"{LABELS[name]}@{name}")
-    secret.descriptor = os.memfd_create("password")
-    os.write(secret.descriptor, PASSWORDS[name])
+    secret.content = PASSWORDS[name]
     return secret
 
 
@@ -160,7 +158,7 @@ class Model(Tool):
         self.made: dict[bytes, Value] = {}
 
     def view(self, envelope: bytes, secret: Password) -> bytes:
-        text = decrypted(secret.path, envelope)
+        text = decrypted(secret.place, envelope)
         if text is None:
             raise NotDecrypted("no secret decrypts this vault")
         return text
@@ -172,7 +170,7 @@ class Model(Tool):
         raise NotDecrypted("no secret decrypts this vault")
 
     def encrypt(self, plaintext: bytes, secret: Password, label: str) -> bytes:
-        value = Value("", plaintext, "" if label == "default" else label, secret.path, next(self.salts), 0)
+        value = Value("", plaintext, "" if label == "default" else label, secret.place, next(self.salts), 0)
         self.made[value.envelope()] = value
         return value.envelope()
 

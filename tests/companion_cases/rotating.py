@@ -220,7 +220,7 @@ def test_at_once(place: Place) -> None:
     place.put("vars.yml", b"".join(block("old", text, name=f"n{number}") for number, text in enumerate(wanted)))
     shown = "".join(f"n{number}: !vault |-\n  text {number}\n" for number in range(8))
     done = place.run(TEXTCONV, *place.by_file("missing"), *place.by_file("old"), "vars.yml")
-    refused = done.stderr.count("missing: a password file cannot be opened")
+    refused = done.stderr.count("missing: No such file or directory")
     assert (done.returncode, done.stdout, refused) == (0, shown, 1), "textconv with a secret that is missing"
     place.wrap_tool(MEET.format("view") if len(os.sched_getaffinity(0)) > 1 else ":")
     done = place.run(TEXTCONV, *place.by_file("old"), "vars.yml")

@@ -30,7 +30,6 @@ SAME = """
     encrypt_string ''
     rekey --salt salt --new-vault-id prod@../secrets/prod --output - a.yml
     rekey --salt salt --new-vault-password-file=../secrets/prod < a.yml
-    rekey --new-vault-id=a@../secrets/prod --new-vault-password-file ../secrets/new
 """
 # The tool's status for an invalid command line.
 WRONG_COMMAND_LINE = 2
@@ -90,7 +89,7 @@ def test_help(place: Place, command: str) -> None:
 OLD, DEV = "--vault-password-file ../secrets/old", "--vault-id dev@../secrets/dev"
 STRINGS, REKEY = f"encrypt_string {DEV}", "rekey --vault-id prod@../secrets/old --encrypt-vault-id prod a.yml"
 SALT_FOR_ONE = "--salt and --salt-file are for a single FILE or STRING"
-NOT_NEW = "no new secret has the label that was chosen for encryption, prod"
+NOT_NEW = "no new password has the label that was chosen for encryption, prod"
 # Command lines that are refused, the status, and a part of the message.
 REFUSED = [
     ("", 2, "no command is given"),
@@ -101,15 +100,10 @@ REFUSED = [
     ("encrypt --vault x plain.yml", 2, "ambiguous option: --vault could match --vault-id, --vault-password-file"),
     ("encrypt --sa x plain.yml", 2, "ambiguous option: --sa could match --salt, --salt-file"),
     ("view --out x a.yml", 2, "unrecognized arguments: --out"),
-    ("view --new-vault-id prod@../secrets/prod a.yml", 2, "unrecognized arguments: --new-vault-id"),
     ("encrypt a.yml --output", 2, "argument --output: expected one argument"),
-    ("rekey --vault-id --help", 2, "argument --vault-id: expected one argument"),
     ("strange --help", 2, "argument COMMAND: invalid choice: 'strange' (choose from "),
-    (f"encrypt {OLD} --loud plain.yml a.yml", 2, "error: unrecognized arguments: --loud"),
     (f"encrypt {OLD} big.yml", 1, f"{WITH}: big.yml: input is longer than the limit"),
-    (f"{STRINGS} a b -n x -n y -n z", 2, "there are more names than strings: x, y, z"),
     (f"{STRINGS} a ''", 1, "the string to encrypt is empty"),
-    (f"{STRINGS} a b --salt salt", 2, SALT_FOR_ONE),
     (f"{STRINGS} a --stdin-name x --salt salt", 2, SALT_FOR_ONE),
     (f"{STRINGS} a --prompt --salt-file ../secrets/old", 2, SALT_FOR_ONE),
     (f"{STRINGS} a b --encrypt-vault-id prod", 1, "no secret has the label of --encrypt-vault-id"),
@@ -119,8 +113,9 @@ REFUSED = [
     (f"{REKEY} --new-vault-id dev@../secrets/new", 1, NOT_NEW),
     # Nobody can type a password.
     ("view -J a.yml", 1, f"{WITH}: --ask-vault-password: there is no terminal to ask for the password; name "),
-    ("view a.yml", 1, f"{WITH}: no secret is given: name one with --vault-id or --vault-password-file, in "),
-    (f"rekey {OLD} a.yml", 1, f"{WITH}: no new secret is given: name one with --new-vault-id or "),
+    ("view a.yml", 1, f"{WITH}: no password is given: name one with --vault-id or --vault-password-file, in "),
+    (f"rekey {OLD} a.yml", 1, f"{WITH}: no new password is given: name one with --new-vault-id or "),
+    (f"rekey {OLD} --new-vault-id x@y --new-vault-password-file z a.yml", 2, "rekey takes one new password"),
     (f"create {OLD} x.yml y.yml", 2, "create takes one FILE"),
     (f"create {OLD} a.yml", 1, "a.yml exists already; use `edit`"),
     (f"edit --skip-tty-check {OLD} c.yml", 2, "unrecognized arguments: --skip-tty-check"),
@@ -190,16 +185,13 @@ def test_several_views(place: Place) -> None:
 
 def test_several_strings(place: Place) -> None:
     encrypt = f"{WITH} {STRINGS}"
-    done = place.shell(f"printf a | {encrypt} --salt salt --stdin-name x -")
-    ended("a fixed salt for one", done, 0, "x: !vault |")
     done = place.shell(f"{encrypt} a b --output -")
     assert (done.stdout.count("!vault |"), place.names()) == (2, []), "`-` is standard output"
     place.wrap_tool('echo "$@" >> ../seen')
     done = place.shell(f"{encrypt} 'a word' another --name x --output blocks.yml")
     notes = [
-        "# There are fewer names than strings: those after x have none.",
-        "# Block 1 is the variable x, from the command line.",
-        "# Block 2 is a string without a name, from the command line.",
+        "# Value 1 is the variable x, from the command line.",
+        "# Value 2 is a string without a name, from the command line.",
     ]
     assert (done.returncode, done.stdout, done.stderr.splitlines()) == (0, "", notes), "names"
     assert place.mode("blocks.yml") == "0o600", "the mode of the file"

@@ -23,29 +23,25 @@ from lib.processes import started
 from lib.subtests import SubTests
 from model.vaults import seal, yaml_block
 
-RUNS = (EDIT, ROTATE, "merge", "merge of blocks", "rekey", "decrypt")
+RUNS = (EDIT, ROTATE, "merge", "decrypt")
 Process = subprocess.Popen[str]
 
 
-def two_blocks(password: str, text: bytes) -> bytes:
-    """Return the same text in two envelopes, since equal envelopes are decrypted only once."""
-    return b"x: 1\n" + block(password, text) + yaml_block(seal(PASSWORDS[password], text, b"", bytes(32)), b"c")
+# The same text in two envelopes, since equal envelopes are decrypted only once.
+BLOCKS = b"x: 1\n" + block("old") + yaml_block(seal(PASSWORDS["old"], TEXT, b"", bytes(32)), b"c")
 
 
 def tree(place: Place) -> dict[str, list[str]]:
-    """Write a vault and a file of blocks, and return each run over them. A merge puts ours under the new secret."""
+    """Write a vault and a file of values, and return each run over them. A merge puts ours under the new password."""
     vaults = versions(place, "a.yml", sealed("old", CHANGED), sealed("old"), sealed("new", CHANGED))
-    blocks = versions(place, "b.yml", two_blocks("old", CHANGED), two_blocks("old", TEXT), two_blocks("new", CHANGED))
     (place.tree / "a.yml").chmod(0o640)
-    (place.tree / "b.yml").chmod(0o600)
+    place.put("b.yml", BLOCKS, 0o600)
     place.environment["EDITOR"] = place.script(f"{CHANGE}; touch ../saved; sleep 0.1", "editor")
     old, both = place.by_file("old"), [*place.by_file("old"), *place.by_file("new")]
     lines = [
         [EDIT, *old, "a.yml"],
         [ROTATE, *to_new(place), "--jobs", "1", "."],
         [MERGE, *both, *vaults],
-        [MERGE, *both, *blocks],
-        [WITH, "rekey", *to_new(place), "a.yml"],
         [WITH, "decrypt", *old, "a.yml"],
     ]
     return dict(zip(RUNS, lines, strict=True))
@@ -60,9 +56,7 @@ def check_whole(place: Place) -> None:
     assert len(pairs) == (2 if b"<<<<<<<" in vault else 1), ("the vault is whole", vault)
     assert all({TEXT, CHANGED}.intersection(pair) for pair in pairs), ("the vault is whole", vault)
     pairs = [*zip(texts(blocks, "old"), texts(blocks, "new"))]
-    wanted = [{TEXT}, {TEXT}, {CHANGED}, {CHANGED}] if b"<<<<<<<" in blocks else [{TEXT}, {TEXT}]
-    assert len(pairs) == len(wanted), ("the blocks are whole", blocks)
-    assert all(either & {*pair} for either, pair in zip(wanted, pairs)), ("the blocks are whole", blocks)
+    assert [TEXT in pair for pair in pairs] == [True, True], ("the values are whole", blocks)
     left = place.left() + os.listdir(place.temporary)
     assert (place.names(), left) == (["a.yml", "b.yml"], []), "nothing is left"
     modes = (place.mode("a.yml"), place.mode("b.yml"))

@@ -3,7 +3,7 @@
 from __future__ import annotations
 
 import argparse
-from _collections_abc import Collection, Iterable
+from collections.abc import Collection, Iterable
 from argparse import Namespace
 
 from ansible_vault_companions import program
@@ -27,7 +27,7 @@ COMMANDS = {
     CREATE: "edit a new vault",
     EDIT: "edit vaults",
 }
-# The commands by their use of secrets.
+# The commands by their use of passwords.
 ENCRYPTING, EDITING = (ENCRYPT, ENCRYPT_STRING), (CREATE, EDIT)
 WRITING, SEALING = (DECRYPT, *ENCRYPTING, REKEY), (*ENCRYPTING, REKEY)
 STANDARD_INPUT = "-"
@@ -57,8 +57,8 @@ PASSED_ON: dict[str, tuple[tuple[str, ...], dict[str, Any]]] = {
     "--salt": (SEALING, {"metavar": "TEXT", "help": "the salt itself, used once"}),
     "--salt-file": (SEALING, {"metavar": "PATH", "help": "the file whose first 32 bytes are the salt"}),
     "--stdin-name": ((ENCRYPT_STRING,), {"metavar": "NAME", "help": "read standard input, a text with this name"}),
-    "--value": ((*EDITING,), {"metavar": "KEY.PATH", "help": "set this value of YAML to the bytes of standard input"}),
-    "--resume": ((*EDITING,), {**FLAG, "help": "start from the text that the last edit of FILE saved in a copy"}),
+    "--value": (EDITING, {"metavar": "KEY.PATH", "help": "set this value of YAML to the bytes of standard input"}),
+    "--resume": (EDITING, {**FLAG, "help": "start from the text that the last edit of FILE saved in a copy"}),
 }
 
 
@@ -85,7 +85,9 @@ def parsed(words: list[str]) -> Namespace:
         parser.error(f"no command is given; {NAME} --help lists the commands")
     args.vault_id = [*args.before_vault_id, *args.vault_id]
     args.vault_password_file = [*args.before_vault_password_file, *args.vault_password_file]
-    _refuse(parser, args)
+    fault = _fault(args)
+    if fault:
+        parser.error(fault)
     return args
 
 
@@ -105,32 +107,30 @@ def _add_options(parser: argparse.ArgumentParser, command: str) -> None:
         parser.add_argument("-n", "--name", action="append", default=[], help=name)
         parser.add_argument("-p", "--prompt", action="store_true", help="ask for one more text, and for its name")
         parser.add_argument("--show-input", action="store_true", help="show that text while it is typed")
-    what = "STRING" if command == ENCRYPT_STRING else "FILE"
-    text = "the texts, or - for standard input" if command == ENCRYPT_STRING else "the files, or - for standard input"
+    what, texts = ("STRING", "texts") if command == ENCRYPT_STRING else ("FILE", "files")
+    text = f"the {texts}, or - for standard input"
     parser.add_argument("arguments", metavar=what, nargs="+" if command in EDITING else "*", help=text)
 
 
-def _refuse(parser: argparse.ArgumentParser, args: Namespace) -> None:
-    if args.command == CREATE and len(args.arguments) > 1:
-        parser.error("create takes one FILE")
+def _fault(args: Namespace) -> str:
+    """Why the command line is invalid; empty if it is not."""
     count = len(args.arguments)
+    if args.command == CREATE and count > 1:
+        return "create takes one FILE"
+    if args.command == REKEY and len(args.new_vault_id) + len(args.new_vault_password_file) > 1:
+        return "rekey takes one new password"
     if args.command == ENCRYPT_STRING:
         count += args.prompt + (STANDARD_INPUT not in args.arguments and args.stdin_name is not None)
-        if args.name and count > 0 and len(args.name) > count:
-            parser.error(f"there are more names than strings: {', '.join(args.name)}")
     if count > 1 and args.command in SEALING and (args.salt is not None or args.salt_file is not None):
-        parser.error("--salt and --salt-file are for a single FILE or STRING: two would share a key stream")
+        return "--salt and --salt-file are for a single FILE or STRING: two would share a key stream"
+    return ""
 
 
 def passed_on(args: Namespace, without: Iterable[str] = ()) -> list[str]:
     """The words of the options that are passed on."""
-    words = []
-    for option in PASSED_ON:
-        value = getattr(args, option[2:].replace("-", "_"), None)
-        if option in without or value in (None, False):
-            continue
-        words.append(option if value is True else f"{option}={value}")
-    return words
+    given = {option: getattr(args, option[2:].replace("-", "_"), None) for option in PASSED_ON if option not in without}
+    named = {option: value for option, value in given.items() if value not in (None, False)}
+    return [option if value is True else f"{option}={value}" for option, value in named.items()]
 
 
 def are_several(args: Namespace) -> bool:

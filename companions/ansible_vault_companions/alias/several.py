@@ -8,7 +8,7 @@ from typing import Callable, NamedTuple
 
 from ansible_vault_companions import program
 from ansible_vault_companions.alias.command_line import DECRYPT, ENCRYPT_STRING, NAME, STANDARD_INPUT, VIEW
-from ansible_vault_companions.alias.run import Run
+from ansible_vault_companions.alias.run import Call
 from ansible_vault_companions.files import reading, replacing
 from ansible_vault_companions.passwords import prompts
 from ansible_vault_companions.program import Refused, write_error
@@ -25,54 +25,50 @@ class Text(NamedTuple):
     origin: str
 
 
-def handle(tool: Tool, run: Run) -> int:
-    """Replaces or shows each file, or makes a block of each string. Returns the exit status."""
+def handle(tool: Tool, call: Call) -> int:
+    """Replaces or shows each file, or makes a value of each string. Returns the exit status."""
+    if call.args.command == ENCRYPT_STRING:
+        return _values(tool, call)
     end = b""
 
-    def replace(path: str) -> None:
-        before = reading.named(path)
-        replacing.replace(path, tool.run(run.command(), before, secrets), before, run.args.command == DECRYPT)
-
-    def show(path: str) -> None:
-        """Shows a file. If its text does not end with a newline, the next file still begins on a new line."""
+    def work(path: str) -> None:
+        """If a text that is shown does not end with a newline, the next one still begins on a new line."""
         nonlocal end
-        text = tool.run(run.command(), reading.named(path), secrets)
-        program.write(end + text)
-        end = b"\n" if text and not text.endswith(b"\n") else b""
+        before = reading.named(path)
+        after = tool.run(call.words(), before, [*call.passwords, *call.new])
+        if call.args.command == VIEW:
+            program.write(end + after)
+            end = b"\n" if after and not after.endswith(b"\n") else b""
+        else:
+            replacing.replace(path, after, before, call.args.command == DECRYPT)
 
-    secrets = [*run.secrets, *run.new]
-    if run.args.command == ENCRYPT_STRING:
-        return _blocks(tool, run)
-    return _each(run.args.arguments, show if run.args.command == VIEW else replace)
-
-
-def _each(paths: list[str], work: Callable[[str], None]) -> int:
-    """Calls `work` for each file, and returns the highest status. Reports a failure and continues with the rest."""
-    statuses = [0]
-    for path in paths:
-        try:
-            work(path)
-        except (Refused, OSError) as fault:
-            statuses.append(fault.status if isinstance(fault, Refused) else 1)
-            write_error(f"{NAME}: {program.refusal(path, fault)}")
-    return max(statuses)
+    return max(_status(work, path) for path in call.args.arguments)
 
 
-def _blocks(tool: Tool, run: Run) -> int:
-    """Writes a block for each string, in Ansible's order: the typed one, standard input, arguments."""
-    texts = [*_typed(run.args), *_read(run.args), *_given(run.args)]
-    made = []
+def _status(work: Callable[[str], None], path: str) -> int:
+    try:
+        work(path)
+    except (Refused, OSError) as fault:
+        write_error(f"{NAME}: {program.refusal(path, fault)}")
+        return fault.status if isinstance(fault, Refused) else 1
+    return 0
+
+
+def _values(tool: Tool, call: Call) -> int:
+    """Writes a value for each string, in Ansible's order: the typed one, standard input, arguments."""
+    texts = [*_typed(call.args), *_read(call.args), *_given(call.args)]
+    values = []
     for number, text in enumerate(texts, 1):
         named = [f"{STDIN_NAME}={text.name}"] if text.name else []
-        made.append(tool.run([*run.command(STDIN_NAME, OUTPUT), *named], text.content, run.secrets))
+        values.append(tool.run([*call.words(STDIN_NAME, OUTPUT), *named], text.content, call.passwords))
         if len(texts) > 1:
             what = f"the variable {program.shown(text.name)}" if text.name else "a string without a name"
-            write_error(f"# Block {number} is {what}, from {text.origin}.")
-    path = run.args.output
+            write_error(f"# Value {number} is {what}, from {text.origin}.")
+    path = call.args.output
     if path is None or path == STANDARD_INPUT:
-        program.write(b"".join(made))
+        program.write(b"".join(values))
     else:
-        replacing.replace(path, b"".join(made), reading.read(path))
+        replacing.replace(path, b"".join(values), reading.read(path))
     return 0
 
 
@@ -94,7 +90,5 @@ def _read(args: Namespace) -> list[Text]:
 
 def _given(args: Namespace) -> list[Text]:
     strings = [text for text in args.arguments if text != STANDARD_INPUT]
-    if 0 < len(args.name) < len(strings):
-        write_error(f"# There are fewer names than strings: those after {program.shown(args.name[-1])} have none.")
     pairs = zip(strings, [*args.name, *[None] * len(strings)])
     return [Text(os.fsencode(string), name, "the command line") for string, name in pairs]

@@ -55,7 +55,7 @@ class Choice(NamedTuple):
         if self.label is None and len(fitting) > 1:
             fitting = self._asked(value, fitting)
         fitting[0].require()
-        prompts.confirm(fitting[0])
+        fitting[0].confirm()
         return fitting[0], fitting[0].label
 
     def _asked(self, value: Value, secrets: list[Password]) -> list[Password]:
@@ -125,7 +125,7 @@ def _changed(
         if len(typed[group]) > len(vanished[group]):
             keys += choice.keys()
         are_in_place = old[group] == new[group] and vanished[group] == typed[group]
-        if len({secret.password() for secret, _ in keys}) > 1 and not are_in_place:
+        if len({secret.content for secret, _ in keys}) > 1 and not are_in_place:
             raise Refused(f"{place(after[min(typed[group])][0])} {UNCLEAR}")
         changed |= typed[group] & before.keys()
     return changed

@@ -59,7 +59,7 @@ class YamlFile:
         known = [old.key for old in self.opened.values()]
         known += self.choice.keys() if self.choice.label is not None or not known else []
         every = [(secret, secret.label) for secret in self.choice.secrets]
-        return list({secret.password(): (secret, label) for secret, label in reversed(known or every)}.values())
+        return list({secret.content: (secret, label) for secret, label in reversed(known or every)}.values())
 
     @property
     def tagged(self) -> list[Value]:

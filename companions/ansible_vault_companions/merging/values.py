@@ -18,7 +18,7 @@ from ansible_vault_companions.envelopes.envelope import LITERAL, LOOSE, STRAY, V
 from ansible_vault_companions.merging.versions import BASE, OURS, SIDES, THEIRS, Opened, Versions, common_key
 from ansible_vault_companions.merging.versions import merged_lines, permitted, sealed
 from ansible_vault_companions.program import Refused
-from ansible_vault_companions.tool.tool import Decrypt, Key, PasswordRefused, Tool
+from ansible_vault_companions.tool.tool import Decrypt, Key, Tool
 
 NOT_YAML = "git can merge its lines, but then {}"
 TORN = "git can merge its lines, but the result has a value that neither side has"
@@ -71,8 +71,6 @@ class Values:
         def opened(text: bytes) -> Opened | None:
             try:
                 return permitted(decrypt, text)
-            except PasswordRefused:
-                raise
             except Refused:
                 return None
 

@@ -1,28 +1,32 @@
-"""Asks for passwords at the terminal, with Ansible's prompts."""
+"""Asks for passwords and other texts at the terminal. The standard streams are for data, so they are never used."""
 
 from __future__ import annotations
 
 import os
 import termios
-from _collections_abc import Iterator
+from collections.abc import Iterator
 from contextlib import contextmanager
 from io import FileIO
 
 from ansible_vault_companions import processes
 from ansible_vault_companions.passwords.settings import ASK, PROMPT
-from ansible_vault_companions.passwords.sources import NoTerminal, Password
 from ansible_vault_companions.program import Refused, shown
 
 TERMINAL = "/dev/tty"
+NO_TERMINAL = "there is no terminal to ask for the password; name a password file"
 DIFFER = "the two passwords differ; try again"
 # The character that Ctrl-Z types when it sends no signal, and the value that disables a special key.
 SUSPEND, NO_KEY = b"\x1a", b"\0"
-# The prompts for decrypting, and those for encrypting.
+# Ansible's prompts for decrypting, and those for encrypting.
 TO_DECRYPT = {PROMPT: ["Vault password ({}): "], ASK: ["Vault password: "]}
 TO_ENCRYPT = {
     PROMPT: ["New vault password ({}): ", "Confirm new vault password ({}): "],
     ASK: ["New Vault password: ", "Confirm New Vault password: "],
 }
+
+
+class NoTerminal(Refused):
+    """There is no terminal to ask for a password."""
 
 
 def password(kind: str, label: str, encrypts: bool) -> bytes:
@@ -34,13 +38,9 @@ def password(kind: str, label: str, encrypts: bool) -> bytes:
     return typed[0]
 
 
-def confirm(secret: Password) -> None:
-    """Asks again for a password before it encrypts, if it was typed once and has decrypted nothing: after a typing
-    mistake, nobody could read the vault."""
-    if secret.is_prompt and not secret.is_certain:
-        if _answer(TO_ENCRYPT[secret.place][-1].format(shown(secret.label))) != secret.password():
-            raise Refused(f"{shown(secret.given)}: {DIFFER}")
-        secret.is_certain = True
+def is_confirmed(kind: str, label: str, content: bytes) -> bool:
+    """Whether the user types a password again."""
+    return _answer(TO_ENCRYPT[kind][-1].format(shown(label))) == content
 
 
 def string(is_hidden: bool) -> bytes:
@@ -53,10 +53,8 @@ def string(is_hidden: bool) -> bytes:
 
 def line(question: str) -> bytes:
     """A line that the user types. It is shown."""
-    _require_terminal()
-    with processes.interruptible(), open(TERMINAL, "r+b", buffering=0) as terminal:
-        terminal.write(question.encode())
-        return _typed(terminal)
+    with _terminal() as terminal:
+        return _typed(terminal, question)
 
 
 def choice(question: str, answers: list[str]) -> str:
@@ -79,27 +77,36 @@ def _answer(question: str) -> bytes:
     return typed
 
 
-def _typed(terminal: FileIO) -> bytes:
-    text = terminal.readline()
-    if not text:
-        raise Refused("you typed nothing; try again")
-    return text.removesuffix(b"\n")
-
-
 def _hidden(question: str) -> bytes:
     """A line that the user types. It is not shown. It must be UTF-8, whatever the locale, so that the same keys always
     give the same password."""
-    _require_terminal()
-    with processes.interruptible(), open(TERMINAL, "r+b", buffering=0) as terminal:
+    with _terminal() as terminal:
         with _without_echo(terminal):
-            terminal.write(question.encode())
-            text = _typed(terminal).replace(SUSPEND, b"")
+            text = _typed(terminal, question).replace(SUSPEND, b"")
         terminal.write(b"\n")
     try:
         text.decode()
     except UnicodeError:
         raise Refused("what you typed is not valid UTF-8; set the terminal to UTF-8") from None
     return text
+
+
+def _typed(terminal: FileIO, question: str) -> bytes:
+    terminal.write(question.encode())
+    text = terminal.readline()
+    if not text:
+        raise Refused("you typed nothing; try again")
+    return text.removesuffix(b"\n")
+
+
+@contextmanager
+def _terminal() -> Iterator[FileIO]:
+    try:
+        terminal = open(TERMINAL, "r+b", buffering=0)
+    except OSError:
+        raise NoTerminal(NO_TERMINAL) from None
+    with terminal, processes.interruptible():
+        yield terminal
 
 
 @contextmanager
@@ -113,11 +120,3 @@ def _without_echo(terminal: FileIO) -> Iterator[None]:
         yield
     finally:
         termios.tcsetattr(terminal, termios.TCSAFLUSH, shown)
-
-
-def _require_terminal() -> None:
-    """Raises NoTerminal if there is none. The standard streams are for data, so they are never used to ask."""
-    try:
-        os.close(os.open(TERMINAL, os.O_RDWR | os.O_NOCTTY))
-    except OSError:
-        raise NoTerminal("there is no terminal to ask for the password; name a password file") from None

@@ -1,4 +1,4 @@
-"""Ansible's settings that name secrets: environment variables and `ansible.cfg`.
+"""Ansible's settings that name passwords: environment variables and `ansible.cfg`.
 
 The current directory may be a stranger's, and a password file may be a script. So beside an option that names a
 password, a path in the settings counts only if it does not start from the current directory. ./ansible.cfg is such a
@@ -9,13 +9,12 @@ from __future__ import annotations
 
 import os
 import stat
-from _collections_abc import Callable
+from collections.abc import Callable
 
 from ansible_vault_companions.program import Refused, reason, shown
 
 NAME = "ansible.cfg"
 SECTION = "defaults"
-SUFFIXES = (".cfg", ".ini")
 # Bytes read at most: the file may be a stranger's, and of any length.
 LONGEST = 1 << 20
 HOME = "~/.ansible.cfg"
@@ -58,20 +57,19 @@ class Settings:
         """The path of the password file; empty if there is none. In a file, it is relative to the file's directory."""
         path = self._value(PASSWORD_FILE)
         folder = "" if PASSWORD_FILE[0] in os.environ or not self.path else os.path.dirname(self.path)
-        if not path or not self._counts(path, folder):
-            return ""
-        return expanded(path.replace(CURRENT, os.getcwd()) if CURRENT in path else path, folder)
+        counts = path and self._counts(path, folder)
+        return expanded(path.replace(CURRENT, os.getcwd()), folder) if counts else ""
 
     def asks(self) -> bool:
         """Whether to ask for a password."""
         return _unquoted(self._value(ASKS)).lower() in TRUE
 
     def encrypt_label(self) -> str | None:
-        """The label of the secret to encrypt with."""
+        """The label of the password to encrypt with."""
         return _unquoted(self._value(ENCRYPT_IDENTITY)) or None
 
     def requires_match(self) -> bool:
-        """Whether a secret may decrypt only its own label. As with Ansible, any value means yes, even `false`."""
+        """Whether a password may decrypt only its own label. As with Ansible, any value means yes, even `false`."""
         return bool(_unquoted(self._value(ID_MATCH)))
 
     def _value(self, setting: tuple[str, str]) -> str:
@@ -93,12 +91,11 @@ class Settings:
         if _is_readable(path) and self._counts(named):
             return path
         places = [os.path.expanduser(HOME), SYSTEM]
-        if self.beside_options:
-            pass
-        elif not _is_world_writable("."):
-            places.insert(0, NAME)
-        elif os.path.exists(NAME):
-            self.warn(f"{shown(os.path.abspath(NAME))} is ignored, since its directory is world-writable")
+        if not self.beside_options and os.path.exists(NAME):
+            if os.stat(".").st_mode & stat.S_IWOTH:
+                self.warn(f"{shown(os.path.abspath(NAME))} is ignored, since its directory is world-writable")
+            else:
+                places.insert(0, NAME)
         return next((place for place in places if _is_readable(place)), None)
 
 
@@ -109,26 +106,16 @@ def _section(path: str) -> dict[str, str]:
 
     parser = configparser.RawConfigParser(inline_comment_prefixes=(";",))
     try:
-        parser.read_string(_text(path))
-    except UnicodeDecodeError:
+        with open(path, encoding="utf-8") as file:
+            text = file.read(LONGEST + 1)
+        if len(text) > LONGEST or "\0" in text:
+            raise Refused(f"it has a NUL byte or more than {LONGEST:,} characters")
+        parser.read_string(text)
+    except UnicodeError:
         raise Refused(f"{shown(path)}: it is not UTF-8") from None
     except (Refused, OSError, configparser.Error) as fault:
         raise Refused(f"{shown(path)}: {' '.join(reason(fault).split())}") from None
     return dict(parser[SECTION]) if SECTION in parser else {}
-
-
-def _text(path: str) -> str:
-    if not path.endswith(SUFFIXES):
-        raise Refused("its name does not end in .cfg or .ini")
-    if not os.path.isfile(path):
-        raise Refused("it is not a regular file")
-    with open(path, "rb") as file:
-        content = file.read(LONGEST + 1)
-    if len(content) > LONGEST:
-        raise Refused(f"it has more than {LONGEST:,} bytes")
-    if b"\0" in content:
-        raise Refused("it has a NUL byte")
-    return content.decode()
 
 
 def _unquoted(text: str) -> str:
@@ -137,12 +124,4 @@ def _unquoted(text: str) -> str:
 
 
 def _is_readable(path: str) -> bool:
-    return os.path.exists(path) and os.access(path, os.R_OK)
-
-
-def _is_world_writable(folder: str) -> bool:
-    """Whether anyone may write to the directory, or its mode is unknown."""
-    try:
-        return os.stat(folder).st_mode & stat.S_IWOTH != 0
-    except OSError:
-        return True
+    return os.path.isfile(path) and os.access(path, os.R_OK)

@@ -1,109 +1,109 @@
-"""The secrets that a command line and Ansible's settings name, in Ansible's order, with passwords from files."""
+"""The passwords that a command line and Ansible's settings name, in Ansible's order, and what each may be used for."""
 
 from __future__ import annotations
 
 import os
-import shlex
+import re
 import stat
-from collections.abc import Callable, Iterable, Iterator
+from collections.abc import Iterable
 
 from ansible_vault_companions import processes
+from ansible_vault_companions.passwords import prompts
+from ansible_vault_companions.passwords.prompts import NoTerminal
 from ansible_vault_companions.passwords.settings import ASK, PROMPT, Settings, expanded
-from ansible_vault_companions.program import Refused, shown, write_error
+from ansible_vault_companions.program import Refused, reason, shown, write_error
 
 # The maximum length of a password file, in bytes.
 LIMIT = 4096
-# One more, so that the tool sees that a file is too long, and refuses it.
-READ_AT_MOST = LIMIT + 1
 DEFAULT = "default"
-# The most secrets that the tool takes.
+# The most passwords that the tool takes, and the labels.
 MOST = 16
-ANY_LABEL = "--any-label"
-NO_OPTION = "its label {} has an @, so no option can name it; change it in its first line"
-BY_PATH = "--vault-password-file"
+LABELS = re.compile(r"(?! )[ -:<-~]{1,128}(?<! )")
 # The options that ask for a password without a label, and the word for them in place of [LABEL@]FILE.
 ASKING = ("-J", "--ask-vault-password", "--ask-vault-pass")
 ASKED = f"{DEFAULT}@{ASK}"
-# The tool refuses password files that begin with these.
-NO_PASSWORD = (b"#!", b"$ANSIBLE_VAULT")
-
-
-class NoTerminal(Refused):
-    """There is no terminal to ask for a password."""
+# A script gets the label if its name, without the suffix, ends with this.
+CLIENT = "-client"
+ANY_LABEL = "--any-label"
+NO_OPTION = "its label {} has an @, so no option can name it; change it in its first line"
+NOT_STRIPPED = "the password of this script begins or ends with white space, which a password file cannot have"
 
 
 class Password:
     """A password, with its label and where it comes from."""
 
-    def __init__(self, label: str, place: str, given: str, is_prompt: bool = False, is_path: bool = False) -> None:
+    def __init__(self, label: str, place: str, given: str, is_prompt: bool = False) -> None:
         # Empty if none is given.
         self.given_label = label
         self.label = label or DEFAULT
-        # As written on the command line or in a setting.
-        self.given = given
-        self.is_prompt = is_prompt
-        # Whether it was given as a path alone, for the label default.
-        self.is_path = is_path
+        # A path or, for a prompt, PROMPT or ASK; and the source as written on the command line or in a setting.
+        self.place, self.given, self.is_prompt = place, given, is_prompt
         self.is_setting = False
-        # For the tool. As the value of --vault-id, a bare `prompt` would ask for a password.
-        self.path = f"./{place}" if place in (PROMPT, ASK) else place
-        # A path, or PROMPT or ASK.
-        self.place = place if is_prompt else self.path
-        # A file in memory that contains the password; None if it could not be obtained.
+        # What the tool takes for the password, and the file in memory that contains it.
+        self.content = b""
         self.descriptor: int | None = None
-        # The reason, if it was refused.
-        self.fault: Refused | None = None
-        # Whether it may decrypt only envelopes with its label.
-        self.requires_match = False
-        # Whether it may encrypt the text of any envelope that it opens, whatever the label.
-        self.serves_any_label = False
+        # Why it cannot be used; empty if it can.
+        self.fault = ""
+        # Whether it is ignored for that reason, and only the other passwords decrypt.
+        self.is_left_out = False
+        # Whether it may decrypt only envelopes with its label, and whether it may encrypt what any of them contains.
+        self.requires_match = self.serves_any_label = False
         # Whether it was typed twice, or has decrypted something. Only then may a typed password encrypt.
         self.is_certain = False
-        # Whether it is ignored for want of a password, and only the other secrets decrypt.
-        self.is_left_out = False
 
-    def is_active(self) -> bool:
-        """Whether getting the password runs a script or asks the user."""
-        return self.is_prompt or self.is_script()
-
-    def is_script(self) -> bool:
-        """Whether it is a regular file with an execute permission."""
+    def obtain(self, encrypts: bool) -> None:
+        """Reads it, and keeps it in memory for all runs of the tool: a file such as `<(..)` can be read only once. To
+        encrypt, the user has to type it twice."""
         try:
-            mode = os.stat(self.place).st_mode
-        except OSError:
-            return False
-        return stat.S_ISREG(mode) and mode & 0o111 != 0
+            content = self._read(encrypts)
+        except NoTerminal as fault:
+            self.fault = str(fault)
+        except (Refused, OSError) as fault:
+            self.fault = reason(fault)
+            # As with Ansible, a mistyped password ends the run.
+            if self.is_prompt:
+                self.require()
+        else:
+            self.content = content.strip()
+            self.fault = _fault(self.label, content)
+            self.descriptor = os.memfd_create("password")
+            os.write(self.descriptor, content)
+            self.is_certain = encrypts
 
-    def word(self) -> str:
-        """The word that names it to the tool, with the kind of option that named it here."""
-        return f"{BY_PATH}={self.path}" if self.is_path else self.option()
+    def _read(self, encrypts: bool) -> bytes:
+        if self.is_prompt:
+            return prompts.password(self.place, self.label, encrypts)
+        mode = os.stat(self.place).st_mode
+        if stat.S_ISREG(mode) and mode & 0o111:
+            return _printed(self.place, self.given_label)
+        # A pipe may block until something is written to it.
+        with processes.interruptible(), open(self.place, "rb") as file:
+            return file.read(LIMIT + 1)
 
     def option(self, name: str = "--vault-id", label: str | None = None) -> str:
         """The word that names it to the tool, with its own label or another one."""
-        return f"{name}={self.label if label is None else label}@{self.path}"
-
-    def password(self) -> bytes | None:
-        """The password, stripped as the tool strips it."""
-        return None if self.descriptor is None else os.pread(self.descriptor, READ_AT_MOST, 0).strip()
+        return f"{name}={self.label if label is None else label}@/dev/fd/{self.descriptor}"
 
     def is_same(self, other: Password) -> bool:
         """Whether both have the same password."""
-        return self.password() == other.password()
-
-    def why_missing(self) -> str:
-        """The reason why there is no password; empty if there is one. The tool decides whether it is allowed."""
-        if self.descriptor is None:
-            return str(self.fault or "this password file cannot be read")
-        return "" if self.password() else "the password is empty"
+        return self.content == other.content
 
     def require(self) -> None:
-        """Raises Refused if it is to encrypt but was left out: then no other secret may encrypt in its place."""
-        if self.is_left_out:
-            raise Refused(f"{shown(self.given)}: {self.why_missing()}, and no other secret encrypts in its place")
+        """Raises Refused if it cannot be used: then no other password may encrypt in its place."""
+        if self.fault:
+            why = f"{self.fault}, and no other password encrypts in its place" if self.is_left_out else self.fault
+            raise Refused(f"{shown(self.given)}: {why}")
+
+    def confirm(self) -> None:
+        """Asks again for a password before it encrypts, if it was typed once and has decrypted nothing: after a typing
+        mistake, nobody could read the vault."""
+        if self.is_prompt and not self.is_certain:
+            if not prompts.is_confirmed(self.place, self.label, self.content):
+                raise Refused(f"{shown(self.given)}: {prompts.DIFFER}")
+            self.is_certain = True
 
     def label_fault(self, label: str | None) -> str:
-        """Says why it may not encrypt again what it decrypts under this label; empty if it may. No label counts as
-        `default`.
+        """Why it may not encrypt again what it decrypts under this label; empty if it may. No label means `default`.
 
         A label is a hint, not a proof: anybody can change it, or copy the envelope, without a password. So if several
         passwords are given, all are tried, but only one with the envelope's label may encrypt the text again, or the
@@ -111,73 +111,11 @@ class Password:
         label = label or DEFAULT
         if self.label == label or self.serves_any_label:
             return ""
-        other, meant = shown(self.label), shown(label)
-        *mends, last = [f"write {other} as the label in its first line", f"permit it with {ANY_LABEL} when you change it"]
-        if "@" not in label:
-            option = shlex.quote(shown(f"{label}@{PROMPT if self.is_prompt else self.place}"))
-            mends, last = [*mends, last], f"if that secret also belongs to {meant}, name it with --vault-id {option}"
         return (
-            f"its label is {meant}, but {shown(self.given)}, a secret with the label {other}, decrypts it; find out who "
-            f"changed the label or copied the text here; then {', '.join(mends)}, or {last}"
+            f"its label is {shown(label)}, but {shown(self.given)}, a password with the label {shown(self.label)}, "
+            f"decrypts it; find out who changed the label or copied the text here; then write {shown(self.label)} as "
+            f"the label in its first line, or permit it with {ANY_LABEL} when you change it"
         )
-
-    def is_plain(self) -> bool:
-        """Whether the tool is certain to accept the password and the label."""
-        letters = self.label.replace("_", "").replace("-", "")
-        if not (letters.isalnum() and letters.isascii()) or self.descriptor is None:
-            return False
-        content = os.pread(self.descriptor, READ_AT_MOST, 0)
-        return 0 < len(content.strip()) and len(content) <= LIMIT and not content.startswith(NO_PASSWORD)
-
-
-# Gets a password; the second argument says whether it is for encrypting.
-Source = Callable[[Password, bool], bytes]
-
-
-def named(ids: list[str], paths: list[str], settings: Settings) -> list[Password]:
-    """All secrets that are named, in Ansible's order, without their passwords."""
-    password_file = settings.password_file()
-    asked = [ASKED] if ASKED in ids or settings.asks() else []
-    secrets = [
-        *_by_setting(map(of_id, settings.identities())),
-        *(of_id(text) for text in ids if text != ASKED),
-        *map(of_path, paths),
-        *_by_setting([of_path(password_file)] if password_file else []),
-        *map(of_id, asked),
-    ]
-    if len(secrets) > MOST:
-        raise Refused(f"{len(secrets)} secrets are named, and ansible-vault takes at most {MOST}")
-    return secrets
-
-
-def load(
-    companion: str, secrets: list[Password], settings: Settings, password: Source, encrypts: bool, any_label: bool
-) -> list[Password]:
-    """The same secrets, with their passwords. Leaves out those from the settings that cannot be obtained, if any other
-    is left. They stay in the list, since the secret to encrypt with is chosen among all that are named."""
-    obtain(secrets, encrypts, password)
-    left_out = [secret for secret in secrets if _may_be_left_out(secret)]
-    if len(left_out) < len(secrets):
-        for secret in left_out:
-            secret.is_left_out = True
-            write_error(f"{companion}: {shown(secret.given)}: {secret.why_missing()}; it is ignored")
-    for secret in secrets:
-        secret.requires_match = settings.requires_match()
-        secret.serves_any_label = any_label or all(secret.is_same(other) for other in secrets)
-    return secrets
-
-
-def _may_be_left_out(secret: Password) -> bool:
-    """Whether it is a secret from the settings that cannot be obtained. As with Ansible, a mistyped password still ends
-    the run."""
-    is_missing = secret.is_setting and bool(secret.why_missing())
-    return is_missing and (not secret.is_prompt or isinstance(secret.fault, NoTerminal))
-
-
-def _by_setting(found: Iterable[Password]) -> Iterator[Password]:
-    for secret in found:
-        secret.is_setting = True
-        yield secret
 
 
 def of_id(text: str) -> Password:
@@ -190,46 +128,86 @@ def of_id(text: str) -> Password:
 
 
 def of_path(path: str) -> Password:
-    return Password(DEFAULT, expanded(path), path, is_path=True)
+    return Password(DEFAULT, expanded(path), path)
 
 
-def obtain(secrets: list[Password], encrypts: bool, password: Source) -> None:
-    """Reads the passwords, and keeps them in memory for all runs of the tool: a file such as `<(..)` can be read only
-    once, or may be gone before the last run. If one cannot be read, the tool will report that."""
-    for secret in secrets:
-        try:
-            content = password(secret, encrypts)
-        except Refused as fault:
-            secret.fault = fault
-        except OSError:
-            pass
-        else:
-            secret.descriptor = os.memfd_create("password")
-            os.write(secret.descriptor, content)
-            secret.is_certain = encrypts
-            secret.path = f"/dev/fd/{secret.descriptor}"
+def named(ids: list[str], paths: list[str], settings: Settings) -> list[Password]:
+    """All passwords that are named, in Ansible's order. None is read yet."""
+    listed = [*map(of_id, settings.identities())]
+    file = [of_path(path) for path in [settings.password_file()] if path]
+    for password in (*listed, *file):
+        password.is_setting = True
+    typed = [of_id(ASKED)] if ASKED in ids or settings.asks() else []
+    passwords = [*listed, *(of_id(text) for text in ids if text != ASKED), *map(of_path, paths), *file, *typed]
+    if len(passwords) > MOST:
+        raise Refused(f"{len(passwords)} passwords are named, and ansible-vault takes at most {MOST}")
+    return passwords
 
 
-def password_of_file(secret: Password, encrypts: bool) -> bytes:
-    """The password of a secret that is not active."""
-    if os.path.isfile(secret.place):
-        with open(secret.place, "rb") as file:
-            return file.read(READ_AT_MOST)
-    # A pipe may block until something is written to it.
-    with processes.interruptible(), open(secret.place, "rb") as file:
-        return file.read(READ_AT_MOST)
+def load(
+    companion: str, passwords: list[Password], settings: Settings, encrypts: bool, any_label: bool, skips: bool = False
+) -> list[Password]:
+    """Reads the passwords. Leaves out those from the settings that cannot be used, if any other is left, or with
+    `skips` all that cannot be used. They stay in the list, since the one to encrypt with is chosen among all that are
+    named."""
+    for password in passwords:
+        password.obtain(encrypts)
+    left_out = [password for password in passwords if password.fault and (skips or password.is_setting)]
+    if skips or len(left_out) < len(passwords):
+        for password in left_out:
+            password.is_left_out = True
+            write_error(f"{companion}: {shown(password.given)}: {password.fault}; it is ignored")
+    for password in passwords:
+        if not password.is_left_out:
+            password.require()
+        password.requires_match = settings.requires_match()
+        password.serves_any_label = any_label or all(password.is_same(other) for other in passwords)
+    return passwords
 
 
-def in_order(secrets: list[Password], label: str | None) -> list[Password]:
-    """The secrets that may be tried on an envelope with this label. Those with the same label come first."""
-    fitting = [secret for secret in secrets if secret.label == label or not secret.requires_match]
-    return sorted((secret for secret in fitting if not secret.is_left_out), key=lambda secret: secret.label != label)
+def in_order(passwords: Iterable[Password], label: str | None) -> list[Password]:
+    """The passwords that may be tried on an envelope with this label. Those with the same label come first."""
+    fitting = [password for password in passwords if password.label == label or not password.requires_match]
+    return sorted((one for one in fitting if not one.is_left_out), key=lambda password: password.label != label)
 
 
-def tried(label: str | None, secrets: list[Password]) -> str:
-    """For a message: which of these secrets were tried on an envelope that none decrypts, and what to do."""
-    names = ", ".join(shown(secret.given) for secret in secrets) or "none: no secret has its label"
+def tried(label: str | None, passwords: list[Password]) -> str:
+    """For a message: which passwords were tried on an envelope that none decrypts, and what to do."""
+    names = ", ".join(shown(password.given) for password in passwords) or "none: no password has its label"
     has = f"label {shown(label)}" if label else "no label"
-    if label and "@" in label:
-        return f"({has}; tried {names}): {NO_OPTION.format(shown(label))}"
-    return f"({has}; tried {names}): name its secret with --vault-id {shlex.quote(shown(label or DEFAULT))}@FILE"
+    return f"({has}; tried {names}): name its password with --vault-id LABEL@SOURCE"
+
+
+def _fault(label: str, content: bytes) -> str:
+    """Why the tool would refuse a password, with the tool's words; empty if it would not."""
+    if len(content) > LIMIT:
+        return f"a password file is longer than {LIMIT} bytes"
+    if content.startswith(b"#!"):
+        return "a password file is a script"
+    if content.startswith(b"$ANSIBLE_VAULT"):
+        return "a password file is itself a vault"
+    if not content.strip():
+        return "a password is empty"
+    return "" if LABELS.fullmatch(label) else "a vault id label is not allowed"
+
+
+def _printed(path: str, label: str) -> bytes:
+    """What a script prints, without the line ends around it, as with Ansible. The label is empty if none was given."""
+    is_client = os.path.splitext(path)[0].endswith(CLIENT)
+    words = [os.path.abspath(path), *(["--vault-id", label] if is_client and label else [])]
+    # A script may ask at the terminal through its standard streams, but must not read the companion's input. Messages
+    # of a client are shown only if it fails.
+    streams = {**({"stdin": None} if os.isatty(0) else {}), **({} if is_client else {"stderr": None})}
+    try:
+        done = processes.run(words, **streams)
+    except OSError as fault:
+        raise Refused(f"this script cannot be run: {reason(fault)}; if it is not a script, `chmod -x` it") from None
+    status = done.returncode
+    if status:
+        message = " ".join((done.stderr or b"").decode(errors="replace").split())
+        why = f"this script ended with status {status}" if status > 0 else f"signal {-status} ended this script"
+        raise Refused(f"{why}: {shown(message)}" if message else why)
+    password = done.stdout.strip(b"\r\n")
+    if password != password.strip():
+        raise Refused(NOT_STRIPPED)
+    return password[: LIMIT + 1]

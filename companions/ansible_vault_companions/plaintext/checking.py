@@ -79,7 +79,9 @@ class Check:
             self._plaintext(where, what, value, *opened, report)
         return report if opened else Report()
 
-    def _plaintext(self, where: str, what: str, value: Value, secret: Password, plaintext: bytes, report: Report) -> None:
+    def _plaintext(
+        self, where: str, what: str, value: Value, secret: Password, plaintext: bytes, report: Report
+    ) -> None:
         why = secret.label_fault(value.label)
         if why:
             report.faults.append(f"{what}: {why}")

@@ -11,10 +11,9 @@ from ansible_vault_companions.envelopes.changes import Change, changed, in_plain
 from ansible_vault_companions.envelopes.document import Document
 from ansible_vault_companions.envelopes.envelope import MAGIC, NO_SCALAR, Value
 from ansible_vault_companions.merging import texts
-from ansible_vault_companions.passwords.sources import Password
 from ansible_vault_companions.plaintext import opening
 from ansible_vault_companions.program import Refused, write_error
-from ansible_vault_companions.tool.tool import NOT_DECRYPTED, Decrypt, NotDecrypted, NotVault, PasswordRefused, Tool
+from ansible_vault_companions.tool.tool import Decrypt
 
 NAME = "ansible-vault-textconv"
 # The file with git's commit message, and the directory that lists this process's open files.
@@ -22,24 +21,6 @@ MESSAGE = "COMMIT_EDITMSG"
 DESCRIPTORS = "/proc/self/fd"
 NO_TEXT = "{} is a list, a mapping or an alias; name a value in it"
 NOT_ENCRYPTED = "{} is not encrypted"
-
-
-class SkippingTool(Tool):
-    """Reports a secret that the tool refuses once, and then skips it. A clone need not have every secret."""
-
-    def view(self, envelope: bytes, secret: Password) -> bytes:
-        if not secret.is_plain() and self.once(secret, 0, lambda: self._fault(secret)):
-            raise NotDecrypted(NOT_DECRYPTED)
-        return super().view(envelope, secret)
-
-    def _fault(self, secret: Password) -> bytes:
-        try:
-            with suppress(NotVault):
-                super().view(b"", secret)
-        except PasswordRefused as fault:
-            write_error(f"{NAME}: {program.shown(str(fault))}")
-            return str(fault).encode()
-        return b""
 
 
 def converted(found: Document, path: str, decrypt: Decrypt) -> bytes:

@@ -12,7 +12,7 @@ from ansible_vault_companions import processes
 from ansible_vault_companions.envelopes.envelope import label_of, written_label
 from ansible_vault_companions.passwords import sources
 from ansible_vault_companions.passwords.sources import Password
-from ansible_vault_companions.program import Refused, shown
+from ansible_vault_companions.program import Refused
 from ansible_vault_companions.tool import finding
 
 # A password, and the label that the envelope gets.
@@ -26,36 +26,13 @@ ERROR = "ERROR! "
 MOST_REMEMBERED = 1 << 26
 
 
-class PasswordRefused(Refused):
-    """The tool refuses a password, whatever the input."""
-
-
 class NotDecrypted(Refused):
     """No password decrypts a vault."""
 
 
-class NotVault(Refused):
-    """The input is not a vault. The tool checks passwords first, so it has accepted them."""
-
-
-# The exceptions for error messages, which say more than the status.
-KINDS: dict[str, type[Refused]] = {
-    NOT_DECRYPTED: NotDecrypted,
-    "input is not vault encrypted data": NotVault,
-    "a password file is longer than 4096 bytes": PasswordRefused,
-    "a password file is a script": PasswordRefused,
-    "a password file is itself a vault": PasswordRefused,
-    "a password is empty": PasswordRefused,
-    "a vault id label is not allowed": PasswordRefused,
-    "asking for a password is not supported": PasswordRefused,
-    "a password file cannot be read": PasswordRefused,
-    "a password file cannot be opened": PasswordRefused,
-}
-
-
 class Tool:
-    """The ansible-vault beside a companion, otherwise the one on PATH. Each run derives a key, and the same envelope may
-    occur more than once, so results are remembered, including refusals."""
+    """The ansible-vault beside a companion, otherwise the one on PATH. Each run derives a key, and the same envelope
+    may occur more than once, so results are remembered, including refusals."""
 
     def __init__(self, companion: str) -> None:
         self.path = finding.path_for(companion)
@@ -74,34 +51,14 @@ class Tool:
             raise Refused(f"signal {-done.returncode} ended {finding.NAME}; run this again")
         if done.returncode > 0:
             text = done.stderr.decode(errors="replace").strip().removeprefix(ERROR)
-            fault = text or f"ansible-vault ended with status {done.returncode}"
-            raise KINDS.get(text, Refused)(fault, done.returncode)
+            kind = NotDecrypted if text == NOT_DECRYPTED else Refused
+            raise kind(text or f"{finding.NAME} ended with status {done.returncode}", done.returncode)
         return done.stdout
 
     def view(self, envelope: bytes, secret: Password) -> bytes:
         """The plaintext, decrypted with this password, once for the same envelope."""
-        return self.once((envelope, secret), len(envelope), lambda: self._view(envelope, secret))
-
-    def _view(self, envelope: bytes, secret: Password) -> bytes:
-        if secret.fault:
-            raise PasswordRefused(f"{shown(secret.given)}: {secret.fault}")
-        try:
-            return self.run(["view", secret.option()], envelope, [secret])
-        except PasswordRefused as fault:
-            raise PasswordRefused(f"{shown(secret.given)}: {fault}", fault.status) from None
-
-    def accept(self, secrets: list[Password]) -> None:
-        """Refuses a password that the tool refuses. An empty input makes the tool check the password alone."""
-        for secret in secrets:
-            if secret.is_left_out:
-                continue
-            try:
-                with suppress(NotVault):
-                    self.view(b"", secret)
-            except PasswordRefused:
-                raise
-            except Refused as fault:
-                raise Refused(f"{shown(secret.given)}: {fault}", fault.status) from None
+        view = lambda: self.run(["view", secret.option()], envelope, [secret])
+        return self.once((envelope, secret), len(envelope), view)
 
     def decrypt(self, envelope: bytes, secrets: list[Password]) -> tuple[Password, bytes]:
         """The password that decrypts the envelope, and the plaintext. Tries passwords one at a time, those with its
