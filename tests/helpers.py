@@ -8,19 +8,14 @@ import runpy
 import shutil
 import subprocess
 import sys
-from collections import Counter
-from collections.abc import Callable
 from dataclasses import replace
 from pathlib import Path
 
 import pytest
 
-from companion_cases import Done, ended, silent, wait_until
+from companion_cases import Done, ended, silent
 from companion_mutants import mutants_of
-from fault_injection import OLD, OLD_MODE, OUTPUT, Left, Scenario, Target, run
-from lib.ansible import ansible_vault
 from lib.cases import Cases
-from lib.installed import VERSION
 from lib.links import dead_links
 from lib.paths import ROOT
 from lib.processes import run_text
@@ -35,79 +30,60 @@ from model.vaults import seal
 REFUSED = Case(["decrypt", "--vault-password-file", "right", "--output", "new"], {"right": b"right\n"}, b"no vault\n")
 ANSWERED = replace(REFUSED, stdin=seal(b"right", b"text"))
 DIFFERING = {
-    "another file": (REFUSED, '"$PROGRAM" "$@"; status=$?; touch other; exit $status'),
-    "a changed file": (REFUSED, '"$PROGRAM" "$@"; status=$?; echo >> right; exit $status'),
-    "another mode": (REFUSED, '"$PROGRAM" "$@"; status=$?; chmod 600 right; exit $status'),
-    "another status": (REFUSED, '"$PROGRAM" "$@"; exit 3'),
-    "another mode of the output": (ANSWERED, '"$PROGRAM" "$@" && chmod 644 new'),
-    "standard output besides": (ANSWERED, '"$PROGRAM" "$@" && cat new'),
-    "a warning": (ANSWERED, '"$PROGRAM" "$@" && echo a warning >&2'),
-    "no message of the parser": (replace(REFUSED, words=["decrypt", "--none"]), "exit 2"),
+    '"$PROGRAM" "$@"; status=$?; touch other; exit $status': REFUSED,
+    '"$PROGRAM" "$@"; status=$?; echo >> right; exit $status': REFUSED,
+    '"$PROGRAM" "$@"; status=$?; chmod 600 right; exit $status': REFUSED,
+    '"$PROGRAM" "$@"; exit 3': REFUSED,
+    '"$PROGRAM" "$@" && chmod 644 new': ANSWERED,
+    '"$PROGRAM" "$@" && cat new': ANSWERED,
+    '"$PROGRAM" "$@" && echo a warning >&2': ANSWERED,
+    "exit 2": replace(REFUSED, words=["decrypt", "--none"]),
 }
-
-
-@pytest.mark.parametrize("case, text", DIFFERING.values(), ids=DIFFERING)
-def test_differences(program: str, tmp_path: Path, monkeypatch: pytest.MonkeyPatch, case: Case, text: str) -> None:
-    monkeypatch.setenv("PROGRAM", program)
-    assert differences(case, [program]) == []
-    assert differences(case, [write_script(tmp_path / "differing", text)]) != []
-
-
 FAULT = Fault.NOT_VAULT
-CHECKS: dict[str, Callable[[Cases], None]] = {
-    "refused": lambda cases: cases.refused(["view"], FAULT),
-    "refuses": lambda cases: cases.refuses([], b"", FAULT),
-}
 
 
-@pytest.mark.parametrize("check", CHECKS.values(), ids=CHECKS)
-def test_each_part_of_an_answer(tmp_path: Path, check: Callable[[Cases], None]) -> None:
+def test_differences(program: str, tmp_path: Path, monkeypatch: pytest.MonkeyPatch) -> None:
+    monkeypatch.setenv("PROGRAM", program)
+    for text, case in DIFFERING.items():
+        assert differences(case, [program]) == [], text
+        assert differences(case, [write_script(tmp_path / "differing", text)]) != [], text
+
+
+def test_each_part_of_an_answer(tmp_path: Path) -> None:
     """The program that gives the answer is accepted, and none with another status, output or message."""
     (tmp_path / "message").write_bytes(FAULT.line)
     right = f"cat {tmp_path}/message >&2; exit {FAULT.status}"
-    check(Cases(write_script(tmp_path / "program", right), tmp_path))
+    script = tmp_path / "program"
+    cases = Cases(write_script(script, right), tmp_path)
+    cases.refused(["view"], FAULT)
+    cases.refuses([], b"", FAULT)
     for wrong in (f"({right}); exit 9", f"echo output; {right}", f"echo >&2; {right}"):
+        write_script(script, wrong)
         with pytest.raises(AssertionError):
-            check(Cases(write_script(tmp_path / "program", wrong), tmp_path))
+            cases.refused(["view"], FAULT)
+        with pytest.raises(AssertionError):
+            cases.refuses([], b"", FAULT)
+    for command in ("view", "decrypt"):
+        write_script(script, f'[ "$1" = {command} ]')
+        with pytest.raises(AssertionError):
+            cases.decrypts([], b"", b"")
 
 
-@pytest.mark.parametrize("command", ["view", "decrypt"])
-def test_both_commands_that_read(tmp_path: Path, command: str) -> None:
-    with pytest.raises(AssertionError):
-        Cases(write_script(tmp_path / command, f'[ "$1" = {command} ]'), tmp_path).decrypts([], b"", b"")
-
-
-def test_what_faulty_runs_leave(tmp_path: Path) -> None:
-    scenario = Scenario("x", ["decrypt"], "/dev/null", b"", Target.OLD)
-    script = write_script(tmp_path / "script", "echo 1; echo 2 >&2; echo 3 > .other; exit 4")
-    assert run(scenario, [script]) == Left(4, b"1\n", b"2\n", {OUTPUT: (OLD, OLD_MODE), ".other": (b"3\n", 0o644)})
+def test_each_part_is_looked_for() -> None:
+    ended("both", Done([], 0, "one", "two"), 0, "one", "two")
+    silent("nothing", Done([], 0, "", ""))
+    for parts in (["one", "three"], ["three", "two"], ["one\n"], [" two"]):
+        with pytest.raises(AssertionError):
+            ended("one of two", Done([], 0, "one", "two"), 0, *parts)
+    for other in (Done([], 1, "", ""), Done([], 0, "x", ""), Done([], 0, "", "x")):
+        with pytest.raises(AssertionError):
+            silent("one of three", other)
 
 
 def test_each_line_of_strace_is_a_call() -> None:
     others = ["7 [00007f] read(0,  <unfinished ...>", "7 --- SIGTERM ---"]
     log = "\n".join(['7 [00007f] read(0, ""..., 9) = 3', *others, "7 [???] +++ exited with 0 +++"])
     assert [call.name for call in calls_in(log)] == ["read", *others]
-
-
-def test_each_part_is_looked_for() -> None:
-    done = Done([], 0, "one", "two")
-    ended("both", done, 0, "one", "two")
-    for parts in (["one", "three"], ["three", "two"], ["one\n"], [" two"]):
-        with pytest.raises(AssertionError):
-            ended("one of two", done, 0, *parts)
-
-
-def test_silent() -> None:
-    silent("nothing", Done([], 0, "", ""))
-    for other in (Done([], 1, "", ""), Done([], 0, "x", ""), Done([], 0, "", "x")):
-        with pytest.raises(AssertionError):
-            silent("one of three", other)
-
-
-def test_waits() -> None:
-    answers = [True, False, False]
-    wait_until(answers.pop, "the last answer")
-    assert answers == []
 
 
 def test_dead_links(tmp_path: Path) -> None:
@@ -172,85 +148,44 @@ def test_mutants(tmp_path: Path) -> None:
     assert names == [f"first: {change}" for change in CHANGES.splitlines()]
 
 
-# Ansible's tool if its module is missing, and our tool, by whether ANSIBLE_VAULT names it.
-FAILS, OURS = "echo 'no module named ansible' >&2; exit 1", f"echo 'ansible-vault {VERSION}'"
-BROKEN = [(FAILS, True, "no module named ansible"), (FAILS, False, "no module named ansible")]
-BROKEN += [(OURS, True, "not of Ansible's core")]
+# Tests, how each ends, and how with --require-all.
+SAMPLE = """\
+import conftest, os, pytest, subprocess, threading
+from lib.needs import TAKES_ROOT
+def test_passed_passed(tmp_path): pass
+def test_failed_failed(tmp_path): one = threading.Thread(target=lambda: 1 / 0); one.start(); one.join()
+def test_skipped_failed(): pytest.skip("why")
+def test_skipped_failed_without_tool(): subprocess.run(["no-such-tool"])
+def test_failed_failed_without_file(): open("no-such-file")
+def test_skipped_skipped(): os.geteuid = lambda: 1; pytest.skip(TAKES_ROOT)
+"""
+# Enough of two of eleven kinds, and a floor that is too low.
+ENOUGH = """\
+import conftest
+conftest.FLOORS["fuzz"] = -1
+def test_rows(record_property, subtests):
+    for row in range(1000):
+        with subtests.test(): record_property("random requests", (row < 200, 1))
+"""
 
 
-@pytest.mark.parametrize("text, is_named, why", BROKEN)
-def test_ansible_that_fails(
-    tmp_path: Path, monkeypatch: pytest.MonkeyPatch, text: str, is_named: bool, why: str
-) -> None:
-    """It does not count as missing, and neither does another tool that is named."""
-    path = write_script(tmp_path / "ansible-vault", text)
-    monkeypatch.setenv("PATH", str(tmp_path))
-    monkeypatch.setenv("ANSIBLE_VAULT", path if is_named else "")
-    with pytest.raises(RuntimeError, match=why):
-        ansible_vault()
-
-
-# The start of a file of tests.
-IMPORTS = "import os, subprocess, threading, time, conftest, pytest\nfrom lib.needs import TAKES_ROOT\n"
-NO_TOOL = "subprocess.run(['no-such-tool'])"
-THREAD = "thread = threading.Thread(target=lambda: 1 / 0); thread.start(); thread.join()"
-FOR_ROOT = "os.geteuid = lambda: {user}; pytest.skip(TAKES_ROOT)"
-# The body of each test, how it ends, and how with --require-all.
-BODIES = {
-    "passes": ("pass", "PASSED", "PASSED"),
-    "a_thread_fails": (THREAD, "FAILED", "FAILED"),
-    "returns_something": ("return 1 == 2", "FAILED", "FAILED"),
-    "is_skipped": ("pytest.skip('why')", "SKIPPED", "FAILED"),
-    "only_root_can": (FOR_ROOT.format(user=1), "SKIPPED", "SKIPPED"),
-    "root_cannot": (FOR_ROOT.format(user=0), "SKIPPED", "FAILED"),
-    "lacks_a_tool": (NO_TOOL, "SKIPPED", "FAILED"),
-    "lacks_a_file": ("open('no-such-file')", "FAILED", "FAILED"),
-}
-
-
-def run_sample(folder: Path, program: str, bodies: dict[str, str], options: list[str]) -> Done:
-    """Run pytest on tests with these names and bodies, in a copy of ours."""
-    shutil.copytree(ROOT / "tests", folder / "tests")
+def run_sample(folder: Path, program: str, sample: str, *options: str) -> Done:
+    """Run pytest on a file of tests, in a copy of ours."""
+    shutil.copytree(ROOT / "tests", folder / "tests", dirs_exist_ok=True)
     shutil.copy(ROOT / "pytest.ini", folder)
-    fixtures = "record_property, subtests, tmp_path"
-    tests = [f"def test_{name}({fixtures}):\n    {body}\n" for name, body in bodies.items()]
-    (folder / "tests" / "sample.py").write_text("".join([IMPORTS, *tests]))
+    (folder / "tests" / "sample.py").write_text(sample)
     ours = {name: value for name, value in os.environ.items() if not name.startswith(("PYTEST_", "REQUIRE_ALL"))}
-    words = ["pytest", f"--program={program}", *options, "tests/sample.py"]
+    words = ["pytest", f"--program={program}", "--verbose", *options, "tests/sample.py"]
     return run_text([sys.executable, "-B", "-m", *words], cwd=folder, env=ours | {"TMPDIR": str(folder)})
 
 
-@pytest.mark.parametrize("options, column", [([], 1), (["--require-all"], 2)], ids=["some", "all"])
-def test_outcomes(program: str, tmp_path: Path, options: list[str], column: int) -> None:
-    done = run_sample(tmp_path, program, {name: row[0] for name, row in BODIES.items()}, ["--verbose", *options])
-    wanted = {name: row[column] for name, row in BODIES.items()}
-    assert dict(re.findall(r"^tests/sample\.py::test_(\w+) ([A-Z]+)", done.stdout, re.MULTILINE)) == wanted, done.stdout
-    counts = Counter(wanted.values())
-    assert done.stdout.count("\nskipped: tests/sample.py") == counts["SKIPPED"], "and why"
-    assert "\nseed: 1\n" in done.stdout, "as there is no git"
-    assert f"\n{counts['PASSED']} passed, {counts['FAILED']} failed, {counts['SKIPPED']} skipped\n" in done.stdout
-    kept = re.findall(r"^kept in (.*)$", done.stdout, re.MULTILINE)
-    assert [Path(each).is_dir() for each in kept] == [True] * counts["FAILED"], "a folder is kept where a test fails"
-
-
-ENDLESS = """\
-for row in range(3):
-        with subtests.test(): time.sleep(600 if row else 0); assert row"""
-# Enough of two of eleven kinds, and a floor that is too low.
-ENOUGH = """\
-conftest.FLOORS['fuzz'] = -1
-    for row in range(1000):
-        with subtests.test(): record_property("random requests", (row < 200, 1))"""
-# The bodies of tests, pytest's option, its exit status, and the line of counts.
-ENDINGS = {
-    "rows do not end": ([ENDLESS], "--timeout=1", 1, "1 passed, 3 failed, 0 skipped"),
-    "no tool on import": ([f"pass\n{NO_TOOL}"], "--require-all", 2, "0 passed, 1 failed, 0 skipped"),
-    "too few are run": ([ENOUGH, FOR_ROOT.format(user=1)], "--floors", 1, "1 passed, 9 failed, 1 skipped"),
-    "one is left out": ([NO_TOOL], "--floors", 0, "0 passed, 0 failed, 1 skipped"),
-}
-
-
-@pytest.mark.parametrize("bodies, option, status, counts", ENDINGS.values(), ids=ENDINGS)
-def test_endings(program: str, tmp_path: Path, bodies: list[str], option: str, status: int, counts: str) -> None:
-    done = run_sample(tmp_path, program, {str(number): body for number, body in enumerate(bodies)}, [option])
-    assert (done.returncode, f"\n{counts}\n" in done.stdout) == (status, True), done.stdout
+def test_outcomes(program: str, tmp_path: Path) -> None:
+    runs = [(0, "-v", "1 passed, 2 failed, 3 skipped"), (1, "--require-all", "1 passed, 4 failed, 1 skipped")]
+    for place, option, counts in runs:
+        done = run_sample(tmp_path, program, SAMPLE, option)
+        ends = re.findall(r"^tests/sample\.py::test_(\w+?)_(\w+?)(?:_without\w+)? ([A-Z]+)", done.stdout, re.MULTILINE)
+        assert [end[place].upper() for end in ends] == [end[2] for end in ends], done.stdout
+        assert (done.returncode, f"\n{counts}\n" in done.stdout) == (1, True), done.stdout
+        assert Path(re.findall(r"^kept in (.*)$", done.stdout, re.MULTILINE)[0]).is_dir(), "a folder is kept"
+    done = run_sample(tmp_path, program, ENOUGH, "--floors")
+    assert (done.returncode, "\n1 passed, 9 failed, 0 skipped\n" in done.stdout) == (1, True), done.stdout
