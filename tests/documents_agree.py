@@ -110,9 +110,11 @@ def test_examples() -> None:
 
 
 # Options of git, of the prover, of other programs, and of Ansible's tool after release 2.14; and one for any option.
-OTHER_OPTIONS = """--cached --clean --filter --global --merge --no-edit --no-verify --ours --range-diff --textconv
-    --theirs --allow-holes --anew --list-axioms --only --test --hook-type --no-install-recommends --sample --strict
-    --unshallow --wait --skip-tty-check --option""".split()
+OTHER_OPTIONS = """\
+    --cached --clean --filter --global --merge --no-edit --no-verify --ours --range-diff --textconv --theirs
+    --allow-holes --anew --list-axioms --mutants --only --test --hook-type --no-install-recommends --sample --strict
+    --unshallow --wait --skip-tty-check --option
+""".split()
 
 
 def test_options() -> None:
