@@ -93,24 +93,28 @@ def test_dead_links(tmp_path: Path) -> None:
     assert [*dead_links(page)] == dead
 
 
-# How pytest ends with a planted fault, and what becomes of the fault.
+# How pytest ends, and what becomes of the fault of the file or of the mutant that is planted.
 ENDS = {
-    "a test fails": (1, "FAILED tests/a.py::test_b - why\n", "caught"),
-    "no test fails": (0, "1 passed\n", "failed"),
-    "a test is skipped": (0, "SKIPPED [1] tests/a.py:2: why\n1 passed, 1 skipped\n", "skipped"),
-    "nothing can be collected": (2, "ERROR tests/a.py - why\n", "failed"),
-    "pytest does not start": (1, "No module named pytest\n", "failed"),
+    "a test fails": (1, "FAILED tests/a.py::test_b - why\n", "caught", "caught"),
+    "no test fails": (0, "1 passed\n", "failed", "survived"),
+    "a test is skipped": (0, "SKIPPED [1] tests/a.py:2: why\n1 passed, 1 skipped\n", "skipped", "survived"),
+    "a test takes too long": (1, "FAILED tests/a.py::test_b - Failed: Timeout >9.0s\n", "caught", "survived"),
+    "all take too long": (124, "2 passed\n", "failed", "survived"),
+    "a file cannot be imported": (2, "ERROR tests/a.py - why\n", "failed", "caught"),
+    "pytest does not start": (1, "No module named pytest\n", "failed", "failed"),
 }
 
 
-@pytest.mark.parametrize("status, output, outcome", ENDS.values(), ids=ENDS)
-def test_planted_faults(program: str, status: int, output: str, outcome: str) -> None:
-    """The same test passes without the fault. A mutant survives if all tests pass, or if one only takes too long."""
+@pytest.mark.parametrize("status, output, listed, mutant", ENDS.values(), ids=ENDS)
+def test_planted_faults(program: str, status: int, output: str, listed: str, mutant: str) -> None:
     tool = runpy.run_path(str(ROOT / "tools" / "plant_faults"))
-    ends = [subprocess.CompletedProcess([], 0, ""), subprocess.CompletedProcess([], status, output)]
-    tool["result_of"].__globals__["run_tests"] = lambda *_: ends.pop()
     fault = tool["Fault"]("a fault", ("a.py",), str)
-    assert tool["result_of"](Path(program), fault).outcome.value == outcome
+    # The test passes without the fault.
+    ends = [subprocess.CompletedProcess([], code, text) for code, text in ((0, ""), (status, output))]
+    tool["run_tests"].__globals__["run_tests"] = lambda *_: ends.pop()
+    assert tool["result_of_mutant"](Path(program), 0, 0, fault).outcome.value == mutant
+    ends.append(subprocess.CompletedProcess([], status, output))
+    assert tool["result_of"](Path(program), fault).outcome.value == listed
 
 
 MUTATED = """\

@@ -68,6 +68,8 @@ def without(items: list[ast.expr], index: int) -> list[ast.expr]:
 def changes(node: ast.AST, is_value: bool) -> Iterator[tuple[Node, ast.AST]]:
     """Yield what changes at this node, and what replaces it."""
     match node:
+        case ast.If(ast.Name("TYPE_CHECKING")):
+            return
         case ast.If(test=test) | ast.IfExp(test=test) | ast.comprehension(ifs=[test]):
             yield from ((test, ast.Constant(value)) for value in (True, False))
         case ast.While(test=test):
