@@ -51,7 +51,7 @@ def test_leftovers(place: Place) -> None:
     # It is killed when the new file would replace the old one.
     killed = "os.replace = lambda *_: os.kill(os.getpid(), 9)"
     assert run_changed(place, WITH, killed, ["decrypt", *place.by_file("old"), "inner/a.yml"]).returncode == -9
-    place.put(".ansible-vault-saved-$(touch pwned)", TEXT)
+    place.put("$(touch pwned)/.ansible-vault-abcdefgh.new", TEXT)
     names = sorted(name for name in place.files() if ".ansible-vault-" in name)
     assert [place.get(name) == TEXT for name in names] == [True, True]
     done = add_and_commit(place)

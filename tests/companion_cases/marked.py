@@ -86,7 +86,7 @@ def test_some_labels(place: Place) -> None:
     ended("a label within a vault", place.run(*both, "a.yml"), 0, "2 decrypted, 0 not, 0 with other labels")
     done = place.run(CHECK, *dev, "--label", "prdo", "--label", "prod", "--label", "none", "b.yml")
     tried = f"(label prod; tried {dev[1]}): name its password with --vault-id LABEL@SOURCE"
-    nothing = [f"{CHECK}: no vault or block has the label {label}" for label in ("none", "prdo")]
+    nothing = [f"{CHECK}: no vault or value has the label {label}" for label in ("none", "prdo")]
     wanted = [f"{CHECK}: b.yml: prod: no secret decrypts this vault {tried}", *nothing]
     assert (done.returncode, done.stderr.splitlines()) == (1, wanted), "labels that nothing has"
     place.put("d.yml", b"$ANSIBLE_VAULT;1.1\n")

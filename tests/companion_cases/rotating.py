@@ -41,8 +41,7 @@ def test_by_label(place: Place) -> None:
     assert done.stderr.startswith(f"{CHECK}: all.yml: {stray}stray: prod: {why}")
     rotate = [ROTATE, *prod, *place.by_id("prod", "prod2", "new-"), "."]
     names = ["all.yml", "done.yml"]
-    told = ["1 block within a plaintext rotated\n", f"{stray}{why}"]
-    reported = [f"./{name}: {each}" for name in names for each in told]
+    reported = ["./all.yml: 2 rotated\n", "./done.yml: rotated\n", *(f"./{name}: {stray}{why}" for name in names)]
     ended("both", place.run(*rotate), 1, *reported, summary(3, 1, 2, " (dev 2)", 2))
     before = place.files()
     for name in names:
@@ -69,7 +68,7 @@ def test_what_cannot_be_rotated(place: Place) -> None:
 
 def test_nothing(place: Place) -> None:
     """A new secret with a label that nothing has may be a mistake, so the status is 1."""
-    why = f"{ROTATE}: no vault or block has the label "
+    why = f"{ROTATE}: no vault or value has the label "
     place.put("plain.yml", TEXT)
     ended("no vault", place.run(ROTATE, *to_new(place), "."), 1, summary(0), f"{why}default\n")
     place.put("a.yml", sealed("old"))
@@ -192,7 +191,7 @@ def test_around(place: Place) -> None:
     for name, (content, _) in FILES.items():
         place.put(name, content)
     dry, count = [ROTATE, "--dry-run", *to_new(place), "."], sum(count for _, count in FILES.values())
-    lines = ["./a vault with CR LF: would be rotated\n", "./CR LF: 1 block would be rotated\n"]
+    lines = ["./a vault with CR LF: would be rotated\n", "./lists: 2 would be rotated\n"]
     ended("a dry run", place.run(*dry), 1, *lines, summary(count).replace("rotated", "to be rotated", 1))
     assert place.files() == {name: content for name, (content, _) in FILES.items()}, "nothing is written"
     ended("blocks", place.run(ROTATE, *to_new(place), "."), 0, summary(count))
@@ -227,5 +226,5 @@ def test_at_once(place: Place) -> None:
     assert (done.returncode, done.stdout, done.stderr) == (0, shown, ""), "textconv"
     place.wrap_tool(MEET.format("encrypt"))
     done = place.run(ROTATE, *to_new(place), "--jobs", "2", "vars.yml")
-    ended("rotate", done, 0, "vars.yml: 8 blocks rotated", summary(8))
+    ended("rotate", done, 0, "vars.yml: 8 rotated", summary(8))
     assert texts(place.get("vars.yml"), "new") == wanted, "they are rotated"

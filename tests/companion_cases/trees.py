@@ -95,15 +95,18 @@ def test_what_has_no_end(place: Place) -> None:
 
 
 def test_pieces(tmp_path: Path, monkeypatch: pytest.MonkeyPatch) -> None:
-    """A long file is searched in pieces, and what tells of an envelope may be split between two of them."""
+    """A long file is searched in pieces, and what tells of an envelope may be split between two of them. Of a file
+    without any, the part that stays is blank only if all is."""
     path = tmp_path / "a.txt"
-    monkeypatch.setattr(document, "LONGEST", 16)
-    for size, before, start in product((80, 90), range(1, 100), (MAGIC, b'"\\U00000024', b"!" + b"x" * 60 + b"%61")):
+    for size, before, start in product((80, 90), range(100, 200), (MAGIC, b'"\\U00000024', b"!" + b"x" * 60 + b"%61")):
         monkeypatch.setattr(reading, "CHUNK_SIZE", size)
         path.write_bytes(b"x" * before + start + b";1.1")
         assert document.content(str(path)) == path.read_bytes(), (size, before, start)
         path.write_bytes(b"x" * before + start[:-1])
-        assert document.content(str(path)) == b"", "a part of it is none"
+        assert document.content(str(path)) == b"x" * size, "a part of it is none"
+    for text in (b" " * 100, b" " * 100 + b"x", b"x" + b" " * 100):
+        path.write_bytes(text)
+        assert bool(document.content(str(path)).strip()) == bool(text.strip())
 
 
 FILES = {"a.yml", "b.txt", "tests/a.yml", "tests/fixtures/c.yml", "roles/tests/d.yml", "[x]/e.yml"}

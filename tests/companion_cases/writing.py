@@ -3,15 +3,11 @@ another, access control lists, and what a dry run reports.
 """
 
 import errno
-import io
 import os
 import re
-from pathlib import Path
 
 import pytest
 
-from ansible_vault_companions.files import replacing
-from ansible_vault_companions.program import Refused
 from companion_cases import CHANGED, CHECK, EDIT, MERGE, NOBODY, ROTATE, TEXT, WITH, Place
 from companion_cases import decrypted, ended, run_changed, sealed, silent, summary, to_new, versions
 from lib.needs import needs
@@ -78,48 +74,13 @@ def test_folder_that_cannot_be_read(place: Place) -> None:
     assert decrypted("new", place.get("folder/a.yml")) == TEXT, "it did its work"
 
 
-# The fault of a hard link, what another program does meanwhile, and why no vault is created.
-TAKES, TAKEN = 'open(target, "x").write("theirs")', "another program created it meanwhile"
-LINKS = [(fault, "pass", "") for fault in (errno.EPERM, errno.EOPNOTSUPP, errno.ENOSYS, errno.EMLINK)]
-LINKS += [(errno.EPERM, TAKES, TAKEN), (errno.EEXIST, TAKES, TAKEN), (errno.EIO, "pass", "no link")]
-
-
-@pytest.mark.parametrize("fault, meanwhile, why", LINKS)
-def test_hard_links(place: Place, fault: int, meanwhile: str, why: str) -> None:
-    """A file system may report in several ways that it has no hard links. A new vault is created anyway, but not in
-    place of a file that another program has created."""
-    refused = f"""
-def link(_, target):
-    {meanwhile}
-    raise OSError({fault}, "no link")
-os.link = link
-"""
-    editor = place.script('echo a > "$1"', "editor")
-    done = run_changed(place, EDIT, refused, [*place.by_file("old"), "new.yml"], EDITOR=editor)
-    if why:
-        ended("the edit", done, 1, f"{EDIT}: new.yml: {why}; what you saved is encrypted in ")
-        assert place.files().get("new.yml") == (b"theirs" if meanwhile == TAKES else None)
-    else:
-        silent("the edit", done)
-        assert decrypted("old", place.get("new.yml")) == b"a\n"
-        assert (place.mode("new.yml"), place.names()) == ("0o600", ["new.yml"])
-
-
-MOUNT = "36 35 98:0 / {} rw,noatime master:1 - ext3 /dev/root rw,errors=continue\n"
-# Names of mount points, and what the system writes for them.
-MOUNTED = {"größe.yml": "größe.yml", "a b\t\n.yml": r"a\040b\011\012.yml", r"c\040.yml": r"c\134040.yml"}
-
-
-@pytest.mark.parametrize("name", MOUNTED)
-def test_names_of_mount_points(tmp_path: Path, monkeypatch: pytest.MonkeyPatch, name: str) -> None:
-    """/proc/self/mountinfo has escapes in names. A file whose own name looks like them is not a mount point."""
-    lines = "".join(MOUNT.format(each) for each in ("/proc", tmp_path / MOUNTED[name])).encode()
-    opened = lambda path, *words: io.BytesIO(lines) if path == "/proc/self/mountinfo" else open(path, *words)
-    monkeypatch.setattr(replacing, "open", opened, raising=False)
-    with pytest.raises(Refused, match="it is a mount point, so no other file can replace it"):
-        replacing.check_replaceable(str(tmp_path / name))
-    if MOUNTED[name] != name:
-        replacing.check_replaceable(str(tmp_path / MOUNTED[name]))
+def test_created_meanwhile(place: Place) -> None:
+    """A new vault does not take the place of a file that another program creates."""
+    place.wrap_tool('[ "$1" != encrypt ] || echo theirs > new.yml')
+    done = place.run(EDIT, *place.by_file("old"), "new.yml", EDITOR=place.script('echo a > "$1"', "editor"))
+    why = "new.yml: another program changed it meanwhile; what you saved is encrypted in "
+    ended("the edit", done, 1, why)
+    assert place.get("new.yml") == b"theirs\n"
 
 
 def test_attributes_of_security_modules(place: Place) -> None:
@@ -175,7 +136,7 @@ def test_named_paths(place: Place) -> None:
     (place.tree / "tree/file.yml").symlink_to("a.yml/below")
     (place.tree / "closed").chmod(0o000)
     done = place.as_nobody(CHECK, *place.by_file("old"), "pipe", "/dev/null", "tree")
-    parts = [f"{name}: it is neither a file nor a directory" for name in ("pipe", "/dev/null")]
+    parts = [f"{name}: it is not a regular file" for name in ("pipe", "/dev/null")]
     parts += ["tree/link.yml: Permission denied", "tree/file.yml: Not a directory", "1 decrypted, 4 not"]
     ended("the check", done, 1, *parts)
 

@@ -7,27 +7,25 @@ digits is a stray.
 
 from __future__ import annotations
 
+import errno
 import os
 import re
 from bisect import bisect_right
-from contextlib import suppress
 from dataclasses import dataclass, field
-from typing import BinaryIO, Iterable, Iterator
+from typing import Iterator
 
 from ansible_vault_companions import processes
-from ansible_vault_companions.envelopes import envelope
 from ansible_vault_companions.envelopes.changes import changed, replaced
-from ansible_vault_companions.envelopes.envelope import LOOSE, STRAY, WHOLE, WITH_DIGITS, Value
-from ansible_vault_companions.envelopes.scalars import BINARY, LONGEST, NotYaml, scalars
-from ansible_vault_companions.files.reading import CHUNK_SIZE, LIMIT, TooLong, Unsearched, opened, parts
-from ansible_vault_companions.files.reading import whole
-from ansible_vault_companions.files.reading import read as read_file
+from ansible_vault_companions.envelopes.envelope import LOOSE, MAGIC, STRAY, WHOLE, WITH_DIGITS, Value
+from ansible_vault_companions.envelopes.scalars import BINARY, NotYaml, scalars
+from ansible_vault_companions.files.reading import LIMIT, TooLong, Unsearched, opened, parts, whole
 from ansible_vault_companions.program import Refused
 
 # A file with an envelope has one of these words, or spells it with escapes, which take no more than OVERLAP bytes.
 WORDS = (b"ANSIBLE_VAULT", b"!vault", b"__ansible_vault", b"%TAG")
 ESCAPES = re.compile(rb"![^\s%]{0,64}%[0-9a-fA-F]{2}|\\(?:x|u00|U000000)(?:24|[4-7][0-9a-fA-F])")
 OVERLAP = 80
+UNSEARCHED = f"it is longer than any vault, so only its first {LIMIT:,} bytes were searched"
 NO_PLACE = "its values cannot be replaced where they are; write each as `NAME: !vault |`"
 # The lines of an envelope behind one margin.
 LINES_OF_STRAY = re.compile(
@@ -49,7 +47,11 @@ class Document:
 
     @property
     def is_vault(self) -> bool:
-        return self.data.startswith(envelope.MAGIC)
+        return self.data.startswith(MAGIC)
+
+    def envelopes(self) -> dict[int, Value]:
+        """The envelopes by their numbers. A value that only has the tag is none."""
+        return {n: value for n, value in enumerate(self.values) if value.style == WHOLE or value.is_envelope}
 
     def with_envelopes(self, new: dict[int, bytes]) -> bytes:
         """The data with other envelopes, by the numbers of their values. It is read again: only these may differ."""
@@ -69,7 +71,7 @@ def mentions(data: bytes) -> bool:
 
 def read(data: bytes, every: bool = False) -> Document:
     """The envelopes of a file or of a plaintext, or every node of one that is not a vault."""
-    if data.startswith(envelope.MAGIC):
+    if data.startswith(MAGIC):
         ending = b"\r\n" if b"\r\n" in data else b"\n"
         return Document(data, [Value((), WHOLE, 0, 0, 0, len(data), b"", ending, data)])
     document = Document(data)
@@ -85,22 +87,9 @@ def read(data: bytes, every: bool = False) -> Document:
     return document
 
 
-class Spans:
-    """Ranges that do not overlap, each from a first position to the one behind its last."""
-
-    def __init__(self, spans: Iterable[tuple[int, int]]) -> None:
-        self.spans = sorted(spans)
-        self.starts = [start for start, _ in self.spans]
-
-    def __contains__(self, place: int) -> bool:
-        number = bisect_right(self.starts, place) - 1
-        return number >= 0 and place < self.spans[number][1]
-
-
 def strays(data: bytes, values: list[Value]) -> Iterator[Value]:
     """The envelopes outside of these values, and those within the text of one that is no envelope, but has the tag."""
-    known = Spans((value.start, value.end) for value in values if value.is_envelope)
-    texts = Spans((value.start, value.end) for value in values if not value.is_envelope)
+    starts, are_envelopes = [value.start for value in values], [value.is_envelope for value in values]
     number, place, line_start = 1, 0, 0
     # Behind empty lines alone, Ansible reads neither a vault nor a value.
     first = len(data) - len(data.lstrip())
@@ -109,10 +98,12 @@ def strays(data: bytes, values: list[Value]) -> Iterator[Value]:
         number += data.count(b"\n", place, header.start())
         line_start = max(line_start, data.rfind(b"\n", place, header.start()) + 1)
         place = header.start()
-        if place in known:
+        before = bisect_right(starts, place) - 1
+        is_within = before >= 0 and place < values[before].end
+        if is_within and are_envelopes[before]:
             continue
         lines = LINES_OF_STRAY.match(data, line_start)
-        if lines and lines.end("margin") == place > first and place not in texts:
+        if lines and lines.end("margin") == place > first and not is_within:
             text = b"".join(line[len(lines["margin"]) :] + b"\n" for line in lines[0].splitlines())
             ending = b"\r\n" if b"\r\n" in lines[0] else b"\n"
             yield Value((), STRAY, number, place, line_start, lines.end(), lines["margin"], ending, text)
@@ -132,31 +123,22 @@ def is_yaml(path: str) -> bool:
 
 def fault(document: Document, path: str) -> str:
     """Why a file that is meant as YAML, and has an envelope, cannot be read; empty if it is none, or can."""
-    return document.fault if document.fault and is_yaml(path) and envelope.occurs(document.data) else ""
-
-
-def is_empty(path: str) -> bool:
-    """Whether a file has no text."""
-    return os.path.getsize(path) < CHUNK_SIZE and not (read_file(path) or b"").strip()
+    return document.fault if is_yaml(path) and (document.values or BINARY in document.data) else ""
 
 
 def content(path: str) -> bytes:
-    """The content of a file; empty if it has no envelopes. A signal ends the search."""
+    """The content of a file with envelopes; of any other, only a part, which is not blank unless the whole is. It is
+    searched in pieces, since a long one would take much memory. A signal ends the search."""
+    text = before = b""
     with opened(path) as file:
-        with suppress(TooLong):
-            data = whole(file, path, processes.check, LONGEST)
-            return data if mentions(data) else b""
-        # It is longer than YAML may be, and is not kept in memory while it is searched.
-        return whole(file, path, processes.check) if _mentions(file, path) else b""
-
-
-def _mentions(file: BinaryIO, path: str) -> bool:
-    before = b""
-    try:
-        for piece in parts(file, path, processes.check):
-            if mentions(before[-OVERLAP:] + piece):
-                return True
-            before = piece
-    except TooLong:
-        raise Unsearched(f"it is longer than any vault, so only its first {LIMIT:,} bytes were searched") from None
-    return False
+        try:
+            for piece in parts(file, path):
+                processes.check()
+                if mentions(before[-OVERLAP:] + piece):
+                    break
+                text, before = text if text.strip() else piece, piece
+            else:
+                return text
+        except TooLong:
+            raise Unsearched(errno.EFBIG, UNSEARCHED, path) from None
+        return whole(file, path)

@@ -119,11 +119,6 @@ def has_digits(text: bytes) -> bool:
     return WITH_DIGITS.match(text) is not None
 
 
-def occurs(data: bytes) -> bool:
-    """Whether the data has an envelope somewhere, unless escapes spell it."""
-    return MAGIC in data and WITH_DIGITS.search(data) is not None
-
-
 def label_of(text: bytes) -> str | None:
     """The label of an envelope; `default` if its first line has none, and None if that line is not a header."""
     label = written_label(text)

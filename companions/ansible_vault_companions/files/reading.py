@@ -5,7 +5,7 @@ from __future__ import annotations
 import errno
 import os
 import stat
-from typing import BinaryIO, Callable, Iterator
+from typing import BinaryIO, Iterator
 
 from ansible_vault_companions import processes
 from ansible_vault_companions.program import Refused
@@ -18,15 +18,11 @@ LONGEST_PLAINTEXT = 16_777_216
 LIMIT = 6 * LONGEST_PLAINTEXT + 8_192
 
 
-# Called between two pieces; raises if a signal arrived.
-Check = Callable[[], None]
-
-
 class TooLong(OSError):
     """A file is longer than the limit."""
 
 
-class Unsearched(Refused):
+class Unsearched(TooLong):
     """A file has no envelope up to the limit, but is longer."""
 
 
@@ -55,24 +51,23 @@ def input_of(file: str | int) -> bytes:
 
 
 def pieces(path: str) -> Iterator[bytes]:
-    """Yields the content of a file, up to its stated size if that exceeds LIMIT. A signal ends the reading."""
+    """Yields the content of a file, up to its stated size if that exceeds LIMIT."""
     with opened(path) as file:
-        yield from parts(file, path, processes.check, max(LIMIT, os.fstat(file.fileno()).st_size))
+        yield from parts(file, path, max(LIMIT, os.fstat(file.fileno()).st_size))
 
 
-def whole(file: BinaryIO, path: str, check: Check = lambda: None, limit: int = LIMIT) -> bytes:
+def whole(file: BinaryIO, path: str) -> bytes:
     """The content of a file. Raises TooLong, and reads nothing of a file whose stated size exceeds the limit."""
-    if os.fstat(file.fileno()).st_size > limit:
-        raise _too_long(path, limit)
-    return b"".join(parts(file, path, check, limit))
+    if os.fstat(file.fileno()).st_size > LIMIT:
+        raise _too_long(path, LIMIT)
+    return b"".join(parts(file, path))
 
 
-def parts(file: BinaryIO, path: str, check: Check = lambda: None, limit: int = LIMIT) -> Iterator[bytes]:
+def parts(file: BinaryIO, path: str, limit: int = LIMIT) -> Iterator[bytes]:
     """Yields the content of a file from its beginning. Raises TooLong after the limit."""
     file.seek(0)
     left = limit
     while piece := file.read(CHUNK_SIZE):
-        check()
         yield piece[:left]
         if len(piece) > left:
             raise _too_long(path, limit)

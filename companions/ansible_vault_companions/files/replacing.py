@@ -16,8 +16,6 @@ PREFIX, SUFFIX = ".ansible-vault-", ".new"
 RANDOM = "[a-z0-9_]{8}"
 # The mode of a file that only its owner may read.
 PRIVATE = 0o600
-# Errors of a file system without hard links.
-NO_LINKS = (errno.EPERM, errno.EOPNOTSUPP, errno.ENOSYS, errno.EMLINK)
 
 
 def replace(path: str, content: bytes, before: bytes | None, is_private: bool = False) -> None:
@@ -29,10 +27,7 @@ def replace(path: str, content: bytes, before: bytes | None, is_private: bool = 
     try:
         if reading.read(target) != before:
             raise Refused("another program changed it meanwhile")
-        if before is None:
-            _create(beside, target)
-        else:
-            os.replace(beside, target)
+        os.replace(beside, target)
     except BaseException:
         os.unlink(beside)
         raise
@@ -41,30 +36,12 @@ def replace(path: str, content: bytes, before: bytes | None, is_private: bool = 
 
 def check_replaceable(target: str) -> None:
     """Refuses in advance a file that `replace` could not replace."""
-    if target in _mount_points():
-        raise Refused("it is a mount point, so no other file can replace it; use the file that is mounted there")
     os.unlink(_write_beside(target, b""))
 
 
 def is_leftover(name: str) -> bool:
-    """Whether a file has the name of a temporary file that was never renamed, or of a copy of an edit by 0.5.0."""
-    return re.fullmatch(rf"{re.escape(PREFIX)}(?:{RANDOM}{re.escape(SUFFIX)}|saved-.*)", name, re.DOTALL) is not None
-
-
-def _create(beside: str, target: str) -> None:
-    """Gives a new file its final name. Refuses if another program has created a file of that name."""
-    try:
-        try:
-            os.link(beside, target)
-        except OSError as fault:
-            if fault.errno not in NO_LINKS:
-                raise
-            os.close(os.open(target, os.O_CREAT | os.O_EXCL | os.O_WRONLY, 0o600))
-            os.replace(beside, target)
-            return
-    except FileExistsError:
-        raise Refused("another program created it meanwhile") from None
-    os.unlink(beside)
+    """Whether a file has the name of a temporary file that was never renamed."""
+    return re.fullmatch(f"{re.escape(PREFIX)}{RANDOM}{re.escape(SUFFIX)}", name) is not None
 
 
 def _write_beside(target: str, content: bytes, is_private: bool = False) -> str:
@@ -141,13 +118,3 @@ def _sync(folder: str) -> None:
             raise
     finally:
         os.close(descriptor)
-
-
-def _mount_points() -> set[str]:
-    try:
-        with open("/proc/self/mountinfo", "rb") as file:
-            fields = [line.split(b" ")[4] for line in file]
-    except OSError:
-        return set()
-    unescaped = (re.sub(rb"\\([0-7]{3})", lambda found: bytes([int(found[1], 8)]), field) for field in fields)
-    return {os.fsdecode(each) for each in unescaped}

@@ -7,10 +7,10 @@ import errno
 import os
 import stat
 from fnmatch import fnmatchcase
-from typing import Callable, Collection, Iterator
+from typing import Collection, Iterator
 
 from ansible_vault_companions import processes
-from ansible_vault_companions.program import Refused
+
 
 def add_options(parser: argparse.ArgumentParser) -> None:
     """Adds the paths to search, and the options that leave out files."""
@@ -20,47 +20,34 @@ def add_options(parser: argparse.ArgumentParser) -> None:
     parser.add_argument("paths", metavar="PATH", nargs="+", help="a file or directory to search")
 
 
-def files_below(
-    paths: list[str], refuse: Callable[[str, Exception], None], excluded: Collection[str] = ()
-) -> list[list[str]]:
-    """All paths that lead to each file. Refuses what cannot be searched. A signal ends it."""
+def files_below(paths: list[str], excluded: Collection[str] = ()) -> list[list[str]]:
+    """All paths that lead to each file. A path that is no file, and a directory that cannot be read, are among them, so
+    that reading them says why. A signal ends the search."""
     files: dict[str, list[str]] = {}
     for path in paths:
-        for file, is_named in _candidates(path, refuse, excluded):
-            processes.check()
-            try:
-                is_file = stat.S_ISREG(os.stat(file).st_mode)
-            except OSError as fault:
-                if is_named or not _leads_nowhere(file, fault):
-                    refuse(file, fault)
-                continue
-            if is_named and not is_file:
-                refuse(file, Refused("it is neither a file nor a directory"))
-            if is_file:
-                files.setdefault(os.path.realpath(file), []).append(file)
+        named = [] if _is_excluded(os.path.normpath(path), excluded) else [path]
+        for file in _files_in(path, excluded) if os.path.isdir(path) else named:
+            files.setdefault(os.path.realpath(file), []).append(file)
     return [*files.values()]
 
 
-def _leads_nowhere(file: str, fault: OSError) -> bool:
-    """Whether the path is a link to nothing, or to itself."""
-    return os.path.islink(file) and fault.errno in (errno.ENOENT, errno.ELOOP)
-
-
-def _candidates(
-    path: str, refuse: Callable[[str, Exception], None], excluded: Collection[str]
-) -> Iterator[tuple[str, bool]]:
-    """Yields the path itself if it is not a directory, otherwise all files below it; and whether the user named it."""
-    if not os.path.isdir(path):
-        if not _is_excluded(os.path.normpath(path), excluded):
-            yield path, True
-        return
-    for folder, folders, names in os.walk(path, onerror=lambda fault: refuse(fault.filename, fault)):
+def _files_in(top: str, excluded: Collection[str]) -> Iterator[str]:
+    unread: list[str] = []
+    for folder, folders, names in os.walk(top, onerror=lambda fault: unread.append(fault.filename)):
         processes.check()
-        below = os.path.relpath(folder, path)
-        paths = {name: os.path.normpath(os.path.join(below, name)) for name in [*folders, *names]}
-        left = {name for name, each in paths.items() if not _is_excluded(each, excluded)}
+        below = os.path.relpath(folder, top)
+        left = {name for name in [*folders, *names] if not _is_excluded(os.path.normpath(f"{below}/{name}"), excluded)}
         folders[:] = sorted(name for name in folders if name in left and name != ".git")
-        yield from ((os.path.join(folder, name), False) for name in sorted(left.intersection(names)))
+        yield from filter(_is_file, (os.path.join(folder, name) for name in sorted(left.intersection(names))))
+    yield from unread
+
+
+def _is_file(path: str) -> bool:
+    """Whether to read this, which a directory contains: a file, or what cannot be looked at, but no link to nothing."""
+    try:
+        return stat.S_ISREG(os.stat(path).st_mode)
+    except OSError as fault:
+        return fault.errno not in (errno.ENOENT, errno.ELOOP)
 
 
 def _is_excluded(path: str, patterns: Collection[str]) -> bool:

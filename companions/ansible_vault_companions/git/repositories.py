@@ -5,7 +5,6 @@ from __future__ import annotations
 import argparse
 import os
 from functools import lru_cache
-from typing import Callable
 
 from ansible_vault_companions.files import searching
 from ansible_vault_companions.git.commands import git
@@ -37,14 +36,15 @@ def by_repository(paths: list[str], follows: bool = True) -> dict[str, dict[byte
     return repositories
 
 
-def files_named(args: argparse.Namespace, refuse: Callable[[str, Exception], None]) -> list[list[str]]:
+def files_named(args: argparse.Namespace) -> list[list[str]]:
     """The paths that lead to each file of a command line; with --tracked, only to those that git tracks."""
-    files = searching.files_below(args.paths, refuse, args.exclude)
+    files = searching.files_below(args.paths, args.exclude)
     return _tracked(files) if args.tracked else files
 
 
 def _tracked(files: list[list[str]]) -> list[list[str]]:
-    """The files that git tracks, each in its own repository. A link counts as the file that it points to."""
+    """The files that git tracks, each in its own repository, and what is no file. A link counts as the file that it
+    points to."""
     tracked: set[str] = set()
     repositories = by_repository([paths[0] for paths in files])
     if files and not repositories:
@@ -52,7 +52,7 @@ def _tracked(files: list[list[str]]) -> list[list[str]]:
     for repository, names in repositories.items():
         known = git("ls-files", "-z", folder=repository).split(b"\0")
         tracked.update(names[name] for name in known if name in names)
-    return [paths for paths in files if paths[0] in tracked]
+    return [paths for paths in files if paths[0] in tracked or not os.path.isfile(paths[0])]
 
 
 @lru_cache(maxsize=None)

@@ -1,4 +1,4 @@
-"""Reports on files with envelopes: each is printed, and all are added up."""
+"""What check and rotate share: they open each envelope of some files, report on each file, and add all up."""
 
 from __future__ import annotations
 
@@ -7,8 +7,23 @@ from dataclasses import dataclass, field
 from typing import Callable, Collection
 
 from ansible_vault_companions import program
+from ansible_vault_companions.envelopes.envelope import Value
 from ansible_vault_companions.files.reading import Unsearched
+from ansible_vault_companions.parallel import Workers
+from ansible_vault_companions.passwords.sources import Password
 from ansible_vault_companions.program import Refused, shown, write_error, write_line
+from ansible_vault_companions.tool.tool import NotDecrypted, Tool
+
+
+def opened(tool: Tool, value: Value, passwords: list[Password], is_prose: bool) -> tuple[Password, bytes] | None:
+    """The password that decrypts an envelope, and the plaintext. None if it is an example: in prose, one that is
+    damaged or that no password decrypts."""
+    try:
+        return tool.decrypt(value.readable(), passwords)
+    except Refused as fault:
+        if is_prose and (isinstance(fault, NotDecrypted) or not value.is_whole):
+            return None
+        raise
 
 
 @dataclass
@@ -39,19 +54,6 @@ class Report:
         return f"{sum(self.others.values())} with other labels" + (f" ({labels})" if labels else "")
 
 
-def of_file(paths: list[str], work: Callable[[list[str], Report], None]) -> Report:
-    """The report that `work` makes on the file to which these paths lead. A failure is in it, so that the other files
-    are still processed."""
-    report, path = Report(), paths[0]
-    try:
-        work(paths, report)
-    except Unsearched as fault:
-        report.notes.append(program.refusal(path, fault))
-    except (Refused, OSError) as fault:
-        report.faults.append(program.refusal(path, fault))
-    return report
-
-
 class Reports:
     """Prints a companion's reports, and adds them up."""
 
@@ -59,15 +61,17 @@ class Reports:
         self.companion = companion
         self.total = Report()
 
-    def take(self, report: Report) -> None:
+    def take_all(self, files: list[list[str]], work: Callable[[list[str], Report], None], workers: Workers) -> None:
+        """Works on each file, to which one or more paths lead, and reports on it."""
+        for report in workers.map(lambda paths: _of_file(paths, work), files):
+            self._take(report)
+
+    def _take(self, report: Report) -> None:
         self.total.add(report)
         for line in report.lines:
             write_line(line)
         for text in [*report.notes, *report.faults]:
             self.tell(text)
-
-    def refuse(self, path: str, fault: Exception) -> None:
-        self.take(Report(faults=[program.refusal(path, fault)]))
 
     def tell(self, text: str) -> None:
         write_error(f"{self.companion}: {text}")
@@ -76,5 +80,17 @@ class Reports:
         """Whether no envelope has one of these labels. Names each of these."""
         missing = sorted(set(labels) - self.total.labels)
         for label in missing:
-            self.tell(f"no vault or block has the label {shown(label)}")
+            self.tell(f"no vault or value has the label {shown(label)}")
         return bool(missing)
+
+
+def _of_file(paths: list[str], work: Callable[[list[str], Report], None]) -> Report:
+    """The report that `work` makes. A failure is in it, so that the other files are still processed."""
+    report, path = Report(), paths[0]
+    try:
+        work(paths, report)
+    except Unsearched as fault:
+        report.notes.append(program.refusal(path, fault))
+    except (Refused, OSError) as fault:
+        report.faults.append(program.refusal(path, fault))
+    return report

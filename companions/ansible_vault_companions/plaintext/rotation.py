@@ -1,33 +1,33 @@
-"""Re-encrypts the envelopes of files with new secrets, according to their labels, including those in plaintexts."""
+"""Re-encrypts the envelopes of files with new passwords, according to their labels, including those in plaintexts."""
 
 from __future__ import annotations
 
 import os
-from concurrent.futures import ThreadPoolExecutor
 from dataclasses import dataclass
-from typing import Any, Callable, Iterable
+from typing import Callable
 
 from ansible_vault_companions.envelopes import document
 from ansible_vault_companions.envelopes.document import Document
 from ansible_vault_companions.envelopes.envelope import Value
 from ansible_vault_companions.files import replacing
+from ansible_vault_companions.parallel import Workers
 from ansible_vault_companions.passwords.sources import Password
-from ansible_vault_companions.plaintext import opening
-from ansible_vault_companions.plaintext.reports import Report
+from ansible_vault_companions.plaintext.reports import Report, opened
 from ansible_vault_companions.program import Refused, shown
 from ansible_vault_companions.tool.tool import Tool
 
-# What is counted: envelopes that get a new secret, those of them in a plaintext, and those that have it already.
-CHANGED, WITHIN, HAD_IT = "changed", "within", "had it"
+# What is counted: envelopes that get a new password, and those that have it already.
+CHANGED, HAD_IT = "changed", "had it"
 # A placeholder for the new envelope in a dry run.
 DRY = b"$ANSIBLE_VAULT;1.1;AES256\n%s\n" % (b"61" * 16)
 MALFORMED = "its first line is malformed"
 OUTSIDE = "it points to {}, outside the paths you named; name that file to rotate it"
+WITHIN_VAULT = "its plaintext is itself a vault, which ansible-vault does not encrypt; decrypt it first"
 
 
 @dataclass
 class Rotation:
-    """Rotates files with these secrets."""
+    """Rotates files with these passwords."""
 
     tool: Tool
     old: list[Password]
@@ -35,27 +35,29 @@ class Rotation:
     # The real paths of the files and directories that the user named.
     places: list[str]
     is_dry: bool
-    # Works on the envelopes of all files.
-    pool: ThreadPoolExecutor
+    workers: Workers
 
-    def rotate_file(self, paths: list[str], report: Report) -> None:
+    def file(self, paths: list[str], report: Report) -> None:
         """Rotates the file to which these paths lead."""
         path = paths[0]
-        found = document.read(document.content(path))
-        if not found.values and document.fault(found, path):
-            raise Refused(found.fault)
-        is_prose = document.is_prose(path) and not found.is_vault
+        file = document.read(document.content(path))
+        if not file.values and document.fault(file, path):
+            raise Refused(file.fault)
+        is_prose = document.is_prose(path) and not file.is_vault
         try:
-            after = self._rotated(found, lambda value: value.place(path), report, self.pool.map, is_prose)
-            if after != found.data:
-                self._put(path, after, found.data)
+            after = self._rotated(file, lambda value: value.place(path), report, is_prose)
+            if after != file.data:
+                self._put(os.path.realpath(path), after, file.data)
         except (Refused, OSError):
             report.counts[CHANGED] = 0
             raise
-        self._report_changes(path, found, report)
+        count = report.counts[CHANGED]
+        if count:
+            target = f" ({shown(os.path.realpath(path))})" if os.path.islink(path) else ""
+            what = f"{count} " if count > 1 else ""
+            report.lines.append(f"{shown(path)}{target}: {what}{'would be ' if self.is_dry else ''}rotated")
 
-    def _put(self, path: str, after: bytes, before: bytes) -> None:
-        target = os.path.realpath(path)
+    def _put(self, target: str, after: bytes, before: bytes) -> None:
         if not any(target == place or target.startswith(os.path.join(place, "")) for place in self.places):
             raise Refused(OUTSIDE.format(shown(target)))
         if self.is_dry:
@@ -63,23 +65,16 @@ class Rotation:
         else:
             replacing.replace(target, after, before)
 
-    def _rotated(
-        self,
-        found: Document,
-        place: Callable[[Value], str],
-        report: Report,
-        map_: Callable[..., Iterable[Any]] = map,
-        is_prose: bool = False,
-    ) -> bytes:
+    def _rotated(self, file: Document, place: Callable[[Value], str], report: Report, is_prose: bool = False) -> bytes:
         """The data with rotated envelopes. Those that fail stay unchanged."""
-        values = opening.envelopes(found)
-        results = map_(lambda value: self._result(value, place(value), is_prose), values.values())
+        envelopes = file.envelopes()
+        rotate = lambda value: self._result(value, place(value), is_prose)
         new: dict[int, bytes] = {}
-        for number, (text, own) in zip(values, results):
+        for number, (text, own) in zip(envelopes, self.workers.shared(rotate, [*envelopes.values()])):
             report.add(own)
             if text is not None:
                 new[number] = text
-        return found.with_envelopes(new) if new else found.data
+        return file.with_envelopes(new) if new else file.data
 
     def _result(self, value: Value, where: str, is_prose: bool) -> tuple[bytes | None, Report]:
         """The new text of an envelope, or None if it stays unchanged, and its report."""
@@ -89,7 +84,7 @@ class Rotation:
         except Refused as fault:
             report.faults.append(f"{where}: {fault}")
             # Changes within it are not written either.
-            report.counts[CHANGED] = report.counts[WITHIN] = 0
+            report.counts[CHANGED] = 0
             return None, report
 
     def _change(self, value: Value, where: str, report: Report, is_prose: bool) -> bytes | None:
@@ -101,56 +96,37 @@ class Rotation:
             report.others[label] += 1
             return self._change_within(value, label, where, report)
         new = self.new[label]
-        # Secrets with its label are tried first, so most envelopes are decrypted by the first one.
         report.labels.add(label)
-        opened = opening.opened(self.tool, value, [*self.old, new], is_prose)
-        if not opened:
+        # Passwords with its label are tried first, so most envelopes are decrypted by the first one.
+        result = opened(self.tool, value, [*self.old, new], is_prose)
+        if not result:
             report.labels.clear()
             return None
-        secret, plaintext = opened
-        fault = secret.label_fault(label)
+        password, plaintext = result
+        fault = password.label_fault(label)
         if fault:
             raise Refused(fault)
         after = self._within(plaintext, where, report)
-        had_it = secret.is_same(new)
+        had_it = password.is_same(new)
         report.counts[HAD_IT if had_it else CHANGED] += 1
         return None if had_it and after == plaintext else self._encrypted(value.text, after, new, label)
 
     def _change_within(self, value: Value, label: str, where: str, report: Report) -> bytes | None:
-        """The same for an envelope that keeps its secret. If an old secret has its label, rotates what is within it."""
-        secrets = [secret for secret in self.old if secret.label == label]
-        opened = opening.opened(self.tool, value, secrets, is_prose=True) if secrets and value.is_whole else None
-        if not opened:
+        """The same for an envelope that keeps its password, if an old one has its label."""
+        passwords = [password for password in self.old if password.label == label]
+        result = opened(self.tool, value, passwords, is_prose=True) if passwords and value.is_whole else None
+        if not result:
             return None
-        secret, plaintext = opened
+        password, plaintext = result
         after = self._within(plaintext, where, report)
-        return None if after == plaintext else self._encrypted(value.text, after, secret, label)
+        return None if after == plaintext else self._encrypted(value.text, after, password, label)
 
     def _within(self, plaintext: bytes, where: str, report: Report) -> bytes:
         """The plaintext of an envelope, with the envelopes in it rotated."""
-        found = document.read(plaintext)
-        if found.is_vault:
-            raise Refused(opening.WITHIN_VAULT)
-        before = report.counts[CHANGED]
-        after = self._rotated(found, lambda inner: f"{where}: in its plaintext, line {inner.line}", report)
-        report.counts[WITHIN] += report.counts[CHANGED] - before
-        return after
+        text = document.read(plaintext)
+        if text.is_vault:
+            raise Refused(WITHIN_VAULT)
+        return self._rotated(text, lambda value: f"{where}: in its plaintext, line {value.line}", report)
 
-    def _encrypted(self, envelope: bytes, plaintext: bytes, secret: Password, label: str) -> bytes:
-        return DRY if self.is_dry else self.tool.encrypt_again(envelope, plaintext, secret, label)
-
-    def _report_changes(self, path: str, found: Document, report: Report) -> None:
-        within = report.counts[WITHIN]
-        changed = report.counts[CHANGED] - within
-        if not (changed or within):
-            return
-        parts = [_blocks(changed)] if changed and not found.is_vault else []
-        if within:
-            parts.append(f"{_blocks(within)} within a plaintext")
-        what = f"{' and '.join(parts)} " if parts else ""
-        target = f" ({shown(os.path.realpath(path))})" if os.path.islink(path) else ""
-        report.lines.append(f"{shown(path)}{target}: {what}{'would be ' if self.is_dry else ''}rotated")
-
-
-def _blocks(count: int) -> str:
-    return f"{count} block{'s' if count > 1 else ''}"
+    def _encrypted(self, envelope: bytes, plaintext: bytes, password: Password, label: str) -> bytes:
+        return DRY if self.is_dry else self.tool.encrypt_again(envelope, plaintext, password, label)

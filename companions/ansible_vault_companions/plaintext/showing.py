@@ -11,7 +11,6 @@ from ansible_vault_companions.envelopes.changes import Change, changed, in_plain
 from ansible_vault_companions.envelopes.document import Document
 from ansible_vault_companions.envelopes.envelope import MAGIC, NO_SCALAR, Value
 from ansible_vault_companions.merging import texts
-from ansible_vault_companions.plaintext import opening
 from ansible_vault_companions.program import Refused, write_error
 from ansible_vault_companions.tool.tool import Decrypt
 
@@ -23,38 +22,38 @@ NO_TEXT = "{} is a list, a mapping or an alias; name a value in it"
 NOT_ENCRYPTED = "{} is not encrypted"
 
 
-def converted(found: Document, path: str, decrypt: Decrypt) -> bytes:
+def converted(file: Document, path: str, decrypt: Decrypt) -> bytes:
     """The file's data with plaintext in place of its envelopes, as far as they can be decrypted and shown; for a
     conflict of two vaults, the merged text."""
     with suppress(Refused):
-        sides = texts.unmerged(path, found.data)
+        sides = texts.unmerged(path, file.data)
         if sides and sides.ours.startswith(MAGIC) and sides.theirs.startswith(MAGIC):
             return texts.Vaults(decrypt, sides).merge.text
 
     def shown(value: Value) -> list[Change] | Refused:
         try:
-            return in_plaintext(found.data, value, decrypt(value.readable())[1])
+            return in_plaintext(file.data, value, decrypt(value.readable())[1])
         except Refused as fault:
             return fault
 
-    values = [*opening.envelopes(found).values()]
+    values = [*file.envelopes().values()]
     changes: list[Change] = []
     for result, value in zip(parallel.results(shown, values), values):
         if isinstance(result, Refused):
             write_error(f"{NAME}: {value.place(path)}: shown as it is: {result}")
         else:
             changes += result
-    return changed(found.data, changes)
+    return changed(file.data, changes)
 
 
 def value_of(data: bytes, path: str, decrypt: Decrypt) -> bytes:
     """The plaintext of a value in YAML, or in the plaintext of a vault."""
     is_vault = document.Document(data).is_vault
     text = decrypt(data)[1] if is_vault else data
-    found = document.read(text, every=True)
-    if found.fault:
-        raise Refused(found.fault)
-    value = keypath.value_at(found, path)
+    nodes = document.read(text, every=True)
+    if nodes.fault:
+        raise Refused(nodes.fault)
+    value = keypath.value_at(nodes, path)
     if value.is_envelope:
         return decrypt(value.readable())[1]
     if not is_vault:
