@@ -39,13 +39,12 @@ class Stopped(Exception):
 class State:
     """The first signal received, and how the next one is handled."""
 
-    def __init__(self) -> None:
-        self.noted: int | None = None
-        # Whether keyboard signals are left to the running program.
-        self.leaves_keys = False
-        self.is_interruptible = False
-        self.is_postponed = False
-        self.programs: set[Popen[bytes]] = set()
+    noted: int | None = None
+    # Whether keyboard signals are left to the running program.
+    leaves_keys = False
+    is_interruptible = False
+    is_postponed = False
+    programs: set[Popen[bytes]] = set()
 
 
 state = State()

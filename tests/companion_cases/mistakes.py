@@ -29,33 +29,29 @@ def test_saved_in_another(place: Place, codec: str) -> None:
 
 
 # Values after a tag that the file did not have; those with a known tag or none, about which there is no question.
-MISSPELT = ["!Vault x", "! vault x", "!!vault x", "!vaultx", "!valut x", "!vault: x", "!<vault> x", "!vualt [x]"]
-MISSPELT.append("!Sub x")
+MISSPELT = ["!Vault x", "! vault x", "!!vault x", "!vaultx", "!vault: x", "!<vault> x", "!vualt [x]", "!Sub x"]
 OTHERS = ["!other y", "'wow! Vault'", "x != vault", "vault x"]
-OTHERS += ["!vault x", "!vault-encrypted x", "!<!vault> x", "&a !vault x"]
+TAGGED = ["!vault x", "!vault-encrypted x", "!<!vault> x", "&a !vault x"]
 
 
-@pytest.mark.parametrize("value", MISSPELT)
-def test_new_tags(place: Place, value: str) -> None:
-    """A text after a tag that the file did not have is refused. The message repeats no word of the text."""
+@pytest.mark.parametrize("value", [*MISSPELT, None])
+def test_new_tags(place: Place, value: str | None) -> None:
+    """A text after a tag that the file did not have is refused, and the message repeats no word of it. Other texts
+    stay, and what is tagged is encrypted."""
     needs_pyyaml()
     place.put("vars.yml", before := b"o: !other x\n" + block("old"))
-    place.put("../value", value.replace("x", "battery").encode())
-    done = edit(place, '{ printf "new: "; cat ../value; } >> "$1"', *place.by_file("old"), "vars.yml")
-    ended("it", done, 1, "vars.yml: line 4: it has a tag that the file did not have")
-    assert ("battery" in done.stderr, place.get("vars.yml")) == (False, before)
-
-
-def test_others(place: Place) -> None:
-    """Nobody is asked about known tags and other texts. What is tagged is encrypted."""
-    needs_pyyaml()
-    place.put("vars.yml", before := b"o: !other x\n" + block("old"))
-    place.put("../lines", "".join(f"n{number}: {value}\n" for number, value in enumerate(OTHERS)).encode())
-    silent("it", edit(place, 'cat ../lines >> "$1"', *place.by_file("old"), "vars.yml"))
+    lines = [f"n{number}: {text}\n" for number, text in enumerate([value] if value else OTHERS + TAGGED)]
+    place.put("../lines", "".join(lines).replace("x", "battery").encode())
+    done = edit(place, 'cat ../lines >> "$1"', *place.by_file("old"), "vars.yml")
     after = place.get("vars.yml")
-    assert (after.startswith(before), texts(after, "old")) == (True, [TEXT] + [b"x"] * 4)
-    begin = b"n0: !other y\nn1: 'wow! Vault'\nn2: x != vault\nn3: vault x\nn4: !vault |\n"
-    assert after[len(before) :].startswith(begin)
+    if value:
+        ended("it", done, 1, "vars.yml: line 4: it has a tag that the file did not have")
+        assert ("battery" in done.stderr, after) == (False, before)
+    else:
+        silent("it", done)
+        kept = "".join(lines[: len(OTHERS)]).replace("x", "battery").encode()
+        assert after.startswith(before + kept + b"n4: !vault |\n")
+        assert texts(after, "old") == [TEXT] + [b"battery"] * len(TAGGED)
 
 
 QUESTION, AGAIN = "Is that intended? (yes, no): ", "Open the editor again? (yes, no): "

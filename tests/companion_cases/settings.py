@@ -100,37 +100,12 @@ def test_what_is_not_trusted(place: Place, subtests: SubTests, what: str) -> Non
         assert ran.exists(), "without options it is run"
 
 
-def test_paths_that_count(place: Place) -> None:
-    """Beside options, the user's own paths count, also with the letters PWD, and so do those beside a named file."""
-    place.put("a.yml", sealed("old"))
-    place.put("../PWD/old", b"the password old\n")
-    place.put("../PWD/ansible.cfg", FILE.format("old").encode())
-    words = [CHECK, *place.by_file("dev"), "a.yml"]
-    for variables in (
-        {"ANSIBLE_VAULT_PASSWORD_FILE": "~/PWD/old"},
-        {"ANSIBLE_VAULT_IDENTITY_LIST": f"{place.path}/PWD/old"},
-        {"ANSIBLE_CONFIG": "~/PWD"},
-    ):
-        done = place.run(*words, **variables)
-        assert (done.returncode, done.stderr) == (0, ""), variables
-
-
 def test_matching_labels(place: Place) -> None:
-    """With vault_id_match, whatever its value, a secret decrypts only envelopes with its label. Beside options, it does
-    not count in ./ansible.cfg either."""
+    """With vault_id_match, a password rekeys only a vault with its label. `random_secrets` has the other commands."""
     place.put("a.yml", sealed("dev", label="prod"))
-    place.put("b.yml", sealed("dev", label="dev"))
-    dev, wanted = place.by_id("dev", "dev"), ["a.yml: prod: no secret decrypts", "1 decrypted, 1 not"]
-    words = [CHECK, *dev, "."]
-    ended("by a variable", place.run(*words, ANSIBLE_VAULT_ID_MATCH="False"), 1, *wanted)
-    place.put("ansible.cfg", b"[defaults]\nvault_id_match = True\n")
-    ended("beside an option", place.run(*words), 0, "2 decrypted")
-    variables = {"ANSIBLE_VAULT_IDENTITY_LIST": dev[1]}
-    ended("by the file", place.run(CHECK, ".", **variables), 1, *wanted)
-    place.put("../.ansible.cfg", place.get("ansible.cfg"))
-    ended("by the user's own file", place.run(*words), 1, *wanted)
-    done = place.run(WITH, "rekey", *dev, *place.by_file("new", "new-"), "a.yml")
-    ended("rekey", done, 1, "a.yml: no secret decrypts this vault")
+    words = [WITH, "rekey", *place.by_id("dev", "dev"), *place.by_file("new", "new-"), "a.yml"]
+    ended("it is not tried", place.run(*words, ANSIBLE_VAULT_ID_MATCH="False"), 1, "no secret decrypts this vault")
+    ended("without the setting", place.run(*words), 0)
 
 
 def test_many_secrets(place: Place) -> None:

@@ -56,7 +56,7 @@ def _status(work: Callable[[str], None], path: str) -> int:
 
 def _values(tool: Tool, call: Call) -> int:
     """Writes a value for each string, in Ansible's order: the typed one, standard input, arguments."""
-    texts = [*_typed(call.args), *_read(call.args), *_given(call.args)]
+    texts = _texts(call.args)
     values = []
     for number, text in enumerate(texts, 1):
         named = [f"{STDIN_NAME}={text.name}"] if text.name else []
@@ -72,23 +72,16 @@ def _values(tool: Tool, call: Call) -> int:
     return 0
 
 
-def _typed(args: Namespace) -> list[Text]:
-    if not args.prompt:
-        return []
-    if args.arguments or not args.name:
-        name = prompts.line("Variable name (enter for no name): ").decode(errors="surrogateescape")
-    else:
-        name = args.name[0]
-    return [Text(prompts.string(is_hidden=not args.show_input), name, "the prompt")]
-
-
-def _read(args: Namespace) -> list[Text]:
-    if STANDARD_INPUT not in args.arguments and args.stdin_name is None:
-        return []
-    return [Text(reading.input_of(0), args.stdin_name, "standard input")]
-
-
-def _given(args: Namespace) -> list[Text]:
-    strings = [text for text in args.arguments if text != STANDARD_INPUT]
-    pairs = zip(strings, [*args.name, *[None] * len(strings)])
-    return [Text(os.fsencode(string), name, "the command line") for string, name in pairs]
+def _texts(args: Namespace) -> list[Text]:
+    texts = []
+    if args.prompt:
+        if args.arguments or not args.name:
+            name = prompts.line("Variable name (enter for no name): ").decode(errors="surrogateescape")
+        else:
+            name = args.name[0]
+        texts.append(Text(prompts.string(is_hidden=not args.show_input), name, "the prompt"))
+    if STANDARD_INPUT in args.arguments or args.stdin_name is not None:
+        texts.append(Text(reading.input_of(0), args.stdin_name, "standard input"))
+    strings = [os.fsencode(text) for text in args.arguments if text != STANDARD_INPUT]
+    names = [*args.name, *[None] * len(strings)]
+    return [*texts, *(Text(string, name, "the command line") for string, name in zip(strings, names))]
