@@ -8,8 +8,7 @@ from typing import NamedTuple
 import pytest
 
 from companion_cases import PASSWORDS, TEXT, WITH, Companions, Described, Place, described, sealed
-from companion_cases.both import FOR_ANSIBLE
-from companion_cases.terminal import Session, ask
+from companion_cases.terminal import FOR_ANSIBLE, Session, ask
 from lib.ansible import ansible_release
 from lib.needs import needs, needs_ansible
 

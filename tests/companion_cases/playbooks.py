@@ -8,7 +8,7 @@ import re
 from pathlib import Path
 
 from companion_cases import CHECK, ROTATE, Place, block, edit, ended, sealed, silent, summary
-from companion_cases.both import theirs, written_by_theirs
+from companion_cases.terminal import theirs, written_by_theirs
 from companion_cases.merging import TAKE_THEIRS, branches
 from companion_cases.repository import add_and_commit
 from lib.needs import needs, needs_ansible

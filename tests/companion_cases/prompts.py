@@ -4,8 +4,7 @@ import pytest
 
 from companion_cases import CHECK, EDIT, FOUND, PASSWORDS, ROTATE, TEXT, TEXTCONV, WITH, Done, Place, block, decrypted
 from companion_cases import described, sealed, texts
-from companion_cases.both import theirs_at_terminal
-from companion_cases.terminal import READY, SHELL, Session, ask
+from companion_cases.terminal import READY, SHELL, Session, ask, theirs_at_terminal
 from lib.needs import needs, needs_ansible
 from model.vaults import seal
 

@@ -4,9 +4,8 @@ import pytest
 
 from companion_cases import CHECK, EDIT, PASSWORDS, TEXT, TEXTCONV, WITH, Place, decrypted, run_changed
 from companion_cases import sealed
-from companion_cases.both import ours
+from companion_cases.terminal import READING, ask, ours
 from companion_cases.signals import has_ended
-from companion_cases.terminal import READING, ask
 
 # Options that name scripts, and the arguments that each script gets.
 STARTS = {

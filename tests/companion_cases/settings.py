@@ -3,7 +3,7 @@
 import pytest
 
 from companion_cases import CHECK, EDIT, ROTATE, TEXT, TEXTCONV, WITH, Place, described, ended, sealed
-from companion_cases.both import ours, theirs
+from companion_cases.terminal import ours, theirs
 from lib.needs import needs_ansible
 from lib.subtests import SubTests
 

@@ -1,4 +1,4 @@
-"""Run a program at a terminal of its own, and answer its questions there."""
+"""Run a program at a terminal of its own, and answer its questions there; and the same by Ansible's tool."""
 
 import fcntl
 import os
@@ -9,7 +9,7 @@ import termios
 from contextlib import suppress
 from typing import Any, NamedTuple
 
-from companion_cases import Place
+from companion_cases import WITH, Done, Place
 from lib.limits import SECONDS
 from shells import all_shown
 
@@ -20,6 +20,8 @@ READY = "ready> "
 SHELL = ["sh", "-c", f"PS1='{READY}' exec bash --norc --noediting -i < /dev/tty > /dev/tty 2>&1"]
 # The session leader, which is not ended by the keys that end the program.
 LEADER = 'trap : INT QUIT; "$@"; exit $?'
+# Hides our programs from Ansible's tool, and gives it UTF-8.
+FOR_ANSIBLE = {"PATH": os.environ["PATH"], "LC_ALL": "C.UTF-8"}
 
 
 class Session(NamedTuple):
@@ -68,3 +70,22 @@ def _shown_until(controller: int, question: bytes) -> bytes:
             shown += os.read(controller, 4096)
     assert shown.endswith(question), f"{question!r} is not asked: {shown!r}"
     return shown
+
+
+def ours(place: Place, *words: str, **variables: str) -> Done:
+    return place.run("setsid", "--wait", WITH, *words, **variables)
+
+
+def theirs(place: Place, ansible: str, *words: str, **variables: str) -> Done:
+    return place.run("setsid", "--wait", ansible, *words, **FOR_ANSIBLE, **variables)
+
+
+def written_by_theirs(place: Place, ansible: str, *words: str) -> str:
+    """Return the output of a run, which must succeed."""
+    done = theirs(place, ansible, *words)
+    assert done.returncode == 0, f"{ansible} {words[0]}: {done.stderr}"
+    return done.stdout
+
+
+def theirs_at_terminal(place: Place, ansible: str, words: list[str], answers: list[tuple[str, bytes]]) -> Session:
+    return ask(place, ansible, *words, answers=answers, **FOR_ANSIBLE)

@@ -9,7 +9,7 @@ from argparse import Namespace
 from ansible_vault_companions import processes
 from ansible_vault_companions.alias.command_line import CREATE, EDITING, ENCRYPT_STRING, ENCRYPTING, NAME, REKEY
 from ansible_vault_companions.alias.command_line import STANDARD_INPUT, are_several, passed_on
-from ansible_vault_companions.passwords import options, sources
+from ansible_vault_companions.passwords import options, prompts, sources
 from ansible_vault_companions.passwords.sources import ASKED, Password
 from ansible_vault_companions.program import Refused, shown, write_error
 from ansible_vault_companions.tool import finding
@@ -137,6 +137,7 @@ def _typed(encrypts: bool, none: str) -> Password:
     """A password that is typed where nothing names one. Raises Refused with the text `none` if there is no terminal."""
     password = sources.of_id(ASKED)
     password.obtain(encrypts)
-    if password.fault:
+    if password.fault == prompts.NO_TERMINAL:
         raise Refused(none)
+    password.require()
     return password

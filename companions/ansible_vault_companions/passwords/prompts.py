@@ -25,10 +25,6 @@ TO_ENCRYPT = {
 }
 
 
-class NoTerminal(Refused):
-    """There is no terminal to ask for a password."""
-
-
 def password(kind: str, label: str, encrypts: bool) -> bytes:
     """The password that the user types: once to decrypt, twice to encrypt."""
     questions = (TO_ENCRYPT if encrypts else TO_DECRYPT)[kind]
@@ -104,7 +100,7 @@ def _terminal() -> Iterator[FileIO]:
     try:
         terminal = open(TERMINAL, "r+b", buffering=0)
     except OSError:
-        raise NoTerminal(NO_TERMINAL) from None
+        raise Refused(NO_TERMINAL) from None
     with terminal, processes.interruptible():
         yield terminal
 

@@ -9,7 +9,6 @@ from collections.abc import Iterable
 
 from ansible_vault_companions import processes
 from ansible_vault_companions.passwords import prompts
-from ansible_vault_companions.passwords.prompts import NoTerminal
 from ansible_vault_companions.passwords.settings import ASK, PROMPT, Settings, expanded
 from ansible_vault_companions.program import Refused, reason, shown, write_error
 
@@ -56,13 +55,8 @@ class Password:
         encrypt, the user has to type it twice."""
         try:
             content = self._read(encrypts)
-        except NoTerminal as fault:
-            self.fault = str(fault)
         except (Refused, OSError) as fault:
             self.fault = reason(fault)
-            # As with Ansible, a mistyped password ends the run.
-            if self.is_prompt:
-                self.require()
         else:
             self.content = content.strip()
             self.fault = _fault(self.label, content)
@@ -87,6 +81,10 @@ class Password:
     def is_same(self, other: Password) -> bool:
         """Whether both have the same password."""
         return self.content == other.content
+
+    def may_be_missing(self) -> bool:
+        """Whether it is a setting and, if somebody is at the terminal, none that was mistyped, as with Ansible."""
+        return self.is_setting and (not self.is_prompt or self.fault == prompts.NO_TERMINAL)
 
     def require(self) -> None:
         """Raises Refused if it cannot be used: then no other password may encrypt in its place."""
@@ -152,7 +150,7 @@ def load(
     named."""
     for password in passwords:
         password.obtain(encrypts)
-    left_out = [password for password in passwords if password.fault and (skips or password.is_setting)]
+    left_out = [password for password in passwords if password.fault and (skips or password.may_be_missing())]
     if skips or len(left_out) < len(passwords):
         for password in left_out:
             password.is_left_out = True
