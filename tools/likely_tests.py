@@ -14,10 +14,10 @@ def words_of(text: str) -> Counter[str]:
 
 
 class LikelyTests:
-    """The tests in some files, by the names that pytest gives them, with their words and those of their file."""
+    """The tests in some files, by pytest's names, with the weights of their words and of what their file says of itself."""
 
     def __init__(self, root: Path, files: str) -> None:
-        self.words: dict[str, Counter[str]] = {}
+        words: dict[str, Counter[str]] = {}
         for file in sorted(root.glob(files)):
             text = file.read_text()
             tree = ast.parse(text)
@@ -25,19 +25,23 @@ class LikelyTests:
             for part in tree.body:
                 if isinstance(part, ast.FunctionDef) and part.name.startswith("test_"):
                     own = words_of(ast.get_source_segment(text, part) or "")
-                    self.words[f"{file.relative_to(root)}::{part.name}"] = own + about
-        numbers = Counter(word for words in self.words.values() for word in words)
+                    words[f"{file.relative_to(root)}::{part.name}"] = own + about
         # Words that few tests have tell most.
-        self.weights = {word: math.log(len(self.words) / number) for word, number in numbers.items()}
+        numbers = Counter(word for counts in words.values() for word in counts)
+        self.weights = {word: math.log(len(words) / number) for word, number in numbers.items()}
+        self.tests = {test: self._weighted(counts) for test, counts in words.items()}
+
+    def _weighted(self, counts: Counter[str]) -> dict[str, float]:
+        """Return the weight of each word, in relation to how many there are."""
+        weights = {word: math.log(1 + count) * self.weights.get(word, 0) for word, count in counts.items()}
+        length = math.sqrt(sum(weight**2 for weight in weights.values()))
+        return {word: weight / length for word, weight in weights.items()}
 
     def of(self, *texts: str) -> list[str]:
-        """Return all tests, and first those with the words that most of these texts have."""
-        wanted = sum(map(words_of, texts), Counter[str]())
-        return sorted(self.words, key=lambda test: self._likeness(wanted, self.words[test]), reverse=True)
+        """Return all tests, and first those whose words are likest to those of the texts."""
+        wanted = self._weighted(sum(map(words_of, texts), Counter[str]()))
+        return sorted(self.tests, key=lambda test: likeness(wanted, self.tests[test]), reverse=True)
 
-    def _likeness(self, wanted: Counter[str], words: Counter[str]) -> float:
-        """Return the product of the weights of their words, in relation to how many words the test has."""
-        weights = {word: math.log(1 + count) * self.weights[word] for word, count in words.items()}
-        length = math.sqrt(sum(weight**2 for weight in weights.values()))
-        common = (weight * self.weights[word] * math.log(1 + wanted[word]) for word, weight in weights.items())
-        return sum(common) / length
+
+def likeness(one: dict[str, float], other: dict[str, float]) -> float:
+    return sum(weight * other[word] for word, weight in one.items() if word in other)
