@@ -9,7 +9,7 @@ from pathlib import Path
 
 import pytest
 
-from ansible_vault_companions.editing import copies, editor, folder
+from ansible_vault_companions.editing import editor, private
 from ansible_vault_companions.files import replacing
 from ansible_vault_companions.passwords import settings
 from lib.needs import needs
@@ -46,7 +46,7 @@ def test_settings() -> None:
 
 def test_choices() -> None:
     """The page of ansible-vault-edit names the editors and the directories that are tried, in the order of the code."""
-    chosen = [(editor, "editor = "), (folder, "named = "), (copies, "state = ")]
+    chosen = [(editor, "editor = "), (private, r"for place in \("), (private, "state = ")]
     code = [re.findall(rf"^ +(.*{line}.*)$", inspect.getsource(module), re.MULTILINE) for module, line in chosen]
     page = OF_COMPANIONS["ansible-vault-edit"]["ENVIRONMENT"]
     named = re.findall(r"\b(?:Ev|Pa|Ql) ([\w/]+)(?=\n| ,)", page)
@@ -55,7 +55,7 @@ def test_choices() -> None:
 
 def test_files() -> None:
     """The pages name the files that companions make."""
-    made = {f"{each}*" for each in (folder.PREFIX, replacing.PREFIX)} | {"~/.local/state/ansible-vault"}
+    made = {f"{each}*" for each in (private.PREFIX, replacing.PREFIX)} | {"~/.local/state/ansible-vault"}
     assert {*re.findall(r"^\.It Pa (.*ansible-vault.*)$", in_all("FILES"), re.MULTILINE)} == made
 
 

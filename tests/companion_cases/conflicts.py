@@ -73,13 +73,28 @@ def test_values(place: Place) -> None:
     ended("no choice", done, 1, "it still has git's conflict markers")
     assert (place.path / "seen").read_bytes().count(b"secret: !vault |\n  x: ") == 2
     assert place.get("a.yml") == before
-    ended("both", edit(place, "sed -i '/^[<=>]\\{7\\}/d' \"$1\"", *words), 1, "secret is there twice")
     ended("theirs", edit(place, TAKE_THEIRS, *words), 0)
     assert place.get("a.yml") == files[2]
     place.put("a.yml", before)
     ended("both", edit(place, f"{TAKE_THEIRS}; sed -i s/theirs/both/ \"$1\"", *words), 0)
     assert texts(place.get("a.yml"), "old") == [b"x: both\n" + LINES]
     silent("no marker is left", place.shell(f"{CHECK} {' '.join(words)} > /dev/null"))
+
+
+@pytest.mark.parametrize("command", ("true", "git add a.yml"))
+def test_digits(place: Place, command: str) -> None:
+    """If git's markers are between the digits of a value, both texts are shown, even if the index has no base."""
+    needs_pyyaml()
+    files = [b"a: 1\n" + block("old", text) + b"z: 1\n" for text in (b"base", b"ours", b"theirs")]
+    merge(place, files)
+    place.shell(command)
+    before, words = place.get("a.yml"), [*place.by_file("old"), "a.yml"]
+    assert before.count(b"$ANSIBLE_VAULT") == 1
+    ended("no choice", edit(place, 'cp "$1" ../seen', *words), 1, "it still has git's conflict markers")
+    lines = (place.path / "seen").read_bytes().splitlines()
+    assert lines.count(b"secret: !vault |-") == 2 and {b"  ours", b"  theirs"} <= {*lines}
+    ended("theirs", edit(place, TAKE_THEIRS, *words), 0)
+    assert place.get("a.yml") == files[2]
 
 
 def test_values_with_a_base(place: Place) -> None:

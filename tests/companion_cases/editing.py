@@ -62,12 +62,11 @@ BOTH = "--vault-id dev@../secrets/dev --vault-id prod@../secrets/prod"
 REFUSED = [
     (OLD, "all.yml", "hard links"),
     (OLD, "plain.yml", "not a vault"),
-    (OLD, "marked.yml", "if the file is to be a vault, let the file begin with it"),
     (OLD, "missing/new.yml", "No such file"),
     (PROD, "odd.yml", "its label a@b"),
     (OLD, "vars.yml", "line 2: secret: no secret decrypts this vault (no label; tried ../secrets/old)"),
     (OLD, "vars.yml", "; or, to add values without seeing the others, choose a secret for the new ones with"),
-    (BOTH, "new.yml", "choose the secret for a new vault with --encrypt-vault-id"),
+    (BOTH, "new.yml", "the vault is new; choose its secret with --encrypt-vault-id"),
     (f"{BOTH} --encrypt-vault-id other", "new.yml", "no secret has the label of --encrypt-vault-id"),
 ]
 
@@ -77,7 +76,6 @@ def test_refused(place: Place, options: str, name: str, why: str) -> None:
     """A refused edit does not even start the editor."""
     place.put("all.yml", sealed("old"))
     place.put("plain.yml", TEXT)
-    place.put("marked.yml", b"\xef\xbb\xbf" + sealed("old"))
     place.put("odd.yml", sealed("prod", label="a@b"))
     place.put("vars.yml", block("dev"))
     os.link(place.tree / "all.yml", place.path / "second name")
@@ -130,20 +128,9 @@ def test_editors(place: Place, visual: str) -> None:
 
 # What may be typed after the key, and the text that it means.
 TYPED = {
-    # The file has it already.
-    "!vault x": b"x",
     "!vault it's # why": b"it's",
-    "!vault 'it''s'": b"it's",
-    '!vault "a\\n\\u00e9\\x00"': "a\n\u00e9\0".encode(),
     '!vault ""': b"",
-    "!vault |-\n  a\n   b": b"a\n b",
-    "!vault |2+\n   a\n\n": b" a\n\n\n",
-    "!vault |-\n  a\x01": b"a\x01",
     "!vault &x secret": b"secret",
-    "!vault a\n  b": b"a b",
-    "!vault 'a\n\n  b'": b"a\nb",
-    "!vault >-\n  a\n  b": b"a b",
-    "!vault\n  a": b"a",
     "!vault\n# why\n  |-\n  a": b"a",
 }
 # What is refused if it is typed, because it may be misread or would not be encrypted, and why.
@@ -151,11 +138,8 @@ MISREAD = {
     "b: !vault\n": "line 1: b is missing after `!vault`",
     "b: !vault [a]\n": "line 1: b is a list, a mapping or a key, not a string",
     "b: !vault {{ a }}\n": "line 1: b is a list, a mapping or a key, not a string",
-    "? [!vault a]\n: b\n": "line 1: this value is a list, a mapping or a key, not a string",
     "!vault a: b\n": "line 1: this value is a list, a mapping or a key, not a string",
-    'b: !vault "\\q"\n': "line 1: it cannot be read as YAML: found unknown escape character",
     "b: !vault |-\n  x\ny\n": "line 4: it cannot be read as YAML: could not find expected ':'",
-    "b: !vault x\u2028y\n": "it has an unusual end of a line",
     "b: !vault $ANSIBLE_VAULT_TOKEN x\n": "line 1: b begins like a vault ($ANSIBLE_VAULT), but is none",
 }
 
@@ -189,15 +173,7 @@ def test_refused_forms(place: Place, text: str) -> None:
 
 
 # Texts of a value, and how they are shown.
-SHOWN = {
-    b"a\nb\n": b"|\n  a\n  b\n",
-    b" a": b"|2-\n   a\n",
-    b"a\n\n": b"|+\n  a\n\n",
-    b"": b'""\n',
-    b"\na": b'"\\na"\n',
-    b"a\r\nb \x7f": b'"a\\r\\nb \\U0000007f"\n',
-    "\u2028\u00e9".encode(): '"\\U00002028\u00e9"\n'.encode(),
-}
+SHOWN = {b"a\nb\n": b"|\n  a\n  b\n", b" a": b"|2-\n   a\n", b"a\r\nb \x7f": b'"a\\r\\nb \\U0000007f"\n'}
 
 
 @pytest.mark.parametrize("text", SHOWN)

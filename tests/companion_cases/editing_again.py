@@ -28,8 +28,7 @@ ENDS = {
     "no": (":", [NO], 1, NO_YAML),
     "an interrupt": (":", [b"\x03"], 130, NO_YAML),
     "no, later": (":", [YES, YES, NO], 1, NO_YAML),
-    "it empties the text and fails": ('sed -i /new/d "$1"; exit 3', [YES], 1, "status 3"),
-    "a folder in its place": ('rm "$1"; mkdir "$1"', [YES], 1, "Is a directory"),
+    "the editor fails": ("exit 3", [YES], 1, "status 3"),
 }
 
 
@@ -51,35 +50,20 @@ def test_opened_again(place: Place, later: str, typed: list[bytes], status: int,
     assert (after.startswith(block("old")), texts(after, "old")[1:]) == (True, [] if why else [b"more"])
 
 
-def command(stderr: str) -> str:
-    """Return the command in a message."""
-    [line] = [line.strip() for line in stderr.splitlines() if line.startswith("  ")]
-    return line
-
-
 def test_resumed(place: Place) -> None:
-    """The command in the message resumes the edit. A text that is still wrong is kept again."""
+    """The same command with --resume takes the text up. A text that is still wrong is kept again."""
     needs_pyyaml()
     name = "-rf it's.yml"
     place.put(name, block("old"), 0o640)
-    done = edit(place, f"echo '{TYPO}' >> \"$1\"", *place.by_file("old"), "--", name)
-    resumes = command(done.stderr)
-    ended("not mended", place.shell(resumes, EDITOR="true"), 1, NO_YAML)
+    words = [*place.by_file("old"), "--", name]
+    ended("a mistake", edit(place, f"echo '{TYPO}' >> \"$1\"", *words), 1, "run the same command with --resume")
+    ended("not mended", edit(place, "true", "--resume", *words), 1, NO_YAML)
     assert place.kept() == [TYPED, TYPED], "it is kept twice"
-    done = place.shell(resumes, EDITOR=place.script(f'cp "$1" ../seen; {MEND}', "editor"))
+    done = edit(place, f'cp "$1" ../seen; {MEND}', "--resume", *words)
     assert (done.returncode, done.stderr.count("an earlier edit is encrypted in")) == (0, 1), done.stderr
     assert (place.path / "seen").read_bytes() == TYPED
     assert texts(place.get(name), "old") == [TEXT, b"more"]
     assert (place.mode(name), place.names(), len(place.kept()), place.left()) == ("0o640", [name], 1, []), "it is gone"
-
-
-def test_new_vault(place: Place) -> None:
-    """The edit of a vault that does not exist yet is resumed after the editor failed."""
-    name, words = "-rf x.yml", [*place.by_file("old"), "--", "-rf x.yml"]
-    ended("failed", edit(place, 'echo new > "$1"; echo typed > "$1.swp"; exit 3', *words), 1)
-    assert sorted(place.kept()) == [b"new\n", b"typed\n"], "what the editor left is kept, too"
-    ended("resumed", edit(place, 'echo more >> "$1"', "--resume", *words), 0)
-    assert (decrypted("old", place.get(name)), place.kept()) == (b"new\nmore\n", [b"typed\n"])
 
 
 def test_newest(place: Place) -> None:
@@ -120,14 +104,14 @@ def test_rotated_meanwhile(place: Place, content: bytes) -> None:
 
 
 # A file at first, what somebody else makes of it, and why the text of an edit is not taken up.
-OTHER_TEXT, OTHER_LABEL = "it has changed since the edit that left ", "is under the label prod, and the file is not"
+CHANGED_SINCE = "its text or its label has changed since the edit that left "
 OF_PROD = block("prod", label="prod")
 CHANGES = {
-    "another text": (sealed("prod", label="prod"), sealed("prod", b"x", "prod"), OTHER_TEXT),
-    "another label": (sealed("prod", label="prod"), sealed("dev", label="dev"), OTHER_LABEL),
+    "another text": (sealed("prod", label="prod"), sealed("prod", b"x", "prod"), CHANGED_SINCE),
+    "another label": (sealed("prod", label="prod"), sealed("dev", label="dev"), CHANGED_SINCE),
     "a false label": (sealed("prod", label="prod"), sealed("dev", label="prod"), "its label is prod, but dev@"),
-    "a value": (OF_PROD, block("prod", label="prod", name="b"), OTHER_TEXT),
-    "two passwords": (OF_PROD, OF_PROD + block("dev", label="dev"), OTHER_LABEL),
+    "a value": (OF_PROD, block("prod", label="prod", name="b"), CHANGED_SINCE),
+    "two passwords": (OF_PROD, OF_PROD + block("dev", label="dev"), CHANGED_SINCE),
 }
 
 

@@ -2,14 +2,13 @@
 
 import re
 import shutil
-import signal
 from pathlib import Path
 
 import pytest
 
-from ansible_vault_companions.editing.folder import PrivateFolder
-from companion_cases import ABOVE_EDITOR, CHANGE, CHANGED, EDIT, HEAD, Place, block, decrypted, edit, ended
-from companion_cases import run_changed, sealed, silent
+from ansible_vault_companions.editing.private import PrivateFolder
+from companion_cases import CHANGE, CHANGED, EDIT, HEAD, Place, block, decrypted, edit, ended, run_changed, sealed
+from companion_cases import silent
 
 STAYS, CHANGED_MEANWHILE = {"all.yml": sealed("old")}, "another program changed it meanwhile"
 # Changes of the companion: an unexpected exception, a tool that cannot encrypt, and a tree on a full disk.
@@ -70,43 +69,23 @@ def test_stops(place: Place, what: str) -> None:
     assert ([str(path) for path in place.copies()], place.files()) == ([name] if how == SEALED else [], stays)
 
 
+def test_unreadable(place: Place) -> None:
+    """If the editor leaves something else in place of the text, the directory stays."""
+    place.put("all.yml", sealed("old"))
+    done = edit(place, 'mv "$1" "$1.old"; mkdir "$1"', *place.by_file("old"), "all.yml")
+    ended("the edit", done, 1, "all.yml: Is a directory; what you saved is left in plaintext in ")
+    assert [name.rpartition("/")[2] for name in place.left()[1:]] == ["all.yml", "all.yml.old"]
+
+
 def test_new_folder(tmp_path: Path, monkeypatch: pytest.MonkeyPatch) -> None:
-    """A text that was never in the directory, or is gone from it, is kept in a new one."""
+    """A text that was never in the directory, or is gone with it, is kept there."""
     monkeypatch.setenv("XDG_RUNTIME_DIR", str(tmp_path))
     with PrivateFolder() as folder:
         shutil.rmtree(folder.path)
-        message = str(folder.keep(OSError("why"), "name", b"text"))
+        message = str(folder.keep("why", "name", b"text"))
     [path] = tmp_path.iterdir()
     assert message == f"why; what you saved is left in plaintext in {path}"
-    assert (path / "name").read_bytes() == b"text"
-
-
-# Names that leave no space for a longer name: of a vault, and of a file that the editor leaves.
-NAME, SWAP = "ö" * 120 + "all.yml", "ä" * 120 + ".swp"
-# An editor that leaves files of its own.
-LEAVES = f'cd "${{1%/*}}"; printf typed > {SWAP}; : > empty; cp "$1" "$1~"; ln -s nowhere ".#link"'
-# How the editor ends, the texts that are kept, and the message before and after the name of the swap file's copy.
-ENDS: dict[str, tuple[list[bytes], str, str]] = {
-    f"{CHANGE}; exit 3": ([CHANGED, b"typed"], "status 3)", "; what you saved is encrypted in "),
-    f"kill -TERM {ABOVE_EDITOR}; sleep 9": ([b"typed"], "signal 15 ended the edit", "; nothing was changed"),
-    'cp ~/vault.yml "$1"; exit 3': ([sealed("dev"), b"typed"], "status 3)", "; you saved a vault, which "),
-    'rm -r "${1%/*}"; exit 3': ([], "status 3)", "; nothing was changed"),
-}
-
-
-@pytest.mark.parametrize("end", ENDS)
-def test_what_the_editor_left(place: Place, end: str) -> None:
-    """If the editor is ended or fails, its own files may contain unsaved text. They are encrypted, too."""
-    texts, why, after = ENDS[end]
-    place.put(NAME, sealed("old"))
-    place.put("../vault.yml", sealed("dev"))
-    done = edit(place, f"{LEAVES}; {end}", *place.by_file("old"), NAME)
-    assert done.returncode in (1, -signal.SIGTERM)
-    assert sorted(place.kept()) == sorted(texts)
-    copies = "|".join(re.escape(str(path)) for path in place.copies())
-    left = f"; what the editor left is encrypted in (?:{copies})" if texts else ""
-    assert re.search(f"{re.escape(why)}{left}{re.escape(after)}", done.stderr), done.stderr
-    assert (place.files(), place.left()) == ({NAME: sealed("old")}, []), "the vault stays, and no plaintext is left"
+    assert ((path / "name").read_bytes(), path.stat().st_mode & 0o077) == (b"text", 0)
 
 
 # A program that the editor leaves running may write while the directory is removed.
@@ -117,7 +96,8 @@ HELPER = '(while [ "$n" != 100 ] && mkdir "${1%/*}/$((n += 1))"; do :; done) > /
 def test_harmless_editors(place: Place, attempt: int) -> None:
     """An editor may remove the password file, and leave files and a busy helper."""
     place.put("all.yml", sealed("old"))
-    silent("it", edit(place, f"{CHANGE}; rm ../secrets/old; {LEAVES}; {HELPER}", *place.by_file("old"), "all.yml"))
+    leaves = 'cp "$1" "$1~"; ln -s nowhere "${1%/*}/.#link"'
+    silent("it", edit(place, f"{CHANGE}; rm ../secrets/old; {leaves}; {HELPER}", *place.by_file("old"), "all.yml"))
     assert decrypted("old", place.get("all.yml")) == CHANGED, "the text is changed"
     assert (place.names(), place.left()) == (["all.yml"], []), "nothing is left"
 
@@ -138,8 +118,7 @@ def test_several_secrets(place: Place, what: str) -> None:
     content, second, words, how = SECRETS[what]
     place.put("vars.yml", content)
     both = [*place.by_id("dev", "dev"), *place.by_id(*second)]
-    done = edit(place, f'{NO_YAML}; touch "$1.swp"', *both, *words, "vars.yml")
-    ended(what, done, 1, f"; what you saved is {how} in ")
+    ended(what, edit(place, NO_YAML, *both, *words, "vars.yml"), 1, f"; what you saved is {how} in ")
     left = [Path(path) for path in place.left() if path.endswith("/vars.yml")]
     assert (len(left), len(place.kept("dev"))) == ((1, 0) if how == PLAIN else (0, 1))
     assert all(path.read_bytes().endswith(b'\nc: !vault "more\n') for path in left)

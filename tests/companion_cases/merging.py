@@ -11,7 +11,7 @@ from pathlib import Path
 import pytest
 
 from ansible_vault_companions.editing.matching import Choice
-from ansible_vault_companions.editing.yaml_file import YamlFile
+from ansible_vault_companions.editing.values import YamlFile
 from ansible_vault_companions.envelopes import conflicts
 from ansible_vault_companions.merging.versions import Versions, merged_lines
 from companion_cases import CHECK, EDIT, HOOK, MERGE, PASSWORDS, Done, Place, block, decrypted, ended

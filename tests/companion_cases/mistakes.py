@@ -11,7 +11,7 @@ from lib.needs import needs, needs_pyyaml
 SHOWN = b"secret: !vault |\n  " + TEXT
 
 
-@pytest.mark.parametrize("codec", ["utf-16", "utf-16-le", "utf-8-sig", "latin-1", "cp037"])
+@pytest.mark.parametrize("codec", ["utf-16", "utf-16-le", "latin-1", "cp037"])
 def test_saved_in_another(place: Place, codec: str) -> None:
     """The file stays, and the copy contains every byte that was saved. A vault may contain them, since it is encrypted
     as a whole."""

@@ -7,9 +7,9 @@ from collections import Counter
 
 import pytest
 
-from ansible_vault_companions.editing.layout import nodes
+from ansible_vault_companions.editing.drafts import SingleValue
 from ansible_vault_companions.editing.matching import Choice
-from ansible_vault_companions.editing.setting import SingleValue
+from ansible_vault_companions.editing.values import nodes
 from ansible_vault_companions.envelopes.envelope import ALIAS
 from ansible_vault_companions.envelopes.keypath import typed, values_at
 from ansible_vault_companions.program import Refused
@@ -118,9 +118,7 @@ def test_moved(place: Place, both: list[str]) -> None:
 NEW = {
     "app.plain": b"\n  plain: !vault | # why\n            $ANSIBLE_VAULT;1.2;AES256;prod\n",
     "app.nothing": b"\n  nothing: !vault |\n            $ANSIBLE_VAULT;1.2;AES256;prod\n",
-    "app.new": b"\n  nothing:\n  new: !vault |\n            $ANSIBLE_VAULT;1.2;AES256;prod\n",
-    'app."n.w: x"': b'\n  "n.w: x": !vault |\n            $ANSIBLE_VAULT;1.2;AES256;prod\n',
-    "app.users[0].new": b"\n    new: !vault |\n              $ANSIBLE_VAULT;1.2;AES256;prod\n",
+    '"n.w: x"': b'\n"n.w: x": !vault |\n          $ANSIBLE_VAULT;1.2;AES256;prod\n',
     "last one": b'\n"last one": !vault |\n          $ANSIBLE_VAULT;1.2;AES256;prod\n',
 }
 
@@ -153,7 +151,7 @@ NEVER, TO_PROD = "<> ../never", "--encrypt-vault-id prod --value"
 REFUSED = [
     (NEVER, f"{TO_PROD} app.users vars.yml", 1, "app.users is a list, a mapping or an alias"),
     (NEVER, f"{TO_PROD} app.users[1] vars.yml", 1, "there is no value app.users[1]"),
-    (NEVER, f"{TO_PROD} port.new vars.yml", 1, "there is no value port.new"),
+    (NEVER, f"{TO_PROD} app.new vars.yml", 1, "there is no value app.new"),
     (NEVER, "--encrypt-vault-id x --value db_password vars.yml", 1, "no secret has the label"),
     ("< /dev/null", "--value a relabelled.yml", 1, "its label is prod, but dev@"),
     (NEVER, "--value port vars.yml", 1, "port is not encrypted; to encrypt it there, choose its secret with"),
@@ -162,9 +160,9 @@ REFUSED = [
     (NEVER, "--value db_password new.yml", 1, "new.yml: No such file"),
     (NEVER, f"{TO_PROD} a.b new.yml", 1, "there is no value a.b"),
     (NEVER, f"{TO_PROD} a twice.yml", 1, "2 values are at a; a key is there twice, so rename one"),
-    (NEVER, f"{TO_PROD} app.users[].x vars.yml --resume", 1, "no earlier edit left a copy in "),
+    (NEVER, "--value db_password vars.yml --resume", 1, "no earlier edit left a copy in "),
     (NEVER, "--value db_password vars.yml vars.yml", 2, "--value takes one FILE"),
-    ("< vault.yml", "--value db_password vars.yml", 1, "standard input is a vault"),
+    ("< vault.yml", "--value db_password vars.yml", 1, "what you gave is a vault"),
     ("< /dev/null", "--value db_password vars.yml", 1, "standard input is empty"),
     ("< ../long", "--value db_password vars.yml", 1, "more bytes than a vault can hold"),
     ("<&-", "--value db_password vars.yml", 1, "Bad file descriptor"),
@@ -192,20 +190,19 @@ def test_terminal(place: Place, both: list[str]) -> None:
 
 
 def test_not_lost(place: Place, both: list[str]) -> None:
-    """A text that cannot be put back is in an encrypted copy, and the message has the command that puts it back, but
-    only if nobody has changed the value meanwhile."""
-    place.wrap_tool('[ "$1" = encrypt ] && mkdir ../once 2> /dev/null && exit 9')
+    """A text that cannot be put back is in an encrypted copy, and --resume puts it back, but only if nobody has changed
+    the value meanwhile."""
     place.script('[ "$1" = encrypt ] && mkdir ../once 2> /dev/null && rm vars.yml; exec ../real "$@"', "tools/wrapped")
     (place.path / "real").symlink_to(place.program)
     (place.tools / "ansible-vault").unlink()
     (place.tools / "wrapped").rename(place.tools / "ansible-vault")
-    done = set_to(place, b"typed\xff", *both, "--value", "db_password", "vars.yml")
-    ended("the file goes", done, 1, "what you saved is encrypted in ", "To put it into vars.yml:")
-    command = done.stderr.splitlines()[-1].strip()
+    words = [*both, "--value", "db_password", "vars.yml"]
+    done = set_to(place, b"typed\xff", *words)
+    ended("the file goes", done, 1, "what you saved is encrypted in ", "run the same command with --resume")
     place.put("vars.yml", FILE.replace(b"db_password", b"other"))
-    ended("another value", place.shell(command), 1, "there is no value db_password")
+    ended("another value", place.run(EDIT, *words, "--resume"), 1, "there is no value db_password")
     place.put("vars.yml", FILE)
-    silent("the command puts it back", place.shell(command))
+    silent("it is put back", place.run(EDIT, *words, "--resume"))
     assert (texts(place.get("vars.yml"), "dev")[0], place.copies()) == (b"typed\xff", [])
     assert (place.names(), place.left()) == (["vars.yml"], []), "nothing is left"
 
@@ -226,7 +223,7 @@ def test_anything() -> None:
             except Refused:
                 counts["refused"] += 1
                 continue
-            counts["set" if value.before else "new"] += 1
+            counts["set" if value.value.is_envelope else "new"] += 1
             [new] = values_at(nodes(after), path)
             assert (new.is_tagged, decrypt(new.text)[1]) == (True, b"neu"), (data, path)
             others = [[node for node in every if typed(node.path) != path] for every in (before, nodes(after).values)]

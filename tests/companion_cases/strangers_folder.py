@@ -133,21 +133,3 @@ def test_companions(stranger: Place) -> None:
         assert started(place) == set(), (words, done)
     asked = (place.path / "words").read_text().split("\n")
     assert set(USED).difference(asked) == set(), "git was asked"
-
-
-@pytest.mark.parametrize("name", ("a.yml", "b.yml"))
-def test_bare_repository(place: Place, name: str) -> None:
-    """Nothing is written into a directory that git takes for a bare repository, or through a link in it."""
-    ours, theirs = (block("old", text, name="a") for text in (b"1", b"2"))
-    files = {"a.yml": sealed("old"), "b.yml": b"z: 1\n<<<<<<< ours\n%s=======\n%s>>>>>>> theirs\n" % (ours, theirs)}
-    for own, content in {**files, "HEAD": b"ref: refs/heads/main\n", "objects/.x": b"", "refs/.x": b""}.items():
-        place.put(own, content)
-    assert place.run("git", "--git-dir=.", "rev-parse").returncode == 0, "git takes it for one"
-    for link in ("ansible-vault-conflicts", "index", "config"):
-        (place.tree / link).symlink_to(place.secret("old"))
-    before = place.files()
-    place.run(EDIT, *place.by_file("old"), name, EDITOR="true")
-    place.run(MERGE, *place.by_file("old"), "a.yml", name, "b.yml", "x.yml")
-    assert {own: content for own, content in place.files().items() if own != name} == {
-        own: content for own, content in before.items() if own != name
-    }, "only the file itself may change"

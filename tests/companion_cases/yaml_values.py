@@ -10,11 +10,11 @@ from collections import Counter
 
 import pytest
 
-from ansible_vault_companions.editing import layout
 from ansible_vault_companions.editing.matching import Choice
-from ansible_vault_companions.editing.yaml_file import YamlFile
+from ansible_vault_companions.editing.values import YamlFile, nodes
 from ansible_vault_companions.envelopes.changes import Change, changed, column
 from ansible_vault_companions.envelopes.envelope import TAGS
+from ansible_vault_companions.envelopes.scalars import LINE_END
 from ansible_vault_companions.passwords.sources import Password
 from ansible_vault_companions.program import Refused
 from ansible_vault_companions.tool.tool import Tool
@@ -175,12 +175,13 @@ def shown_text(envelope: str) -> str:
 def check_changed(file: YamlFile, generator: random.Random) -> bool:
     """Change a value of the shown text. Return whether there is one that PyYAML can still read."""
     text = file.plaintext
-    shown = [value for value in layout.nodes(text).values if value.is_tagged and not value.is_envelope]
+    shown = [value for value in nodes(text).values if value.is_tagged and not value.is_envelope]
     if not shown:
         return False
     value, typed = generator.choice(shown), generator.choice(TYPED)
     lines = typed.format(" " * (column(text, value.begin) + 2)).removesuffix("\n").encode()
-    place = Change(value.begin, layout.end_of(text, value), lines.replace(b"\n", value.ending))
+    ending = LINE_END.search(text)
+    place = Change(value.begin, value.end, lines.replace(b"\n", ending[0] if ending else b"\n"))
     edited = changed(text, [place])
     read = composed(edited)
     if read is None:
@@ -190,7 +191,7 @@ def check_changed(file: YamlFile, generator: random.Random) -> bool:
     found = composed(after)
     assert found and [(path, text.split()) for path, text in found] == [(path, text.split()) for path, text in wanted]
     scalars_before = Counter(file.file.data[old.value.begin : old.value.end] for old in file.opened.values())
-    lost = scalars_before - Counter(after[value.begin : value.end] for value in layout.nodes(after).values)
+    lost = scalars_before - Counter(after[value.begin : value.end] for value in nodes(after).values)
     assert sum(lost.values()) <= 1, (edited, after)
     return True
 
@@ -201,6 +202,6 @@ def test_conflicts() -> None:
     ours, base, theirs = "b:\n  c: !vault |-\n    two\n", "b: !vault three\n", "d:\n- !vault 'fünf'\n"
     text = f"a: !vault one\n<<<<<<< ours\n{ours}||||||| base\n{base}=======\n{theirs}>>>>>>> theirs\n"
     data = text.encode()
-    values = [value for value in layout.nodes(data).values if value.is_tagged]
+    values = [value for value in nodes(data).values if value.is_tagged]
     found = [(*value.path, data[value.begin : value.end].decode()) for value in values]
     assert found == [("a", "one"), ("b", "c", "|-\n    two"), ("b", "three"), ("d", 0, "'fünf'")]

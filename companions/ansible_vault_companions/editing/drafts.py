@@ -1,38 +1,41 @@
-"""What an edit is of: a text to change, and how the file becomes what was saved. The simplest one is a vault."""
+"""What an edit is of: a vault, YAML with values, a conflict of two of these, or a single value of YAML."""
 
 from __future__ import annotations
 
+import errno
+import os
+import re
 from dataclasses import dataclass
-from typing import Protocol, Sequence
+from typing import TYPE_CHECKING, Union
 
-from ansible_vault_companions.envelopes.changes import replaced
-from ansible_vault_companions.envelopes.envelope import Value
-from ansible_vault_companions.program import Refused
-from ansible_vault_companions.tool.tool import Key, Tool
+from ansible_vault_companions import processes
+from ansible_vault_companions.editing.matching import Choice, place_of
+from ansible_vault_companions.editing.values import YamlFile, closed_block, nodes, written
+from ansible_vault_companions.envelopes import conflicts, document, keypath
+from ansible_vault_companions.envelopes.changes import Change, changed
+from ansible_vault_companions.envelopes.document import Document
+from ansible_vault_companions.envelopes.envelope import ALIAS, MAGIC, NO_SCALAR, Path, Value, label_of
+from ansible_vault_companions.files import reading
+from ansible_vault_companions.passwords.sources import NO_OPTION, Password
+from ansible_vault_companions.program import Refused, shown
+from ansible_vault_companions.tool.tool import Decrypt, Key, Tool
 
+if TYPE_CHECKING:
+    from ansible_vault_companions.merging.texts import Conflict
 
-class Draft(Protocol):
-    # The path of the file, without links, and what the edit begins with.
-    target: str
-    plaintext: bytes
-
-    @property
-    def content(self) -> bytes | None:
-        """What the file has; None if there is none yet."""
-
-    @property
-    def keys(self) -> list[Key]:
-        """The keys that may read a copy of the text. Only if it is a single one can there be a copy."""
-
-    @property
-    def faults(self) -> Sequence[tuple[Value, Refused]]:
-        """The values that are not shown, and why."""
-
-    def is_as_it_was(self, text: bytes) -> bool:
-        """Whether the file may stay if this is saved."""
-
-    def encrypted(self, tool: Tool, text: bytes) -> bytes:
-        """What the file becomes if this is saved."""
+NO_VAULT = (
+    "it is not a vault, and no value in it has the tag `!vault`; encrypt it with `ansible-vault-with encrypt`, or "
+    "write `NAME: !vault TEXT` in it for a single value and run this again"
+)
+TO_ADD = "; or, to add values without seeing the others, choose a secret for the new ones with --encrypt-vault-id"
+TO_ENCRYPT = "; to encrypt it there, choose its secret with --encrypt-vault-id"
+WHOLE = "the whole file is a vault; edit it without --value"
+NO_TEXT = "{} is a list, a mapping or an alias; name a value in it"
+NOT_ENCRYPTED = "{} is not encrypted"
+NO_PLACE = "there is no place for {} in this YAML; edit the file without --value"
+# A new key, and one that needs no further quotes.
+KEY = re.compile(r'[^."\[\]\x00-\x1f]+|"(?:[^"\\]|\\.)*"')
+SIMPLE_KEY = re.compile(r'[A-Za-z_][A-Za-z0-9_-]*|".*"')
 
 
 @dataclass
@@ -40,19 +43,161 @@ class Vault:
     """A file that is a vault, or a new one."""
 
     target: str
+    content: bytes | None
     keys: list[Key]
     plaintext: bytes = b""
-    # The envelope as it was read; None for a new vault.
-    envelope: Value | None = None
+    # None of its values stays encrypted.
     faults: tuple[()] = ()
 
-    @property
-    def content(self) -> bytes | None:
-        return self.envelope.text if self.envelope else None
-
     def is_as_it_was(self, text: bytes) -> bool:
+        """Whether the file may stay if this is saved."""
         return text == self.plaintext
 
     def encrypted(self, tool: Tool, text: bytes) -> bytes:
+        """What the file becomes if this is saved."""
         vault = tool.encrypt(text, *self.keys[0])
-        return replaced(self.envelope, vault).text if self.envelope else vault
+        return vault.replace(b"\n", b"\r\n") if b"\r\n" in (self.content or b"") else vault
+
+
+class SingleValue:
+    """A value of YAML that gets a new text, with its own password or a chosen one. Everything else stays."""
+
+    faults: tuple[()] = ()
+
+    def __init__(self, target: str, content: bytes | None, path: str, decrypt: Decrypt, choice: Choice) -> None:
+        self.target, self.content, self.path = target, content, path
+        is_chosen = choice.label is not None
+        if content is None and not is_chosen:
+            raise FileNotFoundError(errno.ENOENT, os.strerror(errno.ENOENT), target)
+        self.text = _tagged(content or b"", path, is_chosen)
+        self.value = keypath.value_at(self.text, path)
+        # The old text, if the secret that opens it is to encrypt the new one.
+        self.before: bytes | None = None
+        if is_chosen:
+            key = choice.key(shown(path), shown(path))
+        else:
+            secret, self.before = decrypt(self.value.readable())
+            key = secret, self.value.label or ""
+        # If the secret has another label than the value, the new text may be for other readers.
+        _require_label(*key)
+        self.keys = [key]
+        # A value at another path is another one, even if it is equal.
+        self.plaintext = b"%s\n%s" % (path.encode(errors="surrogateescape"), self.before or b"")
+
+    def is_as_it_was(self, text: bytes) -> bool:
+        return text == self.before
+
+    def encrypted(self, tool: Tool, text: bytes) -> bytes:
+        number, envelope = self.text.values.index(self.value), tool.encrypt(text, *self.keys[0])
+
+        def block(_: int, value: Value) -> list[Change] | None:
+            old = value if value.is_envelope else None
+            return closed_block(self.text.data, value, envelope, self.text.data, old, is_kept=False)
+
+        try:
+            return written(self.text, {number: envelope}, block)
+        except Refused:
+            raise Refused(NO_PLACE.format(shown(self.path))) from None
+
+
+# A text to change, and how the file becomes what was saved. Its `keys` may read a copy, if there is a single one.
+Draft = Union[Vault, YamlFile, SingleValue, "Conflict"]
+
+
+def load(tool: Tool, secrets: list[Password], path: str, chosen: str | None, usual: str | None) -> Draft:
+    """The draft for the file at a path. Refuses one whose text could not be encrypted again. The label that the user
+    has chosen is also for the text of a conflict, and the usual one for new vaults and values alone."""
+    target = os.path.realpath(path)
+    content, choice = content_of(target), Choice(secrets, chosen or usual)
+    if content is None:
+        return Vault(target, None, [choice.key("the new vault", "the vault")])
+    decrypt: Decrypt = lambda envelope: tool.decrypt(envelope, secrets)
+    if conflicts.sides(content):
+        return _of_conflict(tool, decrypt, target, content, choice, chosen)
+    if not content.startswith(MAGIC):
+        return _of_values(decrypt, target, content, choice)
+    secret, plaintext = decrypt(content)
+    key = secret, label_of(content) or ""
+    _require_label(*key)
+    return Vault(target, content, [key], plaintext)
+
+
+def content_of(target: str) -> bytes | None:
+    """The content of a file, or None if there is none. A signal ends the reading."""
+    with processes.interruptible():
+        return reading.read(target)
+
+
+def _of_conflict(
+    tool: Tool, decrypt: Decrypt, target: str, content: bytes, choice: Choice, chosen: str | None
+) -> Draft:
+    # Imported here, since few files have a conflict.
+    from ansible_vault_companions.merging import texts
+
+    sides = texts.unmerged(target, content)
+    assert sides
+    key = next(iter(choice.keys()), None) if chosen else None
+    are_vaults = [side.startswith(MAGIC) for side in (sides.ours, sides.theirs)]
+    if all(are_vaults):
+        return texts.Conflict(decrypt, target, content, sides, key)
+    if any(are_vaults):
+        raise Refused(texts.ONE_SIDE.format(shown(target)))
+    # Where git has merged the digits of values, only whole ones are between the markers of the merged text.
+    is_merged = sides.ours and sides.theirs
+    merged = texts.merged(tool, decrypt, sides, conflicts.SIZE, key).content if is_merged else content
+    draft = _of_values(decrypt, target, merged, choice)
+    draft.content = content
+    return draft
+
+
+def _of_values(decrypt: Decrypt, target: str, content: bytes, choice: Choice) -> YamlFile:
+    draft = YamlFile(target, content, decrypt, choice) if document.mentions(content) else None
+    if not draft or not draft.tagged:
+        raise Refused(NO_VAULT)
+    for old in draft.opened.values():
+        _require_label(*old.key, where=f"{place_of(old.value)}: ")
+    if len(draft.faults) == len(draft.tagged) and choice.label is None:
+        value, why = draft.faults[0]
+        raise Refused(f"{place_of(value)}: {why}{TO_ADD}")
+    return draft
+
+
+def _require_label(secret: Password, label: str, where: str = "") -> None:
+    """Refuses an envelope whose text may not be encrypted again with the secret that opens it, or under its label."""
+    fault = NO_OPTION.format(label) if "@" in label else secret.label_fault(label)
+    if fault:
+        raise Refused(where + fault)
+
+
+def _tagged(data: bytes, path: str, is_chosen: bool) -> Document:
+    """The nodes of a file, with the tag before a value, which may be a new one at its end."""
+    if data.startswith(MAGIC):
+        raise Refused(WHOLE)
+    if conflicts.is_unmerged(data):
+        raise Refused(f"it {conflicts.UNMERGED}")
+    file = nodes(data)
+    if is_chosen and KEY.fullmatch(path) and not keypath.values_at(file, path):
+        key = path if SIMPLE_KEY.fullmatch(path) else keypath.quoted(path)
+        end = b"" if data.endswith(b"\n") or not data else b"\n"
+        tag = Change(len(data), len(data), b'%s%s: !vault ""\n' % (end, key.encode(errors="surrogateescape")))
+    else:
+        value = keypath.value_at(file, path)
+        if value.is_tagged and value.is_envelope:
+            return file
+        if not is_chosen:
+            raise Refused(NOT_ENCRYPTED.format(shown(path)) + TO_ENCRYPT)
+        if value.style in (NO_SCALAR, ALIAS):
+            raise Refused(NO_TEXT.format(shown(path)))
+        text = b"" if value.is_tagged else b"!vault " if value.end > value.begin else b' !vault ""'
+        tag = Change(value.begin, value.begin, text)
+    after = document.read(changed(data, [tag]), every=True)
+    if after.fault or _others(after, path) != _others(file, path):
+        raise Refused(NO_PLACE.format(shown(path)))
+    return after
+
+
+def _others(file: Document, path: str) -> list[tuple[Path, str, bytes]]:
+    """All nodes except the value, and except the empty one of a file without any."""
+    here = keypath.values_at(file, path)
+    others = [value for value in file.values if (value.path or value.text) and value not in here]
+    return [(value.path, value.tag, value.text) for value in others]
