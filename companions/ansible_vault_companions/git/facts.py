@@ -163,8 +163,3 @@ def now_plain(before: Facts, after: Facts) -> list[Keys]:
     """Where there is new plaintext in place of an envelope, or at its keys, which only items of a list may share."""
     unshared = [keys for keys in before.encrypted if ITEM not in keys]
     return touched(dict.fromkeys([*lost(before, after), *unshared]), came(before, after))
-
-
-def names_of_plain(before: bytes, after: bytes) -> list[str]:
-    """What an edit of a file with values leaves in plaintext."""
-    return [written(keys) for keys in now_plain(facts(before, ANY), facts(after, ANY))]
