@@ -72,7 +72,8 @@ def lay_out(kind: str, path: Path, place: Place) -> None:
     elif kind == "a file without the right to run it":
         path.write_text("#!/bin/sh\n")
     else:
-        targets = {"a dangling link": "nowhere", "a link to itself": path, "a companion": place.tools / CHECK}
+        companion = place.tools / CHECK
+        targets = {"a dangling link": Path("nowhere"), "a link to itself": path, "a companion": companion}
         path.symlink_to(targets[kind])
 
 

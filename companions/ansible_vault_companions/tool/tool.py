@@ -43,9 +43,9 @@ class Tool:
         self.results: dict[Hashable, Future[bytes]] = {}
         self.room = MOST_REMEMBERED
 
-    def run(self, words: list[str], data: bytes, secrets: list[Password]) -> bytes:
+    def run(self, words: list[str], data: bytes, passwords: list[Password]) -> bytes:
         """The tool's output. Raises Refused with the tool's message if it fails."""
-        kept = [secret.descriptor for secret in secrets if secret.descriptor is not None]
+        kept = [password.descriptor for password in passwords if password.descriptor is not None]
         done = processes.run([self.path, *words], data, pass_fds=kept)
         if done.returncode < 0:
             raise Refused(f"signal {-done.returncode} ended {finding.NAME}; run this again")
@@ -55,31 +55,31 @@ class Tool:
             raise kind(text or f"{finding.NAME} ended with status {done.returncode}", done.returncode)
         return done.stdout
 
-    def view(self, envelope: bytes, secret: Password) -> bytes:
+    def view(self, envelope: bytes, password: Password) -> bytes:
         """The plaintext, decrypted with this password, once for the same envelope."""
-        view = lambda: self.run(["view", secret.option()], envelope, [secret])
-        return self.once((envelope, secret), len(envelope), view)
+        view = lambda: self.run(["view", password.option()], envelope, [password])
+        return self.once((envelope, password), len(envelope), view)
 
-    def decrypt(self, envelope: bytes, secrets: list[Password]) -> tuple[Password, bytes]:
+    def decrypt(self, envelope: bytes, passwords: list[Password]) -> tuple[Password, bytes]:
         """The password that decrypts the envelope, and the plaintext. Tries passwords one at a time, those with its
         label first, so it is certain which one worked. `label_fault` says whether the label allows that password."""
-        tried = sources.in_order(secrets, label_of(envelope))
-        for secret in tried:
+        tried = sources.in_order(passwords, label_of(envelope))
+        for password in tried:
             with suppress(NotDecrypted):
-                plaintext = self.view(envelope, secret)
-                secret.is_certain = True
-                return secret, plaintext
+                plaintext = self.view(envelope, password)
+                password.is_certain = True
+                return password, plaintext
         raise NotDecrypted(f"{NOT_DECRYPTED} {sources.tried(written_label(envelope), tried)}")
 
-    def encrypt(self, plaintext: bytes, secret: Password, label: str) -> bytes:
+    def encrypt(self, plaintext: bytes, password: Password, label: str) -> bytes:
         """The plaintext, encrypted with a password and labeled with this label."""
-        return self.run(["encrypt", secret.option(label=label)], plaintext, [secret])
+        return self.run(["encrypt", password.option(label=label)], plaintext, [password])
 
-    def encrypt_again(self, envelope: bytes, plaintext: bytes, secret: Password, label: str) -> bytes:
+    def encrypt_again(self, envelope: bytes, plaintext: bytes, password: Password, label: str) -> bytes:
         """Encrypts the plaintext to replace an envelope. Identical envelopes get the same replacement, so that copies
         stay copies. Different envelopes with the same plaintext get different ones."""
         size = len(envelope) + len(plaintext)
-        return self.once((envelope, plaintext, secret, label), size, lambda: self.encrypt(plaintext, secret, label))
+        return self.once((envelope, plaintext, password, label), size, lambda: self.encrypt(plaintext, password, label))
 
     def once(self, what: Hashable, size: int, make: Callable[[], bytes]) -> bytes:
         """Calls `make`, or returns the remembered result of an equal call. Waits for one that is still running."""
