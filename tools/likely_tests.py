@@ -14,7 +14,7 @@ def words_of(text: str) -> Counter[str]:
 
 
 class LikelyTests:
-    """The tests in some files, by the names that pytest gives them, with the weights of their words and their file's."""
+    """The tests in some files, by pytest's names for them, and the weights of their words and their file's."""
 
     def __init__(self, root: Path, files: str) -> None:
         words: dict[str, Counter[str]] = {}
