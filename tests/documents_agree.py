@@ -112,7 +112,7 @@ def test_examples() -> None:
 # Options of git, of the prover, of other programs, and of Ansible's tool after release 2.14; and one for any option.
 OTHER_OPTIONS = """\
     --cached --clean --filter --global --merge --no-edit --no-verify --ours --range-diff --textconv --theirs
-    --allow-holes --anew --list-axioms --mutants --only --test --hook-type --no-install-recommends --sample --strict
+    --allow-holes --anew --list-axioms --mutants --only --test --hook-type --no-install-recommends --strict
     --unshallow --wait --skip-tty-check --option
 """.split()
 
