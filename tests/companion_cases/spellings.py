@@ -10,6 +10,7 @@ from collections.abc import Callable, Iterator
 from random import Random
 from time import process_time
 from timeit import repeat
+from typing import NamedTuple
 
 import pytest
 from hypothesis import given, settings
@@ -145,9 +146,14 @@ OTHERS = ["", "word", "'it''s'", "$ANSIBLE_VAULT_FILE", "|\n{}  text\n\n{}   mor
 OTHERS += ["&x 1", "[&w {{}}, *w]", ">-\n{}  folded\n{}  lines", "!other 1", "'!vault'", "$ANSIBLE_VAULT;1.1;AES256"]
 GAPS = ["", "", "", "\n", "\n\n", "# $ANSIBLE_VAULT\n", "\n    # !vault\n"]
 FIRST = ["%TAG !e! !va\n---\n", "", "", "\ufeff", "# \f\x9f\udcff\n", "%YAML 1.1\n---\n", "--- # x\n"]
-MEANT = re.compile(rb"\$ANSIBLE_VAULT;.*\s[0-9a-f]{16}")
+MEANT = re.compile(r"\$ANSIBLE_VAULT;.*\s[0-9a-f]{16}")
 NEW = sealed("new", label="another")
-Found = list[tuple[Path, bytes]]
+
+
+class Composed(NamedTuple):
+    path: Path
+    text: str
+    is_tagged: bool
 
 
 class Generator:
@@ -219,25 +225,25 @@ class Generator:
         return self.choice(("[{}, {}, 3]", "{{a: [{}], c: !x [{}]}}")).format(*self.random.sample(items, 2))
 
 
-def composed(data: bytes) -> Found | None:
+def composed(data: bytes) -> list[Composed] | None:
     """The path and the text of each envelope, as PyYAML composes them; None if it is not YAML."""
     text = re.sub("[\f\x9f\udcff]", "?", data.decode(errors="surrogateescape")).removeprefix("\ufeff")
     try:
         nodes = [*yaml.compose_all(text, LOADERS[0])]  # type: ignore[no-untyped-call]
     except yaml.YAMLError:
         return None
-    return [found for node in nodes for found in walked(node, (), set())]
+    seen: set[int] = set()
+    return [value for node in nodes for value in walked(node, (), seen)]
 
 
-def walked(node: yaml.Node, path: Path, seen: set[int]) -> Iterator[tuple[Path, bytes]]:
+def walked(node: yaml.Node, path: Path, seen: set[int]) -> Iterator[Composed]:
     if id(node) in seen:
         return
     seen.add(id(node))
     if isinstance(node, yaml.ScalarNode):
-        text = node.value.encode()
         is_tagged = node.tag in TAGS or path[-1:] == ("__ansible_vault",)
-        if is_tagged or MEANT.match(text):
-            yield path, text.strip()
+        if is_tagged or MEANT.match(node.value):
+            yield Composed(path, node.value, is_tagged)
     elif isinstance(node, yaml.SequenceNode):
         for number, item in enumerate(node.value):
             yield from walked(item, (*path, number), seen)
@@ -261,11 +267,12 @@ def check_random_yaml(random: Random, loader: type) -> None:
         patch.setattr(yaml, "CSafeLoader", loader, raising=False)
         read = document.read(data)
         values = [value for value in read.values if value.style not in (STRAY, LOOSE)]
-        assert [(value.path, value.text.strip()) for value in values] == wanted, data
+        texts = [(value.path, value.text.decode().strip()) for value in values]
+        assert texts == [(value.path, value.text.strip()) for value in wanted], data
         new = {number: NEW for number, value in enumerate(read.values) if random.random() < 0.5}
         after = read.with_envelopes(new)
-    texts = [new.get(number, text).strip() for number, (_, text) in enumerate(wanted)]
-    assert composed(after) == [(path, text) for (path, _), text in zip(wanted, texts)], (data, after)
+    replaced = [(path, new[n].decode().strip() if n in new else text) for n, (path, text) in enumerate(texts)]
+    assert [(value.path, value.text.strip()) for value in composed(after) or []] == replaced, (data, after)
     COUNTS.update(values=len(wanted), replaced=len(new), **{value.style: 1 for value in values})
 
 
