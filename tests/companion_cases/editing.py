@@ -131,6 +131,7 @@ TYPED = {
     "!vault it's # why": b"it's",
     '!vault ""': b"",
     "!vault &x secret": b"secret",
+    "!vault |-\n\n  a": b"\na",
     "!vault\n# why\n  |-\n  a": b"a",
 }
 # What is refused if it is typed, because it may be misread or would not be encrypted, and why.
@@ -162,6 +163,7 @@ def test_typed_forms(place: Place, form: str) -> None:
     silent("the edit", type_into(place, b"b: !vault x\nc: 2\n", f"b: {form}\nc: 2\n"))
     after = place.get("vars.yml")
     assert (texts(after, "old"), after[-6:]) == ([TYPED[form]], b"\nc: 2\n"), "it is encrypted, and the rest stays"
+    assert b"\n\n" not in after, "no empty line precedes the envelope"
 
 
 @pytest.mark.parametrize("text", MISREAD)

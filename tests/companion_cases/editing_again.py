@@ -66,6 +66,14 @@ def test_resumed(place: Place) -> None:
     assert (place.mode(name), place.names(), len(place.kept()), place.left()) == ("0o640", [name], 1, []), "it is gone"
 
 
+def test_new_vault(place: Place) -> None:
+    """The edit of a vault that does not exist yet is resumed after the editor failed."""
+    words = [*place.by_file("old"), "new.yml"]
+    ended("failed", edit(place, 'echo new > "$1"; exit 3', *words), 1)
+    ended("resumed", edit(place, 'echo more >> "$1"', "--resume", *words), 0)
+    assert (decrypted("old", place.get("new.yml")), place.kept()) == (b"new\nmore\n", [])
+
+
 def test_newest(place: Place) -> None:
     place.put("all.yml", sealed("old"))
     for number in range(3):

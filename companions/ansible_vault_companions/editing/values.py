@@ -139,9 +139,9 @@ def _quotes(value: Value, content: bytes) -> Change:
 
 
 def _shown(data: bytes, value: Value, text: bytes) -> list[Change] | None:
-    """The changes that show a plaintext as a block, if its envelope is one and the lines tell where the text ends."""
-    has_ends = text.strip() and text[:1] != b"\n" and text.rstrip() == text.removesuffix(b"\n")
-    if value.style != LITERAL or not has_ends or UNSHOWN.search(text.decode()):
+    """The changes that show a plaintext as a block, if its envelope is one and the last line tells where it ends."""
+    has_end = text.strip() and text.rstrip() == text.removesuffix(b"\n")
+    if value.style != LITERAL or not has_end or UNSHOWN.search(text.decode()):
         return None
     return in_plaintext(data, value, text)
 
@@ -161,11 +161,11 @@ def closed_block(
         indentation = len(old.margin) - column(file, old.begin)
     margin = b" " * (column(data, value.begin) + indentation)
     lines = indented(new.rstrip(b"\n"), margin, value.ending)
-    if value.style == LITERAL and value.margin:
-        return [Change(value.begin, _header_end(data, value), header), Change(value.start, value.end, lines)]
-    following = LINE_END.search(data, value.end)
+    # Empty lines above a typed text go with it: Ansible reads no envelope below one.
+    end = _header_end(data, value) if value.style == LITERAL else value.end
+    following = LINE_END.search(data, end)
     place = following.start() if following else len(data)
-    return [Change(value.begin, value.end, header), Change(place, place, value.ending + lines)]
+    return [Change(value.begin, end, header), Change(place, max(place, value.end), value.ending + lines)]
 
 
 def _header_end(data: bytes, value: Value) -> int:
