@@ -51,7 +51,7 @@ complete -c ansible-vault -n '__fish_seen_subcommand_from encrypt rekey encrypt_
 complete -c ansible-vault -n '__fish_seen_subcommand_from encrypt rekey encrypt_string' -l salt -x -d 'Take this text, 1 to 64 bytes, as the salt'
 complete -c ansible-vault -n '__fish_seen_subcommand_from encrypt encrypt_string' -l encrypt-vault-id -x -d 'The label of the secret to encrypt with'
 complete -c ansible-vault -n '__fish_seen_subcommand_from encrypt decrypt rekey encrypt_string' -l output -x -a '(__ansible_vault_files)' -d 'The file to write, or - for standard output (default: -)'
-complete -c ansible-vault -n '__fish_seen_subcommand_from decrypt view rekey' -l require-id-match -d 'Try only secrets that have the vault\'s label'
+complete -c ansible-vault -n '__fish_seen_subcommand_from decrypt view rekey' -l require-id-match -d 'Try only secrets that have the vault'"'"'s label'
 complete -c ansible-vault -n '__fish_seen_subcommand_from rekey' -l new-vault-id -x -a '(__ansible_vault_ids)' -d 'The password file of the new secret, with its label (default: `default`)'
 complete -c ansible-vault -n '__fish_seen_subcommand_from rekey' -l new-vault-password-file -x -a '(__ansible_vault_files)' -d 'The password file of the new secret, with the label `default`'
 complete -c ansible-vault -n '__fish_seen_subcommand_from encrypt_string' -s n -l name -x -d 'The name of the variable, if STRING is given (default: none)'
@@ -105,7 +105,7 @@ complete -c ansible-vault-textconv -s V -l version -d 'print version'
 complete -c ansible-vault-textconv -l vault-id -x -a '(__ansible_vault_ids)' -d 'the source of a password'
 complete -c ansible-vault-textconv -l vault-password-file -l vault-pass-file -x -a '(__ansible_vault_files)' -d 'the source of a password'
 complete -c ansible-vault-textconv -s J -l ask-vault-password -l ask-vault-pass -d 'ask at the terminal for a password'
-complete -c ansible-vault-textconv -l value -x -d 'print only this value\'s plaintext, byte for byte'
+complete -c ansible-vault-textconv -l value -x -d 'print only this value'"'"'s plaintext, byte for byte'
 complete -c ansible-vault-with -f
 complete -c ansible-vault-with -n '__fish_seen_subcommand_from encrypt decrypt view rekey create edit' -F
 complete -c ansible-vault-with -n 'not __fish_seen_subcommand_from encrypt decrypt view rekey encrypt_string create edit' -a encrypt -d 'encrypt files in place'
@@ -134,5 +134,5 @@ complete -c ansible-vault-with -n '__fish_seen_subcommand_from encrypt_string' -
 complete -c ansible-vault-with -n '__fish_seen_subcommand_from encrypt_string' -l show-input -d 'show that text while it is typed'
 complete -c ansible-vault-with -n '__fish_seen_subcommand_from create edit' -l value -x -d 'set this value of YAML to the bytes of standard input'
 complete -c ansible-vault-with -n '__fish_seen_subcommand_from create edit' -l resume -d 'start from the text that the last edit of FILE saved in a copy'
-complete -c ansible-vault-with -n '__fish_seen_subcommand_from create' -l skip-tty-check -d 'ignored'
+complete -c ansible-vault-with -n '__fish_seen_subcommand_from create' -l skip-tty-check -d ignored
 # Here it ends.

@@ -49,33 +49,24 @@ def bash() -> str:
     )
 
 
-def fish_text(text: str) -> str:
-    escaped = text.replace("\\", r"\\").replace("'", r"\'")
-    return f"'{escaped}'"
-
-
 def fish_option(option: Option) -> str:
     names = " ".join(f"-l {name[2:]}" if name.startswith("--") else f"-s {name[1:]}" for name in option.names)
-    return f"{names}{FISH_VALUES[option.kind]} -d {fish_text(option.summary)}"
+    return f"{names}{FISH_VALUES[option.kind]} -d {shlex.quote(option.summary)}"
 
 
 def fish_program(program: str) -> list[str]:
     own, *inner = of_program(program)
     names = " ".join(command.name for command in inner)
-    lines, taking = [], dict[str, list[str]]()
-    if inner:
-        of_files = " ".join(command.name for command in inner if command.takes_files)
-        lines += [" -f", f" -n '{SEEN} {of_files}' -F"]
-        lines += [f" -n 'not {SEEN} {names}' -a {command.name} -d {fish_text(command.text)}" for command in inner]
+    of_files = " ".join(command.name for command in inner if command.takes_files)
+    lines = [" -f", f" -n '{SEEN} {of_files}' -F"] if inner else []
+    lines += [f" -n 'not {SEEN} {names}' -a {command.name} -d {shlex.quote(command.text)}" for command in inner]
+    takers: dict[str, list[str]] = {}
     for command in (own, *inner):
         for option in command.options:
-            taking.setdefault(fish_option(option), []).append(command.name)
-    for option_text, of_commands in taking.items():
-        if len(of_commands) == 1 + len(inner):
-            condition = ""
-        else:
-            condition = f" -n '{SEEN} {' '.join(of_commands)}'" if of_commands != [""] else f" -n 'not {SEEN} {names}'"
-        lines.append(f"{condition} {option_text}")
+            takers.setdefault(fish_option(option), []).append(command.name)
+    for text, taking in takers.items():
+        condition = f" -n 'not {SEEN} {names}'" if taking == [""] else f" -n '{SEEN} {' '.join(taking)}'"
+        lines.append(f"{condition if len(taking) <= len(inner) else ''} {text}")
     return [f"complete -c {program}{line}" for line in lines]
 
 
@@ -86,14 +77,14 @@ def fish() -> str:
 def zsh_option(option: Option, single: set[str]) -> str:
     """Return the specification of an option. It excludes those of its alternatives that cannot be repeated."""
     excluded = sorted(option.alternatives & single)
-    before = f"({' '.join(excluded)})" if len(excluded) > 1 else ""
     if option.names[-1] in ("--help", "--version"):
-        before = "(- *)"
+        excluded = ["-", "*"]
+    before = "*" if option.repeats else f"({' '.join(excluded)})" if len(excluded) > 1 else ""
     names = [f"{name}=" if option.value and name.startswith("--") else name for name in option.names]
     spelled = f"'{{{','.join(names)}}}'" if len(names) > 1 else names[0]
     said = option.summary.replace("]", r"\]").replace("'", r"'\''")
     value = f":{option.value}:{ZSH_VALUES[option.kind]}" if option.value else ""
-    return f"'{'*' * option.repeats or before}{spelled}[{said}]{value}'"
+    return f"'{before}{spelled}[{said}]{value}'"
 
 
 def zsh_command(command: Command) -> list[str]:
