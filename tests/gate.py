@@ -105,3 +105,4 @@ def test_lint(tmp_path: Path) -> None:
         (tmp_path / "bin" / tool).symlink_to(shutil.which(tool) or tool)
     done = run_text([str(tmp_path / "tools" / "lint")], env={"PATH": str(tmp_path / "bin")})
     assert done.stdout.count("mypy is not installed\n") == 5
+    assert done.stdout.endswith("\nlint: 0 passed, 10 failed\n"), "a missing tool is a failure"
