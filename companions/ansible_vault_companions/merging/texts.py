@@ -14,7 +14,6 @@ from ansible_vault_companions.git.commands import answer
 from ansible_vault_companions.git.repositories import repository_of
 from ansible_vault_companions.merging.values import Merged, Values
 from ansible_vault_companions.merging.versions import Keys, Opened, Versions, common_key, merged_lines, opened
-from ansible_vault_companions.merging.versions import permitted, sealed
 from ansible_vault_companions.program import Refused, shown
 from ansible_vault_companions.tool.tool import Decrypt, Key, NotDecrypted, Tool
 
@@ -36,7 +35,11 @@ def merged(tool: Tool, decrypt: Decrypt, versions: Versions, size: int, chosen: 
     try:
         are_vaults = [text.startswith(MAGIC) for text in (ours, theirs)]
         if all(are_vaults):
-            return Merged(_merged_vault(tool, decrypt, versions, chosen))
+            vaults = Vaults(decrypt, versions)
+            key = vaults.key(chosen)
+            if vaults.merge.conflicts:
+                raise Refused(vaults.why)
+            return Merged(vaults.sealed(tool, vaults.merge.text, key))
         if any(are_vaults):
             raise Refused(KINDS_DIFFER)
         # A base that was a vault has no lines for a conflict.
@@ -44,14 +47,6 @@ def merged(tool: Tool, decrypt: Decrypt, versions: Versions, size: int, chosen: 
         return Values(decrypt, versions._replace(base=before), chosen).merged(tool, size)
     except Refused as fault:
         return Merged(conflicts.both(ours, theirs, size), NOT_MERGED.format(fault))
-
-
-def _merged_vault(tool: Tool, decrypt: Decrypt, versions: Versions, chosen: Key | None) -> bytes:
-    vaults = Vaults(decrypt, versions)
-    key = vaults.key(chosen)
-    if vaults.merge.conflicts:
-        raise Refused(vaults.why)
-    return vaults.sealed(tool, vaults.merge.text, key)
 
 
 class Vaults:
@@ -77,7 +72,7 @@ class Vaults:
     def sealed(self, tool: Tool, text: bytes, key: Key) -> bytes:
         """The vault of a side, if it has this text under this key, or else a new one."""
         known = (vault.envelope for vault in (self.ours, self.theirs) if (vault.text, vault.key) == (text, key))
-        return next(known, b"") or sealed(tool, text, key)
+        return next(known, b"") or tool.encrypt(text, *key)
 
     def _base(self, decrypt: Decrypt, data: bytes) -> tuple[bytes, Keys]:
         """The text of the base, and its keys. In a crossed history it is a merge of bases, and may be a conflict."""
@@ -90,41 +85,38 @@ class Vaults:
         if not data.startswith(MAGIC):
             return data, set()
         try:
-            vault = opened(decrypt, data)
+            vault = opened(decrypt, data, may_encrypt=False)
         except NotDecrypted as fault:
             self.why = f"base: {fault}"
             return b"", set()
         return vault.text, {vault.key}
 
 
-class Conflict:
+class Conflict(Vaults):
     """Two vaults between markers, for an edit: their texts are merged, and what is saved becomes one vault."""
 
     # None of its values stays encrypted.
     faults: tuple[()] = ()
 
     def __init__(self, decrypt: Decrypt, target: str, content: bytes, versions: Versions, chosen: Key | None) -> None:
+        super().__init__(decrypt, versions)
         # The path of the file, and what it has.
         self.target, self.content = target, content
-        self.vaults = Vaults(decrypt, versions)
-        self.keys = [self.vaults.key(chosen)]
-        self.plaintext = self.vaults.merge.text
+        self.keys = [self.key(chosen)]
+        self.plaintext = self.merge.text
 
     def is_as_it_was(self, text: bytes) -> bool:
-        return text == self.plaintext and self._has_markers(text)
+        return text == self.plaintext and conflicts.has_markers(text, self.marker_size)
 
     def encrypted(self, tool: Tool, text: bytes) -> bytes:
-        if self._has_markers(text):
+        if conflicts.has_markers(text, self.marker_size):
             raise Refused(conflicts.STILL)
-        return self.vaults.sealed(tool, text, self.keys[0])
-
-    def _has_markers(self, text: bytes) -> bool:
-        return conflicts.has_markers(text, self.vaults.marker_size)
+        return self.sealed(tool, text, self.keys[0])
 
 
 def _of_side(side: str, decrypt: Decrypt, vault: bytes) -> Opened:
     try:
-        return permitted(decrypt, vault)
+        return opened(decrypt, vault)
     except Refused as fault:
         raise Refused(f"{side}: {fault}") from None
 

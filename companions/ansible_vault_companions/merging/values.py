@@ -16,7 +16,7 @@ from ansible_vault_companions.envelopes import conflicts
 from ansible_vault_companions.envelopes.changes import Change, changed, replaced
 from ansible_vault_companions.envelopes.envelope import LITERAL, LOOSE, STRAY, Value
 from ansible_vault_companions.merging.versions import BASE, OURS, SIDES, THEIRS, Opened, Versions, common_key
-from ansible_vault_companions.merging.versions import merged_lines, permitted, sealed
+from ansible_vault_companions.merging.versions import merged_lines, opened
 from ansible_vault_companions.program import Refused
 from ansible_vault_companions.tool.tool import Decrypt, Key, Tool
 
@@ -64,17 +64,17 @@ class Values:
         return Merged(content, f"{count} conflict{'s' if count > 1 else ''}" if count else "")
 
     def _open(self, decrypt: Decrypt) -> dict[bytes, Opened]:
-        """Those that not all versions have, if a secret opens them that their labels allow."""
+        """Those that not all versions have, if a password opens them that their labels allow."""
         texts = [{value.text for value in self.values[side]} for side in SIDES]
         changed = sorted(set().union(*texts).difference(set.intersection(*texts)))
 
-        def opened(text: bytes) -> Opened | None:
+        def known(text: bytes) -> Opened | None:
             try:
-                return permitted(decrypt, text)
+                return opened(decrypt, text)
             except Refused:
                 return None
 
-        return {opened.envelope: opened for opened in parallel.results(opened, changed) if opened}
+        return {each.envelope: each for each in parallel.results(known, changed) if each}
 
     def _key(self, label: str, chosen: Key | None) -> Key | None:
         of_label = [[value.text for value in self.values[side] if value.label == label] for side in SIDES]
@@ -140,7 +140,7 @@ class Values:
             fitting = [envelope for envelope in envelopes if side or self.opened[envelope].key == key]
             if fitting:
                 return fitting[min(number, len(fitting) - 1)]
-        return sealed(tool, text, key)
+        return tool.encrypt(text, *key)
 
 
 def _has_token(value: Value) -> bool:

@@ -8,13 +8,12 @@ from typing import AbstractSet, NamedTuple, Optional
 from ansible_vault_companions.envelopes import envelope
 from ansible_vault_companions.git import commands
 from ansible_vault_companions.program import Refused
-from ansible_vault_companions.tool.tool import Decrypt, Key, Tool
+from ansible_vault_companions.tool.tool import Decrypt, Key
 
 # The names of the sides in git's conflict markers.
 SIDES = OURS, BASE, THEIRS = ("ours", "base", "theirs")
 # The status of `git merge-file` is the number of conflicts, up to this. A greater status means failure.
 MOST_CONFLICTS = 127
-NOT_ENCRYPTED = "the new vault does not decrypt to the text that was encrypted; run the merge again"
 # The keys of envelopes; None for one that is not opened.
 Keys = AbstractSet[Optional[Key]]
 
@@ -55,26 +54,22 @@ def _in_memory(text: bytes) -> int:
 
 
 class Opened(NamedTuple):
-    """An envelope that a secret opens."""
+    """An envelope that a password opens."""
 
     envelope: bytes
     key: Key
     text: bytes
 
 
-def opened(decrypt: Decrypt, vault: bytes) -> Opened:
-    secret, text = decrypt(vault)
-    return Opened(vault, (secret, envelope.label_of(vault) or ""), text)
-
-
-def permitted(decrypt: Decrypt, vault: bytes) -> Opened:
-    """Refuses an envelope whose label does not allow the secret that opens it to encrypt the text again."""
-    known = opened(decrypt, vault)
-    password, label = known.key
-    fault = password.label_fault(label)
+def opened(decrypt: Decrypt, vault: bytes, may_encrypt: bool = True) -> Opened:
+    """Refuses an envelope whose label does not allow the password that opens it to encrypt the text again, if it may
+    have to."""
+    password, text = decrypt(vault)
+    label = envelope.label_of(vault) or ""
+    fault = password.label_fault(label) if may_encrypt else ""
     if fault:
         raise Refused(fault)
-    return known
+    return Opened(vault, (password, label), text)
 
 
 def common_key(ours: Keys, base: Keys, theirs: Keys) -> Key | None:
@@ -87,12 +82,3 @@ def common_key(ours: Keys, base: Keys, theirs: Keys) -> Key | None:
         return None
     of_both = {key and (key[0].label, key[1]) for key in ours | theirs}
     return next(iter(new)) if len(ours) == len(theirs) == len(of_both) == 1 else None
-
-
-def sealed(tool: Tool, text: bytes, key: Key) -> bytes:
-    """A new envelope with a text under a key, which is opened as a check."""
-    secret, label = key
-    new = tool.encrypt(text, secret, label)
-    if envelope.label_of(new) != label or tool.view(new, secret) != text:
-        raise Refused(NOT_ENCRYPTED)
-    return new
