@@ -16,8 +16,7 @@ from ansible_vault_companions.envelopes import conflicts
 from ansible_vault_companions.merging.versions import Versions, merged_lines
 from companion_cases import CHECK, EDIT, HOOK, MERGE, PASSWORDS, Done, Place, block, decrypted, ended
 from companion_cases import sealed, silent, texts, versions
-from companion_cases.random_merges import ITEM, LABELS, SIMPLE, Merge, Model, Value, blocks_of, check_made, document
-from companion_cases.random_merges import secret_of
+from companion_cases.random_merges import ITEM, LABELS, Model, Value, common, document, secret_of
 from companion_cases.repository import BASE, BOTH, OURS, SALTS, THEIRS, add_and_commit, commit, fork
 from companion_cases.repository import repository, set_driver, under_git
 from lib.needs import needs_pyyaml
@@ -167,17 +166,11 @@ def test_chosen_secret(place: Place) -> None:
 # Makes changes that the driver cannot merge. Each operation meets them.
 FORK = """
 seal() { cp ../$1.yml a.yml && git add -A && git commit -qm change; }
-seal base && git branch base && git checkout -qb ours
-seal undone && git checkout -qb side && seal base && git checkout -q ours && git merge -q --no-ff --no-edit side
-git tag undone && seal ours && git checkout -qb theirs base && echo b: 1 > b.yml && git add -A && git commit -qm b
-seal theirs && git checkout -q ours
+seal base && git branch base && git checkout -qb ours && seal ours && git checkout -qb theirs base && seal theirs
+git checkout -q ours
 """
 OPERATIONS = {
-    "merge": "git merge theirs",
-    "cherry-pick of two": "git cherry-pick theirs~1 theirs",
-    "revert": "git revert --no-edit undone^2",
     "rebase": "git checkout -q theirs && git rebase -q ours",
-    "am": "git format-patch -q -1 --output-directory .. theirs && git am -q -3 ../0001*",
     "stash": "git checkout -q base && cp ../theirs.yml a.yml && git stash -q && git checkout -q ours; git stash pop",
 }
 
@@ -188,10 +181,8 @@ def test_failed_drivers(place: Place, line: str) -> None:
     The merged text is under the secret that the other side has changed to."""
     under_git(place, ATTRIBUTES)
     set_driver(place, *place.by_file("old"))
-    for name, content in zip(("base", "ours"), OLD):
+    for name, content in zip(("base", "ours", "theirs"), [*OLD[:2], sealed("new", THEIRS)]):
         place.put(f"../{name}.yml", content)
-    for name, salt in zip(("theirs", "undone"), SALTS):
-        place.put(f"../{name}.yml", seal(PASSWORDS["new"], THEIRS, b"", salt))
     place.shell(f"{FORK}{line}")
     found = conflicts.sides(place.get("a.yml")) or {}
     assert {decrypted("old", side) or decrypted("new", side) for side in found.values()} == {OURS, THEIRS}
@@ -305,16 +296,11 @@ VAULTS = [
 ]
 
 
-def wanted_password(before: Value, ours: Value, theirs: Value) -> str | None:
+def wanted_password(*versions: Value) -> str | None:
     """Return the password of the merged vault, or None if it is not merged."""
-    if ours.is_mislabelled() or theirs.is_mislabelled() or ours.label != theirs.label:
-        return None
-    if ours.password == theirs.password:
-        return ours.password
-    is_one_label = len({(each.label, LABELS[each.password]) for each in (before, ours, theirs)}) == 1
-    if is_one_label and before.password in (ours.password, theirs.password):
-        return theirs.password if before.password == ours.password else ours.password
-    return None
+    used: list[set[str | None]] = [{f"{each.label}@{each.password}"} for each in versions]
+    is_clear = versions[1].label == versions[2].label and not any(each.is_mislabelled() for each in versions[1:])
+    return (common(*used) or "").partition("@")[2] or None if is_clear else None
 
 
 def test_secrets_of_vaults(tmp_path: Path, monkeypatch: pytest.MonkeyPatch) -> None:
@@ -339,20 +325,6 @@ def test_secrets_of_vaults(tmp_path: Path, monkeypatch: pytest.MonkeyPatch) -> N
         merged = BOTH if changed == plaintexts else next(iter({ours.text, theirs.text} - {before.text}), BASE)
         assert (secret.place, text) == (wanted, merged), vaults
     assert counts["refused"] > 10 and counts["under a new secret"] == 24, counts
-
-
-def test_secrets_of_values() -> None:
-    """We change a text, and they encrypt it again. It gets their secret if all three versions have one label."""
-    needs_pyyaml()
-    made = 0
-    for their_text, vaults in itertools.product((b"text", b"their text"), itertools.product(VAULTS, repeat=3)):
-        rows = zip((b"text", b"our text", their_text), vaults, range(3))
-        merge, tool = Merge(*([Value("a", text, *vault, salt, 10)] for text, vault, salt in rows)), Model()
-        for _, envelope in blocks_of(tool.merged(merge.documents(SIMPLE)).content):
-            if envelope in tool.made:
-                check_made(merge, tool.made[envelope])
-                made += 1
-    assert made == 4, "those under another secret"
 
 
 def test_secrets_of_edits() -> None:

@@ -1,8 +1,8 @@
 """Random merges of YAML, without a process for each envelope.
 
 There are only a few texts, so many values are equal, and several passwords with the same label. The result must be
-git's merge of the plaintexts, in each style of conflicts and with each kind of line end, unless it is unclear under
-which password a text goes: then it may be a conflict. Nothing is torn, lost, in plaintext, or under another's password.
+git's merge of labels, passwords and plaintexts, in each style of conflicts and with each kind of line end. Nothing is
+torn, lost, in plaintext, or under another's password.
 """
 
 import functools
@@ -73,12 +73,6 @@ class Value(NamedTuple):
     def is_closed(self) -> bool:
         return self.password == UNNAMED or self.is_mislabelled()
 
-    def known_by(self, keeps: bool, is_shared: bool = False) -> bytes:
-        """Return what stays the same if nothing is changed: for a closed envelope all, otherwise label and text, and
-        its password if it keeps that."""
-        own = f"{self.password} {self.salt}" if self.is_closed() or is_shared else self.password * keeps
-        return f"{self.label or 'default'} {own} {self.indentation} {self.text!r}".encode()
-
 
 def document(values: list[Value], shown: list[bytes]) -> bytes:
     """Return YAML with these lines in place of the values. Without any, the file is empty."""
@@ -90,9 +84,9 @@ def document(values: list[Value], shown: list[bytes]) -> bytes:
 class Layout(NamedTuple):
     """The style of conflicts, the ends of lines, and which versions end their last lines."""
 
-    style: str
-    end: bytes
-    are_ended: tuple[bool, bool, bool]
+    style: str = "merge"
+    end: bytes = b"\n"
+    are_ended: tuple[bool, ...] = (True, True, True)
 
     def written(self, contents: list[bytes]) -> list[bytes]:
         """Return the versions with these ends of lines."""
@@ -101,9 +95,15 @@ class Layout(NamedTuple):
         return [each.replace(b"\n", self.end) for each in ended]
 
 
-SIMPLE = Layout("merge", b"\n", (True, True, True))
 ARE_ENDED = st.tuples(*[st.sampled_from([True, True, False])] * 3)
 LAYOUTS = st.builds(Layout, st.sampled_from(STYLES), st.sampled_from(ENDS), ARE_ENDED)
+
+
+def common(*used: set[str | None]) -> str | None:
+    """Return the one password of both sides, or the one that a side alone changed it to; None if that is unclear."""
+    base, ours, theirs = used
+    new = ours if theirs in (base, ours) else theirs if ours == base else set()
+    return next(iter(new), None) if len(ours) == len(theirs) == 1 and None not in ours | theirs else None
 
 
 class Merge(NamedTuple):
@@ -114,27 +114,23 @@ class Merge(NamedTuple):
     def documents(self, layout: Layout) -> list[bytes]:
         return layout.written([document(values, [value.block() for value in values]) for values in self])
 
-    def shared(self) -> set[bytes]:
-        """Return the envelopes that all versions have. Nothing opens these."""
-        return set.intersection(*({value.envelope() for value in values} for values in self))
+    def is_opened(self, value: Value) -> bool:
+        """Return whether a secret opens it, and not all versions have it."""
+        same = value._replace(key="", indentation=0)
+        versions = ([each._replace(key="", indentation=0) for each in values] for values in self)
+        return not (value.is_closed() or all(same in values for values in versions))
 
-    def keeping(self) -> set[str]:
-        """Return the labels whose values keep their passwords, as neither both sides have all under the same one, nor
-        one side put all under another one."""
-        shared = self.shared()
-        labels = {value.label for values in self for value in values}
-        return {label for label in labels if not self._is_one(label, shared)}
+    def common(self, label: str) -> str | None:
+        """Return the password of all values with a label; None if each keeps its own."""
+        of_label = ([value for value in values if value.label == label] for values in self)
+        return common(*({value.password if self.is_opened(value) else None for value in values} for values in of_label))
 
-    def _is_one(self, label: str, shared: set[bytes]) -> bool:
-        base, ours, theirs = (
-            {value.salt if value.is_closed() or value.envelope() in shared else value.password for value in values}
-            for values in ([value for value in values if value.label == label] for values in self)
-        )
-        are_open = len(ours) == len(theirs) == 1 and not any(isinstance(each, int) for each in ours | theirs)
-        return are_open and (ours == theirs or base in (ours, theirs))
-
-    def known_by(self, value: Value) -> bytes:
-        return value.known_by(value.label in self.keeping(), value.envelope() in self.shared())
+    def known_by(self, value: Value, is_result: bool = False) -> bytes:
+        """Return what stays the same if nothing is changed: label, text and the password of the result. Of an envelope
+        that is not opened, that is all."""
+        own = self.is_opened(value) and not is_result and self.common(value.label) or value.password
+        salt = "" if self.is_opened(value) else value.salt
+        return f"{value.label or 'default'} {own} {salt} {value.indentation} {value.text!r}".encode()
 
     def plain(self, layout: Layout) -> list[bytes]:
         """Return the versions with plaintexts, each with a line that separates it from the next."""
@@ -241,38 +237,24 @@ def blocks_of(content: bytes) -> list[tuple[str, bytes]]:
     return [(head.decode().strip(" -:"), b"".join(line + b"\n" for line in own)) for head, own in lines]
 
 
-def in_plaintext(content: bytes, known: dict[bytes, Value], merge: Merge) -> bytes:
+def in_plaintext(content: bytes, known: dict[bytes, Value], merge: Merge, is_merged: bool) -> bytes:
     """Return a result with what each block is known by in place of the block."""
 
     def shown(match: re.Match[bytes]) -> bytes:
         [(_, envelope)] = blocks_of(match[0])
         indentation = len(match[2]) - len(match[2].lstrip(b" "))
         end = match[0][len(match[0].rstrip(b"\r\n")) :]
-        return match[1] + merge.known_by(known[envelope]._replace(indentation=indentation)) + end
+        return match[1] + merge.known_by(known[envelope]._replace(indentation=indentation), is_merged) + end
 
     return BLOCK.sub(shown, content)
 
 
-def passwords(values: list[Value], label: str) -> set[str]:
-    return {value.password for value in values if (value.label or "default") == (label or "default")}
-
-
 def check_made(merge: Merge, made: Value) -> None:
     """Check that a text is under another password only if one side has put all values with its label under it."""
-    used = [passwords(values, made.label) for values in merge]
+    used = [{value.password for value in values if value.label == made.label} for values in merge]
     [before] = used[0]
     assert LABELS[before] == LABELS[made.password] == (made.label or "default")
     assert {before} in used[1:] and {made.password} in used[1:], "the password is not that of the other side"
-
-
-def check_rotations(merge: Merge, after: dict[str, Value]) -> None:
-    """Check that no value is under the password from which a side has put it under another one."""
-    for side, before in itertools.product(merge[1:], merge.base):
-        rotated = [value for value in side if before.key and value == before._replace(password=value.password)]
-        is_rotated = rotated and rotated[0].password != before.password
-        now = after.get(before.key)
-        if is_rotated and now and not before.is_closed():
-            assert (now.label, now.password) != (before.label, before.password), "the old password is back"
 
 
 def check_merge(folder: Path, merge: Merge, layout: Layout) -> list[str]:
@@ -292,10 +274,10 @@ def check_merge(folder: Path, merge: Merge, layout: Layout) -> list[str]:
     kinds = ["conflicts" if result.why else "merged", *(["under a new secret"] if tool.made else [])]
     if not result.why:
         yaml.load(result.content, Loader=yaml.BaseLoader)
-        check_rotations(merge, {key: known[envelope] for key, envelope in blocks})
     text, count = by_git(folder, merge.plain(layout))
     assert bool(result.why) == (count > 0)
-    assert in_plaintext(result.content, known, merge) == BELOW.sub(b"", text), "the merge is git's"
+    wanted = BELOW.sub(b"", text)
+    assert in_plaintext(result.content, known, merge, is_merged=not result.why) == wanted, "the merge is git's"
     return kinds
 
 
