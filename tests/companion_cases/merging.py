@@ -137,7 +137,7 @@ def test_what_fails(place: Place) -> None:
     words = [*place.by_file("old"), *versions(place, "a.yml", *OLD)]
     ended("no base", place.run(MERGE, *words[:2], "../missing", *words[3:]), 1, "is missing")
     assert place.files() == {"a.yml": OLD[1]}, "ours stays"
-    failures = {"exit 4": "ansible-vault ended with status 4", "kill -9 $PPID": "", "": "no secret is given"}
+    failures = {"exit 4": "ansible-vault ended with status 4", "kill -9 $PPID": "", "": "no password is given"}
     for tool, why in failures.items():
         place.put("a.yml", OLD[1])
         place.wrap_tool(f'[ "$1" != view ] || {tool or ":"}')

@@ -22,7 +22,7 @@ KINDS_DIFFER = "one side is a vault and the other is not"
 ONE_SIDE = f"{KINDS_DIFFER}; take one with `git checkout --ours {{0}}` or `--theirs`"
 BOTH_CHANGED = "both sides changed the same lines"
 LABELS_DIFFER = "the labels differ: {} in ours, {} in theirs; choose one with --encrypt-vault-id"
-SECRETS_DIFFER = "the passwords of the two sides differ; choose one with --encrypt-vault-id"
+PASSWORDS_DIFFER = "the passwords of the two sides differ; choose one with --encrypt-vault-id"
 
 
 def merged(tool: Tool, decrypt: Decrypt, versions: Versions, size: int, chosen: Key | None) -> Merged:
@@ -67,7 +67,7 @@ class Vaults:
         if key:
             return key
         ours, theirs = (shown(vault.key[1]) for vault in (self.ours, self.theirs))
-        raise Refused(SECRETS_DIFFER if ours == theirs else LABELS_DIFFER.format(ours, theirs))
+        raise Refused(PASSWORDS_DIFFER if ours == theirs else LABELS_DIFFER.format(ours, theirs))
 
     def sealed(self, tool: Tool, text: bytes, key: Key) -> bytes:
         """The vault of a side, if it has this text under this key, or else a new one."""
