@@ -3,7 +3,7 @@
 import pytest
 
 from companion_cases import CHECK, Place, block, decrypted, edit, ended, sealed, silent, texts
-from companion_cases.repository import AUTHOR, set_driver
+from companion_cases.repository import fork, set_driver, under_git
 from lib.needs import needs_pyyaml
 
 pytestmark = pytest.mark.usefixtures("git")
@@ -15,13 +15,8 @@ SIDES = [LINES, b"x: ours\n" + LINES + b"y: ours\n", b"x: theirs\n" + LINES]
 
 def merge(place: Place, contents: list[bytes], *options: str) -> None:
     """Merge two branches of one file, without a driver."""
-    place.environment.update(AUTHOR)
-    place.shell("git init -q -b main")
-    base, ours, theirs = contents
-    for branch, content in (("main", base), ("theirs", theirs), ("ours", ours)):
-        place.shell(f"git checkout -q main; git checkout -qb {branch}")
-        place.put("a.yml", content)
-        place.shell("git add -A; git commit -qm change")
+    under_git(place, "")
+    fork(place, *({"a.yml": content} for content in contents))
     ended("git", place.run("git", *options, "merge", "theirs"), 1, "Merge conflict in a.yml")
 
 
@@ -105,10 +100,10 @@ def test_values_with_a_base(place: Place) -> None:
         block(name, a, name="a") + b"y: 1\n" + block(name, b, name="b")
         for name, a, b in (("old", b"1", b"1"), ("old", b"2", b"1"), ("new", b"1", b"3"))
     )
-    place.put(".gitattributes", b"*.yml merge=ansible-vault\n")
-    place.run("git", "init", "-q", "-b", "main")
+    under_git(place, "*.yml merge=ansible-vault\n")
     set_driver(place, "--vault-password-file", "/missing")
-    merge(place, [base, ours, theirs])
+    fork(place, {"a.yml": base}, {"a.yml": ours}, {"a.yml": theirs})
+    ended("git", place.run("git", "merge", "theirs"), 1, "Merge conflict in a.yml")
     assert place.get("a.yml") == b"<<<<<<< ours\n%s=======\n%s>>>>>>> theirs\n" % (ours, theirs), "both are whole"
     silent("an edit", edit(place, "true", *place.by_file("old"), *place.by_file("new"), "a.yml"))
     assert texts(place.get("a.yml"), "new") == [b"2", b"3"], "both changes are there, under the new password"
