@@ -93,9 +93,11 @@ def both(ours: bytes, theirs: bytes, size: int = SIZE) -> bytes:
 
 def read(data: bytes, every: bool = False) -> Document:
     """The envelopes of a file, or every node, on all sides. If one of its sides is no YAML, nor is the file."""
+    texts = sides(data, is_masked=True).values()
+    if not texts:
+        return document.read(data, every)
     line_ends = [end.start() for end in re.finditer(b"\n", data)]
     values: dict[tuple[int, int], Value] = {}
-    texts = sides(data, is_masked=True).values()
     for side in (document.read(text, every) for text in texts):
         if side.fault:
             return document.read(data, every)
@@ -103,5 +105,4 @@ def read(data: bytes, every: bool = False) -> Document:
             # A line of several sides may be part of a longer text on one of them.
             place = (value.end, value.start if every else 0)
             values.setdefault(place, value._replace(line=bisect_left(line_ends, value.start) + 1))
-    in_order = sorted(values.values(), key=lambda value: (value.start, value.end))
-    return Document(data, in_order) if texts else document.read(data, every)
+    return Document(data, sorted(values.values(), key=lambda value: (value.start, value.end)))
