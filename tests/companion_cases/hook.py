@@ -1,15 +1,10 @@
 """ansible-vault-hook: what git may commit, also as the pre-commit framework runs it, and with files as arguments."""
 
 import os
-from collections import Counter
-from itertools import product
-from pathlib import Path
 
 import pytest
 
 from ansible_vault_companions.files import reading
-from ansible_vault_companions.git.commits import LINK_MODE
-from ansible_vault_companions.git.links import target
 from companion_cases import AWKWARD, CHECK, HOOK, TEXT, WITH, Place, block, ended, lines_of, run_changed
 from companion_cases import sealed, silent
 from companion_cases.repository import WHOLE, add_and_commit, again, commit, committed, fork, leaked, refused
@@ -45,26 +40,22 @@ def test_what_is_staged(place: Place) -> None:
 
 
 def test_leftovers(place: Place) -> None:
-    """Files that a failed companion left behind are refused, even though `git add -A` stages them."""
+    """A file that a killed companion left behind is refused, even though `git add -A` stages it."""
     with_hooks(place)
-    silent("the vault", again(place, "inner/a.yml", sealed("old")))
+    silent("the vault", again(place, "in $(touch pwned)/a.yml", sealed("old")))
     # It is killed when the new file would replace the old one.
     killed = "os.replace = lambda *_: os.kill(os.getpid(), 9)"
-    assert run_changed(place, WITH, killed, ["decrypt", *place.by_file("old"), "inner/a.yml"]).returncode == -9
-    place.put("$(touch pwned)/.ansible-vault-abcdefgh.new", TEXT)
-    names = sorted(name for name in place.files() if ".ansible-vault-" in name)
-    assert [place.get(name) == TEXT for name in names] == [True, True]
+    done = run_changed(place, WITH, killed, ["decrypt", *place.by_file("old"), "in $(touch pwned)/a.yml"])
+    assert done.returncode == -9
+    [name] = (name for name in place.files() if ".ansible-vault-" in name)
+    assert place.get(name) == TEXT
     done = add_and_commit(place)
-    whys, removing = (done.stderr.splitlines()[first::2] for first in range(2))
-    wanted = [f"{HOOK}: {name} was left behind by a companion, and may be plaintext" for name in names]
-    assert (done.returncode, whys) == (1, wanted), "they are refused"
-    for line in removing:
-        assert place.shell(" && ".join(line.split("`")[1::2])).returncode == 0, "they are removed as the message says"
-    others = [".ansible-vault-abcdefgh.py", ".ansible-vault-me.py", ".ansible-vault-password", "ansible-vault-saved-x"]
-    for name in others:
-        place.put(name, TEXT)
+    ended("it is refused", done, 1, f"{HOOK}: {name} was left behind by a companion, and may be plaintext\n")
+    assert place.shell(" && ".join(done.stderr.split("`")[1::2])).returncode == 0, "it is removed as the message says"
+    for other in (".ansible-vault-abcdefgh.py", ".ansible-vault-me.new", ".ansible-vault-password"):
+        place.put(other, TEXT)
     silent("files with other names", add_and_commit(place))
-    assert [*place.files()] == [*others[:3], ".gitattributes", others[3], "inner/a.yml"], "names are quoted"
+    assert name not in place.files() and "pwned" not in place.names()
 
 
 CUT = sealed("old")[:-100]
@@ -101,24 +92,9 @@ def test_marked_content(place: Place) -> None:
     place.put("empty.vault.yml", b"\n")
     for what, (content, _) in CONTENTS.items():
         place.put(f"{what}/a.vault.yml", content)
-    done = staged(place, "secrets/b.yml", block("old"))
+    done = staged(place, "secrets/b.yml", TEXT)
     whys = {f"{what}/a.vault.yml": why for what, (_, why) in CONTENTS.items()} | {"secrets/b.yml": "is not encrypted"}
     assert done.stderr.splitlines()[::2] == [f"{HOOK}: {name} {why}" for name, why in sorted(whys.items())]
-
-
-def test_plain_beside_vaults(place: Place) -> None:
-    """The usual layout has plaintext beside vaults in one directory. The message says what to do."""
-    with_hooks(place, "group_vars/** diff=ansible-vault\n")
-    place.put("group_vars/all/vault.yml", sealed("old"))
-    names = ["group_vars/all/vars.yml", "group_vars/web servers/vars.yml"]
-    for name in names:
-        place.put(name, TEXT)
-    done = add_and_commit(place)
-    lines = done.stderr.splitlines()
-    assert (done.returncode, lines[::2]) == (1, [f"{HOOK}: {name} is not encrypted" for name in names])
-    attributes = ["group_vars/** diff=ansible-vault", *(line.rpartition(": ")[2] for line in lines[1::2])]
-    place.put(".gitattributes", "\n".join(attributes).encode())
-    silent("what it says helps", add_and_commit(place))
 
 
 def test_exemptions(place: Place) -> None:
@@ -152,10 +128,6 @@ def test_exemptions(place: Place) -> None:
     counts = [done.stderr.count(stale.format(what)) for what in ("-ansible-vault", "a%20b%2C%25%3D%2Ec%5B%5D, x[].pw")]
     assert (done.returncode, counts) == (1, [len(AWKWARD), len(AWKWARD)])
     silent("they are gone", staged(place, ".gitattributes", marks.encode()))
-    long = b"%s diff=ansible-vault\n"
-    done = staged(place, ".gitattributes", long % (b"x" * 2028) + long % (b"y" * 2029))
-    ended("a long line", done, 1, f"{HOOK}: .gitattributes has a line of 2,048 bytes or more, which git ignores\n")
-    silent("a shorter one", staged(place, ".gitattributes", long % (b"x" * 2028)))
 
 
 def test_attributes_of_directories(place: Place) -> None:
@@ -197,7 +169,7 @@ def test_unmerged(place: Place) -> None:
     fork(place, {"a.yml": b"1\n"}, {"a.yml": b"2\n"}, {"a.yml": b"3\n"})
     place.shell("git merge -q theirs")
     for words in ([HOOK], [HOOK, "a.yml"]):
-        ended("a conflict", place.run(*words), 1, f"{HOOK}: a.yml is unmerged\n")
+        ended("a conflict", place.run(*words), 1, f"{HOOK}: a.yml is unmerged; resolve the conflict, and run git add\n")
 
 
 def test_merges(place: Place) -> None:
@@ -291,74 +263,35 @@ def test_work(place: Place) -> None:
     assert len(counts) == 1, counts
 
 
+# Where links in a folder lead, and whether to plaintext of the repository.
+TARGETS = {
+    "../folder/plain.yml": True,
+    "./plain.yml": True,
+    "..data/../plain.yml": True,
+    "chain": True,
+    "vault.yml": False,
+    "nowhere.yml": False,
+    "loop": False,
+    "../../plain.yml": False,
+    "/etc/hostname": False,
+}
+
+
 def test_links(place: Place) -> None:
     """A link in place of a vault, and one that is marked, counts as what it leads to in the commit."""
     with_hooks(place, ATTRIBUTES)
     place.put("deep/plain.yml", TEXT)
     place.put("deep/vault.yml", sealed("new"))
-    (place.tree / "folder").symlink_to("deep")
-    targets = ["../folder/plain.yml", f"{place.tree}/deep/plain.yml", "vault.yml", "nowhere.yml", "/etc/hostname"]
-    for number in range(len(targets)):
+    place.put("deep/..data/x.yml", TEXT)
+    for name, target in {"folder": "deep", "deep/loop": "loop", "deep/chain": "../folder/./plain.yml"}.items():
+        (place.tree / name).symlink_to(target)
+    for number in range(len(TARGETS)):
         place.put(f"deep/{number}.yml", sealed("old"))
     silent("at first", add_and_commit(place))
-    for number, path in enumerate(targets):
+    whys: dict[str, str] = {}
+    for number, (target, is_plain) in enumerate(TARGETS.items()):
         (place.tree / f"deep/{number}.yml").unlink()
-        for name in (f"deep/{number}.yml", f"deep/{number}.vault.yml"):
-            (place.tree / name).symlink_to(path)
-    whys = {f"deep/{number}.vault.yml": "is a link to a file that is not encrypted" for number in (0, 1)}
-    whys |= {f"deep/{number}.yml": f"is a link to a file that {WHOLE}" for number in (0, 1)}
+        for name, why in ((f"deep/{number}.vault.yml", "is not encrypted"), (f"deep/{number}.yml", WHOLE)):
+            (place.tree / name).symlink_to(target)
+            whys |= {name: f"is a link to a file that {why}"} if is_plain else {}
     leaked("the hook", place.shell(f"git add -A && {HOOK}"), dict(sorted(whys.items())))
-
-
-# Files and links below a directory, and files beside it. A link to the first of the chain leads through 40 links, which
-# is as many as the system follows.
-FILES = ["plain.yml", "..data/plain.yml", ".../..plain", "deep/er/plain.yml", "../plain.yml", "../topmost/plain.yml"]
-LINKS = {"across": "deep/er", "..data/back": "..", "one": "..two", "..two": "across/../../.../..plain", "loop": "loop"}
-CHAIN = {f"chain{each}": f"chain{each + 1}" for each in range(1, 39)} | {"chain39": "plain.yml"}
-# The parts of a target: where it begins, namely at the link, at the directory as seen from there, or at the root; two
-# detours, some of them by another link; and where it ends.
-STARTS = ["", "{above}", "{top}/", "/"]
-DETOURS = ["", ".", "..", "deep/..", "..data/..", "../top", "across/..", "..data/back", ".../.", "loop/.."]
-ENDS = [*FILES, "..plain", "er/plain.yml", "one", "..two", "loop", "chain1", "nowhere", "..", "deep"]
-
-
-def by_system(top: Path, name: str) -> str:
-    """Return the file below the directory that a link points to; "" if it is elsewhere, "nowhere" if there is none."""
-    try:
-        os.stat(top / name)
-    except OSError:
-        return "nowhere"
-    path = os.path.realpath(top / name)
-    return os.path.relpath(path, top) if os.path.isfile(path) and path.startswith(f"{top}/") else ""
-
-
-def by_hook(top: Path, name: str) -> str:
-    def entry(name: bytes) -> tuple[str, str]:
-        """Return an entry as git has it. Directories are not entries."""
-        path = top / os.fsdecode(name)
-        if path.is_symlink():
-            return LINK_MODE, os.readlink(path)
-        return ("100644", os.fsdecode(name)) if name and path.is_file() else ("", "")
-
-    return target(os.fsencode(name), os.fsencode(top), entry, os.fsencode)
-
-
-def test_links_as_the_system(tmp_path: Path) -> None:
-    """Links are followed to the same files as by the system."""
-    top = tmp_path.resolve() / "top"
-    for name in FILES:
-        (top / name).parent.mkdir(parents=True, exist_ok=True)
-        (top / name).write_bytes(TEXT)
-    for name, text in (LINKS | CHAIN).items():
-        (top / name).symlink_to(text)
-    counts: Counter[str] = Counter()
-    for folder, start, *parts in product(("", "..data", "deep/er"), STARTS, DETOURS, DETOURS, ENDS):
-        above = "../" * len(Path(folder).parts)
-        link = top / folder / "link"
-        link.symlink_to(start.format(top=top, above=above) + "/".join(parts))
-        found, known = by_hook(top, os.path.join(folder, "link")), by_system(top, os.path.join(folder, "link"))
-        # A target that is missing here may exist in another clone.
-        assert found == known or known == "nowhere", (folder, os.readlink(link))
-        counts["nowhere" if known == "nowhere" else "below" if known else "elsewhere"] += 1
-        link.unlink()
-    assert min(counts["below"], counts["elsewhere"], counts["nowhere"]) > 1000, counts

@@ -1,10 +1,8 @@
-"""ansible-vault-hook in a pipeline (--all, --since), and with ansible-vault-check in every kind of clone."""
-
-import os
+"""ansible-vault-hook in a pipeline (--all, --since), and in shallow, partial and sparse clones."""
 
 import pytest
 
-from companion_cases import CHECK, HOOK, TEXT, Place, block, ended, sealed, silent
+from companion_cases import HOOK, TEXT, Place, block, ended, sealed, silent
 from companion_cases.repository import GONE, IN_PART, WHOLE, committed, leaked, refused, staged, under_git
 from companion_cases.repository import unmarking
 
@@ -21,7 +19,7 @@ def test_every_file(place: Place) -> None:
     place.put("deep/a.vault.yml", block("old"))
     committed(place, "vars.yml", block("old"))
     silent("all is well", place.run(HOOK, "--all"))
-    committed(place, "deep/a.vault.yml", TEXT)
+    before = committed(place, "deep/a.vault.yml", TEXT)
     committed(place, "vars.yml", b"secret: plain\n")
     names = ["deep/a.vault.yml", "vars.yml"]
     for name in names:
@@ -29,7 +27,8 @@ def test_every_file(place: Place) -> None:
     done = place.shell(f"git add -A && {HOOK} --all", folder="deep")
     why = "is not encrypted"
     link = {"link.vault.yml": f"is a link to a file that {why}"}
-    leaked("each", done, {"deep/a.vault.yml": why} | link | {"vars.yml": IN_PART.format("secret")})
+    value = {"vars.yml": IN_PART.format("secret").replace("HEAD", before[:10])}
+    leaked("each", done, {"deep/a.vault.yml": why} | link | value)
     silent("what is staged", place.run(HOOK))
     assert place.shell("git diff --cached --name-only").stdout.split() == names, "the index stays"
     place.shell("git commit -qm mended")
@@ -51,7 +50,8 @@ def test_each_commit(place: Place) -> None:
     committed(place, ".gitattributes", f"{ATTRIBUTES}/a.txt -ansible-vault\n".encode())
     place.shell("git rm -q a.txt")
     committed(place, "vars.yml", sealed("new"))
-    leaks = {f"{leak[:10]}: a.txt": GONE.format("a.yml"), f"{leak[:10]}: vars.yml": WHOLE}
+    whys = {"a.txt": GONE.format("a.yml"), "vars.yml": WHOLE}
+    leaks = {f"{leak[:10]}: {name}": why.replace("HEAD", first[:10]) for name, why in whys.items()}
     leaked("taken back", place.run(HOOK, "--since", first), leaks)
     silent("--all sees it no more", place.run(HOOK, "--all"))
     silent("and neither what came before", place.run(HOOK, "--since", leak))
@@ -80,10 +80,10 @@ def test_several_commits(place: Place) -> None:
     bases = place.shell("git merge-base --all first HEAD").stdout.split()
     whys = {one: ("one.yml", WHOLE), two: ("two.yml", IN_PART.format("secret"))}
     assert sorted(bases) == sorted(whys)
-    leaks = {f"{head}: {whys[base][0]}": whys[base][1].replace("the parent commit", base[:10]) for base in bases}
+    leaks = {f"{head}: {whys[base][0]}": whys[base][1].replace("HEAD", base[:10]) for base in bases}
     leaked("each is compared", place.run(HOOK, "--since", "first"), leaks)
     committed(place, "other.yml", b"a: 1\n")
-    leaked("--all", place.run(HOOK, "--all"), {"one.yml": WHOLE.replace("the parent", "an earlier")})
+    leaked("--all", place.run(HOOK, "--all"), {"one.yml": WHOLE.replace("HEAD", "an earlier commit")})
     committed(place, ".gitattributes", b"/one.yml -ansible-vault\n")
     silent("--all, where plaintext is meant", place.run(HOOK, "--all"))
     committed(place, ".gitattributes", b"")
@@ -95,17 +95,18 @@ def test_merge_of_several_branches(place: Place) -> None:
     """What a merge puts in plaintext is compared with every branch, before the commit and after it."""
     under_git(place, "")
     first = committed(place, "vars.yml", b"a: 1\n")
+    whys = {}
     for name in ("one", "two"):
         place.shell(f"git checkout -qb {name}")
-        committed(place, f"{name}.yml", sealed("old"))
+        whys[f"{name}.yml"] = WHOLE.replace("HEAD", committed(place, f"{name}.yml", sealed("old"))[:10])
         place.shell("git checkout -q -")
     place.shell("git merge -q --no-commit one two")
     place.put("one.yml", TEXT)
     done = staged(place, "two.yml", TEXT)
-    ended("what is staged", done, 1, f"{HOOK}: one.yml {WHOLE}\n", f"{HOOK}: two.yml {WHOLE}\n")
+    ended("what is staged", done, 1, *(f"{HOOK}: {name} {why}\n" for name, why in whys.items()))
     merged = committed(place, "vars.yml", b"a: 1\n")[:10]
     done = place.run(HOOK, "--since", first)
-    leaked("the commit", done, {f"{merged}: one.yml": WHOLE, f"{merged}: two.yml": WHOLE})
+    leaked("the commit", done, {f"{merged}: {name}": why for name, why in whys.items()})
 
 
 def test_shallow_clones(place: Place) -> None:
@@ -136,33 +137,6 @@ def test_partial_clones(place: Place) -> None:
     for line in (f"{HOOK} --all", f"git reset -q --soft HEAD~1 && {HOOK}"):
         done = place.shell(line, folder="../partial")
         ended(line, done, 1, "this is a partial clone", "clone again without --filter")
-
-
-# The commands that make each kind of clone at `../clone`, from the repository.
-CLONES = {
-    "a separate folder for git": "git clone -q --separate-git-dir=../kept . ../clone",
-    "a submodule": "git init -q ../outer && cd ../outer && "
-    "git -c protocol.file.allow=always submodule --quiet add {tree} inner && ln -s outer/inner ../clone",
-    "a worktree of a bare clone": "git clone -q --bare . ../bare && git -C ../bare worktree add -q --detach ../clone",
-}
-
-
-@pytest.mark.parametrize("line", CLONES.values(), ids=CLONES)
-def test_kinds_of_clones(place: Place, line: str) -> None:
-    under_git(place, ATTRIBUTES)
-    place.put("deep/a.vault.yml", sealed("old"))
-    place.put("deep/b.vault.yml", TEXT)
-    done = place.shell(f"git add -A && git commit -qm one && {line.format(tree=place.tree)}")
-    assert done.returncode == 0, done.stderr
-    clone = os.path.realpath(place.path / "clone")
-    done = place.run(CHECK, *place.by_file("old"), ".", folder=clone)
-    ended("the check finds plaintext that is marked", done, 1, f"{CHECK}: ./deep/b.vault.yml: is not encrypted\n")
-    place.put(f"{clone}/deep/c.vault.yml", TEXT)
-    done = place.shell(f"git add -A && {HOOK}", folder=clone)
-    refused("and the hook", done, "deep/c.vault.yml")
-    place.put(f"{clone}/deep/a.vault.yml", TEXT)
-    place.put(f"{clone}/.gitattributes", b"")
-    ended("unmarked", place.shell(f"git add -A && {HOOK}", folder=clone), 1, f"deep/a.vault.yml {WHOLE}")
 
 
 def test_sparse(place: Place) -> None:

@@ -5,52 +5,40 @@ import shlex
 from pathlib import Path
 
 import pytest
-from companion_cases import HOOK, MERGE, TEXT, TEXTCONV, Done, Place, block, ended, sealed, silent
+from companion_cases import HOOK, MERGE, TEXT, TEXTCONV, Done, Place, ended, sealed, silent
 from companion_cases.hook_commits import ATTRIBUTES
 from companion_cases.repository import BASE, OURS, THEIRS, add_and_commit, again, fork, refused, under_git
 
 pytestmark = pytest.mark.usefixtures("git")
 
 NAMES = ["pre-commit", "pre-merge-commit"]
-THIS_ONE = "git runs these hooks for this repository and its worktrees"
-NO_SECRETS = "git diff and git merge are not set up; they need secrets: --install --vault-id "
-UNMARKED = "git diff and git merge recognize vaults by .gitattributes; for the whole team, add these lines to it:"
+NO_PASSWORDS = "git diff and git merge are not set up; they need passwords: --install --vault-id dev@~/.vault/dev.pass"
+UNMARKED = "git diff and git merge recognize vaults by .gitattributes; for the whole team, add lines to it, such as"
 MARKS = "diff=ansible-vault merge=ansible-vault"
 OR_ELSE = '|| { s=$?; [ "$s" -lt 2 ] || [ "$s" -gt 127 ] || git merge-file -q %A %O %B; exit 1; }'
 DIFF, DRIVER = SETTINGS = ["diff.ansible-vault.textconv", "merge.ansible-vault.driver"]
 
 
-def installs(what: str, done: Done, hooks: Path, told: str, which: str = THIS_ONE) -> None:
-    """Check that the output says what was installed where, for which repositories, and what was not."""
-    lines = [*(f"{hooks}/{name}: {told}" for name in NAMES), which]
-    found = done.stdout.splitlines()
-    assert (done.returncode, found[:3], done.stderr) == (0, lines, ""), what
-    assert found[3].startswith(NO_SECRETS) and found[4] == UNMARKED, what
+def installs(what: str, done: Done, hooks: Path, told: str) -> None:
+    """Check that the output says what was installed where, and what was not."""
+    wanted = [*(f"{hooks}/{name}: {told}" for name in NAMES), NO_PASSWORDS, UNMARKED, f"  vault.yml {MARKS}"]
+    assert (done.returncode, done.stdout.splitlines(), done.stderr) == (0, wanted, ""), what
 
 
-# What is said of the repositories, and the file of git's setting for the directory of the hooks, if there is any.
-PATHS = {
-    THIS_ONE: "",
-    f"{THIS_ONE}: core.hooksPath is set by .git/config": ".git/config",
-    "git runs these hooks for every repository of this user: core.hooksPath is set by {}/global": "{}/global",
-    "git runs these hooks for every repository on this machine: core.hooksPath is set by {}/system": "{}/system",
-}
-
-
-@pytest.mark.parametrize("which, file", PATHS.items())
-def test_installed(place: Place, which: str, file: str) -> None:
-    """One installation is for all worktrees, from any of their directories."""
+@pytest.mark.parametrize("file", ["", ".git/config", "../settings"])
+def test_installed(place: Place, file: str) -> None:
+    """One installation is for all worktrees, from any of their directories, wherever a setting has the hooks."""
     under_git(place, ATTRIBUTES)
     add_and_commit(place)
-    place.shell("git worktree add -q ../second && mkdir inner ../settings")
-    settings, hooks = f"{place.path}/settings", place.path / "hooks" if file else place.tree / ".git/hooks"
-    place.environment |= {"GIT_CONFIG_GLOBAL": f"{settings}/global", "GIT_CONFIG_SYSTEM": f"{settings}/system"}
+    place.shell("git worktree add -q ../second && mkdir inner")
+    place.environment["GIT_CONFIG_GLOBAL"] = f"{place.path}/settings"
+    hooks = place.path / "hooks" if file else place.tree / ".git/hooks"
     if file:
         # A relative path starts at the top directory of the repository.
         given = "../hooks" if file == ".git/config" else str(hooks)
-        place.run("git", "config", "--file", file.format(settings), "core.hooksPath", given)
+        place.run("git", "config", "--file", file, "core.hooksPath", given)
     for told in ("installed", "already installed"):
-        installs(told, place.run(HOOK, "--install", folder="inner"), hooks, told, which.format(settings))
+        installs(told, place.run(HOOK, "--install", folder="inner"), hooks, told)
     assert all((hooks / name).is_symlink() for name in NAMES)
     for folder in (".", "../second"):
         place.put(f"{folder}/a.vault.yml", TEXT)
@@ -58,7 +46,7 @@ def test_installed(place: Place, which: str, file: str) -> None:
         refused(f"it works in {folder}", done, "a.vault.yml")
     for told in ("removed", "not installed"):
         done = place.run(HOOK, "--uninstall", folder="../second")
-        lines = [*(f"{hooks}/{name}: {told}" for name in NAMES), *(f"{each}: not set" for each in SETTINGS)]
+        lines = [*(f"{hooks}/{name}: {told}" for name in NAMES), *(f"{setting}: not set" for setting in SETTINGS)]
         assert (done.returncode, done.stdout.splitlines(), done.stderr) == (0, lines, ""), told
     silent("git runs no hook", add_and_commit(place))
 
@@ -78,7 +66,7 @@ def test_other_hooks(place: Place) -> None:
     hook.unlink()
     hook.symlink_to("/nowhere/else")
     done = place.run(HOOK, "--install")
-    ended("somebody else's link", done, 1, f"{hook} points to /nowhere/else, which does not exist")
+    ended("somebody else's link", done, 1, f"{hook} exists already; add this line to it: {line}\n")
     left = f"{hook}: left alone, since --install did not make it\n{hooks}/pre-merge-commit: removed\n"
     ended("it is left", place.run(HOOK, "--uninstall"), 0, left)
     assert os.readlink(hook) == "/nowhere/else", "it stays"
@@ -106,7 +94,7 @@ def test_drivers(place: Place) -> None:
     for status in ("set to", "is already"):
         done = place.run(HOOK, "--install", *secrets)
         lines = [f"{setting}: {status} {value}" for setting, value in zip(SETTINGS, values)]
-        assert (done.returncode, done.stderr, done.stdout.splitlines()[3:]) == (0, "", lines), status
+        assert (done.returncode, done.stderr, done.stdout.splitlines()[2:4]) == (0, "", lines), status
     ended("git diff", place.shell("git show; git show HEAD^"), 0, "-one: 1\n+one: I", f"+{TEXT.decode()}")
     ended("git merge", place.shell("git merge --no-edit theirs && git show -m"), 0, "+one: I", "+four: IV")
     (place.tools / MERGE).rename(place.tools / "moved")
@@ -122,25 +110,25 @@ def test_drivers(place: Place) -> None:
 
 
 def test_settings_of_others(place: Place) -> None:
-    """Settings that --install did not make stay, whether they came before or after it, or are the user's."""
+    """Settings that run other programs stay, whether they are the repository's or the user's."""
     under_git(place, f"*.vault.yml {MARKS}\n")
     place.put("../settings", b'[diff "ansible-vault"]\ntextconv = cat --\n')
     place.environment["GIT_CONFIG_GLOBAL"] = str(place.path / "settings")
-    done = place.run(HOOK, "--install", *place.by_file("old"))
-    ended("one that was there", done, 1, f"{HOOK}: {DIFF} is already `cat --`; to change it, unset it", DRIVER)
     place.shell(f"git config {DRIVER} mine")
     done = place.run(HOOK, "--install", *place.by_file("old"))
-    ended("one that came", done, 1, f"{HOOK}: {DRIVER} is already `mine`")
+    ended("one that was there", done, 1, f"{HOOK}: {DIFF} is already `cat --`; to change it, unset it", DRIVER)
     done = place.run(HOOK, "--uninstall")
-    ended("they are left", done, 0, f"{DIFF}: left alone, since --install did not set it", f"{DRIVER}: left alone")
+    ended("they are left", done, 0, f"{DIFF}: not set", f"{DRIVER}: left alone, since --install did not set it: mine")
     assert place.shell("git config --get-regexp ansible-vault").stdout == f"{DIFF} cat --\n{DRIVER} mine\n"
+    place.shell(f"git config {DRIVER} '{MERGE} %O %A %B %L %P'")
+    ended("one that runs the driver", place.run(HOOK, "--uninstall"), 0, f"{DRIVER}: removed")
 
 
 # Secrets that a clone could bring along, or that are of no use, and why they are refused.
 REFUSED = [
     ("--install", "--vault-password-file=pass", "has to begin with / or ~"),
     ("--install", "--vault-id=dev@pass", "has to begin with / or ~"),
-    ("--all", "--vault-id=/pass", "only --install takes secrets"),
+    ("--all", "--vault-id=/pass", "only --install takes passwords"),
 ]
 
 
@@ -150,22 +138,3 @@ def test_refused_secrets(place: Place, option: str, secret: str, why: str) -> No
     before = place.get(".git/config")
     ended("it", place.run(HOOK, option, secret), 2, why)
     assert place.get(".git/config") == before and ".git/hooks/pre-commit" not in place.names(), "nothing is done"
-
-
-def test_marks(place: Place) -> None:
-    """The lines that .gitattributes lacks are printed. The file stays as it is."""
-    under_git(place, "*.vault.yml diff=ansible-vault\n")
-    done = place.run(HOOK, "--install", *place.by_file("old"))
-    assert done.stdout.splitlines()[5:] == [UNMARKED, f"  vault.yml {MARKS}"], "there is no vault yet"
-    place.put("a.vault.yml", sealed("old"))
-    place.put("inner/b.yml", sealed("old"))
-    place.put("inner/c d.yml", block("old"))
-    place.put("plain.yml", TEXT)
-    place.put("README.md", block("old"))
-    place.put("test.py", b'HEADER = "$ANSIBLE_VAULT;1.1;AES256"\n')
-    done = place.shell(f"git add -A && {HOOK} --install", folder="inner")
-    lines = done.stdout.partition(f"{UNMARKED}\n")[2].splitlines()
-    assert lines == [f"  {name} {MARKS}" for name in ("/a.vault.yml", "/inner/b.yml", '"/inner/c d.yml"')]
-    assert place.get(".gitattributes") == b"*.vault.yml diff=ansible-vault\n"
-    place.put(".gitattributes", "".join(f"{line.strip()}\n" for line in lines).encode())
-    assert UNMARKED not in place.run(HOOK, "--install").stdout, "what it says helps"

@@ -13,7 +13,6 @@ ATTRIBUTES = """\
 *.vault.yml diff=ansible-vault
 secrets/** ansible-vault
 *.vault.md diff=ansible-vault
-both.vault.yml ansible-vault
 """
 MERGE = b"<<<<<<< HEAD\na: 1\n=======\na: 2\n>>>>>>> branch\n"
 
@@ -29,10 +28,9 @@ def test_marked_files(place: Place) -> None:
     ended("all is well", place.run(*check, "."), 0, "3 decrypted, 0 not")
     faults = {
         "a.vault.yml": (TEXT, "is not encrypted"),
-        "both.vault.yml": (block("old"), "is not encrypted"),
         "d.yml": (MERGE + block("old"), "has git's conflict markers"),
         "notes.vault.md": (TEXT, "is not encrypted"),
-        "secrets/deep/vars.yml": (block("old"), "is not encrypted"),
+        "secrets/deep/vars.yml": (TEXT, "is not encrypted"),
     }
     for name, (content, _) in faults.items():
         place.put(name, content)

@@ -14,9 +14,9 @@ BOTH = OURS.replace(b"four: 4", b"four: IV")
 # With each, a text has another envelope.
 SALTS = [SALT, SALT[::-1], SALT[1:] + b"s"]
 AUTHOR = {f"GIT_{who}_{what}": "a@b" for who in ("AUTHOR", "COMMITTER") for what in ("NAME", "EMAIL")}
-WHOLE = "is not a vault, but was one in the parent commit"
-IN_PART = "has {} in plaintext, which was encrypted in the parent commit"
-GONE = "is not encrypted, and {}, which is gone, was a vault in the parent commit"
+WHOLE = "is not a vault, but was one in HEAD"
+IN_PART = "has {} in plaintext, which was encrypted in HEAD"
+GONE = "is not encrypted, and {}, which is gone, was a vault in HEAD"
 
 
 def under_git(place: Place, attributes: str) -> None:

@@ -37,8 +37,7 @@ STARTED = """
 """.split()
 # The commands of git that the companions use.
 USED = """
-    cat-file check-attr config diff-index diff-tree grep ls-files ls-tree merge-base read-tree rev-list
-    rev-parse
+    cat-file check-attr config diff-index diff-tree ls-files merge-base read-tree rev-list rev-parse
 """.split()
 
 

@@ -12,7 +12,7 @@ import pytest
 from hypothesis import given, settings
 from hypothesis import strategies as st
 
-from ansible_vault_companions.git.blobs import Blobs
+from ansible_vault_companions.git.commits import Blobs
 from ansible_vault_companions.git.review import Review, review_staged
 from companion_cases import lines_of
 from companion_cases.repository import AUTHOR, repository
@@ -162,7 +162,7 @@ def refused(folder: Path, files: Table) -> set[str]:
     with Blobs() as blobs:
         review = Review("hook", blobs)
         review_staged(review, [])
-    return {name.decode() for name, _, _ in review.reported}
+    return {name.decode() for name, _ in review.reported}
 
 
 def test_commits(tmp_path: Path, monkeypatch: pytest.MonkeyPatch) -> None:

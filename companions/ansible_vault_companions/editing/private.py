@@ -15,7 +15,7 @@ from contextlib import suppress
 
 from ansible_vault_companions.envelopes.envelope import label_of
 from ansible_vault_companions.files import reading, replacing
-from ansible_vault_companions.git.repositories import repository_of
+from ansible_vault_companions.git.repository import repository_of
 from ansible_vault_companions.program import Refused, shown
 from ansible_vault_companions.tool.tool import Decrypt, Key, Tool
 

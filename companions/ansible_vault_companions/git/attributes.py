@@ -1,4 +1,4 @@
-"""The git attributes that mark files as vaults, and those that exempt files and values."""
+"""The git attributes that mark files, and those that exempt files and values; and what a marked file must be."""
 
 from __future__ import annotations
 
@@ -6,86 +6,73 @@ import os
 import re
 from typing import Container, Iterable, NamedTuple
 
-from ansible_vault_companions.git.commands import git
-from ansible_vault_companions.git.repositories import by_repository
+from ansible_vault_companions.envelopes import conflicts, envelope
+from ansible_vault_companions.envelopes.document import Document
+from ansible_vault_companions.envelopes.envelope import LOOSE, MAGIC, STRAY
+from ansible_vault_companions.git.repository import by_repository, git
 from ansible_vault_companions.program import shown
 
-# The attributes that mark a file. The first allows a vault or YAML with blocks, the second only a vault. Unset, the
-# second exempts a file. The third exempts the values at these key paths.
-DIFF, VAULT_ALONE, PLAIN_VALUES = "diff", "ansible-vault", "ansible-vault-plain"
-# The attribute that selects the merge driver, and the name of both the diff driver and the merge driver.
-MERGE, NAME = "merge", b"ansible-vault"
-MARKS = {DIFF: NAME, VAULT_ALONE: b"set"}
+# The first attribute marks a file if it has this value, the second if it is set. Unset, the second exempts a file. The
+# third exempts the values at these key paths.
+DIFF, VAULT, PLAIN_VALUES = ATTRIBUTES = ("diff", "ansible-vault", "ansible-vault-plain")
+NAME = b"ansible-vault"
 NO_VALUES = (b"unspecified", b"set", b"unset")
-FILE = ".gitattributes"
-# git ignores lines of this many bytes.
-TOO_LONG = 2048
+FILE = b".gitattributes"
 # What needs no escape in a pattern, and what has a meaning there.
 PLAIN = re.compile(rb"[\w/.@+,-]+", re.ASCII)
 SPECIAL = re.compile(rb"[*?\[\\]")
 
+NOT_ENCRYPTED = "is not encrypted"
+DAMAGED = "is a damaged vault"
+DAMAGED_VALUE = "has a damaged value in line {}"
+ONLY_TAGGED = "has plaintext with the tag `!vault` in line {}"
+NOT_READ = "cannot be checked: {}"
+
 
 class Attributes(NamedTuple):
-    marks: set[str]
+    is_marked: bool
     is_exempt: bool
     plain_values: set[str]
 
 
 def of(names: Iterable[bytes], index: str | None = None, folder: str | None = None) -> dict[bytes, Attributes]:
     """The attributes of each file, from the index or, if a directory is given, from its files."""
-    values = _values(names, (DIFF, VAULT_ALONE, PLAIN_VALUES), index, folder)
-    return {name: _attributes(given) for name, given in values.items()}
-
-
-def _attributes(values: dict[str, bytes]) -> Attributes:
-    is_exempt, plain = values[VAULT_ALONE] == b"unset", values[PLAIN_VALUES]
-    marks = set() if is_exempt else {mark for mark, value in MARKS.items() if values[mark] == value}
-    return Attributes(marks, is_exempt, set() if plain in NO_VALUES else {*os.fsdecode(plain).split(",")})
-
-
-def drivers(names: list[bytes]) -> dict[bytes, set[str]]:
-    """Which of the attributes `diff` and `merge` name the drivers for each of these files."""
-    values = _values(names, (DIFF, MERGE), folder=".")
-    return {name: {attribute for attribute in given if given[attribute] == NAME} for name, given in values.items()}
-
-
-def _values(
-    names: Iterable[bytes], attributes: tuple[str, ...], index: str | None = None, folder: str | None = None
-) -> dict[bytes, dict[str, bytes]]:
     options = [] if folder else ["--cached"]
     data = b"".join(name + b"\0" for name in names)
-    fields = git("check-attr", *options, "-z", "--stdin", *attributes, data=data, index=index, folder=folder)
+    fields = git("check-attr", *options, "-z", "--stdin", *ATTRIBUTES, data=data, index=index, folder=folder)
+    values: dict[bytes, list[bytes]] = {}
     triples = iter(fields.split(b"\0")[:-1])
-    values: dict[bytes, dict[str, bytes]] = {}
-    for name, attribute, value in zip(triples, triples, triples):
-        values.setdefault(name, {})[attribute.decode()] = value
-    return values
+    for name, _, value in zip(triples, triples, triples):
+        values.setdefault(name, []).append(value)
+    return {name: _attributes(*given) for name, given in values.items()}
 
 
-def marks_of(paths: list[str]) -> dict[str, set[str]]:
-    """The attributes that mark each file, according to the repository that it is in, if any. A link has those of its
-    own name, too."""
-    marks: dict[str, set[str]] = {path: set() for path in paths}
+def _attributes(diff: bytes, vault: bytes, plain: bytes) -> Attributes:
+    is_exempt = vault == b"unset"
+    is_marked = not is_exempt and (diff == NAME or vault == b"set")
+    return Attributes(is_marked, is_exempt, set() if plain in NO_VALUES else {*os.fsdecode(plain).split(",")})
+
+
+def marked(paths: list[str]) -> set[str]:
+    """Those that are marked in the repository that they are in, if any. A link counts by its own name, too."""
     links = [path for path in paths if os.path.islink(path)]
-    for repositories in (by_repository(paths), by_repository(links, follows=False)):
-        for repository, names in repositories.items():
-            for name, attributes in of(names, folder=repository).items():
-                marks[names[name]] |= attributes.marks
-    return marks
-
-
-def has_ignored_line(content: bytes) -> bool:
-    return any(len(line) >= TOO_LONG for line in content.split(b"\n"))
+    return {
+        names[name]
+        for repositories in (by_repository(paths), by_repository(links, follows=False))
+        for folder, names in repositories.items()
+        for name, attributes in of(names, folder=folder).items()
+        if attributes.is_marked
+    }
 
 
 def line(name: bytes, attribute: str, names: Container[bytes]) -> str:
     """The line that gives an attribute to this file alone, behind the path of its .gitattributes. Of those with these
     names, git prefers the nearest one."""
     *folders, _ = name.split(b"/")
-    while folders and b"/".join([*folders, FILE.encode()]) not in names:
+    while folders and b"/".join([*folders, FILE]) not in names:
         folders.pop()
     above = b"".join(folder + b"/" for folder in folders)
-    return f"{shown(os.fsdecode(above) + FILE)}: {pattern(name[len(above):])} {attribute}"
+    return f"{shown(os.fsdecode(above + FILE))}: {pattern(name[len(above):])} {attribute}"
 
 
 def pattern(name: bytes) -> str:
@@ -95,3 +82,33 @@ def pattern(name: bytes) -> str:
     escaped = SPECIAL.sub(rb"\\\g<0>", name)
     text = "".join(chr(byte) if 0x20 <= byte < 0x7F and byte not in b'"\\' else f"\\{byte:03o}" for byte in escaped)
     return f'"/{text}"'
+
+
+def is_unmerged(document: Document) -> bool:
+    """Whether git's conflict markers are in an envelope or beside one, even if git has torn it."""
+    return conflicts.is_unmerged(document.data) and bool(document.values or MAGIC + b";" in document.data)
+
+
+def damage(document: Document) -> str:
+    """What is wrong with the envelopes of a file; empty if nothing is."""
+    if is_unmerged(document):
+        return conflicts.UNMERGED
+    if document.is_vault:
+        return "" if envelope.is_whole(document.data) else DAMAGED
+    envelopes = (value for value in document.values if value.is_envelope and value.style != LOOSE)
+    line = next((value.line for value in envelopes if not value.is_whole), 0)
+    return DAMAGED_VALUE.format(line) if line else ""
+
+
+def fault(document: Document) -> str:
+    """Why a marked file that is not empty is refused; empty if it is not."""
+    values = [value for value in document.values if value.style not in (STRAY, LOOSE)]
+    if not document.is_vault:
+        if document.fault and document.values:
+            return NOT_READ.format(document.fault)
+        if not any(value.is_envelope for value in values):
+            return NOT_ENCRYPTED
+        line = next((value.line for value in values if not value.is_envelope), 0)
+        if line:
+            return ONLY_TAGGED.format(line)
+    return damage(document)

@@ -8,14 +8,12 @@ from __future__ import annotations
 import re
 from collections import Counter
 from functools import reduce
-from typing import Container, Iterable, NamedTuple
+from typing import NamedTuple
 
-from ansible_vault_companions.envelopes import conflicts, envelope
 from ansible_vault_companions.envelopes.document import Document, mentions, strays
-from ansible_vault_companions.envelopes.envelope import ALIAS, JSON_KEY, NO_SCALAR, Path
+from ansible_vault_companions.envelopes.envelope import ALIAS, JSON_KEY, MAGIC, NO_SCALAR, Path
 from ansible_vault_companions.envelopes.scalars import BINARY, NotYaml, scalars
-from ansible_vault_companions.git import marked
-from ansible_vault_companions.git.attributes import DIFF
+from ansible_vault_companions.git import attributes
 
 # The key of every list item, and the key that merges a mapping into another, which is not part of a path.
 ITEM, MERGE = "[]", "<<"
@@ -24,7 +22,6 @@ NOTHING = (b"", b"~", b"null")
 STRING = r"'(?:[^'\\]|\\.)*'|\"(?:[^\"\\]|\\.)*\""
 WORDS = reduce(lambda inner, _: rf"[^{{}}'\"]|{STRING}|\{{(?:{inner})*\}}", range(4), rf"[^{{}}'\"]|{STRING}")
 JINJA = re.compile(rf"(?:\s|\{{\{{(?:{WORDS})+\}}\}})+".encode(), re.DOTALL)
-EXPRESSION = b"{{"
 # The most texts of a file, with those that aliases stand for.
 MOST = 100_000
 TOO_MANY = f"it has more than {MOST:,} values"
@@ -37,8 +34,6 @@ Texts = dict[Keys, "Counter[int]"]
 NONE: Counter[int] = Counter()
 # A path, whether an envelope is there, and the number of its text.
 Leaf = tuple[Path, bool, int]
-# With this word, every content matters.
-ANY = frozenset([b""])
 
 
 class Facts(NamedTuple):
@@ -48,39 +43,31 @@ class Facts(NamedTuple):
     fault: str = ""
     # What is wrong with its envelopes, and with the whole if it is marked.
     damage: str = ""
-    unencrypted: str = marked.NOT_ENCRYPTED
+    unencrypted: str = attributes.NOT_ENCRYPTED
     encrypted: Texts = {}
     plain: Texts = {}
-    # The plaintexts that have a Jinja expression.
-    jinja: Container[int] = ()
 
 
-def facts(data: bytes, words: frozenset[bytes] = frozenset()) -> Facts:
-    """Reads a content that may have an envelope, or has one of these words."""
+def facts(data: bytes, needs_plain: bool = False) -> Facts:
+    """Reads a content that may have an envelope, or the plaintexts of any."""
     if not data.strip():
         return Facts(is_empty=True, unencrypted="")
-    if data.startswith(envelope.MAGIC):
-        return Facts(is_vault=True, unencrypted="", damage=_damage(Document(data)))
-    if not (mentions(data) or any(word in data for word in words)):
+    if data.startswith(MAGIC):
+        return Facts(is_vault=True, damage=attributes.damage(Document(data)), unencrypted="")
+    if not (needs_plain or mentions(data)):
         return Facts()
-    document, leaves, jinja = _document(data)
-    # It may be a conflict of two vaults.
-    is_vault = any(side.startswith(envelope.MAGIC) for side in (conflicts.sides(data) or {}).values())
-    unencrypted = marked.fault(document, {DIFF})
-    made = Facts(is_vault, False, document.fault, _damage(document), unencrypted, {}, {}, jinja)
+    document, leaves = _document(data)
+    damage, unencrypted = attributes.damage(document), attributes.fault(document)
+    made = Facts(False, False, document.fault, damage, unencrypted, {}, {})
     for path, is_encrypted, text in leaves:
         texts = made.encrypted if is_encrypted else made.plain
         texts.setdefault(_keys(path), Counter())[text] += 1
     return made
 
 
-def _damage(document: Document) -> str:
-    return conflicts.UNMERGED if marked.is_unmerged(document) else marked.damage(document)
-
-
-def _document(data: bytes) -> tuple[Document, list[Leaf], set[int]]:
-    """The envelopes, the texts at each path that leads to them, and those with Jinja, from one look at the nodes."""
-    document, leaves, jinja = Document(data), list[Leaf](), set[int]()
+def _document(data: bytes) -> tuple[Document, list[Leaf]]:
+    """The envelopes, and the texts at each path that leads to them, from one look at the nodes."""
+    document, leaves = Document(data), list[Leaf]()
     # For each anchor its path, and the number of its first text.
     anchors: dict[str, tuple[Path, int]] = {}
     try:
@@ -91,17 +78,16 @@ def _document(data: bytes) -> tuple[Document, list[Leaf], set[int]]:
                 _add_again(leaves, node.path, *anchors.get(node.anchor, ((), len(leaves))))
                 continue
             anchors[node.anchor] = node.path, len(leaves)
-            text, is_encrypted = node.text.strip(), node.is_value and node.is_envelope
+            text = node.text.strip()
             if node.style != NO_SCALAR and not (text.lower() in NOTHING or JINJA.fullmatch(text)):
-                leaves.append((node.path, is_encrypted, hash(text)))
-                jinja |= {hash(text)} if EXPRESSION in text else set()
+                leaves.append((node.path, node.is_value and node.is_envelope, hash(text)))
             if len(leaves) > MOST:
                 raise NotYaml(TOO_MANY)
     except NotYaml as fault:
         document, leaves = Document(data, fault=str(fault)), []
     if BINARY not in data:
         document.values += strays(data, document.values)
-    return document, leaves, jinja
+    return document, leaves
 
 
 def _add_again(leaves: list[Leaf], path: Path, base: Path, first: int) -> None:
@@ -123,18 +109,12 @@ def _keys(path: Path) -> Keys:
 
 def written(keys: Keys) -> str:
     """A key path as in .gitattributes, with what cannot be written there percent-encoded: `users[].password`."""
-    return ".".join(key if key is ITEM else _encoded(key) for key in keys).replace(f".{ITEM}", ITEM) or "."
+    steps = (key if key is ITEM else UNWRITTEN.sub(_percents, key) for key in keys)
+    return ".".join(steps).replace(f".{ITEM}", ITEM) or "."
 
 
-def _encoded(key: str) -> str:
-    return UNWRITTEN.sub(lambda match: "".join(f"%{byte:02X}" for byte in match[0].encode()), key)
-
-
-def lost(before: Facts, after: Facts) -> list[Keys]:
-    """Where an envelope is gone. A vault keeps all."""
-    if after.is_vault:
-        return []
-    return [keys for keys, texts in before.encrypted.items() if texts - after.encrypted.get(keys, NONE)]
+def _percents(text: re.Match[str]) -> str:
+    return "".join(f"%{byte:02X}" for byte in text[0].encode())
 
 
 def came(before: Facts, after: Facts) -> set[Keys]:
@@ -142,24 +122,14 @@ def came(before: Facts, after: Facts) -> set[Keys]:
     return {keys for keys, texts in after.plain.items() if texts - before.plain.get(keys, NONE)}
 
 
-def has_new_jinja(before: Facts, after: Facts, at: Iterable[Keys]) -> bool:
-    """Whether new plaintext at these keys has a Jinja expression."""
-    new = (after.plain.get(keys, NONE) - before.plain.get(keys, NONE) for keys in at)
-    return any(text in after.jinja for texts in new for text in texts)
-
-
-def branches(paths: Iterable[Keys]) -> set[Keys]:
-    """These and those above them."""
-    return {keys[:length] for keys in paths for length in range(len(keys) + 1)}
-
-
-def touched(paths: Iterable[Keys], others: set[Keys]) -> list[Keys]:
-    """Those of the paths which are one of the others, or are above or below one."""
-    below = branches(others)
-    return [keys for keys in paths if keys in below or any(keys[:n] in others for n in range(len(keys)))]
-
-
 def now_plain(before: Facts, after: Facts) -> list[Keys]:
-    """Where there is new plaintext in place of an envelope, or at its keys, which only items of a list may share."""
-    unshared = [keys for keys in before.encrypted if ITEM not in keys]
-    return touched(dict.fromkeys([*lost(before, after), *unshared]), came(before, after))
+    """Where an envelope was and new plaintext is, at its keys, above or below. Where items of a list share the keys, an
+    envelope has to be gone."""
+    new = came(before, after)
+    above = {keys[:length] for keys in new for length in range(len(keys) + 1)}
+    return [
+        keys
+        for keys, texts in before.encrypted.items()
+        if (ITEM not in keys or texts - after.encrypted.get(keys, NONE))
+        and (keys in above or any(keys[:length] in new for length in range(len(keys))))
+    ]

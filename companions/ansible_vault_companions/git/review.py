@@ -6,93 +6,59 @@ import os
 
 from ansible_vault_companions.envelopes.envelope import MAGIC
 from ansible_vault_companions.git import commits
-from ansible_vault_companions.git.blobs import Blobs
-from ansible_vault_companions.git.commits import Change, File
-from ansible_vault_companions.git.guard import Fault, Guard
-from ansible_vault_companions.git.links import target
+from ansible_vault_companions.git.commits import Blobs, Change, Index
+from ansible_vault_companions.git.guard import Guard
+from ansible_vault_companions.git.repository import git, line
 from ansible_vault_companions.program import shown, write_error
-
-UNMERGED = Fault("is unmerged", "  resolve the conflict, for example with ansible-vault-edit, and run git add")
 
 
 class Review:
-    """Checks changes, and reports each refused file once."""
+    """Checks changes, and reports each refused content of a file once."""
 
     def __init__(self, program: str, blobs: Blobs) -> None:
         self.program = program
         self.blobs = blobs
-        self.reported: set[tuple[bytes, str, str]] = set()
+        self.reported: set[tuple[bytes, str]] = set()
 
-    def look_at(self, change: Change, index: str | None = None, where: str = "") -> None:
-        """Checks the files of a change with the attributes of an index. `where` precedes each message."""
-        if any(file.is_link for file in change.files):
-            change = change._replace(files=self._followed(change.files, index))
-        known = (blob for file in change.files for blob in (file.blob, file.before) if blob)
-        self.blobs.note_sizes([*known, *change.gone.values()])
-        guard = Guard(change, self.blobs, index)
-        for name in change.unmerged:
-            self._report(File(name, ""), UNMERGED, where)
-        for file in change.files:
-            fault = guard.fault(file)
-            if fault:
-                self._report(file, fault, where)
-
-    def _followed(self, files: list[File], index: str | None) -> list[File]:
-        """The files, with the blobs that links lead to. Links that lead out of the commit are left out."""
-        places = commits.places(index)
-        self.blobs.note_sizes(blob for mode, blob in places.values() if mode == commits.LINK_MODE)
-
-        def entry(name: bytes) -> tuple[str, str]:
-            return places.get(name, ("", ""))
-
-        def text(blob: str) -> bytes:
-            return self.blobs.read(blob) or b""
-
-        top = os.getcwdb()
-        blobs = {file: target(file.name, top, entry, text) if file.is_link else file.blob for file in files}
-        return [file._replace(blob=blob) for file, blob in blobs.items() if blob]
-
-    def _report(self, file: File, fault: Fault, where: str) -> None:
-        why = f"is a link to a file that {fault.why}" if file.is_link else fault.why
-        if (file.name, file.blob, why) in self.reported:
-            return
-        self.reported.add((file.name, file.blob, why))
-        write_error(f"{self.program}: {where}{shown(os.fsdecode(file.name))} {why}")
-        if fault.hint:
-            write_error(fault.hint)
+    def look_at(self, index: Index, changes: list[Change], where: str = "") -> None:
+        """Checks changes with the attributes of an index. `where` precedes each message. A link counts as the file that
+        it leads to, and as none if that is not in the index."""
+        for change in changes:
+            blobs = {file: index.target(file, self.blobs) if file.is_link else file.blob for file in change.files}
+            guard = Guard(Change(change.since, [file._replace(blob=blobs[file]) for file in blobs]), index, self.blobs)
+            for file, fault in guard.faults():
+                if (file.name, file.blob) in self.reported:
+                    continue
+                self.reported.add((file.name, file.blob))
+                why = f"is a link to a file that {fault.why}" if file.is_link else fault.why
+                write_error(f"{self.program}: {where}{shown(os.fsdecode(file.name))} {why}")
+                if fault.hint:
+                    write_error(fault.hint)
 
 
-def review_staged(review: Review, files: list[File]) -> None:
-    """Reviews the staged changes, and these files of the index even if they did not change."""
-    for change in [*commits.staged(), Change("", files, {})]:
-        review.look_at(change)
+def review_staged(review: Review, paths: list[str]) -> None:
+    """Reviews the staged changes, and the files at or below these paths even if they did not change."""
+    index = commits.staged()
+    named = Change("", index.at(paths) if paths else [])
+    review.look_at(index, [*index.changes(), named])
 
 
 def review_since(review: Review, name: str) -> None:
-    """Reviews each commit after this one, and their combined changes."""
-    first, last = commits.commit(name), commits.commit("HEAD")
-    names = commits.commits_since(first)
-    for each in names:
-        _review_changes(review, each, commits.of_commit(each), f"{each[:10]}: ")
-    if len(names) > 1:
-        _review_changes(review, last, commits.of_range(first, last), f"{last[:10]}: ")
-
-
-def _review_changes(review: Review, name: str, changes: list[Change], where: str = "") -> None:
-    """Reviews changes that led to a commit, with the attributes in that commit."""
-    if any(change.files for change in changes):
-        with commits.index_of(name) as index:
-            for change in changes:
-                review.look_at(change, index, where)
+    """Reviews each commit after this one, and what all of them change since the merge bases."""
+    first, last = commits.commit_of(name), commits.commit_of("HEAD")
+    for commit in git("rev-list", "--reverse", "--topo-order", f"{first}..{last}").decode().split():
+        with commits.index_of(commit) as index:
+            review.look_at(index, index.changes(), f"{commit[:10]}: ")
+    with commits.index_of(last) as index:
+        bases = line("merge-base", "--all", first, last).split()
+        review.look_at(index, [index.change(base) for base in bases], f"{last[:10]}: ")
 
 
 def review_all(review: Review) -> None:
     """Reviews all files, the changes of the last commit, and every file that was a vault in an earlier commit."""
-    name = commits.commit("HEAD")
-    files = Change("", commits.files_of(name), {})
-    earlier = commits.of_history(name)
-    blobs = {file.before for file in earlier.files if file.before}
-    review.blobs.note_sizes(blobs)
-    vaults = {blob for blob in blobs if review.blobs.read(blob, is_old=True) == MAGIC}
-    since = earlier._replace(files=[file for file in earlier.files if file.before in vaults])
-    _review_changes(review, name, [files, *commits.of_commit(name), since])
+    commit = commits.commit_of("HEAD")
+    with commits.index_of(commit) as index:
+        former = index.former(commit)
+        vaults = {file.before for file in former if review.blobs.read(file.before, is_old=True) == MAGIC}
+        were_vaults = Change("an earlier commit", sorted(file for file in former if file.before in vaults))
+        review.look_at(index, [Change("", index.at([])), *index.changes(), were_vaults])

@@ -10,8 +10,7 @@ import os
 
 from ansible_vault_companions.envelopes import conflicts
 from ansible_vault_companions.envelopes.envelope import MAGIC
-from ansible_vault_companions.git.commands import answer
-from ansible_vault_companions.git.repositories import repository_of
+from ansible_vault_companions.git.repository import answer, repository_of
 from ansible_vault_companions.merging.values import Merged, Values
 from ansible_vault_companions.merging.versions import Keys, Opened, Versions, common_key, merged_lines, opened
 from ansible_vault_companions.program import Refused, shown

@@ -6,7 +6,7 @@ import os
 from typing import AbstractSet, NamedTuple, Optional
 
 from ansible_vault_companions.envelopes import envelope
-from ansible_vault_companions.git import commands
+from ansible_vault_companions.git import repository
 from ansible_vault_companions.program import Refused
 from ansible_vault_companions.tool.tool import Decrypt, Key
 
@@ -37,7 +37,7 @@ def merged_lines(versions: Versions, size: int) -> Lines:
     names = [word for side in SIDES for word in ("-L", side)]
     words = ["merge-file", "-p", f"--marker-size={size}", *names, *(f"/proc/self/fd/{file}" for file in files)]
     try:
-        done = commands.run(*words, pass_fds=files)
+        done = repository.run(*words, pass_fds=files)
     finally:
         for file in files:
             os.close(file)

@@ -8,7 +8,7 @@ from ansible_vault_companions.envelopes import conflicts, document
 from ansible_vault_companions.envelopes.document import Document
 from ansible_vault_companions.envelopes.envelope import Value
 from ansible_vault_companions.files.reading import Unsearched
-from ansible_vault_companions.git import marked
+from ansible_vault_companions.git import attributes
 from ansible_vault_companions.parallel import Workers
 from ansible_vault_companions.passwords.sources import Password
 from ansible_vault_companions.plaintext.reports import Report, opened
@@ -24,26 +24,27 @@ class Check:
     passwords: list[Password]
     # Only envelopes with these labels are decrypted; if the list is empty, all are.
     labels: list[str]
-    # The attributes that mark each path.
-    marks: dict[str, set[str]]
+    # The paths that git's attributes mark.
+    marked: set[str]
     workers: Workers
 
     def file(self, paths: list[str], report: Report) -> None:
         """Checks the file to which these paths lead. It is marked if one of them is."""
-        marked_paths = [path for path in paths if self.marks.get(path)]
-        marks = {mark for path in marked_paths for mark in self.marks[path]}
-        path = (marked_paths or paths)[0]
+        path = next((path for path in paths if path in self.marked), paths[0])
+        is_marked = path in self.marked
         try:
             file = document.read(document.content(path))
         except Unsearched as fault:
-            raise Refused(reason(fault)) if marks else fault
-        is_prose = document.is_prose(path) and not (marks or file.is_vault)
+            raise Refused(reason(fault)) if is_marked else fault
+        is_prose = document.is_prose(path) and not (is_marked or file.is_vault)
         envelopes = [*file.envelopes().values()]
         for own in self.workers.shared(lambda value: self._value(value.place(path), value, is_prose), envelopes):
             report.add(own)
-        why = marked.conflict(file, path) or document.fault(file, path) or ("" if is_prose else _cannot_rotate(file))
-        if marks and file.data.strip() and not (why or report.faults):
-            why = marked.fault(file, marks)
+        why = document.fault(file, path) or ("" if is_prose else _cannot_rotate(file))
+        if attributes.is_unmerged(file):
+            why = f"{conflicts.UNMERGED}; {conflicts.again(path)}"
+        if is_marked and file.data.strip() and not (why or report.faults):
+            why = attributes.fault(file)
         if why:
             report.faults.append(f"{shown(path)}: {why}")
 

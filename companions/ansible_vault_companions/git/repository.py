@@ -1,0 +1,120 @@
+"""Finds the git repositories of files, and runs git there so that it starts no program that a repository names."""
+
+from __future__ import annotations
+
+import argparse
+import os
+import subprocess
+from functools import lru_cache
+from typing import Any
+
+from ansible_vault_companions import processes
+from ansible_vault_companions.files import searching
+from ansible_vault_companions.program import Refused, write_error
+
+# A stranger's repository has its own settings, hooks and attributes, which name programs. git would start the program
+# in core.fsmonitor to read an index, the hook post-index-change to write one, and a transport (and so core.sshCommand
+# or a credential helper) to fetch an object that a partial clone lacks. These are switched off. Filters, pagers, and
+# programs for diff and merge belong to git commands that are not used here.
+# `check-attr` overlooks the attributes of directories outside of a sparse checkout, so that is off as well. A directory
+# that looks like a bare repository is none, unless a variable names it. Before version 2.38, git does not know this.
+OFF = ("core.fsmonitor=false", "submodule.recurse=false", "core.sparseCheckout=false", "safe.bareRepository=explicit")
+NO_HOOKS = f"core.hooksPath={os.devnull}"
+# These commands run no hook, and need the real setting to say where the hooks are.
+OF_HOOKS = ("rev-parse", "config")
+NO_TRANSPORT = {"GIT_NO_LAZY_FETCH": "1", "GIT_ALLOW_PROTOCOL": "none"}
+
+
+def command(words: tuple[str, ...]) -> list[str]:
+    """The words of a git command that starts no program that a repository names."""
+    settings = OFF if words[0] in OF_HOOKS else (*OFF, NO_HOOKS)
+    options = [word for setting in settings for word in ("-c", setting)]
+    return ["git", "--no-pager", "--literal-pathspecs", *options, *words]
+
+
+def environment(index: str | None = None) -> dict[str, str]:
+    return {**os.environ, **NO_TRANSPORT, **({"GIT_INDEX_FILE": index} if index else {})}
+
+
+def run(
+    *words: str, data: bytes = b"", index: str | None = None, **options: Any
+) -> subprocess.CompletedProcess[bytes]:
+    """Runs a git command to its end, whatever its status."""
+    try:
+        return processes.run(command(words), data, env=environment(index), **options)
+    except FileNotFoundError:
+        raise Refused("git is not installed; install it") from None
+
+
+def git(
+    *words: str, data: bytes = b"", index: str | None = None, folder: str | None = None, is_quiet: bool = False
+) -> bytes:
+    """The output of a git command. If it fails, so does this, with git's own message. Warnings are left out."""
+    done = run(*words, data=data, index=index, cwd=folder, stderr=subprocess.PIPE)
+    if done.returncode != 0:
+        if not is_quiet:
+            write_error(done.stderr.decode(errors="replace").rstrip())
+        raise Refused(f"git {words[0]} failed")
+    return done.stdout
+
+
+def answer(*words: str, folder: str | None = None) -> bytes:
+    """The output of a git command, or nothing if it fails."""
+    try:
+        return git(*words, folder=folder, is_quiet=True)
+    except Refused:
+        return b""
+
+
+def line(*words: str) -> str:
+    """The one line that a git command prints, or nothing if it fails."""
+    return os.fsdecode(answer(*words).removesuffix(b"\n"))
+
+
+@lru_cache(maxsize=None)
+def repository_of(folder: str) -> str | None:
+    """The top directory of the repository that contains this directory, if any."""
+    while not os.path.lexists(os.path.join(folder, ".git")):
+        above = os.path.dirname(folder)
+        if above == folder:
+            return None
+        folder = above
+    return folder
+
+
+def top() -> str:
+    """The top directory of the current repository. Only git's variables may name one without `.git`."""
+    folder = line("rev-parse", "--show-toplevel") if "GIT_DIR" in os.environ else repository_of(os.getcwd())
+    if not folder:
+        raise Refused("the current directory is not in a git repository")
+    return folder
+
+
+def by_repository(paths: list[str], follows: bool = True) -> dict[str, dict[bytes, str]]:
+    """The paths in each repository, by their names there: for a link, the name of the file that it points to, or its
+    own. Files outside of repositories are left out."""
+    repositories: dict[str, dict[bytes, str]] = {}
+    for path in paths:
+        folder, own = os.path.split(path)
+        target = os.path.realpath(path) if follows else os.path.join(os.path.realpath(folder), own)
+        repository = repository_of(os.path.dirname(target))
+        if repository:
+            name = os.fsencode(os.path.relpath(target, repository))
+            repositories.setdefault(repository, {})[name] = path
+    return repositories
+
+
+def files_named(args: argparse.Namespace) -> list[list[str]]:
+    """The paths that lead to each file of a command line, and what is no file; with --tracked, of the files only those
+    that git tracks."""
+    files = searching.files_below(args.paths, args.exclude)
+    if not (args.tracked and files):
+        return files
+    repositories = by_repository([paths[0] for paths in files])
+    if not repositories:
+        raise Refused("--tracked needs a git repository, and none of these files is in one; leave it out")
+    tracked: set[str] = set()
+    for folder, names in repositories.items():
+        known = git("ls-files", "-z", folder=folder).split(b"\0")
+        tracked.update(names[name] for name in known if name in names)
+    return [paths for paths in files if paths[0] in tracked or not os.path.isfile(paths[0])]
