@@ -87,6 +87,16 @@ def test_check_and_rotate(place: Place, options: list[Pair], by_settings: list[P
             assert (text_after, stays, f"./{name}" in done.stderr) == (text, not is_rotated, not is_rotated), name
 
 
+def test_allowed_labels(place: Place) -> None:
+    """A companion refuses the labels that the program refuses, and no other."""
+    place.put("a.yml", sealed("dev"))
+    for label in ("a b", " a", "a ", "a;b", "x" * 128, "x" * 129, "é", "~", "!a:<", "a\tb", "a\x7f"):
+        words = ["--vault-id", f"{label}@{place.secret('dev')}", "a.yml"]
+        program, companion = place.run("ansible-vault", "view", *words), place.run(CHECK, *words)
+        assert (program.returncode == 0) == (companion.returncode == 0), label
+        assert ("label is not allowed" in program.stderr) == ("label is not allowed" in companion.stderr), label
+
+
 def test_within_a_plaintext(place: Place) -> None:
     """A block within the plaintext of a vault is trusted only with its own label, too."""
     inner = block("prod", label="dev")

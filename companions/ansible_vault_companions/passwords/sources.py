@@ -3,7 +3,6 @@
 from __future__ import annotations
 
 import os
-import re
 import stat
 from collections.abc import Iterable
 
@@ -15,9 +14,8 @@ from ansible_vault_companions.program import Refused, reason, shown, write_error
 # The maximum length of a password file, in bytes.
 LIMIT = 4096
 DEFAULT = "default"
-# The most passwords that the tool takes, and the labels.
-MOST = 16
-LABELS = re.compile(r"(?! )[ -:<-~]{1,128}(?<! )")
+# The most passwords that the tool takes, and the most characters of a label.
+MOST, LONGEST_LABEL = 16, 128
 # The options that ask for a password without a label, and the word for them in place of [LABEL@]FILE.
 ASKING = ("-J", "--ask-vault-password", "--ask-vault-pass")
 ASKED = f"{DEFAULT}@{ASK}"
@@ -95,7 +93,7 @@ class Password:
     def confirm(self) -> None:
         """Asks again for a password before it encrypts, if it was typed once and has decrypted nothing: after a typing
         mistake, nobody could read the vault."""
-        if self.is_prompt and not self.is_certain:
+        if self.is_prompt and not self.is_certain and not self.is_left_out:
             if not prompts.is_confirmed(self.place, self.label, self.content):
                 raise Refused(f"{shown(self.given)}: {prompts.DIFFER}")
             self.is_certain = True
@@ -186,7 +184,8 @@ def _fault(label: str, content: bytes) -> str:
         return "a password file is itself a vault"
     if not content.strip():
         return "a password is empty"
-    return "" if LABELS.fullmatch(label) else "a vault id label is not allowed"
+    is_allowed = label.isascii() and label.isprintable() and ";" not in label and label == label.strip(" ")
+    return "" if is_allowed and len(label) <= LONGEST_LABEL else "a vault id label is not allowed"
 
 
 def _printed(path: str, label: str) -> bytes:
