@@ -190,5 +190,6 @@ def test_texts_of_faults() -> None:
     """The companions use texts of the table of faults."""
     table = (ROOT / "docs" / "formats.md").read_text()
     texts = re.findall(r"^ +(?:\d+  \d)?  +([a-z-].+)$", table, re.MULTILINE)
-    used = {NOT_DECRYPTED, *(sources._fault("a;b", content) for content in (b"x", *(text for text, _ in REFUSED if text)))}
+    contents = [b"x", *(content for content, _ in REFUSED if content)]
+    used = {NOT_DECRYPTED, *(sources._fault("a;b", content) for content in contents)}
     assert len(used) == 6 and used <= set(texts)

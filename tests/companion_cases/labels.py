@@ -29,7 +29,7 @@ SECRETS: list[tuple[list[Pair], list[Pair]]] = [
 VAULTS = {f"{pair[0]}-{pair[1]}.yml": pair for pair in product(["", DEFAULT, "dev", "prod"], ["old", "dev", "prod"])}
 # The new passwords of labels.
 NEW = {DEFAULT: "new", "dev": "dev2", "prod": "prod2"}
-TOLD = re.compile(r"its label is (\S+), but \S+, a password with the label \S+, decrypts it; .*; then write (\S+) as the label")
+TOLD = re.compile(r"its label is (\S+), but \S+, a password with the label \S+, decrypts it; .*; then write (\S+) as ")
 
 
 def prepare(place: Place, options: list[Pair], by_settings: list[Pair]) -> list[str]:

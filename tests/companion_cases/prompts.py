@@ -156,7 +156,8 @@ def test_no_terminal(place: Place) -> None:
     done = place.run(*away, CHECK, "--vault-id=dev@prompt", "a.yml")
     assert outcome(done) == (1, "", f"{CHECK}: dev@prompt: {why}\n")
     done = place.run(*away, TEXTCONV, "--vault-id", "prompt", *place.by_file("dev"), "a.yml")
-    assert outcome(done) == (0, TEXT.decode(), f"{TEXTCONV}: prompt: {why}; it is ignored\n"), "it uses the other secret"
+    errors = f"{TEXTCONV}: prompt: {why}; it is ignored\n"
+    assert outcome(done) == (0, TEXT.decode(), errors), "it uses the other password"
 
 
 # Inputs, whether somebody types them, and how the output begins.
