@@ -60,9 +60,10 @@ def with_options(page: str, program: str) -> str:
 
     def entries(section: re.Match[str]) -> str:
         parts = [part.partition("\n") for part in re.split(r"^\.It ", section[2], flags=re.MULTILINE)[1:]]
-        further = {heading: "".join(text.partition(".Pp\n")[1:]) for heading, _, text in parts}
+        # The first name is the second word, whatever the value is called.
+        further = {heading.split()[1]: "".join(text.partition(".Pp\n")[1:]) for heading, _, text in parts}
         items = [(spelled(option, option.names), paragraph(option.text, values)) for option in listed]
-        return section[1] + "".join(f".It {heading}\n{text}{further.get(heading, '')}" for heading, text in items)
+        return section[1] + "".join(f".It {name}\n{text}{further.get(name.split()[1], '')}" for name, text in items)
 
     return OPTIONS.sub(entries, page, count=1)
 
