@@ -52,7 +52,7 @@ def test_leftovers(place: Place) -> None:
     done = add_and_commit(place)
     ended("it is refused", done, 1, f"{HOOK}: {name} was left behind by a companion, and may be plaintext\n")
     assert place.shell(" && ".join(done.stderr.split("`")[1::2])).returncode == 0, "it is removed as the message says"
-    for other in (".ansible-vault-abcdefgh.py", ".ansible-vault-me.new", ".ansible-vault-password"):
+    for other in (".ansible-vault-abcdefgh-new", "-ansible-vault-abcdefgh.new", ".ansible-vault-me.new"):
         place.put(other, TEXT)
     silent("files with other names", add_and_commit(place))
     assert name not in place.files() and "pwned" not in place.names()

@@ -83,15 +83,23 @@ def test_created_meanwhile(place: Place) -> None:
     assert place.get("new.yml") == b"theirs\n"
 
 
-def test_attributes_of_security_modules(place: Place) -> None:
-    """The system gives the new file these attributes. Setting or removing them takes a right that the user may lack."""
-    labelled = """
-listed = os.listxattr
-os.listxattr = lambda target: [*listed(target), "security.selinux"]
-"""
+# What a call of the system does, and why the run is refused.
+SYSTEMS = {
+    # The system gives the new file these attributes. The user may lack the right to set or remove them.
+    "labels of security modules": ("listxattr", "return ['security.selinux']", ""),
+    "no attributes": ("listxattr", f"raise OSError({errno.ENOTSUP}, 'no attributes')", ""),
+    "attributes that cannot be read": ("listxattr", f"raise OSError({errno.EIO}, 'broken')", "broken"),
+    "owners that cannot even be kept": ("fchown", "raise PermissionError(1, 'no owners')", ""),
+}
+
+
+@pytest.mark.parametrize("call, what, why", SYSTEMS.values(), ids=SYSTEMS)
+def test_metadata(place: Place, call: str, what: str, why: str) -> None:
     place.put("a.yml", sealed("old"))
-    silent("rekey", run_changed(place, WITH, labelled, ["rekey", *to_new(place), "a.yml"]))
-    assert decrypted("new", place.get("a.yml")) == TEXT
+    changed = f"def {call}(*_):\n    {what}\nos.{call} = {call}"
+    done = run_changed(place, WITH, changed, ["rekey", *to_new(place), "a.yml"])
+    wanted = (1, f"{WITH}: a.yml: {why}\n", "old") if why else (0, "", "new")
+    assert (done.returncode, done.stderr, decrypted(wanted[2], place.get("a.yml"))) == (*wanted[:2], TEXT)
 
 
 def test_access_control_lists(place: Place) -> None:

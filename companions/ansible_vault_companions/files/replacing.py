@@ -72,13 +72,13 @@ def _copy_metadata(descriptor: int, target: str, is_private: bool) -> None:
     """Copies owner, mode and extended attributes (such as ACLs), in an order in which none resets another. A private
     file gets only the owner, and the mode 0600."""
     old, new = os.stat(target), os.fstat(descriptor)
-    if stat.S_ISREG(old.st_mode) and old.st_nlink > 1:
+    if old.st_nlink > 1:
         raise Refused(f"it has {old.st_nlink} names (hard links); replace the others by symbolic links first")
     if (old.st_uid, old.st_gid) != (new.st_uid, new.st_gid):
         _give(descriptor, old.st_uid, old.st_gid)
     wanted = [] if is_private else _attributes(target)
     # Attributes that the directory gives to every new file.
-    for name in set(_attributes(descriptor)) - set(wanted):
+    for name in _attributes(descriptor):
         os.removexattr(descriptor, name)
     os.fchmod(descriptor, PRIVATE if is_private else stat.S_IMODE(old.st_mode))
     for name in wanted:
@@ -105,7 +105,7 @@ def _attributes(target: str | int) -> list[str]:
 
 def _sync(folder: str) -> None:
     try:
-        descriptor = os.open(folder, os.O_RDONLY | os.O_DIRECTORY)
+        descriptor = os.open(folder, os.O_RDONLY)
     except PermissionError:
         # The directory may be writable but not readable.
         os.sync()
