@@ -152,6 +152,13 @@ def test_mutants(tmp_path: Path) -> None:
     assert names == [f"first: {change}" for change in CHANGES.splitlines()]
 
 
+def test_accepted_mutants() -> None:
+    """Each mutant that need not be caught still exists."""
+    tool = runpy.run_path(str(ROOT / "tools" / "plant_faults"))
+    accepted = {entry["mutant"] for entry in tool["entries"]("accepted")}
+    assert accepted - {mutant.name for mutant in tool["every_mutant"]()} == set()
+
+
 # Tests, how each ends, and how with --require-all.
 SAMPLE = """\
 import conftest, os, pytest, subprocess, threading

@@ -12,13 +12,14 @@ from itertools import accumulate
 from pathlib import Path
 
 Node = ast.expr | ast.stmt
-Scope = ast.FunctionDef | ast.ClassDef
+Scope = tuple[str, Node]
 PAIRS = (ast.Lt, ast.LtE), (ast.Gt, ast.GtE), (ast.Eq, ast.NotEq), (ast.In, ast.NotIn), (ast.Is, ast.IsNot)
 OTHER_OPERATOR = {one: other() for pair in PAIRS for one, other in (pair, pair[::-1])}
 # What needs no parentheses in place of anything.
 ATOMS = (ast.Name, ast.Attribute, ast.Call, ast.Subscript, ast.Constant, ast.Pass)
-# Calls that hardly differ from their argument, and arguments and strings that are only wording.
-CONVERSIONS = ("list", "tuple", "bool", "iter", "str")
+# Calls that hardly differ from their argument, or in which the order of arguments hardly matters; and arguments and
+# strings that are only wording.
+CONVERSIONS, SYMMETRIC = ("list", "tuple", "bool", "iter", "str"), ("max", "min")
 WORDING = ("help", "description", "metavar", "title", "usage", "epilog")
 PROSE = re.compile(r"[A-Za-z`,;:.] [A-Za-z`{]|\n.*\n", re.DOTALL)
 
@@ -26,8 +27,8 @@ PROSE = re.compile(r"[A-Za-z`,;:.] [A-Za-z`{]|\n.*\n", re.DOTALL)
 @dataclass(frozen=True)
 class Mutant:
     file: Path
-    # The classes and the function, joined by dots, and their text.
-    function: str
+    # The classes and the function, joined by dots, or a constant; and the text of the innermost of them.
+    place: str
     scope: str
     # Where the file has the part that changes.
     begin: int
@@ -37,7 +38,7 @@ class Mutant:
 
     @property
     def name(self) -> str:
-        return f"{self.function}: {ast.unparse(self.old)} -> {ast.unparse(self.new)}"
+        return f"{self.place}: {ast.unparse(self.old)} -> {ast.unparse(self.new)}"
 
     def content(self) -> bytes:
         """Return the new content of the file."""
@@ -102,7 +103,8 @@ def changes(node: ast.AST, is_value: bool) -> Iterator[tuple[Node, ast.AST]]:
         case ast.Call(function, [argument], []) if is_value and ast.unparse(function) not in CONVERSIONS:
             yield node, argument
         case ast.Call(function, arguments, keywords):
-            if len(arguments) > 1 and not any(isinstance(argument, ast.Starred) for argument in arguments[:2]):
+            is_fixed = len(arguments) > 1 and not any(isinstance(argument, ast.Starred) for argument in arguments[:2])
+            if is_fixed and ast.unparse(function) not in SYMMETRIC:
                 yield node, ast.Call(function, [arguments[1], arguments[0], *arguments[2:]], keywords)
             for keyword in keywords:
                 if keyword.arg not in WORDING:
@@ -111,6 +113,8 @@ def changes(node: ast.AST, is_value: bool) -> Iterator[tuple[Node, ast.AST]]:
             yield value, ast.Constant(None)
         case ast.ExceptHandler(type=ast.Name() as kind):
             yield kind, ast.Tuple([], ast.Load())
+        case ast.Expr(ast.Call(ast.Attribute(attr="close"))):
+            return
         case ast.Expr(ast.Call()) | ast.Raise() | ast.Break() | ast.Continue() | ast.Delete() | ast.AugAssign():
             yield node, ast.Pass()
         case ast.Assign(targets=[ast.Subscript() | ast.Attribute()]):
@@ -141,9 +145,12 @@ def children(node: ast.AST) -> list[ast.AST]:
 
 
 def all_changes(node: ast.AST, scopes: tuple[Scope, ...] = ()) -> Iterator[tuple[tuple[Scope, ...], Node, ast.AST]]:
-    """Yield the classes and functions around each change, what changes, and what replaces that."""
-    if isinstance(node, (ast.FunctionDef, ast.ClassDef)):
-        scopes = (*scopes, node)
+    """Yield the classes and functions around each change, or the constant, what changes, and what replaces that."""
+    match node:
+        case ast.FunctionDef(name=name) | ast.ClassDef(name=name):
+            scopes = (*scopes, (name, node))
+        case ast.Assign([ast.Name(name)]) | ast.AnnAssign(ast.Name(name)) if not scopes:
+            scopes = ((name, node),)
     is_value = not isinstance(node, (ast.Expr, ast.Raise))
     for child in children(node):
         yield from ((scopes, old, new) for old, new in changes(child, is_value))
@@ -156,8 +163,8 @@ def mutants_of(file: Path) -> Iterator[Mutant]:
     starts = [0, *accumulate(map(len, lines))]
     for scopes, old, new in all_changes(ast.parse(content)):
         begin, end = (starts[line - 1] + column for line, column in ((old.lineno, old.col_offset), end_of(old)))
-        text = b"".join(lines[scopes[-1].lineno - 1 : end_of(scopes[-1])[0]]) if scopes else b""
-        yield Mutant(file, ".".join(scope.name for scope in scopes), text.decode(), begin, end, old, new)
+        text = b"".join(b"".join(lines[node.lineno - 1 : end_of(node)[0]]) for _, node in scopes[-1:])
+        yield Mutant(file, ".".join(name for name, _ in scopes), text.decode(), begin, end, old, new)
 
 
 def end_of(node: Node) -> tuple[int, int]:
