@@ -15,7 +15,8 @@ SHOWN = AROUND + b"secret: !vault |-\n  one\nx: !vault |-\n  two\n  three\n# end
 OTHER, MALFORMED = block("dev", label="x"), b"$ANSIBLE_VAULT;1.1\n"
 MIXED = OTHER + block("old", b" shown\n\n")
 AS_IT_IS = "shown as it is: "
-NO_SECRET, NO_VAULT = f"{AS_IT_IS}no secret decrypts this vault", f": {AS_IT_IS}it is not a vault and has no encrypted value\n"
+NO_SECRET = f"{AS_IT_IS}no secret decrypts this vault"
+NO_VAULT = f": {AS_IT_IS}it is not a vault and has no encrypted value\n"
 # The content of a file, what is printed, and the beginning of the message after the file's name, if there is one.
 CONTENTS = {
     "a vault": (sealed("old", b"\x00\xff", "prod"), b"\x00\xff", ""),
