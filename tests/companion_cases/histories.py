@@ -210,6 +210,7 @@ REFUSED: dict[str, tuple[Files, Files, dict[str, str]]] = {
         {"b.yml": IN_PART.format("db.pw of a.yml")},
     ),
     "a value of a removed file": ({"a.yml": DB}, {"c.yml": DB_PLAIN}, {"c.yml": IN_PART.format("db.pw of a.yml")}),
+    "below its keys": ({"a.yml": DB}, {"c.yml": b"db: {pw: {y: x}}\n"}, {"c.yml": IN_PART.format("db.pw of a.yml")}),
     "beside a plaintext that moves": (
         {"a.yml": PW + X, "b.yml": PLAIN},
         {"a.yml": X, "c.yml": PLAIN + b"---\n" + PLAIN},

@@ -8,7 +8,7 @@ from __future__ import annotations
 import re
 from collections import Counter
 from functools import reduce
-from typing import NamedTuple
+from typing import Iterable, NamedTuple
 
 from ansible_vault_companions.envelopes.document import Document, mentions, strays
 from ansible_vault_companions.envelopes.envelope import ALIAS, JSON_KEY, MAGIC, NO_SCALAR, Path
@@ -122,11 +122,16 @@ def came(before: Facts, after: Facts) -> set[Keys]:
     return {keys for keys, texts in after.plain.items() if texts - before.plain.get(keys, NONE)}
 
 
+def branches(paths: Iterable[Keys]) -> set[Keys]:
+    """These and those above them."""
+    return {keys[:length] for keys in paths for length in range(len(keys) + 1)}
+
+
 def now_plain(before: Facts, after: Facts) -> list[Keys]:
     """Where an envelope was and new plaintext is, at its keys, above or below. Where items of a list share the keys, an
     envelope has to be gone."""
     new = came(before, after)
-    above = {keys[:length] for keys in new for length in range(len(keys) + 1)}
+    above = branches(new)
     return [
         keys
         for keys, texts in before.encrypted.items()

@@ -135,10 +135,11 @@ class Guard:
         return Fault(why, self._meant(file, f"{PLAIN_VALUES}={values}"))
 
     def _from_elsewhere(self, file: File, now: Facts) -> set[Keys]:
-        """The keys of removed values at which there is new plaintext."""
-        if self.removed.keys().isdisjoint(now.plain):
+        """The keys of removed values at or below which there is new plaintext."""
+        if not self.removed or self.removed.keys().isdisjoint(facts.branches(now.plain)):
             return set()
-        return facts.came(self._facts(file.before, needs_plain=True), now) & self.removed.keys()
+        came = facts.came(self._facts(file.before, needs_plain=True), now)
+        return facts.branches(came) & self.removed.keys()
 
     def _stale(self, file: File, _: Facts, now: Facts) -> Fault | None:
         given = self.attributes[file.name]
