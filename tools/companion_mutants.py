@@ -17,6 +17,8 @@ PAIRS = (ast.Lt, ast.LtE), (ast.Gt, ast.GtE), (ast.Eq, ast.NotEq), (ast.In, ast.
 OTHER_OPERATOR = {one: other() for pair in PAIRS for one, other in (pair, pair[::-1])}
 # What needs no parentheses in place of anything.
 ATOMS = (ast.Name, ast.Attribute, ast.Call, ast.Subscript, ast.Constant, ast.Pass)
+# Conditions that do not change while a companion runs.
+SETTLED = ("TYPE_CHECKING", "__name__ == '__main__'")
 # Calls that hardly differ from their argument, or in which the order of arguments hardly matters; and arguments and
 # strings that are only wording.
 CONVERSIONS, SYMMETRIC = ("list", "tuple", "bool", "iter", "str"), ("max", "min")
@@ -69,7 +71,7 @@ def without(items: list[ast.expr], index: int) -> list[ast.expr]:
 def changes(node: ast.AST, is_value: bool) -> Iterator[tuple[Node, ast.AST]]:
     """Yield what changes at this node, and what replaces it."""
     match node:
-        case ast.If(ast.Name("TYPE_CHECKING")):
+        case ast.If(test) if ast.unparse(test) in SETTLED:
             return
         case ast.If(test=test) | ast.IfExp(test=test) | ast.comprehension(ifs=[test]):
             yield from ((test, ast.Constant(value)) for value in (True, False))
@@ -137,7 +139,9 @@ def children(node: ast.AST) -> list[ast.AST]:
             return [] if is_type or name in ("__all__", "TYPE_CHECKING") else [value]
         case ast.keyword(arg=name) if name in WORDING:
             return []
-        case ast.Expr(ast.Constant()) | ast.Assert() | ast.If(ast.Name("TYPE_CHECKING")):
+        case ast.If(test) if ast.unparse(test) in SETTLED:
+            return []
+        case ast.Expr(ast.Constant()) | ast.Assert():
             return []
         case ast.JoinedStr(parts):
             return [part.value for part in parts if isinstance(part, ast.FormattedValue)]
