@@ -6,8 +6,8 @@ from collections import Counter
 from itertools import product
 from operator import attrgetter
 
-from companion_cases import BODY, CHECK, NOBODY, PASSWORDS, ROTATE, TEXT, TEXTCONV, Place, block, decrypted, ended
-from companion_cases import lines_of, sealed, summary, texts, to_new, without_digits
+from companion_cases import CHECK, NOBODY, PASSWORDS, ROTATE, TEXT, TEXTCONV, Place, block, decrypted, ended, sealed
+from companion_cases import summary, texts, to_new, without_digits
 from lib.needs import needs, needs_root
 from model.vaults import seal
 
@@ -163,44 +163,6 @@ def test_closed_output(place: Place) -> None:
         place.put(f"{number}.yml", sealed("old"))
     place.shell(f"{ROTATE} --jobs 1 {' '.join(to_new(place))} . | :", "bash")
     assert {content == sealed("old") for content in place.files().values()} == {True, False}
-
-
-# The content of a file, and how many of its envelopes are rotated.
-FILES = {
-    "no last line end": (b"a: !vault |\n" + BODY, 1),
-    "CR LF": (b"---\r\na: !vault |\r\n" + lines_of(sealed("old"), 6, b"\r\n") + b"\r\nb: 1\r\n", 1),
-    "lists": (b"a:\n  - !vault |\n" + lines_of(sealed("old"), 4) + b"\n  - b\n  - - !vault |\n" + BODY + b"\n", 2),
-    "a vault with CR LF": (sealed("old").replace(b"\n", b"\r\n"), 1),
-    "marks": (
-        b"a: !vault |-\n" + BODY + b"\nb: !vault |2+   # why\n" + lines_of(sealed("old", label="default"), 2) + b"\n",
-        2,
-    ),
-    "an anchor": (b"a: &x !vault |\n" + BODY + b"\nb: !vault-encrypted &y |\n" + BODY + b"\nc: *x\n", 2),
-    "a document of its own": (b"a\n--- !vault |\n" + lines_of(sealed("old"), 0) + b"\n", 1),
-    "digits as keys": (b"a: !vault |\n" + BODY + b"\ndeadbeef: 1\nabcd\n", 1),
-    "empty lines": (b"\n\na: !vault |\n\n\n" + BODY + b"\n\n\nb:\n\n", 1),
-    "upper case": (b"a: !vault |\n" + re.sub(rb"(?m)^ +[0-9a-f]+$", lambda found: found[0].upper(), BODY) + b"\n", 1),
-    "bytes of any kind": (b"\xef\xbb\xbf# \xff\x85\xe2\x80\xa8\t\r\na: !vault |\n" + BODY + b"\n# \x0c \xfe", 1),
-    "a comment like a block": (b"# $ANSIBLE_VAULT;1.1;AES256\na: !vault |\n" + BODY + b"\n#  6162\n", 1),
-    "within a text": (b"script: |\n  x: !vault |\n" + lines_of(sealed("old"), 6) + b"\n  y: 1\n", 1),
-}
-
-
-def test_around(place: Place) -> None:
-    """All around the digits stays. A dry run writes nothing, and tells with its status whether anything is left."""
-    for name, (content, _) in FILES.items():
-        place.put(name, content)
-    dry, count = [ROTATE, "--dry-run", *to_new(place), "."], sum(count for _, count in FILES.values())
-    lines = ["./a vault with CR LF: would be rotated\n", "./lists: 2 would be rotated\n"]
-    ended("a dry run", place.run(*dry), 1, *lines, summary(count).replace("rotated", "to be rotated", 1))
-    assert place.files() == {name: content for name, (content, _) in FILES.items()}, "nothing is written"
-    ended("blocks", place.run(ROTATE, *to_new(place), "."), 0, summary(count))
-    wanted = {
-        name: (without_digits(content).replace(b"1.2;AES256;default", b"1.1;AES256"), [TEXT] * count)
-        for name, (content, count) in FILES.items()
-    }
-    assert {name: (without_digits(after), texts(after, "new")) for name, after in place.files().items()} == wanted
-    ended("nothing is left", place.run(*dry), 0, summary(0, count).replace("rotated", "to be rotated", 1))
 
 
 # Makes a run of this command wait until another one has started, and fail if none does.

@@ -18,15 +18,13 @@ from hypothesis import strategies as st
 
 from ansible_vault_companions.envelopes import conflicts, document, envelope
 from ansible_vault_companions.envelopes.envelope import LOOSE, STRAY, TAGS, Path
-from companion_cases import BODY, CHECK, ROTATE, Place, block, ended, sealed, silent, summary, to_new
-from companion_cases.repository import IN_PART, again, leaked, staged, with_hooks
+from companion_cases import BODY, CHECK, ROTATE, Place, block, ended, lines_of, sealed, summary, to_new
 from lib.needs import needs_pyyaml
 
 needs_pyyaml()
 import yaml
 
 LINE = sealed("old").decode().replace("\n", "\\n")
-OF_PROD = sealed("prod", label="prod").decode().replace("\n", "\\n")
 COMMENT = b"".join(b"# " + line for line in block("old").splitlines(keepends=True))
 DIGITS = "".join(sealed("old").decode().splitlines()[1:])
 MAGIC = "$ANSIBLE_VAULT"
@@ -50,35 +48,55 @@ FORMS = {
     "a damaged header": (b"$ANSIBLE_VAULT;1.1\n61\n", " line is malformed"),
     "not ASCII.yml": ("$ANSIBLE_VAULT;1.1;AES256\n# größe\n".encode() + block("old"), "vault body is not hexadecimal"),
     "a null character.yml": (block("old") + b"\0", "it cannot be read as YAML: it has a null character"),
+    "a vault with CR LF": (sealed("old").replace(b"\n", b"\r\n"), ""),
+    "a label that says nothing": (b"a: !vault |2+   # why\n" + lines_of(sealed("old", label="default"), 2), ""),
+    "a document of its own": (b"a\n--- !vault |\n" + sealed("old"), ""),
+    "digits as keys": (block("old") + b"deadbeef: 1\nabcd\n", ""),
+    "upper case": (re.sub(rb"(?m)^ +[0-9a-f]+$", lambda row: row[0].upper(), block("old")), ""),
+    "bytes of any kind": (b"\xef\xbb\xbf# \xff\x85\xe2\x80\xa8\t\r\n" + block("old") + b"# \x0c \xfe", ""),
+    "a comment like a value": (b"# $ANSIBLE_VAULT;1.1;AES256\n" + block("old") + b"#  6162\n", ""),
+    "within a text": (b"script: |\n  x: !vault |\n" + lines_of(sealed("old"), 6) + b"\n  y: 1\n", ""),
 }
+# Unusual headers, which are read like any other.
+for header in (f"{MAGIC} ;1.2;AES256;default", f"{MAGIC}_x; 1.1 ;AES256", f"{MAGIC};1.1;\tAES256;default"):
+    for vault in (sealed("old"), block("old")):
+        FORMS[f"{len(FORMS)} {header}"] = vault.replace(b"$ANSIBLE_VAULT;1.1;AES256", header.encode()), ""
 
 
 def test_forms(place: Place) -> None:
-    """The check names what is not rotated, and nothing else."""
+    """The check names what is not rotated, and nothing else. A dry run writes nothing, and tells with its status whether
+    anything is left."""
     for name, (content, _) in FORMS.items():
         place.put(name, content)
     before, left = place.files(), {name: why for name, (_, why) in FORMS.items() if why}
     rotate, check = [ROTATE, *to_new(place), "."], [CHECK, *place.by_file("old"), "."]
     rotated, failed = len(FORMS) - len(left), len(left)
-    for words, counts in ((check, f"{rotated} decrypted, {failed} not"), (rotate, summary(rotated, failed=failed))):
+    counts = summary(rotated, failed=failed)
+    for words, told in (
+        (check, f"{rotated} decrypted, {failed} not"),
+        ([*rotate, "--dry-run"], counts.replace("rotated", "to be rotated", 1)),
+        (rotate, counts),
+    ):
+        assert place.files() == before
         done = place.run(*words)
-        ended(words[0], done, 1, counts)
-        found = {name: "".join(line for line in done.stderr.splitlines() if f"./{name}:" in line) for name in FORMS}
-        assert [name for name, line in found.items() if bool(line) != (name in left)] == [], (words[0], found)
-        assert [name for name, why in left.items() if why not in found[name]] == [], (words[0], found)
+        ended(words[0], done, 1, told)
+        lines = {name: "".join(line for line in done.stderr.splitlines() if f"./{name}:" in line) for name in FORMS}
+        assert [name for name, line in lines.items() if bool(line) != (name in left)] == [], (words[0], lines)
+        assert [name for name, why in left.items() if why not in lines[name]] == [], (words[0], lines)
     assert {name for name, content in place.files().items() if content == before[name]} == left.keys()
     ended("again", place.run(*rotate), 1, summary(0, rotated, failed=failed))
+    for name in left:
+        (place.tree / name).unlink()
+    done = place.run(*rotate, "--dry-run")
+    ended("nothing is left", done, 0, summary(0, rotated).replace("rotated", "to be rotated", 1))
 
 
-@pytest.mark.parametrize("name", [name for name, (_, why) in FORMS.items() if "joined" in why or "within" in why])
-def test_labels_of_joined_lines(place: Place, name: str) -> None:
+def test_labels_of_joined_lines() -> None:
     """The label of an envelope that cannot be replaced ends where its line would."""
-    content = FORMS[name][0].replace(b"1.1;AES256", b"1.2;AES256;prod")
-    place.put("vars", content)
-    done = place.run(ROTATE, *place.by_id("prod", "old"), *place.by_id("prod", "new", "new-"), ".")
-    ended(name, done, 1, FORMS[name][1], summary(0, failed=1))
-    done = place.run(CHECK, *place.by_id("prod", "old"), "--label", "prod", ".")
-    ended(name, done, 1, f": prod: {FORMS[name][1]}", "0 decrypted, 1 not, 0 with other labels")
+    for content, why in FORMS.values():
+        if "joined" in why or "within" in why:
+            read = document.read(content.replace(b"1.1;AES256", b"1.2;AES256;prod"))
+            assert [value.label for value in read.envelopes().values()] == ["prod"], content
 
 
 def test_yaml_that_cannot_be_read(place: Place) -> None:
@@ -94,14 +112,6 @@ def test_yaml_that_cannot_be_read(place: Place) -> None:
     assert done.returncode == 1
     for line, (name, why) in zip(done.stderr.splitlines(), whys.items(), strict=True):
         assert line.startswith(f"{CHECK}: ./{name}: ") and why in line, line
-
-
-def test_several_in_a_line(place: Place) -> None:
-    """Each envelope in a line counts, with its own label."""
-    for name, lines in {"a.json": (LINE, OF_PROD), "b.json": (OF_PROD, LINE), "c.json": (LINE, LINE)}.items():
-        place.put(name, '{{"x": "{}", "y": "{}"}}'.format(*lines).encode())
-    ended("minified JSON", place.run(ROTATE, *to_new(place), "."), 0, summary(4, 0, 2, " (prod 2)"))
-    assert [len(json.loads(place.get(f"{name}.json"))) for name in "abc"] == [2, 2, 2]
 
 
 # Each piece is repeated to make a hostile file.
@@ -252,6 +262,12 @@ def walked(node: yaml.Node, path: Path, seen: set[int]) -> Iterator[Composed]:
             yield from walked(item, (*path, key.value if isinstance(key, yaml.ScalarNode) else ""), seen)
 
 
+def around(data: bytes) -> list[bytes]:
+    """What is before, between and behind the envelopes."""
+    places = [0, *(place for value in document.read(data).values for place in (value.start, value.end)), len(data)]
+    return [data[begin:end] for begin, end in zip(places[::2], places[1::2])]
+
+
 COUNTS: Counter[str] = Counter()
 
 
@@ -271,6 +287,7 @@ def check_random_yaml(random: Random, loader: type) -> None:
         assert texts == [(value.path, value.text.strip()) for value in wanted], data
         new = {number: NEW for number, value in enumerate(read.values) if random.random() < 0.5}
         after = read.with_envelopes(new)
+    assert around(after) == around(data), (data, after)
     replaced = [(path, new[n].decode().strip() if n in new else text) for n, (path, text) in enumerate(texts)]
     assert [(value.path, value.text.strip()) for value in composed(after) or []] == replaced, (data, after)
     COUNTS.update(values=len(wanted), replaced=len(new), **{value.style: 1 for value in values})
@@ -293,28 +310,6 @@ def test_random_bytes(data: bytes) -> None:
         assert 0 <= value.begin <= value.start <= value.end <= len(data) or value.style == STRAY, value
 
 
-@pytest.mark.parametrize("header", [f"{MAGIC} ;1.2;AES256;old", f"{MAGIC}_x; 1.1 ;AES256", f"{MAGIC};1.1;\tAES256;x"])
-def test_headers(place: Place, header: str) -> None:
-    """A vault or block with an unusual header is checked and rotated like any other."""
-    for name, content in {"whole.yml": sealed("old"), "vars.yml": block("old")}.items():
-        place.put(name, content.replace(b"$ANSIBLE_VAULT;1.1;AES256", header.encode()))
-    ended("a wrong password", place.run(CHECK, *place.by_file("new"), "."), 1, "0 decrypted, 2 not")
-    label = (header.split(";")[3:] or ["default"])[0]
-    secrets = [*place.by_id(label, "old"), *place.by_id(label, "new", "new-")]
-    ended("rotate", place.run(ROTATE, *secrets, "."), 0, summary(2))
-
-
-def test_moves(place: Place) -> None:
-    """The hook refuses plaintext in another file, even if the value began with an escape, but not the value itself."""
-    needs_pyyaml()
-    with_hooks(place)
-    value = b'secret: !vault "\\x24ANSIBLE_VAULT;1.1;AES256\\n%s"\n' % DIGITS.encode()
-    silent("the hook", again(place, "a.yml", b"x: 1\n" + value))
-    place.put("a.yml", b"x: 1\n")
-    leaked("plaintext", staged(place, "b.yml", b"secret: plain\n"), {"b.yml": IN_PART.format("secret of a.yml")})
-    silent("the value", again(place, "b.yml", value))
-
-
 BEGINNINGS = [MAGIC, MAGIC, f"{MAGIC}_2", f"{MAGIC} {MAGIC}", f"{MAGIC} x"]
 BLANKS = ["", "", " ", "\t", "  "]
 
@@ -325,7 +320,7 @@ def header_of(random: Random, *fields: list[str]) -> str:
 
 
 def test_valid_headers(place: Place, pytestconfig: pytest.Config) -> None:
-    """The companions call a vault whole if the program reads it, unless further fields follow."""
+    """The companions call a vault whole if the program reads it, unless further fields follow, and find its label."""
     counts: Counter[bool] = Counter()
     first = [*BEGINNINGS, MAGIC + "x" * 226, MAGIC + "x" * 225, f"{MAGIC}é"]
     label = ["", "prod", "p r", "x" * 128, "x" * 129, "\x7f", "é", "a\tb", "\x0b"]
@@ -337,6 +332,8 @@ def test_valid_headers(place: Place, pytestconfig: pytest.Config) -> None:
         done = place.run_on(vault, "ansible-vault", "view", *place.by_file("old"))
         is_valid = done.returncode == 0
         assert envelope.is_whole(vault) == (is_valid and header.count(";") < 4), (header, done.stderr)
+        if is_valid:
+            assert envelope.label_of(vault) == ([*header.split(";"), ""][3].strip() or "default"), header
         counts[is_valid] += 1
     assert min(counts[True], counts[False]) > 20, counts
 
