@@ -10,8 +10,8 @@ import pytest
 from ansible_vault_companions import program
 from ansible_vault_companions.passwords import sources
 from ansible_vault_companions.tool.tool import NOT_DECRYPTED
-from companion_cases import CHECK, EDIT, HOOK, MERGE, PASSWORDS, ROTATE, TEXT, TEXTCONV, WITH, Place, block, ended
-from companion_cases import sealed, summary
+from companion_cases import BODY, CHECK, EDIT, HOOK, MERGE, PASSWORDS, ROTATE, TEXT, TEXTCONV, WITH, Place, block
+from companion_cases import ended, sealed, summary
 from lib.paths import COMPANIONS, ROOT
 from lib.processes import run_text
 from model.vaults import seal
@@ -24,6 +24,8 @@ def test_labels_and_secrets(place: Place) -> None:
     place.put("c.yml", b"x: 1\n" + block("dev", label="dev") + block("prod", name='"\x1b[2J"'))
     place.put("d.yml", sealed("old", label="default"))
     place.put("e.yml", block("new", label="stage"))
+    place.put("f.json", b'{"x": {"__ansible_vault": "%s"}}' % sealed("old").replace(b"\n", b"\\n"))
+    place.put("g.yml", b"x:\n- y: &z !vault |- # why\n" + BODY + b"\n- !vault-encrypted |\n" + BODY)
     place.put("header.yml", b"$ANSIBLE_VAULT\x1b[31m;1.1\n")
     secrets = [*place.by_file("prod"), *place.by_id("dev", "dev"), *place.by_id("prod", "prod"), *place.by_file("old")]
     before, (default, dev, prod, old) = place.files(), secrets[1::2]
@@ -35,7 +37,10 @@ def test_labels_and_secrets(place: Place) -> None:
         f"./c.yml:3: secret: dev: decrypted by {dev}",
         f"./c.yml:{line}: '\\x1b[2J': default: decrypted by {default}",
         f"./d.yml: default: decrypted by {old}",
-        "5 decrypted, 3 not",
+        f"./f.json:1: x: default: decrypted by {old}",
+        f"./g.yml:3: y: default: decrypted by {old}",
+        f"./g.yml:{4 + len(BODY.splitlines())}: default: decrypted by {old}",
+        "8 decrypted, 3 not",
     ]
     found = done.stdout.splitlines(), len(done.stderr.splitlines()), place.files()
     assert found == (wanted, 3, before), "what is decrypted, and nothing is written"

@@ -2,10 +2,8 @@
 
 import pytest
 
-from ansible_vault_companions.envelopes import document
 from companion_cases import CHECK, TEXT, Place, block, ended, sealed
 from companion_cases.repository import under_git
-from lib.needs import needs_pyyaml
 
 pytestmark = pytest.mark.usefixtures("git")
 
@@ -90,20 +88,3 @@ def test_some_labels(place: Place) -> None:
     place.put("d.yml", b"$ANSIBLE_VAULT;1.1\n")
     done = place.run(CHECK, *dev, "--label", "dev", ".")
     ended("one without a header", done, 1, "./d.yml: no label: vault header line is malformed", "2 decrypted, 1 not")
-
-
-def test_names_of_variables() -> None:
-    needs_pyyaml()
-    lines = {
-        b"a: !vault |\n": "a",
-        b"list:\n  - b: !vault |\n": "b",
-        b'"c d": &x !vault |-  # why\n': "c d",
-        b"x:\n  nested:    !vault-encrypted |\n": "nested",
-        b"- !vault |\n": "",
-        b"# e: !vault |\n": "",
-    }
-    rows = block("old").partition(b"\n")[2]
-    found = {line: [(value.name, value.line) for value in document.read(line + rows).values] for line in lines}
-    assert found == {line: [(name, line.count(b"\n") + 1)] for line, name in lines.items()}
-    [value] = document.read(b'{"f": {"__ansible_vault": "%s"}}' % sealed("old").replace(b"\n", b"\\n")).values
-    assert value.name == "f"
