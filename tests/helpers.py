@@ -98,8 +98,8 @@ ENDS = {
     "a test fails": (1, "FAILED tests/a.py::test_b - why\n", "caught", "caught"),
     "no test fails": (0, "1 passed\n", "failed", "survived"),
     "a test is skipped": (0, "SKIPPED [1] tests/a.py:2: why\n1 passed, 1 skipped\n", "skipped", "survived"),
-    "a test takes too long": (1, "FAILED tests/a.py::test_b - Failed: Timeout >9.0s\n", "caught", "survived"),
-    "all take too long": (124, "2 passed\n", "failed", "survived"),
+    "a test takes too long": (1, "FAILED tests/a.py::test_b - Failed: Timeout >9.0s\n", "caught", "undecided"),
+    "all take too long": (124, "2 passed\n", "failed", "undecided"),
     "a file cannot be imported": (2, "ERROR tests/a.py - why\n", "failed", "caught"),
     "pytest does not start": (1, "No module named pytest\n", "failed", "failed"),
 }
