@@ -117,7 +117,7 @@ def _fault(args: Namespace) -> str:
     count = len(args.arguments)
     if args.command == CREATE and count > 1:
         return "create takes one FILE"
-    if args.command == REKEY and len(args.new_vault_id) + len(args.new_vault_password_file) > 1:
+    if len(args.new_vault_id) + len(args.new_vault_password_file) > 1:
         return "rekey takes one new password"
     if args.command == ENCRYPT_STRING:
         count += args.prompt + (STANDARD_INPUT not in args.arguments and args.stdin_name is not None)
