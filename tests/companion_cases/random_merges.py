@@ -20,8 +20,7 @@ from hypothesis import strategies as st
 from ansible_vault_companions.envelopes import conflicts
 from ansible_vault_companions.envelopes.envelope import MAGIC, label_of
 from ansible_vault_companions.merging import texts
-from ansible_vault_companions.merging.values import Merged
-from ansible_vault_companions.merging.versions import Versions
+from ansible_vault_companions.merging.versions import Merged, Versions
 from ansible_vault_companions.passwords import sources
 from ansible_vault_companions.passwords.sources import Password
 from ansible_vault_companions.tool.tool import NotDecrypted, Tool

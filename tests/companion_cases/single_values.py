@@ -12,7 +12,6 @@ from ansible_vault_companions.editing.drafts import SingleValue
 from ansible_vault_companions.editing.matching import Choice
 from ansible_vault_companions.editing.values import nodes
 from ansible_vault_companions.envelopes.envelope import ALIAS
-from ansible_vault_companions.envelopes.keypath import typed, values_at
 from ansible_vault_companions.program import Refused
 from companion_cases import EDIT, TEXTCONV, Done, Place, block, ended, sealed, silent, texts
 from companion_cases.terminal import READING, ask
@@ -217,7 +216,7 @@ def test_anything() -> None:
         if tagged(data) is None or b"\xc2\x85" in data or b"\0" in data:
             continue
         before = nodes(data).values
-        for path in {typed(value.path) for value in before if not value.is_key}:
+        for path in {value.typed_path for value in before if not value.is_key}:
             try:
                 value = SingleValue("", data, path, decrypt, Choice([SECRET], "default"))
                 after = value.encrypted(Hexadecimal(), b"neu")
@@ -225,9 +224,9 @@ def test_anything() -> None:
                 counts["refused"] += 1
                 continue
             counts["set" if value.value.is_envelope else "new"] += 1
-            [new] = values_at(nodes(after), path)
+            [new] = nodes(after).values_at(path)
             assert (new.is_tagged, decrypt(new.text)[1]) == (True, b"neu"), (data, path)
-            others = [[node for node in every if typed(node.path) != path] for every in (before, nodes(after).values)]
+            others = [[node for node in every if node.typed_path != path] for every in (before, nodes(after).values)]
             read = [[(node.path, node.style == ALIAS or node.text) for node in every] for every in others]
             assert read[0] == read[1], (data, path)
     assert min(counts.values()) > 100 and len(counts) == 3, counts

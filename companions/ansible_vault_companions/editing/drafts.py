@@ -11,10 +11,10 @@ from typing import TYPE_CHECKING, Union
 from ansible_vault_companions import processes
 from ansible_vault_companions.editing.matching import Choice, place_of
 from ansible_vault_companions.editing.values import YamlFile, closed_block, nodes, written
-from ansible_vault_companions.envelopes import conflicts, document, keypath
+from ansible_vault_companions.envelopes import conflicts, document
 from ansible_vault_companions.envelopes.changes import Change, changed
 from ansible_vault_companions.envelopes.document import Document
-from ansible_vault_companions.envelopes.envelope import ALIAS, MAGIC, NO_SCALAR, Path, Value, label_of
+from ansible_vault_companions.envelopes.envelope import ALIAS, MAGIC, NO_SCALAR, Path, Value, label_of, quoted
 from ansible_vault_companions.files import reading
 from ansible_vault_companions.passwords.sources import NO_OPTION, Password
 from ansible_vault_companions.program import Refused, shown
@@ -70,7 +70,7 @@ class SingleValue:
         if content is None and not is_chosen:
             raise FileNotFoundError(errno.ENOENT, os.strerror(errno.ENOENT), target)
         self.text = _tagged(content or b"", path, is_chosen)
-        self.value = keypath.value_at(self.text, path)
+        self.value = self.text.value_at(path)
         # The old text, if the secret that opens it is to encrypt the new one.
         self.before: bytes | None = None
         if is_chosen:
@@ -176,12 +176,12 @@ def _tagged(data: bytes, path: str, is_chosen: bool) -> Document:
     if conflicts.is_unmerged(data):
         raise Refused(f"it {conflicts.UNMERGED}")
     file = nodes(data)
-    if is_chosen and KEY.fullmatch(path) and not keypath.values_at(file, path):
-        key = path if SIMPLE_KEY.fullmatch(path) else keypath.quoted(path)
+    if is_chosen and KEY.fullmatch(path) and not file.values_at(path):
+        key = path if SIMPLE_KEY.fullmatch(path) else quoted(path)
         end = b"" if data.endswith(b"\n") or not data else b"\n"
         tag = Change(len(data), len(data), b'%s%s: !vault ""\n' % (end, key.encode(errors="surrogateescape")))
     else:
-        value = keypath.value_at(file, path)
+        value = file.value_at(path)
         if value.is_tagged and value.is_envelope:
             return file
         if not is_chosen:
@@ -198,6 +198,6 @@ def _tagged(data: bytes, path: str, is_chosen: bool) -> Document:
 
 def _others(file: Document, path: str) -> list[tuple[Path, str, bytes]]:
     """All nodes except the value, and except the empty one of a file without any."""
-    here = keypath.values_at(file, path)
+    here = file.values_at(path)
     others = [value for value in file.values if (value.path or value.text) and value not in here]
     return [(value.path, value.tag, value.text) for value in others]

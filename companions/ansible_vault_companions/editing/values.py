@@ -12,7 +12,7 @@ from typing import Callable
 from ansible_vault_companions import parallel
 from ansible_vault_companions.editing import matching
 from ansible_vault_companions.editing.matching import Choice, Opened, place_of
-from ansible_vault_companions.envelopes import conflicts, keypath
+from ansible_vault_companions.envelopes import conflicts
 from ansible_vault_companions.envelopes.changes import HEADER, UNSHOWN, Change, changed, column, in_plaintext, indented
 from ansible_vault_companions.envelopes.document import Document
 from ansible_vault_companions.envelopes.envelope import ALIAS, LITERAL, MAGIC, NO_SCALAR, PLAIN, TAGS, Path, Value
@@ -93,7 +93,7 @@ class YamlFile:
         paths, texts = {value.path for value in self.tagged.values()}, {old.plaintext for old in self.opened.values()}
         plain = [value for value in nodes(text).values if value.text and value.path in paths and not value.is_tagged]
         is_same = lambda value: value.text in texts or not any(isinstance(step, int) for step in value.path)
-        return [keypath.typed(value.path) for value in filter(is_same, plain)]
+        return [value.typed_path for value in filter(is_same, plain)]
 
 
 def nodes(data: bytes) -> Document:

@@ -19,7 +19,7 @@ from ansible_vault_companions.envelopes.changes import changed, replaced
 from ansible_vault_companions.envelopes.envelope import LOOSE, MAGIC, STRAY, WHOLE, WITH_DIGITS, Value
 from ansible_vault_companions.envelopes.scalars import BINARY, NotYaml, scalars
 from ansible_vault_companions.files.reading import LIMIT, TooLong, Unsearched, opened, parts, whole
-from ansible_vault_companions.program import Refused
+from ansible_vault_companions.program import Refused, shown
 
 # A file with an envelope has one of these words, or spells it with escapes, which take no more than OVERLAP bytes.
 WORDS = (b"ANSIBLE_VAULT", b"!vault", b"__ansible_vault", b"%TAG")
@@ -35,6 +35,10 @@ LINES_OF_STRAY = re.compile(
 # Documents. An envelope in one that no password opens is an example.
 PROSE = (".md", ".rst", ".adoc", ".html")
 YAML = (".yml", ".yaml", ".json")
+
+# The number of a list item in a typed path, and how many values a message lists if such a path leads nowhere.
+NUMBER, MOST_LISTED = re.compile(r"\[\d+\]"), 20
+NUMBER_THEM = "number the items of lists, as in `users[0].name`"
 
 
 @dataclass
@@ -60,6 +64,26 @@ class Document:
         if not self.is_vault and [(value.path, value.text.strip()) for value in read(after).values] != wanted:
             raise Refused(NO_PLACE)
         return after
+
+    def values_at(self, path: str) -> list[Value]:
+        """The encrypted values at a typed path, or else all values there, among all nodes. A list item may also be
+        written as `[]`."""
+        names = ((value, value.typed_path) for value in self.values)
+        values = [value for value, name in names if path in (name, NUMBER.sub("[]", name))]
+        return [value for value in values if value.is_value] or values
+
+    def value_at(self, path: str) -> Value:
+        """The only one of the values at a typed path."""
+        values = self.values_at(path)
+        if not values:
+            names = [shown(value.typed_path) for value in self.values if value.is_envelope]
+            listed = f"; encrypted here: {', '.join(names)}" if 0 < len(names) <= MOST_LISTED else ""
+            raise Refused(f"there is no value {shown(path)}{listed}")
+        if len(values) > 1:
+            is_twice = len({value.path for value in values}) < len(values)
+            hint = "a key is there twice, so rename one" if is_twice else NUMBER_THEM
+            raise Refused(f"{len(values)} values are at {shown(path)}; {hint}")
+        return values[0]
 
 
 def mentions(data: bytes) -> bool:

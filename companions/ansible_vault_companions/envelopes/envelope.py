@@ -38,6 +38,9 @@ JOINED = (
 )
 PLAINTEXT = "it has the tag `!vault` but is plaintext"
 
+# A key that needs no quotes in a typed path.
+UNQUOTED = re.compile(r'[^."\[\]\x00-\x1f]+')
+
 # The keys and the numbers of list items that lead to a node. A key that is no scalar is empty.
 Path = tuple[Union[str, int], ...]
 
@@ -63,6 +66,13 @@ class Value(NamedTuple):
     anchor: str = ""
     # Whether it is a key, or part of one.
     is_key: bool = False
+
+    @property
+    def typed_path(self) -> str:
+        """The path as users type it: keys with dots between them, and the numbers of list items, as in `users[0].name`.
+        A key with a dot, a bracket or a double quote is in double quotes."""
+        steps = (f"[{step}]" if isinstance(step, int) else f".{_typed_key(step)}" for step in self.path)
+        return "".join(steps).removeprefix(".")
 
     @property
     def name(self) -> str:
@@ -107,6 +117,15 @@ class Value(NamedTuple):
         if JOINED_LINES.match(self.text):
             raise Refused(JOINED)
         return self.text
+
+
+def _typed_key(key: str) -> str:
+    return key if UNQUOTED.fullmatch(key) else quoted(key)
+
+
+def quoted(key: str) -> str:
+    """A key in double quotes, in which a backslash precedes a double quote or a backslash."""
+    return '"%s"' % re.sub(r'(["\\])', r"\\\1", key)
 
 
 def has_header(text: bytes) -> bool:

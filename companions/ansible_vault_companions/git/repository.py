@@ -9,7 +9,7 @@ from functools import lru_cache
 from typing import Any
 
 from ansible_vault_companions import processes
-from ansible_vault_companions.files import searching
+from ansible_vault_companions.files import reading
 from ansible_vault_companions.program import Refused, write_error
 
 # A stranger's repository has its own settings, hooks and attributes, which name programs. git would start the program
@@ -107,7 +107,7 @@ def by_repository(paths: list[str], follows: bool = True) -> dict[str, dict[byte
 def files_named(args: argparse.Namespace) -> list[list[str]]:
     """The paths that lead to each file of a command line, and what is no file; with --tracked, of the files only those
     that git tracks."""
-    files = searching.files_below(args.paths, args.exclude)
+    files = reading.files_below(args.paths, args.exclude)
     if not (args.tracked and files):
         return files
     repositories = by_repository([paths[0] for paths in files])

@@ -1,21 +1,36 @@
-"""Three versions of a text: the lines of their merge, which git finds, and the key that it gets."""
+"""Merges three versions of a file with envelopes, by lines.
+
+In place of each envelope stands a token of two numbers, one for what it means and one for its layout. So git merges the
+lines as if it could read them, and then envelopes take the places of the tokens again.
+"""
 
 from __future__ import annotations
 
 import os
-from typing import AbstractSet, NamedTuple, Optional
+import re
+import secrets as randomness
+from collections import Counter, defaultdict
+from typing import AbstractSet, Hashable, NamedTuple, Optional, Union
 
-from ansible_vault_companions.envelopes import envelope
+from ansible_vault_companions import parallel
+from ansible_vault_companions.envelopes import conflicts, envelope
+from ansible_vault_companions.envelopes.changes import Change, changed, replaced
+from ansible_vault_companions.envelopes.envelope import LITERAL, LOOSE, STRAY, Value
 from ansible_vault_companions.git import repository
 from ansible_vault_companions.program import Refused
-from ansible_vault_companions.tool.tool import Decrypt, Key
+from ansible_vault_companions.tool.tool import Decrypt, Key, Tool
 
 # The names of the sides in git's conflict markers.
 SIDES = OURS, BASE, THEIRS = ("ours", "base", "theirs")
 # The status of `git merge-file` is the number of conflicts, up to this. A greater status means failure.
 MOST_CONFLICTS = 127
+NOT_YAML = "git can merge its lines, but then {}"
+TORN = "git can merge its lines, but the result has a value that neither side has"
+OF_SIGN = {conflicts.OURS: OURS, conflicts.BASE: BASE, conflicts.THEIRS: THEIRS}
 # The keys of envelopes; None for one that is not opened.
 Keys = AbstractSet[Optional[Key]]
+# What an envelope means: the key of the result and the text, or, if it is not opened, itself.
+Meaning = Union[tuple[Key, bytes], bytes]
 
 
 class Versions(NamedTuple):
@@ -82,3 +97,123 @@ def common_key(ours: Keys, base: Keys, theirs: Keys) -> Key | None:
         return None
     of_both = {key and (key[0].label, key[1]) for key in ours | theirs}
     return next(iter(new)) if len(ours) == len(theirs) == len(of_both) == 1 else None
+
+
+class Merged(NamedTuple):
+    content: bytes
+    # Why it has a conflict; empty if it has none.
+    why: str = ""
+
+
+class Values:
+    """Three versions of a file, with tokens in place of their envelopes."""
+
+    def __init__(self, decrypt: Decrypt, versions: Versions, chosen: Key | None) -> None:
+        self.documents = {side: conflicts.read(data) for side, data in zip(SIDES, versions)}
+        self.values = {side: [*filter(_has_token, self.documents[side].values)] for side in SIDES}
+        self.opened = self._open(decrypt)
+        # The key of the result for the values with each label, unless each keeps its own.
+        self.keys = {label: self._key(label, chosen) for label in {opened.key[1] for opened in self.opened.values()}}
+        self.mark = b"ansible-vault-%s" % randomness.token_hex(12).encode()
+        # The number of each meaning and layout, with the bytes before an envelope and a value as an example.
+        self.numbers: dict[Hashable, int] = {}
+        self.examples: dict[int, tuple[Meaning, bytes, Value]] = {}
+        # The envelopes of each side with a meaning; and each envelope as it is in a version.
+        self.envelopes: dict[tuple[str, Meaning], list[bytes]] = defaultdict(list)
+        self.written: dict[tuple[bytes, int], bytes] = {}
+
+    def merged(self, tool: Tool, size: int) -> Merged:
+        """The merged file. A conflict has markers of this size."""
+        shadows = Versions(*map(self._shadow, SIDES))
+        inner = conflicts.unused_size(shadows)
+        text, count = merged_lines(shadows, inner)
+        content, envelopes = self._restored(tool, text, inner, size)
+        result = conflicts.read(content)
+        if not count and result.fault and not any(self.documents[side].fault for side in (OURS, THEIRS)):
+            raise Refused(NOT_YAML.format(result.fault))
+        if Counter(value.text.strip() for value in result.values if _has_token(value)) != Counter(envelopes):
+            raise Refused(TORN)
+        return Merged(content, f"{count} conflict{'s' if count > 1 else ''}" if count else "")
+
+    def _open(self, decrypt: Decrypt) -> dict[bytes, Opened]:
+        """Those that not all versions have, if a password opens them that their labels allow."""
+        texts = [{value.text for value in self.values[side]} for side in SIDES]
+        changed = sorted(set().union(*texts).difference(set.intersection(*texts)))
+
+        def known(text: bytes) -> Opened | None:
+            try:
+                return opened(decrypt, text)
+            except Refused:
+                return None
+
+        return {each.envelope: each for each in parallel.results(known, changed) if each}
+
+    def _key(self, label: str, chosen: Key | None) -> Key | None:
+        of_label = [[value.text for value in self.values[side] if value.label == label] for side in SIDES]
+        opened = [map(self.opened.get, envelopes) for envelopes in of_label]
+        ours, base, theirs = ({known.key if known else None for known in each} for each in opened)
+        is_chosen = chosen and chosen[1] == label and ours != theirs
+        return common_key(ours, base, theirs) or (chosen if is_chosen else None)
+
+    def _meaning(self, text: bytes) -> Meaning:
+        opened = self.opened.get(text)
+        return (self.keys[opened.key[1]] or opened.key, opened.text) if opened else text
+
+    def _shadow(self, side: str) -> bytes:
+        data = self.documents[side].data
+        return changed(data, [self._token(side, data, value) for value in self.values[side]])
+
+    def _token(self, side: str, data: bytes, value: Value) -> Change:
+        begin = value.start if value.style == STRAY else value.begin
+        head, meaning = data[begin : value.start], self._meaning(value.text)
+        layout = value.style, head, value.margin, value.ending
+        number = self.numbers.setdefault((meaning, layout), len(self.numbers))
+        self.examples[number] = meaning, head, value
+        self.envelopes[side, meaning].append(value.text)
+        self.written[value.text, number] = data[begin : value.end]
+        # A line below keeps the lines of two values apart.
+        below = b"%s%s/%s" % (value.ending, self.mark, value.name.encode().hex().encode())
+        token = b"%s-%d" % (self.mark, number)
+        return Change(begin, value.end, token + below * (value.style in (LITERAL, STRAY)))
+
+    def _restored(self, tool: Tool, text: bytes, inner: int, size: int) -> tuple[bytes, list[bytes]]:
+        """The text with envelopes in place of the tokens, and with markers of a size; and these envelopes."""
+        token, below = re.compile(rb"%s-(\d+)" % self.mark), b"%s/" % self.mark
+        used, envelopes = Counter[tuple[str, Meaning]](), list[bytes]()
+
+        def written(match: re.Match[bytes]) -> bytes:
+            number = int(match[1])
+            meaning, head, example = self.examples[number]
+            envelopes.append(self._envelope(tool, meaning, side, used[side or OURS, meaning]))
+            used.update((each, meaning) for each in ([side] if side else SIDES))
+            return self.written.get((envelopes[-1], number)) or head + replaced(example, envelopes[-1]).text
+
+        lines: list[bytes] = []
+        for sign, line in conflicts.signed_lines(text, inner):
+            side = OF_SIGN.get(sign, "")
+            if sign == conflicts.END:
+                lines.append(line[:1] * size + line[inner:])
+            elif not line.startswith(below):
+                lines.append(token.sub(written, line))
+            elif not line.endswith(b"\n"):
+                # The last line of the file has no end.
+                lines.append(lines.pop().removesuffix(b"\n").removesuffix(b"\r"))
+        return b"".join(lines), [envelope.strip() for envelope in envelopes]
+
+    def _envelope(self, tool: Tool, meaning: Meaning, side: str, number: int) -> bytes:
+        """One of the envelopes with a meaning: in a conflict one of its side, and otherwise one under the key of the
+        result, if possible of the side that changed them."""
+        if isinstance(meaning, bytes):
+            return meaning
+        key, text = meaning
+        ours, base, theirs = (self.envelopes[each, meaning] for each in SIDES)
+        choices = [self.envelopes[side, meaning]] if side else [theirs if ours == base else ours, ours, theirs]
+        for envelopes in choices:
+            fitting = [envelope for envelope in envelopes if side or self.opened[envelope].key == key]
+            if fitting:
+                return fitting[min(number, len(fitting) - 1)]
+        return tool.encrypt(text, *key)
+
+
+def _has_token(value: Value) -> bool:
+    return value.is_envelope and value.style != LOOSE
