@@ -60,7 +60,7 @@ def test_limits() -> None:
     rows = re.findall(r"^\| (.+) \| ([\d].*) \|$", table.replace(",", ""), re.MULTILINE)
     found = {what: {int(each) for each in re.findall(r"\d+", numbers)} - {1} for what, numbers in rows}
     assert found == {what: {limits[constant] for constant in constants} for what, constants in LIMITS.items()}
-    assert f"at most {limits['SECRET_COUNT_LIMIT']} secrets" in table
+    assert f"at most {limits['SECRET_COUNT_LIMIT']} passwords" in table
     of_companions = (reading.LONGEST_PLAINTEXT, reading.LIMIT)
     assert of_companions == (limits["PLAINTEXT_LIMIT"], limits["ENVELOPE_LIMIT"]), "the companions have the same"
 
@@ -215,9 +215,10 @@ OTHER_SIZES = {"14 bytes", "80 bytes", "2048 bytes"}
 def test_sizes() -> None:
     """All other sizes are limits of the code. docs/speed.md has measured ones."""
     words = [word for document in DOCUMENTS if document.name != "speed.md" for word in document.read_text().split()]
-    named = {*re.findall(r"(?<![\w.])\d+ (?:bytes|secrets|MiB)\b", " ".join(words).replace(",", ""))}
+    named = {*re.findall(r"(?<![\w.])\d+ (?:bytes|passwords|secrets|MiB)\b", " ".join(words).replace(",", ""))}
     limits = code_limits()
-    known = {f"{limits['SECRET_COUNT_LIMIT']} secrets", f"{limits['PLAINTEXT_LIMIT'] >> 20} MiB"}
+    known = {f"{limits['SECRET_COUNT_LIMIT']} {word}" for word in ("passwords", "secrets")}
+    known.add(f"{limits['PLAINTEXT_LIMIT'] >> 20} MiB")
     assert named - known - {f"{each} bytes" for each in limits.values()} == OTHER_SIZES
 
 
