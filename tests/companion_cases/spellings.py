@@ -64,7 +64,7 @@ for header in (f"{MAGIC} ;1.2;AES256;default", f"{MAGIC}_x; 1.1 ;AES256", f"{MAG
 
 
 def test_forms(place: Place) -> None:
-    """The check names what is not rotated, and nothing else. A dry run writes nothing, and tells with its status whether
+    """The check names what is not rotated, and nothing else. A dry run writes nothing, and its status tells whether
     anything is left."""
     for name, (content, _) in FORMS.items():
         place.put(name, content)
