@@ -146,7 +146,7 @@ REFUSED_ALONE: dict[str, tuple[bytes, bytes, str]] = {
     "while a plain one goes": (DB + PLAIN, DB_PLAIN, db),
     "with a mark of its key": (DB, b"%YAML 1.1\n---\ndb: {? pw : plain}\n", db),
     "an awkward key": (b'"a b,%":\n' + item(PW), b'"a b,%": [pw: x]\n', IN_PART.format("a%20b%2C%25[].pw")),
-    "markers": (PW, CONFLICT % (PW, PW2), UNMERGED),
+    "markers and CR LF": (PW, (CONFLICT % (PW, PW2)).replace(b"\n", b"\r\n"), UNMERGED),
     "a torn vault": (VAULT, VAULT[:27] + CONFLICT % (VAULT[27:], OTHER[27:]), UNMERGED),
     "a cut vault again": (CUT, CUT[:-1], DAMAGED),
     "a shortened example in a text": (
@@ -244,6 +244,7 @@ MERGES = {
     "a renamed file with a value": ("git mv b.yml c.yml", ":"),
     "a removal": ("git rm -q a.yml b.yml", ":"),
     "Jinja": ("echo 'pw: \"{{ x }}\"' > b.yml", ":"),
+    "a plaintext that is meant": ("touch new.yml && git add .", "echo 'pw: x' > b.yml && git commit -qanm meant"),
 }
 
 

@@ -12,7 +12,6 @@ import pytest
 
 from ansible_vault_companions.editing.matching import Choice
 from ansible_vault_companions.editing.values import YamlFile
-from ansible_vault_companions.envelopes import conflicts
 from ansible_vault_companions.merging.versions import Versions, merged_lines
 from companion_cases import CHECK, EDIT, HOOK, MERGE, PASSWORDS, Done, Place, block, decrypted, ended
 from companion_cases import sealed, silent, texts, versions
@@ -20,7 +19,7 @@ from companion_cases.random_merges import ITEM, LABELS, Model, Value, common, do
 from companion_cases.repository import BASE, BOTH, OURS, SALTS, THEIRS, add_and_commit, commit, fork
 from companion_cases.repository import repository, set_driver, under_git
 from lib.needs import needs_pyyaml
-from model.vaults import seal, yaml_block
+from model.vaults import seal
 
 pytestmark = pytest.mark.usefixtures("git")
 
@@ -82,20 +81,6 @@ def test_branches(place: Place) -> None:
     ended("the check", checked, 1, *(f"./{name}: has git's conflict markers" for name in unmerged.split()))
     place.shell(f"git add -A; {HOOK} --install")
     ended("the hook", commit(place), 1, *(f"{HOOK}: {name} " for name in unmerged.split()))
-
-
-MOVED = {"a tag": (b"!vault", b"!Vault"), "a key": (b"k:", b"key:"), "a comment": (b"k:", b"# k: x\nt:")}
-
-
-@pytest.mark.parametrize("are_exchanged", (False, True))
-@pytest.mark.parametrize("what", MOVED)
-def test_rotated_and_moved(place: Place, what: str, are_exchanged: bool) -> None:
-    """The old envelope does not come back if the other side has moved it, or given it another tag."""
-    base = b"a: 1\nb: 1\n" + block("old", name="k") + b"y: 1\nz: 1\n"
-    sides = [base.replace(block("old", name="k"), block("new", name="k")), base.replace(*MOVED[what])]
-    merge = versions(place, "a.yml", base, *(reversed(sides) if are_exchanged else sides))
-    silent(what, place.run(MERGE, *place.by_file("old"), *place.by_file("new"), *merge))
-    assert place.get("a.yml") == sides[0].replace(*MOVED[what]), "the new one is where the old one was moved"
 
 
 OLD, PROD = ([sealed(name, text) for text in (BASE, OURS, THEIRS)] for name in ("old", "prod"))
@@ -161,76 +146,6 @@ def test_chosen_secret(place: Place) -> None:
     place.put("b.yml", same[0])
     silent("one of them is chosen", place.run(MERGE, "--encrypt-vault-id", "prod", *words))
     assert place.get("b.yml") == same[0]
-
-
-# Makes changes that the driver cannot merge. Each operation meets them.
-FORK = """
-seal() { cp ../$1.yml a.yml && git add -A && git commit -qm change; }
-seal base && git branch base && git checkout -qb ours && seal ours && git checkout -qb theirs base && seal theirs
-git checkout -q ours
-"""
-OPERATIONS = {
-    "rebase": "git checkout -q theirs && git rebase -q ours",
-    "stash": "git checkout -q base && cp ../theirs.yml a.yml && git stash -q && git checkout -q ours; git stash pop",
-}
-
-
-@pytest.mark.parametrize("line", OPERATIONS.values(), ids=OPERATIONS)
-def test_failed_drivers(place: Place, line: str) -> None:
-    """Without the secret of theirs, both sides stay whole in the file. Hook and check refuse that without a secret.
-    The merged text is under the secret that the other side has changed to."""
-    under_git(place, ATTRIBUTES)
-    set_driver(place, *place.by_file("old"))
-    for name, content in zip(("base", "ours", "theirs"), [*OLD[:2], sealed("new", THEIRS)]):
-        place.put(f"../{name}.yml", content)
-    place.shell(f"{FORK}{line}")
-    found = conflicts.sides(place.get("a.yml")) or {}
-    assert {decrypted("old", side) or decrypted("new", side) for side in found.values()} == {OURS, THEIRS}
-    place.run(HOOK, "--install")
-    check = [CHECK, *place.by_file("old"), *place.by_file("new"), "a.yml"]
-    ended("the check", place.run(*check), 1, f"{CHECK}: a.yml: has git's conflict markers")
-    for done in (commit(place, "-a"), add_and_commit(place)):
-        ended("the hook", done, 1, f"{HOOK}: a.yml ")
-    set_driver(place, *place.by_file("old"), *place.by_file("new"))
-    place.shell("git checkout --merge -- a.yml")
-    silent("afterwards", place.shell(f"git add -A; {HOOK}"))
-    assert decrypted("new", place.get("a.yml")) == BOTH, "both changes are there"
-
-
-def envelopes(*labels: str) -> list[bytes]:
-    rows = zip((BASE, OURS, THEIRS), labels, SALTS)
-    return [seal(PASSWORDS["old"], text, label.encode(), salt) for text, label, salt in rows]
-
-
-def blocks(*labels: str) -> list[bytes]:
-    return [b"z: 1\n" + yaml_block(each, b"a") + b"y: 1\n" for each in envelopes(*labels)]
-
-
-# Base, ours and theirs of a file, and what it is made of after the merge by the driver.
-TORN_FILES = {
-    "a vault": (envelopes("", "", ""), [BOTH]),
-    "values of two labels": (blocks("", "dev", "prod"), [OURS, THEIRS]),
-    "CR LF": ([each.replace(b"\n", b"\r\n") for each in blocks("", "", "")], [OURS, THEIRS]),
-}
-
-
-@pytest.mark.parametrize("contents, wanted", TORN_FILES.values(), ids=TORN_FILES)
-@pytest.mark.parametrize("style", ("merge", "diff3"))
-def test_without_driver(place: Place, style: str, contents: list[bytes], wanted: list[bytes]) -> None:
-    """Each companion refuses what git alone leaves, and the driver merges it afterwards."""
-    secrets = [*place.by_file("old"), *place.by_id("dev", "old"), *place.by_id("prod", "old")]
-    under_git(place, ATTRIBUTES)
-    place.run("git", "config", "merge.conflictStyle", style)
-    fork(place, *({"a.yml": content} for content in contents))
-    ended("git alone", place.shell("git merge --no-edit theirs"), 1, "Merge conflict in a.yml")
-    ended("the check", place.run(CHECK, *secrets, "a.yml"), 1, "a.yml: has git's conflict markers")
-    ended("the hook", place.shell(f"git add -A; {HOOK}"), 1, f"{HOOK}: a.yml has git's conflict markers")
-    set_driver(place, *secrets)
-    done = place.shell("git checkout --merge a.yml")
-    assert done.stderr.count(": 1 conflict; resolve with") == len(wanted) - 1, "the driver merges it"
-    content = place.get("a.yml")
-    found = texts(content, "old") if b"!vault" in content else [decrypted("old", content)]
-    assert [text for text in found if text != BASE] == wanted, "all that it is made of is whole"
 
 
 # Two merges of the same branches in turn, and then the merge of the two merges.

@@ -248,14 +248,6 @@ def in_plaintext(content: bytes, known: dict[bytes, Value], merge: Merge, is_mer
     return BLOCK.sub(shown, content)
 
 
-def check_made(merge: Merge, made: Value) -> None:
-    """Check that a text is under another password only if one side has put all values with its label under it."""
-    used = [{value.password for value in values if value.label == made.label} for values in merge]
-    [before] = used[0]
-    assert LABELS[before] == LABELS[made.password] == (made.label or "default")
-    assert {before} in used[1:] and {made.password} in used[1:], "the password is not that of the other side"
-
-
 def check_merge(folder: Path, merge: Merge, layout: Layout) -> list[str]:
     """Check a merge, and return of which kinds it was."""
     import yaml
@@ -266,10 +258,6 @@ def check_merge(folder: Path, merge: Merge, layout: Layout) -> list[str]:
     blocks = blocks_of(result.content)
     assert len(blocks) == result.content.count(MAGIC) and {*dict(blocks).values()} <= {*known}, "all are whole"
     assert b"clear" not in result.content, "nothing is in plaintext"
-    for made in tool.made.values():
-        check_made(merge, made)
-    base, ours, theirs = ({(value.key, value.text) for value in values} for values in merge)
-    assert (ours | theirs) - base <= {(key, known[envelope].text) for key, envelope in blocks}, "nothing is lost"
     kinds = ["conflicts" if result.why else "merged", *(["under a new secret"] if tool.made else [])]
     if not result.why:
         yaml.load(result.content, Loader=yaml.BaseLoader)
