@@ -10,14 +10,14 @@ from __future__ import annotations
 # The module `signal` makes an enumeration of each number, which takes long.
 import _signal  # type: ignore
 import os
-from collections.abc import Iterator
+from collections.abc import Iterable, Iterator
 from contextlib import contextmanager, suppress
 
 # The module `typing` takes long to import, and so does `subprocess`, which most runs of ansible-vault-with do not need.
 TYPE_CHECKING = False
 if TYPE_CHECKING:
     from subprocess import CompletedProcess, Popen
-    from typing import Any
+    from typing import Any, NoReturn
 
 # Signals that cannot be caught, that do not end a program by default, or that a crash of Python itself would raise
 # again at once.
@@ -171,3 +171,30 @@ def _wait_for_end(program: Popen[bytes], data: bytes | None) -> tuple[bytes, byt
     while True:
         with suppress(TimeoutExpired):
             return program.communicate(timeout=WAITING_PERIOD)
+
+
+def beside(companion: str, name: str) -> str | None:
+    """The path of another program beside a companion, or beside a file that a link to the companion leads to."""
+    path = os.path.abspath(companion)
+    folders = [os.path.dirname(path)]
+    while os.path.islink(path):
+        path = os.path.normpath(os.path.join(os.path.dirname(path), os.readlink(path)))
+        folders.append(os.path.dirname(path))
+    return program(folders, name, companion)
+
+
+def take_over(path: str, words: list[str], kept: Iterable[int]) -> NoReturn:
+    """Replaces this process with a program, which inherits its streams and these descriptors."""
+    for descriptor in kept:
+        os.set_inheritable(descriptor, True)
+    # Python ignores these signals, and the program would inherit that.
+    for number in (_signal.SIGPIPE, _signal.SIGXFSZ):
+        _signal.signal(number, _signal.SIG_DFL)
+    os.execv(path, [path, *words])
+
+
+def program(folders: list[str], name: str, companion: str) -> str | None:
+    """The first program of this name that is not the companion itself, to which a link may have given the name."""
+    paths = (os.path.join(folder, name) for folder in folders if folder)
+    fitting = (path for path in paths if os.path.isfile(path) and os.access(path, os.X_OK))
+    return next((path for path in fitting if not os.path.samefile(path, companion)), None)

@@ -9,7 +9,7 @@ import pytest
 
 from ansible_vault_companions import program
 from ansible_vault_companions.passwords import sources
-from ansible_vault_companions.tool.tool import NOT_DECRYPTED
+from ansible_vault_companions.tool import NOT_DECRYPTED
 from companion_cases import BODY, CHECK, EDIT, HOOK, MERGE, PASSWORDS, ROTATE, TEXT, TEXTCONV, WITH, Place, block
 from companion_cases import ended, sealed, summary
 from lib.paths import COMPANIONS, ROOT

@@ -19,7 +19,7 @@ def encrypted(*words):
 Vault.encrypted = encrypted
 """
 UNSEALED = """
-from ansible_vault_companions.tool.tool import Tool
+from ansible_vault_companions.tool import Tool
 def encrypt(*words):
     raise MemoryError("no memory")
 Tool.encrypt = encrypt

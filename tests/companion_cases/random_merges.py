@@ -23,7 +23,7 @@ from ansible_vault_companions.merging import texts
 from ansible_vault_companions.merging.versions import Merged, Versions
 from ansible_vault_companions.passwords import sources
 from ansible_vault_companions.passwords.sources import Password
-from ansible_vault_companions.tool.tool import NotDecrypted, Tool
+from ansible_vault_companions.tool import NotDecrypted, Tool
 from companion_cases import PASSWORDS, decrypted
 from companion_cases.repository import SALTS, by_git, repository
 from lib.needs import needs, needs_pyyaml

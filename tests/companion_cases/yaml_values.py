@@ -18,7 +18,7 @@ from ansible_vault_companions.envelopes.envelope import Path
 from ansible_vault_companions.envelopes.scalars import LINE_END
 from ansible_vault_companions.passwords.sources import Password
 from ansible_vault_companions.program import Refused
-from ansible_vault_companions.tool.tool import Tool
+from ansible_vault_companions.tool import Tool
 from companion_cases.spellings import LOADERS, Generator, composed
 
 SECRET = Password("default", "", "")

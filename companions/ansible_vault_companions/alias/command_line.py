@@ -1,4 +1,4 @@
-"""The command line of ansible-vault-with: that of ansible-vault, and more from Ansible's tool."""
+"""The command line of ansible-vault-with, that of ansible-vault and more from Ansible's tool; and what it calls for."""
 
 from __future__ import annotations
 
@@ -7,8 +7,9 @@ from collections.abc import Collection, Iterable
 from argparse import Namespace
 
 from ansible_vault_companions import program
-from ansible_vault_companions.passwords import options
-from ansible_vault_companions.passwords.sources import ANY_LABEL
+from ansible_vault_companions.passwords import options, prompts, sources
+from ansible_vault_companions.passwords.sources import ANY_LABEL, ASKED, Password
+from ansible_vault_companions.program import Refused, shown, write_error
 
 # The module `typing` takes long to import.
 TYPE_CHECKING = False
@@ -31,6 +32,12 @@ COMMANDS = {
 ENCRYPTING, EDITING = (ENCRYPT, ENCRYPT_STRING), (CREATE, EDIT)
 WRITING, SEALING = (DECRYPT, *ENCRYPTING, REKEY), (*ENCRYPTING, REKEY)
 STANDARD_INPUT = "-"
+MATCH, ENCRYPT_ID = "--require-id-match", "--encrypt-vault-id"
+SEVERAL = "several passwords were given; choose one with --encrypt-vault-id"
+NO_NEW = (
+    "no new password is given: name one with --new-vault-id or --new-vault-password-file, or run this at a terminal "
+    "and type it"
+)
 SUMMARY = """\
 Runs a command of ansible-vault with the passwords that Ansible would use.
 Unlike ansible-vault, it reads ansible.cfg, runs password scripts, asks for
@@ -47,11 +54,11 @@ Keep using the commands of Ansible's own tool:
 FLAG: dict[str, Any] = {"action": "store_true"}
 # The options that are passed on as they are given, with the commands that have them, and their settings.
 PASSED_ON: dict[str, tuple[tuple[str, ...], dict[str, Any]]] = {
-    "--encrypt-vault-id": (
+    ENCRYPT_ID: (
         (*SEALING, *EDITING),
         {"metavar": "LABEL", "help": "the label of the password to encrypt with, among those that are given"},
     ),
-    "--require-id-match": ((VIEW, DECRYPT, REKEY), {**FLAG, "help": "try only passwords with the label of the vault"}),
+    MATCH: ((VIEW, DECRYPT, REKEY), {**FLAG, "help": "try only passwords with the label of the vault"}),
     ANY_LABEL: ((REKEY, *EDITING), {**FLAG, "help": "a password may encrypt what it decrypts under another label"}),
     "--output": (WRITING, {"metavar": "PATH", "help": "the file to write, or - for standard output (default: FILE)"}),
     "--salt": (SEALING, {"metavar": "TEXT", "help": "the salt itself, used once"}),
@@ -140,3 +147,78 @@ def are_several(args: Namespace) -> bool:
         return args.prompt or is_more or bool(args.arguments and args.stdin_name is not None)
     has_files = bool(args.arguments) and STANDARD_INPUT not in args.arguments
     return has_files and (is_more if args.command == VIEW else args.output is None)
+
+
+class Call:
+    """The command line, and the passwords in the order in which they are tried."""
+
+    def __init__(self, args: Namespace) -> None:
+        settings = options.settings_beside(args, lambda text: write_error(f"{NAME}: {text}"))
+        encrypts = args.command in ENCRYPTING
+        self.args = args
+        # The label of the password to encrypt with.
+        self.label = getattr(args, "encrypt_vault_id", None) or settings.encrypt_label()
+        named = sources.named(args.vault_id, args.vault_password_file, settings)
+        if named:
+            sources.load(NAME, named, settings, encrypts, args.any_label)
+        else:
+            named = [_typed(encrypts, options.NONE)]
+        self.new = self._new(named) if args.command == REKEY else []
+        self.passwords = self._to_encrypt_with(named) if encrypts else [one for one in named if not one.is_left_out]
+        # With a rekeying, too, a label counts if there are several passwords.
+        self.needs_match = not encrypts and settings.requires_match()
+        self.needs_match |= args.command == REKEY and not self.passwords[0].serves_any_label
+
+    def _to_encrypt_with(self, named: list[Password]) -> list[Password]:
+        """The password that encrypts. It is chosen among all that are named, and refused if it was left out."""
+        if self.label:
+            chosen = next((password for password in named if password.label == self.label), named[0])
+            chosen.require()
+            return [chosen]
+        if any(password.is_left_out for password in named):
+            raise Refused(SEVERAL)
+        return named
+
+    def _new(self, old: list[Password]) -> list[Password]:
+        """The new password of options, else the one of the settings with the chosen label, else a typed one."""
+        new = options.new_passwords(self.args)
+        fitting = [one for one in new or old if one.label == self.label and (new or one.is_setting)]
+        if new and (fitting or not self.args.encrypt_vault_id):
+            return new
+        if not self.label:
+            return [_typed(True, NO_NEW)]
+        if not fitting:
+            raise Refused(f"no new password has the label that was chosen for encryption, {shown(self.label)}")
+        fitting[0].require()
+        fitting[0].confirm()
+        return fitting[:1]
+
+    def words(self, *without: str) -> list[str]:
+        """The words that give the tool the command, the passwords and the options that are passed on."""
+        return [
+            self.args.command,
+            *(password.option() for password in self.passwords),
+            *(password.option("--new-vault-id") for password in self.new),
+            *([f"{ENCRYPT_ID}={self.label}"] if self.label and self.args.command in ENCRYPTING else []),
+            *([MATCH] if self.needs_match and not self.args.require_id_match else []),
+            *passed_on(self.args, (ENCRYPT_ID, "--any-label", *without)),
+        ]
+
+    def texts(self) -> list[str]:
+        """The words for what a single run handles."""
+        names = [f"--name={name}" for name in getattr(self.args, "name", [])]
+        return [*names, *(["--", *self.args.arguments] if self.args.arguments else [])]
+
+    def descriptors(self) -> list[int]:
+        """The descriptors of the passwords."""
+        return [one.descriptor for one in [*self.passwords, *self.new] if one.descriptor is not None]
+
+
+def _typed(encrypts: bool, none: str) -> Password:
+    """A password that is typed where nothing names one. Raises Refused with the text `none` if there is no terminal."""
+    password = sources.of_id(ASKED)
+    password.obtain(encrypts)
+    if password.fault == prompts.NO_TERMINAL:
+        raise Refused(none)
+    password.require()
+    return password

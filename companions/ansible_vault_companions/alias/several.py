@@ -7,12 +7,11 @@ from argparse import Namespace
 from typing import Callable, NamedTuple
 
 from ansible_vault_companions import program
-from ansible_vault_companions.alias.command_line import DECRYPT, ENCRYPT_STRING, NAME, STANDARD_INPUT, VIEW
-from ansible_vault_companions.alias.run import Call
+from ansible_vault_companions.alias.command_line import DECRYPT, ENCRYPT_STRING, NAME, STANDARD_INPUT, VIEW, Call
 from ansible_vault_companions.files import reading, replacing
 from ansible_vault_companions.passwords import prompts
 from ansible_vault_companions.program import Refused, write_error
-from ansible_vault_companions.tool.tool import Tool
+from ansible_vault_companions.tool import Tool
 
 STDIN_NAME, OUTPUT = "--stdin-name", "--output"
 
@@ -25,8 +24,9 @@ class Text(NamedTuple):
     origin: str
 
 
-def handle(tool: Tool, call: Call) -> int:
+def handle(companion: str, call: Call) -> int:
     """Replaces or shows each file, or makes a value of each string. Returns the exit status."""
+    tool = Tool(companion)
     if call.args.command == ENCRYPT_STRING:
         return _values(tool, call)
     end = b""

@@ -18,7 +18,7 @@ from ansible_vault_companions.envelopes.envelope import ALIAS, MAGIC, NO_SCALAR,
 from ansible_vault_companions.files import reading
 from ansible_vault_companions.passwords.sources import NO_OPTION, Password
 from ansible_vault_companions.program import Refused, shown
-from ansible_vault_companions.tool.tool import Decrypt, Key, Tool
+from ansible_vault_companions.tool import Decrypt, Key, Tool
 
 if TYPE_CHECKING:
     from ansible_vault_companions.merging.texts import Conflict

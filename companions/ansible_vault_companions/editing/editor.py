@@ -14,7 +14,7 @@ from ansible_vault_companions.envelopes.envelope import MAGIC
 from ansible_vault_companions.files import reading, replacing
 from ansible_vault_companions.passwords import prompts
 from ansible_vault_companions.program import Refused, shown, write_error
-from ansible_vault_companions.tool.tool import Tool
+from ansible_vault_companions.tool import Tool
 
 NAME = "ansible-vault-edit"
 A_VAULT = "what you gave is a vault, which ansible-vault does not encrypt again; decrypt it first"

@@ -14,7 +14,7 @@ from ansible_vault_companions.envelopes.envelope import Path, Value
 from ansible_vault_companions.passwords import prompts
 from ansible_vault_companions.passwords.sources import Password
 from ansible_vault_companions.program import Refused, shown
-from ansible_vault_companions.tool.tool import Key
+from ansible_vault_companions.tool import Key
 
 NEW = "{} is new; choose its secret with --encrypt-vault-id"
 NO_SUCH_LABEL = "{} is new, and no secret has the label of --encrypt-vault-id"

@@ -17,7 +17,7 @@ from ansible_vault_companions.envelopes.envelope import label_of
 from ansible_vault_companions.files import reading, replacing
 from ansible_vault_companions.git.repository import repository_of
 from ansible_vault_companions.program import Refused, shown
-from ansible_vault_companions.tool.tool import Decrypt, Key, Tool
+from ansible_vault_companions.tool import Decrypt, Key, Tool
 
 PREFIX = "ansible-vault-"
 # Attempts to remove a directory in which something is still being written, and the seconds between them.

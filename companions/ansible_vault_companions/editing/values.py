@@ -9,7 +9,6 @@ from __future__ import annotations
 import json
 from typing import Callable
 
-from ansible_vault_companions import parallel
 from ansible_vault_companions.editing import matching
 from ansible_vault_companions.editing.matching import Choice, Opened, place_of
 from ansible_vault_companions.envelopes import conflicts
@@ -19,7 +18,7 @@ from ansible_vault_companions.envelopes.envelope import ALIAS, LITERAL, MAGIC, N
 from ansible_vault_companions.envelopes.scalars import LINE_END
 from ansible_vault_companions.passwords import prompts
 from ansible_vault_companions.program import Refused
-from ansible_vault_companions.tool.tool import Decrypt, Key, Tool
+from ansible_vault_companions.tool import Decrypt, Key, Tool, at_once
 
 # The indentation of an envelope relative to its key, as Ansible's tool writes it.
 INDENTATION = 10
@@ -43,7 +42,7 @@ class YamlFile:
         self.file = nodes(content)
         self.tagged = {number: value for number, value in enumerate(self.file.values) if value.is_tagged}
         closed = {number: value for number, value in self.tagged.items() if value.is_envelope}
-        results = dict(zip(closed, parallel.results(lambda value: _opened(value, decrypt), closed.values())))
+        results = dict(zip(closed, at_once(lambda value: _opened(value, decrypt), closed.values())))
         self.opened = {number: result for number, result in results.items() if isinstance(result, Opened)}
         # The values that stay encrypted, and why.
         self.faults = [(closed[number], why) for number, why in results.items() if isinstance(why, Refused)]
@@ -85,7 +84,7 @@ class YamlFile:
             old = before.value if before else None
             return closed_block(text, value, envelopes[number], self.file.data, old, is_kept=key is None)
 
-        envelopes = dict(zip(typed, parallel.results(envelope, typed)))
+        envelopes = dict(zip(typed, at_once(envelope, typed)))
         return written(after, envelopes, block)
 
     def uncovered(self, text: bytes) -> list[str]:

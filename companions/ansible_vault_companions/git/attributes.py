@@ -1,4 +1,4 @@
-"""The git attributes that mark files, and those that exempt files and values; and what a marked file must be."""
+"""The git attributes that mark files, and those that exempt files and values."""
 
 from __future__ import annotations
 
@@ -6,9 +6,6 @@ import os
 import re
 from typing import Container, Iterable, NamedTuple
 
-from ansible_vault_companions.envelopes import conflicts, envelope
-from ansible_vault_companions.envelopes.document import Document
-from ansible_vault_companions.envelopes.envelope import LOOSE, MAGIC, STRAY
 from ansible_vault_companions.git.repository import by_repository, git
 from ansible_vault_companions.program import shown
 
@@ -21,12 +18,6 @@ FILE = b".gitattributes"
 # What needs no escape in a pattern, and what has a meaning there.
 PLAIN = re.compile(rb"[\w/.@+,-]+", re.ASCII)
 SPECIAL = re.compile(rb"[*?\[\\]")
-
-NOT_ENCRYPTED = "is not encrypted"
-DAMAGED = "is a damaged vault"
-DAMAGED_VALUE = "has a damaged value in line {}"
-ONLY_TAGGED = "has plaintext with the tag `!vault` in line {}"
-NOT_READ = "cannot be checked: {}"
 
 
 class Attributes(NamedTuple):
@@ -82,33 +73,3 @@ def pattern(name: bytes) -> str:
     escaped = SPECIAL.sub(rb"\\\g<0>", name)
     text = "".join(chr(byte) if 0x20 <= byte < 0x7F and byte not in b'"\\' else f"\\{byte:03o}" for byte in escaped)
     return f'"/{text}"'
-
-
-def is_unmerged(document: Document) -> bool:
-    """Whether git's conflict markers are in an envelope or beside one, even if git has torn it."""
-    return conflicts.is_unmerged(document.data) and bool(document.values or MAGIC + b";" in document.data)
-
-
-def damage(document: Document) -> str:
-    """What is wrong with the envelopes of a file; empty if nothing is."""
-    if is_unmerged(document):
-        return conflicts.UNMERGED
-    if document.is_vault:
-        return "" if envelope.is_whole(document.data) else DAMAGED
-    envelopes = (value for value in document.values if value.is_envelope and value.style != LOOSE)
-    line = next((value.line for value in envelopes if not value.is_whole), 0)
-    return DAMAGED_VALUE.format(line) if line else ""
-
-
-def fault(document: Document) -> str:
-    """Why a marked file that is not empty is refused; empty if it is not."""
-    values = [value for value in document.values if value.style not in (STRAY, LOOSE)]
-    if not document.is_vault:
-        if document.fault and document.values:
-            return NOT_READ.format(document.fault)
-        if not any(value.is_envelope for value in values):
-            return NOT_ENCRYPTED
-        line = next((value.line for value in values if not value.is_envelope), 0)
-        if line:
-            return ONLY_TAGGED.format(line)
-    return damage(document)

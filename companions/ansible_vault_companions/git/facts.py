@@ -1,4 +1,4 @@
-"""What the hook has to know of a content: its envelopes and its plaintexts, by the keys that lead to them.
+"""What the hook has to know of a content: its envelopes and its plaintexts, by the keys that lead to them, and faults.
 
 All items of a list have the same keys, so their order does not matter. An alias counts as what it stands for.
 """
@@ -10,10 +10,10 @@ from collections import Counter
 from functools import reduce
 from typing import Iterable, NamedTuple
 
+from ansible_vault_companions.envelopes import conflicts, envelope
 from ansible_vault_companions.envelopes.document import Document, mentions, strays
-from ansible_vault_companions.envelopes.envelope import ALIAS, JSON_KEY, MAGIC, NO_SCALAR, Path
+from ansible_vault_companions.envelopes.envelope import ALIAS, JSON_KEY, LOOSE, MAGIC, NO_SCALAR, STRAY, Path
 from ansible_vault_companions.envelopes.scalars import BINARY, NotYaml, scalars
-from ansible_vault_companions.git import attributes
 
 # The key of every list item, and the key that merges a mapping into another, which is not part of a path.
 ITEM, MERGE = "[]", "<<"
@@ -27,6 +27,12 @@ MOST = 100_000
 TOO_MANY = f"it has more than {MOST:,} values"
 # What the value of an attribute cannot have, or what separates keys.
 UNWRITTEN = re.compile(r"[^\w$@/:+*-]")
+
+NOT_ENCRYPTED = "is not encrypted"
+DAMAGED = "is a damaged vault"
+DAMAGED_VALUE = "has a damaged value in line {}"
+ONLY_TAGGED = "has plaintext with the tag `!vault` in line {}"
+NOT_READ = "cannot be checked: {}"
 
 Keys = tuple[str, ...]
 # For each text at some keys, a number that stands for it, and how often it is there.
@@ -43,7 +49,7 @@ class Facts(NamedTuple):
     fault: str = ""
     # What is wrong with its envelopes, and with the whole if it is marked.
     damage: str = ""
-    unencrypted: str = attributes.NOT_ENCRYPTED
+    unencrypted: str = NOT_ENCRYPTED
     encrypted: Texts = {}
     plain: Texts = {}
 
@@ -53,12 +59,11 @@ def facts(data: bytes, needs_plain: bool = False) -> Facts:
     if not data.strip():
         return Facts(is_empty=True, unencrypted="")
     if data.startswith(MAGIC):
-        return Facts(is_vault=True, damage=attributes.damage(Document(data)), unencrypted="")
+        return Facts(is_vault=True, damage=damage(Document(data)), unencrypted="")
     if not (needs_plain or mentions(data)):
         return Facts()
     document, leaves = _document(data)
-    damage, unencrypted = attributes.damage(document), attributes.fault(document)
-    made = Facts(False, False, document.fault, damage, unencrypted, {}, {})
+    made = Facts(False, False, document.fault, damage(document), unencrypted(document), {}, {})
     for path, is_encrypted, text in leaves:
         texts = made.encrypted if is_encrypted else made.plain
         texts.setdefault(_keys(path), Counter())[text] += 1
@@ -138,3 +143,33 @@ def now_plain(before: Facts, after: Facts) -> list[Keys]:
         if (ITEM not in keys or texts - after.encrypted.get(keys, NONE))
         and (keys in above or any(keys[:length] in new for length in range(len(keys))))
     ]
+
+
+def is_unmerged(document: Document) -> bool:
+    """Whether git's conflict markers are in an envelope or beside one, even if git has torn it."""
+    return conflicts.is_unmerged(document.data) and bool(document.values or MAGIC + b";" in document.data)
+
+
+def damage(document: Document) -> str:
+    """What is wrong with the envelopes of a file; empty if nothing is."""
+    if is_unmerged(document):
+        return conflicts.UNMERGED
+    if document.is_vault:
+        return "" if envelope.is_whole(document.data) else DAMAGED
+    envelopes = (value for value in document.values if value.is_envelope and value.style != LOOSE)
+    line = next((value.line for value in envelopes if not value.is_whole), 0)
+    return DAMAGED_VALUE.format(line) if line else ""
+
+
+def unencrypted(document: Document) -> str:
+    """Why a marked file that is not empty is refused; empty if it is not."""
+    values = [value for value in document.values if value.style not in (STRAY, LOOSE)]
+    if not document.is_vault:
+        if document.fault and document.values:
+            return NOT_READ.format(document.fault)
+        if not any(value.is_envelope for value in values):
+            return NOT_ENCRYPTED
+        line = next((value.line for value in values if not value.is_envelope), 0)
+        if line:
+            return ONLY_TAGGED.format(line)
+    return damage(document)

@@ -14,7 +14,7 @@ from ansible_vault_companions.git.repository import answer, repository_of
 from ansible_vault_companions.merging.versions import Keys, Merged, Opened, Values, Versions, common_key, merged_lines
 from ansible_vault_companions.merging.versions import opened
 from ansible_vault_companions.program import Refused, shown
-from ansible_vault_companions.tool.tool import Decrypt, Key, NotDecrypted, Tool
+from ansible_vault_companions.tool import Decrypt, Key, NotDecrypted, Tool
 
 NOT_MERGED = "not merged, so both sides are whole in the file: {}"
 KINDS_DIFFER = "one side is a vault and the other is not"

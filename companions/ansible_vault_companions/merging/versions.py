@@ -12,13 +12,12 @@ import secrets as randomness
 from collections import Counter, defaultdict
 from typing import AbstractSet, Hashable, NamedTuple, Optional, Union
 
-from ansible_vault_companions import parallel
 from ansible_vault_companions.envelopes import conflicts, envelope
 from ansible_vault_companions.envelopes.changes import Change, changed, replaced
 from ansible_vault_companions.envelopes.envelope import LITERAL, LOOSE, STRAY, Value
 from ansible_vault_companions.git import repository
 from ansible_vault_companions.program import Refused
-from ansible_vault_companions.tool.tool import Decrypt, Key, Tool
+from ansible_vault_companions.tool import Decrypt, Key, Tool, at_once
 
 # The names of the sides in git's conflict markers.
 SIDES = OURS, BASE, THEIRS = ("ours", "base", "theirs")
@@ -146,7 +145,7 @@ class Values:
             except Refused:
                 return None
 
-        return {each.envelope: each for each in parallel.results(known, changed) if each}
+        return {each.envelope: each for each in at_once(known, changed) if each}
 
     def _key(self, label: str, chosen: Key | None) -> Key | None:
         of_label = [[value.text for value in self.values[side] if value.label == label] for side in SIDES]

@@ -8,12 +8,11 @@ from ansible_vault_companions.envelopes import conflicts, document
 from ansible_vault_companions.envelopes.document import Document
 from ansible_vault_companions.envelopes.envelope import Value
 from ansible_vault_companions.files.reading import Unsearched
-from ansible_vault_companions.git import attributes
-from ansible_vault_companions.parallel import Workers
+from ansible_vault_companions.git import facts
 from ansible_vault_companions.passwords.sources import Password
 from ansible_vault_companions.plaintext.reports import Report, opened
 from ansible_vault_companions.program import Refused, reason, shown
-from ansible_vault_companions.tool.tool import Tool
+from ansible_vault_companions.tool import Tool, Workers
 
 
 @dataclass
@@ -41,10 +40,10 @@ class Check:
         for own in self.workers.shared(lambda value: self._value(value.place(path), value, is_prose), envelopes):
             report.add(own)
         why = document.fault(file, path) or ("" if is_prose else _cannot_rotate(file))
-        if attributes.is_unmerged(file):
+        if facts.is_unmerged(file):
             why = f"{conflicts.UNMERGED}; {conflicts.again(path)}"
         if is_marked and file.data.strip() and not (why or report.faults):
-            why = attributes.fault(file)
+            why = facts.unencrypted(file)
         if why:
             report.faults.append(f"{shown(path)}: {why}")
 

@@ -9,10 +9,9 @@ from typing import Callable, Collection
 from ansible_vault_companions import program
 from ansible_vault_companions.envelopes.envelope import Value
 from ansible_vault_companions.files.reading import Unsearched
-from ansible_vault_companions.parallel import Workers
 from ansible_vault_companions.passwords.sources import Password
 from ansible_vault_companions.program import Refused, shown, write_error, write_line
-from ansible_vault_companions.tool.tool import NotDecrypted, Tool
+from ansible_vault_companions.tool import NotDecrypted, Tool, Workers
 
 
 def opened(tool: Tool, value: Value, passwords: list[Password], is_prose: bool) -> tuple[Password, bytes] | None:

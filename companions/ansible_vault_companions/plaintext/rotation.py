@@ -10,11 +10,10 @@ from ansible_vault_companions.envelopes import document
 from ansible_vault_companions.envelopes.document import Document
 from ansible_vault_companions.envelopes.envelope import Value
 from ansible_vault_companions.files import replacing
-from ansible_vault_companions.parallel import Workers
 from ansible_vault_companions.passwords.sources import Password
 from ansible_vault_companions.plaintext.reports import Report, opened
 from ansible_vault_companions.program import Refused, shown
-from ansible_vault_companions.tool.tool import Tool
+from ansible_vault_companions.tool import Tool, Workers
 
 # What is counted: envelopes that get a new password, and those that have it already.
 CHANGED, HAD_IT = "changed", "had it"

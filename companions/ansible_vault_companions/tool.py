@@ -1,24 +1,28 @@
-"""Runs ansible-vault, which does all encryption and decryption. Plaintext and envelopes pass only through pipes."""
+"""Runs ansible-vault, which does all encryption and decryption, for several envelopes at once. Plaintext and envelopes
+pass only through pipes."""
 
 from __future__ import annotations
 
+import os
 import re
 import threading
-from concurrent.futures import Future
+from concurrent.futures import Future, ThreadPoolExecutor
 from contextlib import suppress
-from typing import Callable, Hashable
+from typing import Callable, Hashable, Iterable, Sequence, TypeVar
 
 from ansible_vault_companions import processes
 from ansible_vault_companions.envelopes.envelope import label_of, written_label
 from ansible_vault_companions.passwords import sources
 from ansible_vault_companions.passwords.sources import Password
 from ansible_vault_companions.program import Refused
-from ansible_vault_companions.tool import finding
 
+Item = TypeVar("Item")
+Result = TypeVar("Result")
 # A password, and the label that the envelope gets.
 Key = tuple[Password, str]
 # Decrypts an envelope, and also returns the password that worked.
 Decrypt = Callable[[bytes], tuple[Password, bytes]]
+NAME = "ansible-vault"
 NOT_DECRYPTED = "no secret decrypts this vault"
 # The beginning of an error message.
 ERROR = "ERROR! "
@@ -35,7 +39,10 @@ class Tool:
     may occur more than once, so results are remembered, including refusals."""
 
     def __init__(self, companion: str) -> None:
-        self.path = finding.path_for(companion)
+        path = processes.beside(companion, NAME) or processes.program(os.get_exec_path(), NAME, companion)
+        if path is None:
+            raise Refused(f"there is no {NAME} beside this program or on PATH; install it")
+        self.path = path
         if re.match(rb"ansible-vault \d", processes.run([self.path, "--version"]).stdout) is None:
             why = "is not the ansible-vault that the companions need; put the right one beside them or on PATH"
             raise Refused(f"{self.path} {why}")
@@ -48,11 +55,11 @@ class Tool:
         kept = [password.descriptor for password in passwords if password.descriptor is not None]
         done = processes.run([self.path, *words], data, pass_fds=kept)
         if done.returncode < 0:
-            raise Refused(f"signal {-done.returncode} ended {finding.NAME}; run this again")
+            raise Refused(f"signal {-done.returncode} ended {NAME}; run this again")
         if done.returncode > 0:
             text = done.stderr.decode(errors="replace").strip().removeprefix(ERROR)
             kind = NotDecrypted if text == NOT_DECRYPTED else Refused
-            raise kind(text or f"{finding.NAME} ended with status {done.returncode}", done.returncode)
+            raise kind(text or f"{NAME} ended with status {done.returncode}", done.returncode)
         return done.stdout
 
     def view(self, envelope: bytes, password: Password) -> bytes:
@@ -95,3 +102,27 @@ class Tool:
             except BaseException as fault:
                 result.set_exception(fault)
         return result.result()
+
+
+class Workers(ThreadPoolExecutor):
+    """Threads for all work of a companion: by default twice as many as there are processors, so that each has a program
+    to run while a worker reads or writes. If the caller stops early, no new items are begun."""
+
+    def __init__(self, count: int | None = None) -> None:
+        super().__init__(count or 2 * len(os.sched_getaffinity(0)))
+
+    def __exit__(self, *_: object) -> None:
+        self.shutdown(cancel_futures=True)
+
+    def shared(self, work: Callable[[Item], Result], items: Sequence[Item]) -> list[Result]:
+        """The results for the parts of a worker's own work. It does itself what no other worker has begun."""
+        others = [(item, self.submit(work, item)) for item in items[1:]]
+        first = [work(item) for item in items[:1]]
+        rest = [work(item) if future.cancel() else future.result() for item, future in reversed(others)]
+        return first + rest[::-1]
+
+
+def at_once(work: Callable[[Item], Result], items: Iterable[Item]) -> list[Result]:
+    """The results of some work on each item."""
+    with Workers() as workers:
+        return workers.shared(work, [*items])
