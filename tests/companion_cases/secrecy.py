@@ -1,9 +1,11 @@
-"""Secrets must not appear in the arguments and the environment of programs, or on disks."""
+"""Secrets must not appear in the arguments and the environment of programs, or on disks, and no other program than the
+tool gets them.
+"""
 
 import os
 import re
 import resource
-import sys
+from pathlib import Path
 
 import pytest
 
@@ -97,20 +99,44 @@ def test_plaintext(place: Place, line: str, places: set[str]) -> None:
 
 
 def test_which_tool(place: Place) -> None:
-    """Another program with the name of the tool gets no password. The tool may also be on PATH."""
+    """Another program with the name of the tool gets no password."""
     place.put("a.yml", sealed("old"))
-    check = [CHECK, *place.by_file("old"), "."]
-    tool = place.tools / "ansible-vault"
-    tool.unlink()
+    (place.tools / "ansible-vault").unlink()
     theirs = '[ "$1" = --version ] && echo "ansible-vault [core 2.14.18]"; echo run >> ../runs'
     place.script(theirs, "tools/ansible-vault")
-    ended("Ansible's tool", place.run(*check), 1, "is not the ansible-vault that the companions need")
+    done = place.run(CHECK, *place.by_file("old"), ".")
+    ended("Ansible's tool", done, 1, "is not the ansible-vault that the companions need")
     assert (place.path / "runs").read_text() == "run\n", "is asked its version alone"
-    tool.unlink()
-    (folder := place.path / "interpreter").mkdir()
-    for name, path in (("python3", sys.executable), ("env", needs_tool("env"))):
-        (folder / name).symlink_to(os.path.realpath(path))
-    place.environment["PATH"] = f"{folder}{os.pathsep}{place.tools}"
-    ended("no tool", place.run(*check), 1, "there is no ansible-vault")
-    (folder / "ansible-vault").symlink_to(place.program)
-    ended("the one on PATH", place.run(*check), 0, "decrypted by")
+
+
+def lay_out(kind: str, path: Path, place: Place) -> None:
+    """Put something that is not the program in its place."""
+    if kind == "a directory":
+        path.mkdir()
+    elif kind == "a file without the right to run it":
+        path.touch()
+    else:
+        targets = {"a dangling link": Path("nowhere"), "a link to itself": path, "a companion": place.tools / CHECK}
+        path.symlink_to(targets[kind])
+
+
+KINDS = ["a directory", "a file without the right to run it", "a dangling link", "a link to itself", "a companion"]
+
+
+@pytest.mark.parametrize("kind", KINDS)
+def test_on_the_path(place: Place, kind: str) -> None:
+    """What cannot be the program is passed over, beside the companion and on PATH."""
+    place.put("a.yml", sealed("old"))
+    (place.tools / "ansible-vault").unlink()
+    lay_out(kind, place.tools / "ansible-vault", place)
+    folders = [place.path / name for name in ("first", "last")]
+    for folder in folders:
+        folder.mkdir()
+    lay_out(kind, folders[0] / "ansible-vault", place)
+    # Ansible's tool may be beside Python.
+    for name in ("python3", "env"):
+        (folders[1] / name).symlink_to(os.path.realpath(needs_tool(name)))
+    words, path = [CHECK, *place.by_file("old"), "a.yml"], ":".join(map(str, [folders[0], place.tools, folders[1]]))
+    ended("no program", place.run(*words, PATH=path), 1, "there is no ansible-vault beside this program or on PATH")
+    (folders[1] / "ansible-vault").symlink_to(place.program)
+    ended("the program", place.run(*words, PATH=path), 0, "1 decrypted")

@@ -1,10 +1,13 @@
 """Secrets that Ansible's settings name, compared with Ansible's own tool."""
 
+import itertools
+import shutil
+
 import pytest
 
 from companion_cases import CHECK, EDIT, ROTATE, TEXT, TEXTCONV, WITH, Place, described, ended, sealed
 from companion_cases.terminal import ours, theirs
-from lib.needs import needs_ansible
+from lib.needs import needs, needs_ansible, needs_root
 from lib.subtests import SubTests
 
 OPEN = ("old", "dev", "prod")
@@ -46,7 +49,6 @@ def test_variables_and_files(
         assert (status == 0, output.decode().strip()) == expected, "by Ansible's tool"
 
 
-WITHOUT_OPTIONS = "no options"
 # Files and variables that name a script of an untrusted clone, and the paths of variables and of the user's own files
 # that are named when they are ignored beside options.
 STRANGE: dict[str, tuple[dict[str, str], dict[str, str], list[str]]] = {
@@ -58,46 +60,44 @@ STRANGE: dict[str, tuple[dict[str, str], dict[str, str], list[str]]] = {
     "$PWD in the user's own file": ({"../.ansible.cfg": FILE.format("$PWD/script")}, {}, ["$PWD/script"]),
     "{{CWD}} in the user's own file": ({"../.ansible.cfg": FILE.format("{{CWD}}/script")}, {}, ["{{CWD}}/script"]),
     "a named file": ({"ansible.cfg": FILE.format("./script")}, {"ANSIBLE_CONFIG": "ansible.cfg"}, ["ansible.cfg"]),
-    WITHOUT_OPTIONS: ({"ansible.cfg": LIST.format("../secrets/old, ./script")}, {}, []),
 }
 
 
-@pytest.mark.parametrize("what", STRANGE)
-def test_what_is_not_trusted(place: Place, subtests: SubTests, what: str) -> None:
+@pytest.mark.parametrize("files, variables, ignored", STRANGE.values(), ids=STRANGE)
+def test_what_is_not_trusted(
+    place: Place, subtests: SubTests, files: dict[str, str], variables: dict[str, str], ignored: list[str]
+) -> None:
     """Beside options, no companion runs a script of the current directory or encrypts with a secret that the directory
     names. Without options, each uses the directory's settings."""
-    files, variables, ignored = STRANGE[what]
-    runs = what == WITHOUT_OPTIONS
     # As a shell sets it.
     place.environment["PWD"] = str(place.tree)
     place.environment["EDITOR"] = place.script('echo more >> "$1"', "editor")
-    secret, ran = [] if what == WITHOUT_OPTIONS else place.by_file("old"), place.path / "ran"
-    lines = [
-        [WITH, "view", *secret, "a.yml"],
-        [WITH, "encrypt", *secret, "--encrypt-vault-id", "default", "plain.yml"],
-        [EDIT, *secret, "--encrypt-vault-id", "default", "new.yml"],
-        [CHECK, *secret, "a.yml"],
-        [ROTATE, *secret, *place.by_file("new", "new-"), "a.yml"],
-    ]
     for name, content in files.items():
         place.put(name, content.encode())
     (place.tree / "at@").mkdir()
     for path in ("tree/script", "tree/at@/script"):
         place.script("touch ../ran; cat ../secrets/prod", path)
+    place.put("a.yml", sealed("old"))
+    place.put("plain.yml", TEXT)
+    old, new, ran = place.by_file("old"), place.by_file("new", "new-"), place.path / "ran"
+    lines = [
+        [WITH, "view", *old, "a.yml"],
+        [WITH, "encrypt", *old, "--encrypt-vault-id", "default", "plain.yml"],
+        [EDIT, *old, "--encrypt-vault-id", "default", "new.yml"],
+        [CHECK, *old, "a.yml"],
+        [ROTATE, *old, *new, "a.yml"],
+    ]
     for line in lines:
-        place.put("a.yml", sealed("old"))
-        place.put("plain.yml", TEXT)
-        ran.unlink(missing_ok=True)
         with subtests.test(" ".join(line[:2])):
             done = place.run(*line, **variables)
-            # The option that names the new secret switches the settings of the directory off, too.
-            is_beside = not runs or line[0] == ROTATE
-            assert (done.returncode, ran.exists()) == (0 if secret or not is_beside else 2, not is_beside), done.stderr
-            lacking = [path for path in ignored if f": {path}: beside options, a path in the" not in done.stderr]
-            assert lacking == []
-    if not runs:
-        ended("without options", place.run(CHECK, "a.yml", **variables), 1)
-        assert ran.exists(), "without options it is run"
+            assert (done.returncode, ran.exists()) == (0, False), done.stderr
+            assert [path for path in ignored if f": {path}: beside options, a path in the" not in done.stderr] == []
+    ended("a new secret is an option, too", place.run(ROTATE, *new, "a.yml", **variables), 2)
+    assert not ran.exists()
+    for line in ([CHECK, "a.yml"], [WITH, "view", "a.yml"], [EDIT, "a.yml"]):
+        ended("without options", place.run(*line, **variables), 1)
+        assert ran.exists(), "it is run"
+        ran.unlink()
 
 
 def test_matching_labels(place: Place) -> None:
@@ -158,14 +158,8 @@ CHOSEN = {
     "the second of a label": ("prod@../secrets/old, prod@../secrets/none", "prod", "old", True),
     "a label that is there": ("prod@../secrets/none, dev@../secrets/dev", "dev", "dev", True),
 }
-SEALING = [
-    [WITH, "encrypt", "plain.yml"],
-    [WITH, "encrypt_string", "word"],
-    [WITH, "rekey", "a.yml"],
-    [EDIT, "new.yml"],
-    [EDIT, "values.yml"],
-    [EDIT, "--value=word", "values.yml"],
-]
+# Command lines that encrypt. `random_secrets` has `encrypt` and `encrypt_string`.
+SEALING = [[WITH, "rekey", "a.yml"], [EDIT, "new.yml"], [EDIT, "values.yml"], [EDIT, "--value=word", "values.yml"]]
 
 
 @pytest.mark.parametrize("listed, label, there, encrypts", CHOSEN.values(), ids=CHOSEN)
@@ -174,7 +168,7 @@ def test_missing_secrets_to_encrypt_with(
     place: Place, line: list[str], listed: str, label: str, there: str, encrypts: bool
 ) -> None:
     """If the secret to encrypt with is missing, no other one encrypts in its place. Others may be missing."""
-    before = {"plain.yml": TEXT, "values.yml": b"word: !vault TEXT\n", "a.yml": sealed(there, label=label)}
+    before = {"values.yml": b"word: !vault TEXT\n", "a.yml": sealed(there, label=label)}
     for name, content in before.items():
         place.put(name, content)
     variables = {"ANSIBLE_VAULT_IDENTITY_LIST": listed, "ANSIBLE_VAULT_ENCRYPT_IDENTITY": label and f"'{label}'"}
@@ -183,7 +177,7 @@ def test_missing_secrets_to_encrypt_with(
     editor = place.script('test -s "$1" || echo new > "$1"', "editor")
     words = [*line[:2], *option, *line[2:]]
     done = place.run_on(b"new", "setsid", "--wait", *words, EDITOR=editor, **variables)
-    written = done.stdout if line[1] == "encrypt_string" else place.files().get(line[-1], b"")
+    written = place.files().get(line[-1], b"")
     if encrypts:
         header, found = described(written)
         assert header.decode() == f"$ANSIBLE_VAULT;1.2;AES256;{label}" and found and found[0] == there, done
@@ -206,3 +200,56 @@ def test_world_writable_folders(place: Place) -> None:
     ansible = needs_ansible()
     assert theirs(place, ansible, "view", "a.yml").returncode != 0, "by Ansible's tool"
     assert theirs(place, ansible, "view", "a.yml", ANSIBLE_CONFIG="ansible.cfg").returncode == 0, "what is named"
+
+
+# The places of ansible.cfg in Ansible's order, each with the password that it names here.
+PLACES = {"ANSIBLE_CONFIG": "dev", "./ansible.cfg": "old", "~/.ansible.cfg": "new", "/etc/ansible/ansible.cfg": "prod"}
+SUBSETS = [set(chosen) for count in range(5) for chosen in itertools.combinations(PLACES, count)]
+# Runs the words with another directory as /etc, which no other process sees.
+WITH_ETC = ["unshare", "--mount", "--", "sh", "-c", 'mount --bind "$0" /etc && exec "$@"']
+
+
+def decrypted_by(place: Place, *before: str, **variables: str) -> list[str]:
+    """Return the names of the passwords whose vaults `check` decrypts."""
+    done = place.run(*before, CHECK, ".", **variables)
+    return [name for name in PLACES.values() if f"{name}.yml: default: decrypted by" in done.stdout]
+
+
+def test_places_of_settings(place: Place) -> None:
+    """The first of the files that are there counts, and no other."""
+    needs("unshare")
+    needs_root()
+    etc = place.path / "etc"
+    shutil.copytree("/etc", etc, symlinks=True)
+    (etc / "ansible").mkdir(exist_ok=True)
+    paths = ["named.cfg", "tree/ansible.cfg", ".ansible.cfg", "etc/ansible/ansible.cfg"]
+    files = {name: place.path / path for name, path in zip(PLACES, paths, strict=True)}
+    for password in PLACES.values():
+        place.put(f"{password}.yml", sealed(password))
+    answers = {}
+    for chosen in SUBSETS:
+        for name, path in files.items():
+            path.unlink(missing_ok=True)
+            if name in chosen:
+                path.write_text(f"[defaults]\nvault_password_file = {place.secret(PLACES[name])}\n")
+        variables = {"ANSIBLE_CONFIG": str(files["ANSIBLE_CONFIG"])} if "ANSIBLE_CONFIG" in chosen else {}
+        answers[frozenset(chosen)] = decrypted_by(place, *WITH_ETC, str(etc), **variables)
+    first = {frozenset(chosen): [PLACES[name] for name in PLACES if name in chosen][:1] for chosen in SUBSETS}
+    assert answers == first
+
+
+# Ansible's `boolean` reads these as true, in any case.
+TRUE = ["y", "yes", "on", "1", "true", "t"]
+FALSE = ["n", "no", "off", "0", "false", "f", "", "2", "yess", "tru", "enabled"]
+SPELLINGS = {spelling: value in TRUE for value in TRUE + FALSE for spelling in (value, value.upper(), value.title())}
+
+
+def test_values_for_true(place: Place) -> None:
+    """With ask_vault_pass, a companion asks for a password, which takes a terminal."""
+    place.put("a.yml", sealed("old"))
+    asked = {}
+    for value in SPELLINGS:
+        done = place.run("setsid", "--wait", CHECK, "a.yml", ANSIBLE_ASK_VAULT_PASS=value)
+        asked[value] = "terminal" in done.stderr
+        assert done.returncode != 0
+    assert asked == SPELLINGS
