@@ -7,10 +7,8 @@ import json
 import re
 from pathlib import Path
 
-from companion_cases import CHECK, ROTATE, Place, block, edit, ended, sealed, silent, summary
+from companion_cases import CHECK, MERGE, ROTATE, Place, block, edit, ended, sealed, silent, summary, versions
 from companion_cases.terminal import theirs, written_by_theirs
-from companion_cases.merging import TAKE_THEIRS, branches
-from companion_cases.repository import add_and_commit
 from lib.needs import needs, needs_ansible
 
 PLAYBOOK = """\
@@ -29,23 +27,14 @@ DEV, PROD = ["--vault-id", "dev@../keys-client"], ["--vault-id", "prod@../keys-c
 Variables = dict[str, str]
 
 
-def side(one: str, two: str, a: bytes, b: bytes, solved: bytes) -> dict[str, bytes]:
-    """Return the files of a side of the merge."""
-    values = {"merged_a": a, "merged_b": b, "solved": solved}
-    return {
-        "merged.yml": sealed("dev", f"merged_one: {one}\nx: 0\ny: 0\nmerged_two: {two}\n".encode(), "dev"),
-        "merged_values.yml": b"".join(block("dev", text, "dev", name) for name, text in values.items()) + b"z: 1\n",
-    }
-
-
 def merged(place: Place) -> Variables:
-    """Merge two branches of a vault and of values in YAML, and resolve a conflict."""
-    base, ours = side("1", "2", b"a", b"b", b"base"), side("I", "2", b"A", b"b", b"ours")
-    done = branches(place, base, ours, side("1", "II", b"a", b"B", b"theirs"), *DEV)
-    ended("the merge", done, 1, "merged_values.yml: 1 conflict")
-    ended("the solution", edit(place, TAKE_THEIRS, *DEV, "merged_values.yml"), 0)
-    silent("the commit", add_and_commit(place))
-    return {"merged_one": "I", "merged_two": "II", "merged_a": "A", "merged_b": "B", "solved": "theirs"}
+    """Merge a vault, and values in YAML: each side changes one of two texts."""
+    sides = [(b"1", b"2"), (b"I", b"2"), (b"1", b"II")]
+    vaults = [sealed("dev", b"merged_one: %s\nx: 0\ny: 0\nmerged_two: %s\n" % side, "dev") for side in sides]
+    values = [block("dev", a, "dev", "merged_a") + block("dev", b, "dev", "merged_b") + b"z: 1\n" for a, b in sides]
+    for name, contents in {"merged.yml": vaults, "merged_values.yml": values}.items():
+        silent("the merge", place.run(MERGE, *DEV, *versions(place, name, *contents)))
+    return {"merged_one": "I", "merged_two": "II", "merged_a": "I", "merged_b": "II"}
 
 
 def rotated_of_theirs(place: Place) -> Variables:
