@@ -206,65 +206,52 @@ def test_closed(place: Place, text: bytes) -> None:
     assert decrypted("old", after[-2][11:-1].replace(b"\\n", b"\n")) == b"Q"
 
 
-ITEMS = [("dev", b"one"), ("prod", b"two"), ("dev", b"three")]
-LIST = b"l:\n- " + b"- ".join(block(name, text, name, "") for name, text in ITEMS)
-# What stands in the list afterwards, an option that chooses a label for new values, and the labels of the items. There
-# are none if it is refused, since an item of dev might have come from one of prod.
-LISTS = {
-    ("neu eins two three", "--encrypt-vault-id=prod"): "",
-    ("neu eins zwei drei", "--encrypt-vault-id=dev"): "",
-    ("two three new", ""): "",
-    ("one three!", ""): "",
-    ("one! two! three", ""): "dev prod dev",
-    ("three two one", ""): "dev prod dev",
-    ("two one", ""): "prod dev",
-    ("one two new three", "--encrypt-vault-id=prod"): "dev prod prod dev",
-}
+THREE = "dev:one prod:two dev:three"
+# The items of a list, each with the label of its secret; what stands there afterwards; an option that chooses a label
+# for new values; and the labels of the items. There are none if it is refused, since an item of dev might have come
+# from one of prod, or a new one from another secret than the chosen one.
+LISTS = [
+    (THREE, "neu eins two three", "--encrypt-vault-id=prod", ""),
+    (THREE, "neu eins zwei drei", "--encrypt-vault-id=dev", ""),
+    (THREE, "two three new", "", ""),
+    (THREE, "one three!", "", ""),
+    (THREE, "one! two! three", "", "dev prod dev"),
+    (THREE, "three two one", "", "dev prod dev"),
+    (THREE, "two one", "", "prod dev"),
+    (THREE, "one two new three", "--encrypt-vault-id=prod", "dev prod prod dev"),
+    ("dev:one", "neu eins", "--encrypt-vault-id=prod", ""),
+    ("dev:same prod:same", "changed same", "", "dev prod"),
+]
 
 
-@pytest.mark.parametrize("typed, labels", LISTS.items())
-def test_lists(place: Place, typed: tuple[str, str], labels: str) -> None:
+@pytest.mark.parametrize("items, typed, option, labels", LISTS)
+def test_lists(place: Place, items: str, typed: str, option: str, labels: str) -> None:
     """The texts and places of items identify them in a list. If they do not tell which secret an item gets, it is
     refused. Unchanged items keep their envelopes."""
-    items, option = typed
-    place.put("vars.yml", LIST)
+    known = [item.split(":") for item in items.split()]
+    content = b"l:\n- " + b"- ".join(block(label, text.encode(), label, "") for label, text in known)
+    place.put("vars.yml", content)
     words = [*place.by_id("dev", "dev"), *place.by_id("prod", "prod"), *option.split(), "vars.yml"]
-    lines = "".join(f"- !vault {item}\\n" for item in items.split())
+    lines = "".join(f"- !vault {item}\\n" for item in typed.split())
     done = edit(place, f"printf 'l:\\n{lines}' > \"$1\"", *words)
     after = place.get("vars.yml")
     if not labels:
-        ended("it", done, 1, "may be a new value or a changed one")
-        assert after == LIST
+        first = next(number for number, item in enumerate(typed.split(), 2) if item not in items)
+        ended("it", done, 1, f"line {first}: this value may be a new value or a changed one")
+        assert after == content
         return
     silent("it", done)
     assert re.findall(r"AES256;(\w+)", after.decode()) == labels.split()
-    known = [(label, text.decode()) for label, text in ITEMS]
-    for label, text, envelope in zip(labels.split(), items.split(), after.split(b"- !vault |")[1:]):
+    for label, text, envelope in zip(labels.split(), typed.split(), after.split(b"- !vault |")[1:]):
         assert texts(envelope, label) == [text.encode()], "its secret is that of its label"
         is_kept = envelope.strip() in block(label, text.encode(), label, "")
-        assert is_kept == ((label, text) in known)
+        assert is_kept == ([label, text] in known)
 
 
-def test_list_of_one_secret(place: Place) -> None:
-    """If another secret is chosen for new values, it has to be clear which item is new."""
-    place.put("vars.yml", content := b"l:\n- " + block("dev", b"one", "dev", ""))
-    words = [*place.by_id("dev", "dev"), *place.by_id("prod", "prod"), "--encrypt-vault-id=prod", "vars.yml"]
-    done = edit(place, "printf 'l:\\n- !vault neu\\n- !vault eins\\n' > \"$1\"", *words)
-    ended("it", done, 1, "line 2: this value may be a new value or a changed one")
-    assert place.get("vars.yml") == content
-
-
-def test_equal_items(place: Place) -> None:
-    """An unchanged item of a list keeps its envelope, even if another item had the same text under another secret."""
-    first, second = (block(name, b"same", name, "") for name in ("old", "prod"))
-    place.put("list.yml", b"users:\n- " + first + b"- " + second)
-    words = [*place.by_id("old", "old"), *place.by_id("prod", "prod"), "list.yml"]
-    silent("an edit", edit(place, 'sed -i "0,/same/s//changed/" "$1"', *words))
-    after = place.get("list.yml")
-    assert (first in after, after.endswith(second)) == (False, True), after
-    assert texts(after, "old")[0] == b"changed"
-    keyed = block("old", b"same", "old", "a") + block("prod", b"same", "prod", "b")
-    place.put("list.yml", keyed)
+def test_equal_values(place: Place) -> None:
+    """Which of two equal values has got which key is not guessed."""
+    place.put("vars.yml", content := block("old", b"same", "old", "a") + block("prod", b"same", "prod", "b"))
+    words = [*place.by_id("old", "old"), *place.by_id("prod", "prod"), "vars.yml"]
     done = edit(place, 'sed -i "s/^a:/c:/; s/^b:/d:/" "$1"', *words)
     ended("both get other keys", done, 1, "c is new; choose its secret with --encrypt-vault-id")
-    assert place.get("list.yml") == keyed
+    assert place.get("vars.yml") == content
