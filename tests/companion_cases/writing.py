@@ -74,15 +74,6 @@ def test_folder_that_cannot_be_read(place: Place) -> None:
     assert decrypted("new", place.get("folder/a.yml")) == TEXT, "it did its work"
 
 
-def test_created_meanwhile(place: Place) -> None:
-    """A new vault does not take the place of a file that another program creates."""
-    place.wrap_tool('[ "$1" != encrypt ] || echo theirs > new.yml')
-    done = place.run(EDIT, *place.by_file("old"), "new.yml", EDITOR=place.script('echo a > "$1"', "editor"))
-    why = "new.yml: another program changed it meanwhile; what you saved is encrypted in "
-    ended("the edit", done, 1, why)
-    assert place.get("new.yml") == b"theirs\n"
-
-
 # What a call of the system does, and why the run is refused.
 SYSTEMS = {
     # The system gives the new file these attributes. The user may lack the right to set or remove them.
@@ -150,23 +141,25 @@ def test_named_paths(place: Place) -> None:
 
 
 # What happens to the vault while a run encrypts or decrypts it. The run with a prompt only checks the command line.
-MEANWHILE = 'case "$*" in *=prompt*) ;; encrypt*|decrypt*|rekey*) echo other > a.yml ;; esac'
-
-
+MEANWHILE = 'case "$*" in *=prompt*) ;; encrypt*|decrypt*|rekey*) echo other | tee a.yml > new.yml ;; esac'
 LINES = b"1\n2\n3\n"
 
 
 def test_changed_meanwhile(place: Place, subtests: SubTests) -> None:
-    """What another program writes during a run is not overwritten."""
+    """What another program writes during a run is not overwritten, even if there was no file."""
     old = place.by_file("old")
     runs = [
         [ROTATE, *to_new(place), "a.yml"],
         [WITH, "decrypt", *old, "a.yml"],
+        [EDIT, *old, "new.yml"],
         [MERGE, *old, *versions(place, "a.yml", sealed("old", TEXT + LINES), b"", sealed("old", TEXT + LINES * 2))],
     ]
+    place.environment["EDITOR"] = place.script('echo a > "$1"', "editor")
     place.wrap_tool(MEANWHILE)
     for words in runs:
+        (place.tree / "new.yml").unlink(missing_ok=True)
         place.put("a.yml", sealed("old", CHANGED + LINES))
         with subtests.test(" ".join(words[:2])):
-            ended("it is refused", place.run(*words), 1, "a.yml: ", "another program changed it meanwhile")
-            assert place.files() == {"a.yml": b"other\n"}, "their change stays, and nothing is left"
+            ended("it is refused", place.run(*words), 1, f"{words[-1]}: another program changed it meanwhile")
+            theirs = dict.fromkeys(["a.yml", "new.yml"], b"other\n")
+            assert place.files() == theirs, "their change stays, and nothing is left"
