@@ -90,7 +90,6 @@ ONLY_ENCRYPTING: dict[str, tuple[str, bytes, list[tuple[str, bytes]]]] = {
     ),
     "one that is set": (f"printf new | {EDIT} {BY_LABEL} --value=word a.yml", NEW_VALUE, OF_PROD),
     "rekey": (f"{WITH} rekey --encrypt-vault-id=prod a.yml", sealed("old"), OF_PROD),
-    "rekey to an output": (f"{WITH} rekey --encrypt-vault-id=prod --output a.yml b.yml", sealed("old"), OF_PROD),
 }
 
 
@@ -101,7 +100,6 @@ def test_what_only_encrypts(place: Place, what: str, is_mistyped: bool) -> None:
     encrypted with it. If several secrets could encrypt a new value, a question asks for its label."""
     line, before, answers = ONLY_ENCRYPTING[what]
     place.put("a.yml", before)
-    place.put("b.yml", before)
     if "rekey" in line:
         place.environment["ANSIBLE_VAULT_IDENTITY_LIST"] = "../secrets/old, prod@prompt"
     if is_mistyped:

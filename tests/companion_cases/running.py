@@ -23,7 +23,6 @@ SAME = """
     decrypt --output=out.yml a.yml
     decrypt --output out.yml a.yml plain.yml
     encrypt --salt salt --output - plain.yml
-    encrypt --encrypt-vault-id prod --output - plain.yml
     encrypt_string --salt salt -n name word
     encrypt_string --salt salt --stdin-name name < plain.yml
     encrypt_string --salt=salt --name=name -- --word
@@ -92,13 +91,11 @@ SALT_FOR_ONE = "--salt and --salt-file are for a single FILE or STRING"
 NOT_NEW = "no new password has the label that was chosen for encryption, prod"
 # Command lines that are refused, the status, and a part of the message.
 REFUSED = [
-    ("", 2, "no command is given"),
     (OLD, 2, "no command is given"),
     (f"view {OLD} $'a\\nline.yml'", 3, f"{WITH}: 'a\\nline.yml': No such file or directory\n"),
     (f"decrypt {OLD} --output out.yml .", 3, f"{WITH}: .: Is a directory\n"),
     (f"encrypt {OLD} --salt-file /dev/zero plain.yml plain.yml", 2, SALT_FOR_ONE),
     ("encrypt --vault x plain.yml", 2, "ambiguous option: --vault could match --vault-id, --vault-password-file"),
-    ("encrypt --sa x plain.yml", 2, "ambiguous option: --sa could match --salt, --salt-file"),
     ("view --out x a.yml", 2, "unrecognized arguments: --out"),
     ("encrypt a.yml --output", 2, "argument --output: expected one argument"),
     ("strange --help", 2, "argument COMMAND: invalid choice: 'strange' (choose from "),
