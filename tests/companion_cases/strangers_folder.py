@@ -3,7 +3,7 @@
 import pytest
 
 from companion_cases import CHECK, EDIT, HOOK, MERGE, ROTATE, TEXT, TEXTCONV, WITH, Place, block, sealed
-from companion_cases.repository import AUTHOR
+from companion_cases.repository import committed, under_git
 
 pytestmark = pytest.mark.usefixtures("git")
 
@@ -35,27 +35,19 @@ STARTED = """
     core.fsmonitor filter.x.clean filter.y.process post-index-change diff.external diff.ansible-vault.command
     diff.ansible-vault.textconv remote.origin.url
 """.split()
-# The commands of git that the companions use.
-USED = """
-    cat-file check-attr config diff-index diff-tree ls-files merge-base read-tree rev-list rev-parse
-""".split()
 
 
 def commit_files(place: Place) -> None:
     """Make two branches, an open conflict, and files that differ from the index."""
-    place.environment.update(AUTHOR)
-    place.shell("git init -q -b main")
-    place.put("a.yml", sealed("old"))
+    under_git(place, ATTRIBUTES)
     place.put("b.yml", block("old"))
-    place.shell("git add -A && git commit -qm first && git branch other")
-    place.put("a.yml", sealed("old", b"two\n"))
-    place.put(".gitattributes", ATTRIBUTES.encode())
-    place.shell("git add -A && git commit -qm second")
-    place.put("plain.txt", b"one\n")
-    place.shell("git add -A && git commit -qm third && git checkout -q other")
-    place.put("a.yml", sealed("dev", b"three\n"))
-    place.shell("git commit -qam fourth && git checkout -q main")
-    place.shell("git rev-parse other > .git/MERGE_HEAD")
+    committed(place, "a.yml", sealed("old"))
+    place.shell("git branch other")
+    committed(place, "a.yml", sealed("old", b"two\n"))
+    committed(place, "plain.txt", b"one\n")
+    place.shell("git checkout -q other")
+    committed(place, "a.yml", sealed("dev", b"three\n"))
+    place.shell("git checkout -q - && git rev-parse other > .git/MERGE_HEAD")
     place.put("c.yml", sealed("old", b"staged\n"))
     for name in ("b.yml", "plain.txt", "other.dat"):
         place.put(name, TEXT)
@@ -108,7 +100,6 @@ def test_missing_object(stranger: Place) -> None:
 
 def test_companions(stranger: Place) -> None:
     place, old = stranger, stranger.by_file("old")
-    place.wrap_tool(f'for word; do echo "$word" >> {place.path}/words; done', "git")
     for name in ("base", "ours", "theirs"):
         place.put(f"../{name}", sealed("old", name.encode()))
     marks = place.script("printf '<<<<<<< ours\\nx: 1\\n=======\\nx: 2\\n>>>>>>> theirs\\n' > \"$1\"", "editor")
@@ -130,5 +121,3 @@ def test_companions(stranger: Place) -> None:
     for words in runs:
         done = place.run(*words, EDITOR=marks)
         assert started(place) == set(), (words, done)
-    asked = (place.path / "words").read_text().split("\n")
-    assert set(USED).difference(asked) == set(), "git was asked"
