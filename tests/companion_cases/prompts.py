@@ -2,7 +2,7 @@
 
 import pytest
 
-from companion_cases import CHECK, EDIT, FOUND, PASSWORDS, ROTATE, TEXT, TEXTCONV, WITH, Done, Place, block, decrypted
+from companion_cases import EDIT, FOUND, PASSWORDS, ROTATE, TEXT, WITH, Place, block, decrypted
 from companion_cases import described, sealed, texts
 from companion_cases.terminal import READY, SHELL, Session, ask, theirs_at_terminal
 from lib.needs import needs, needs_ansible
@@ -18,7 +18,7 @@ def typed(password: str, *questions: str) -> list[tuple[str, bytes]]:
     return [(question, b" %s \n" % PASSWORDS[password]) for question in questions]
 
 
-def outcome(done: Done | Session) -> tuple[int, str, str]:
+def outcome(done: Session) -> tuple[int, str, str]:
     return done.returncode, done.stdout, done.stderr
 
 
@@ -145,17 +145,6 @@ def test_locales(place: Place) -> None:
     for codec, wanted in (("utf-8", (0, TEXT.decode(), "")), ("latin-1", (1, "", why))):
         session = ask(place, *words, answers=[(ASKED, "größe\n".encode(codec))], **variables)
         assert outcome(session) == wanted, codec
-
-
-def test_no_terminal(place: Place) -> None:
-    """`running` has the messages of ansible-vault-with."""
-    place.put("a.yml", sealed("dev"))
-    away, why = ["setsid", "--wait"], "there is no terminal to ask for the password; name a password file"
-    done = place.run(*away, CHECK, "--vault-id=dev@prompt", "a.yml")
-    assert outcome(done) == (1, "", f"{CHECK}: dev@prompt: {why}\n")
-    done = place.run(*away, TEXTCONV, "--vault-id", "prompt", *place.by_file("dev"), "a.yml")
-    errors = f"{TEXTCONV}: prompt: {why}; it is ignored\n"
-    assert outcome(done) == (0, TEXT.decode(), errors), "it uses the other password"
 
 
 # Inputs, whether somebody types them, and how the output begins.
