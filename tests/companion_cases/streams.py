@@ -1,7 +1,5 @@
 """Companions that inherit standard streams that are closed, full or abandoned, or signals that are ignored."""
 
-import os
-
 import pytest
 
 from companion_cases import CHANGE, CHANGED, CHECK, EDIT, MERGE, ROTATE, TEXT, TEXTCONV, WITH
@@ -65,13 +63,3 @@ def test_ignored_signals(place: Place, name: str) -> None:
     done = place.shell(f"trap '' {name}; {ROTATE} {' '.join(to_new(place))} .")
     ended("a rotation", done, 0, summary(1))
     assert decrypted("new", place.get("a.yml")) == TEXT, "it is done"
-
-
-@pytest.mark.parametrize(
-    "line", (f"{EDIT} {OLD} pipe", f"{WITH} decrypt {OLD} pipe", f"{MERGE} {OLD} a.yml pipe a.yml a.yml")
-)
-def test_waiting_pipes(place: Place, line: str) -> None:
-    """A pipe is not a vault. Opening it would wait forever, and ignore signals."""
-    os.mkfifo(place.tree / "pipe")
-    place.put("a.yml", sealed("old"))
-    ended("it does not wait", place.run("timeout", "20", *line.split()), 1, "it is not a regular file")
