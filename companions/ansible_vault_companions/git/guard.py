@@ -4,8 +4,9 @@ from __future__ import annotations
 
 import os
 import shlex
+from collections import Counter
 from functools import cached_property
-from typing import Iterator, NamedTuple
+from typing import Iterable, Iterator, NamedTuple
 
 from ansible_vault_companions.envelopes import conflicts
 from ansible_vault_companions.envelopes.document import PROSE, YAML
@@ -63,14 +64,16 @@ class Guard:
 
     @cached_property
     def removed(self) -> dict[Keys, bytes]:
-        """The keys of the values that are in no file any more, each with a file that had it."""
-        kept = {text for now in self.now.values() for texts in now.encrypted.values() for text in texts}
+        """The keys of the values of which there are fewer in all, each with a file that had it."""
+        gone = Counter(_envelopes(self.before.values()))
+        gone.subtract(_envelopes(self.now.values()))
         return {
             keys: file.name
             for file, before in self.before.items()
             for keys, texts in before.encrypted.items()
-            if sum(texts.values()) > sum(self.now[file].encrypted.get(keys, NONE).values())
-            if texts.keys() - kept and not self.now[file].is_vault
+            for now in [self.now[file].encrypted.get(keys, NONE)]
+            if sum(texts.values()) > sum(now.values()) and any(gone[text] > 0 for text in texts - now)
+            if not self.now[file].is_vault
         }
 
     @cached_property
@@ -149,6 +152,11 @@ class Guard:
             return Fault(STALE.format(EXEMPT if given.is_exempt else PLAIN_VALUES))
         names = given.plain_values & {written(keys) for keys in now.encrypted.keys() - now.plain.keys()}
         return Fault(STALE.format(", ".join(sorted(names)))) if names else None
+
+
+def _envelopes(files: Iterable[Facts]) -> Iterator[int]:
+    """The envelopes in values, each as often as it is there."""
+    return (text for file in files for texts in file.encrypted.values() for text in texts.elements())
 
 
 def _quoted(file: File) -> str:
