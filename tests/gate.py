@@ -79,7 +79,7 @@ def test_missing_packages(program: str, tmp_path: Path) -> None:
     write_script(tmp_path / "dpkg-query", REMOVED)
     (tmp_path / "rt").symlink_to("/bin/false")
     for goal in ("test", "check"):
-        done = run_make(program, goal, "PYTEST=true", env=searched_first(tmp_path))
+        done = run_make(program, goal, "PYTEST=true", "PARTIAL=no", env=searched_first(tmp_path))
         assert (done.returncode, done.stdout) == (2, "") and " zsh " in done.stderr.splitlines()[0]
     assert run_make(program, "packages", "PARTIAL=yes", env=searched_first(tmp_path)).returncode == 0
 

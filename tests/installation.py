@@ -73,7 +73,7 @@ def test_found(make: Make, place: Path) -> None:
     if not BASH_COMPLETION.exists():
         pytest.skip("without bash-completion")
     ask = f"source {BASH_COMPLETION} && _completion_loader ansible-vault-rotate; complete -p ansible-vault-rotate"
-    assert "_ansible_vault_companion" in printed("bash", "-c", ask, XDG_DATA_DIRS=str(place / "share"))
+    assert "-F _ansible_vault " in printed("bash", "-c", ask, XDG_DATA_DIRS=str(place / "share"))
 
 
 def test_python(tmp_path: Path, make: Make, place: Path) -> None:

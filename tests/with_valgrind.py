@@ -1,5 +1,5 @@
 """Run the program under Valgrind's memcheck: one run of each command that succeeds, and one for each refusal, with the
-model's answer. They are random requests, except for refusals that need a long input.
+model's answer. They are random requests, except for refusals that need a long input or header.
 """
 
 import shlex
@@ -15,7 +15,7 @@ from model.compared import differences, expected
 from model.faults import Fault
 from model.options import OPTIONS
 from model.random_requests import Case, make
-from model.vaults import CIPHERTEXT_LIMIT, PLAINTEXT_LIMIT, serialized
+from model.vaults import CIPHERTEXT_LIMIT, HEADER, PLAINTEXT_LIMIT, serialized
 
 pytestmark = pytest.mark.valgrind
 
@@ -53,13 +53,14 @@ def memcheck(program: str, case: Case) -> list[str]:
 
 @pytest.fixture(scope="module")
 def requests() -> dict[str, Case]:
-    """Return the first small request for each end, and long ones."""
+    """Return the first small request for each end, and those that are not random."""
     needs("valgrind")
     by_file, right = ["--vault-password-file", "right"], {"right": b"right\n"}
     ciphertext = serialized(bytes(32), bytes(32), bytes(CIPHERTEXT_LIMIT + 1))
     found = {
         Fault.TOO_LONG.name: Case(["encrypt", *by_file], {**right}, bytes(PLAINTEXT_LIMIT + 1)),
         Fault.CIPHER_TOO_LONG.name: Case(["view", *by_file], {**right}, ciphertext),
+        Fault.HEADER_TOO_LONG.name: Case(["view", *by_file], {**right}, HEADER + b";label;" + bytes(256)),
     }
     for case in (make(f"{SEED}-{number}") for number in range(REQUESTS)):
         end = end_of(case)
