@@ -13,7 +13,7 @@ import pytest
 from ansible_vault_companions.editing.matching import Choice
 from ansible_vault_companions.editing.values import YamlFile
 from ansible_vault_companions.merging.versions import Versions, merged_lines
-from companion_cases import CHECK, EDIT, HOOK, MERGE, PASSWORDS, Done, Place, block, decrypted, ended
+from companion_cases import CHECK, EDIT, HOOK, MERGE, PASSWORDS, Place, block, decrypted, ended
 from companion_cases import sealed, silent, texts, versions
 from companion_cases.random_merges import ITEM, LABELS, Model, Value, common, document, secret_of
 from companion_cases.repository import BASE, BOTH, OURS, SALTS, THEIRS, add_and_commit, commit, fork
@@ -28,20 +28,17 @@ TAKE_THEIRS = "sed -i '/^<<<</,/^====/d; /^>>>>/d' \"$1\""
 WHOLE = "not merged, so both sides are whole in the file: "
 
 
-def branches(
-    place: Place, base: dict[str, bytes], ours: dict[str, bytes], other: dict[str, bytes], *words: str
-) -> Done:
-    """Merge two branches, with the driver configured."""
+def forked(place: Place, *files: dict[str, bytes]) -> None:
+    """Commit base, ours and theirs, with the driver configured."""
     under_git(place, ATTRIBUTES)
-    set_driver(place, *(words or place.by_file("old")))
-    fork(place, base, ours, other)
-    return place.shell("git merge --no-edit theirs")
+    set_driver(place, *place.by_file("old"))
+    fork(place, *files)
 
 
 def both(sides: Sequence[bytes], size: int = 7) -> bytes:
     """Return a conflict of two texts."""
-    markers = [sign * size + name + b"\n" for sign, name in ((b"<", b" ours"), (b"=", b""), (b">", b" theirs"))]
-    return markers[0] + sides[0] + markers[1] + sides[1] + markers[2]
+    markers = (b"<" * size, b"=" * size, b">" * size)
+    return b"%s ours\n%s%s\n%s%s theirs\n" % (markers[0], sides[0], markers[1], sides[1], markers[2])
 
 
 def values(a: bytes, b: bytes) -> bytes:
@@ -64,7 +61,8 @@ FILES = {
 def test_branches(place: Place) -> None:
     """A single secret decrypts every label. A result that equals ours, byte for byte, counts as merged."""
     base, ours, theirs = ({name: each[number] for name, each in FILES.items()} for number in range(3))
-    done = branches(place, base, ours, theirs)
+    forked(place, base, ours, theirs)
+    done = place.shell("git merge --no-edit theirs")
     why = f"{MERGE}: torn.yml: {WHOLE}both sides changed the same lines; resolve with {EDIT}\n"
     ended("a merge", done, 1, why, f"{MERGE}: torn_values.yml: 1 conflict; resolve with {EDIT}\n")
     unmerged = place.shell("git diff --name-only --diff-filter=U").stdout
@@ -169,9 +167,7 @@ def test_crossed(place: Place, kind: str) -> None:
     contents: dict[str, dict[str, str]] = {"first": {"_0": "0: I\n"}, "last": {"_8": "8: I\n"}, "merged": {}}
     for name, changes in contents.items():
         place.put(f"../{name}.yml", file(_4="4: both\n", **changes))
-    under_git(place, ATTRIBUTES)
-    set_driver(place, *place.by_file("old"))
-    fork(place, *({"a.yml": file(_4=f"4: {side}\n")} for side in ("base", "ours", "theirs")))
+    forked(place, *({"a.yml": file(_4=f"4: {side}\n")} for side in ("base", "ours", "theirs")))
     done = place.shell(CROSSED)
     assert done.returncode == 0, done.stderr
     wanted = file(_0="0: I\n", _4="4: both\n", _8="8: I\n")
@@ -181,11 +177,8 @@ def test_crossed(place: Place, kind: str) -> None:
 
 def test_reused_resolutions(place: Place) -> None:
     """git asks the driver to merge a conflict with its earlier resolution, and has both only encrypted."""
-    under_git(place, ATTRIBUTES)
-    place.shell("git config rerere.enabled true; git config rerere.autoUpdate true")
-    set_driver(place, *place.by_file("old"))
-    fork(place, *({"a.yml": sealed("old", b"x: %s\n" % side)} for side in SIDES))
-    place.shell("git merge theirs")
+    forked(place, *({"a.yml": sealed("old", b"x: %s\n" % side)} for side in SIDES))
+    place.shell("git config rerere.enabled true; git config rerere.autoUpdate true; git merge theirs")
     place.put("a.yml", sealed("old", b"x: both\n"))
     add_and_commit(place)
     done = place.shell("git reset -q --hard HEAD~1; git merge theirs")

@@ -54,32 +54,23 @@ def test_unread(place: Place, name: str) -> None:
     assert (done.returncode, done.stdout, done.stderr) == (1, "", f"{TEXTCONV}: {name}: {UNREAD[name]}\n")
 
 
-# Ways to make git put the differences below the message of a commit.
-VERBOSE = {
-    "a rebase": "git commit -qm one && git -c commit.verbose=true -c sequence.editor='sed -i s/^pick/reword/' "
-    "rebase -q -i HEAD~1",
-    "another worktree": "git commit -qm one && git worktree add -q ../second HEAD~1 && cp -- * ../second && "
-    "cd ../second && git commit -av",
-}
-
-
-@pytest.mark.parametrize("line, names", zip(VERBOSE.values(), (AWKWARD[::2], AWKWARD[1::2])), ids=VERBOSE)
-def test_messages(place: Place, line: str, names: list[str]) -> None:
+def test_messages(place: Place) -> None:
     """git shows the differences, and no name of a file cuts off those of other files. Below a message it keeps them in
-    a file, so there they contain no plaintext."""
+    a file, wherever the worktree is, so there they contain no plaintext."""
     needs("git")
     under_git(place, "* diff=ansible-vault\n")
     place.run("git", "config", "diff.ansible-vault.textconv", " ".join([TEXTCONV, *place.by_file("old")]))
     for text in (b"password: first\n", b"password: second\n"):
         add_and_commit(place)
         place.put("values.yml", block("old", text))
-        for name in names:
+        for name in AWKWARD:
             place.put(name, sealed("old", text))
-    done, count = place.shell("git add -A && git diff --cached"), len(names) + 1
+    done, count = place.shell("git add -A && git diff --cached"), len(AWKWARD) + 1
     changed = re.findall(r"^[-+] *(password: .*)", done.stdout, re.MULTILINE)
     assert (done.returncode, changed, done.stderr) == (0, ["password: first", "password: second"] * count, "")
     editor = place.script(f'cat "$1" >> {place.path}/message; sed -i 1s/^/m/ "$1"', "editor")
-    done = place.shell(line, EDITOR=editor)
+    place.shell("git commit -qm one && git worktree add -q ../second HEAD~1 && cp -- * ../second")
+    done = place.shell("git commit -av", folder="../second", EDITOR=editor)
     why = "shown as it is: its plaintext would stay in git's file COMMIT_EDITMSG; `git diff --cached` shows it\n"
     ended("the commit", done, 0, why)
     assert (place.path / "message").read_text().count("\n+++ ") == count, "the differences are there"
