@@ -12,61 +12,41 @@ ATTRIBUTES = """\
 secrets/** ansible-vault
 *.vault.md diff=ansible-vault
 """
+VAULT = sealed("old")
 MERGE = b"<<<<<<< HEAD\na: 1\n=======\na: 2\n>>>>>>> branch\n"
 
 
 def test_marked_files(place: Place) -> None:
-    """A marked file that is not a vault is a failure, even if it contains no envelope. `hook` has other contents."""
-    under_git(place, ATTRIBUTES)
-    place.put("ok.vault.yml", sealed("old"))
-    place.put("ok.vault.md", block("old"))
-    place.put("secrets/ok", sealed("old"))
-    place.put("plain.yml", TEXT)
-    check = [CHECK, *place.by_file("old")]
-    ended("all is well", place.run(*check, "."), 0, "3 decrypted, 0 not")
-    faults = {
-        "a.vault.yml": (TEXT, "is not encrypted"),
-        "d.yml": (MERGE + block("old"), "has git's conflict markers"),
-        "notes.vault.md": (TEXT, "is not encrypted"),
-        "secrets/deep/vars.yml": (TEXT, "is not encrypted"),
-    }
-    for name, (content, _) in faults.items():
+    """A marked file that is not a vault is a failure, even if it contains no envelope. Only its own repository marks a
+    file, and a link by its own name, too, whichever name comes first. `hook` has other contents."""
+    place.shell("git init -q one && git init -q two")
+    contents = dict.fromkeys(("one/a.yml", "one/z.yml", "two/a.vault.yml", "outside.vault.yml"), TEXT)
+    contents |= {"one/.gitattributes": ATTRIBUTES.encode(), "one/ok.vault.md": block("old"), "one/secrets/ok": VAULT}
+    contents |= dict.fromkeys(("one/b.vault.yml", "one/notes.vault.md", "one/secrets/deep/vars.yml"), TEXT)
+    contents["one/d.yml"] = MERGE + block("old")
+    for name, content in contents.items():
         place.put(name, content)
-    paths = [str(place.tree / name) for name in faults]
-    for done, folder in ((place.run(*check, "."), "."), (place.run(*check, *paths), place.tree)):
-        lines = [f"{CHECK}: {folder}/{name}: {why}" for name, (_, why) in faults.items()]
-        assert (done.returncode, [line.partition(";")[0] for line in done.stderr.splitlines()]) == (1, lines)
-        assert done.stdout.endswith(f" decrypted, {len(faults)} not\n")
+    for name, target in {"one/ma.vault.yml": "a.yml", "one/mz.vault.yml": "z.yml", "link": "one/b.vault.yml"}.items():
+        (place.tree / name).symlink_to(target)
+    done = place.run(CHECK, *place.by_file("old"), "one", "two", "outside.vault.yml")
+    plain = ["b.vault.yml", "ma.vault.yml", "mz.vault.yml", "notes.vault.md", "secrets/deep/vars.yml"]
+    wanted = [f"{CHECK}: one/{name}: is not encrypted" for name in plain]
+    wanted.append(f"{CHECK}: one/d.yml: has git's conflict markers")
+    assert sorted(line.partition(";")[0] for line in done.stderr.splitlines()) == sorted(wanted)
+    ended("the check", done, 1, "3 decrypted, 6 not\n")
+    link = f"{place.tree}/link"
+    ended("a link", place.run(CHECK, *place.by_file("old"), link), 1, f"{CHECK}: {link}: is not encrypted\n")
 
 
-def test_marked_links(place: Place) -> None:
-    """A link is marked by its own name, and by that of the file that it points to."""
+def test_broken_repository(place: Place) -> None:
+    """If git fails, so does the check, but this does not count as a vault, and git's own message is shown."""
     under_git(place, ATTRIBUTES)
-    for name, target in {"a.vault.yml": "plain.yml", "deep/b.yml": "marked.vault.yml"}.items():
-        place.put(f"deep/{target}", TEXT)
-        (place.tree / name).symlink_to(place.tree / "deep" / target)
-        done = place.run(CHECK, *place.by_file("old"), name)
-        ended(name, done, 1, f"{name}: is not encrypted\n")
-    for name in ("a.yml", "z.yml"):
-        place.put(f"both/{name}", TEXT)
-        (place.tree / "both" / f"m{name}.vault.yml").symlink_to(name)
-        done = place.run(CHECK, *place.by_file("old"), "both")
-        ended("its file has an earlier or a later name", done, 1, f"both/m{name}.vault.yml: is not encrypted\n")
-
-
-def test_several_repositories(place: Place) -> None:
-    """Only a file's own repository marks it. A file outside of any repository is not marked. If git fails, so does the
-    check, but this does not count as a vault, and git's own message is shown."""
-    place.put("outside.vault.yml", TEXT)
-    for name in ("one", "two"):
-        place.shell(f"git init -q {name}")
-        place.put(f"{name}/a.vault.yml", TEXT)
-    place.put("one/.gitattributes", ATTRIBUTES.encode())
-    check = [CHECK, *place.by_file("old"), "."]
-    assert place.run(*check).stderr == f"{CHECK}: ./one/a.vault.yml: is not encrypted\n", "one alone marks it"
-    place.put("one/.git/config", b"[no config\n")
+    place.put("a.vault.yml", VAULT)
+    ended("all is well", place.run(CHECK, *place.by_file("old"), "."), 0, "1 decrypted, 0 not\n")
+    place.put(".git/config", b"[no config\n")
     why = f"{CHECK}: cannot check which files have to be encrypted: git check-attr failed\n"
-    ended("git fails", place.run(*check), 1, why, "0 decrypted, 0 not\n", "bad config line 1 in file ")
+    done = place.run(CHECK, *place.by_file("old"), ".")
+    ended("git fails", done, 1, why, "1 decrypted, 0 not\n", "bad config line 1 in file ")
 
 
 def test_some_labels(place: Place) -> None:
