@@ -5,7 +5,9 @@ from __future__ import annotations
 import argparse
 import io
 import os
+import re
 import resource
+import shlex
 import sys
 from collections.abc import Callable, Iterable
 
@@ -20,6 +22,9 @@ if TYPE_CHECKING:
 setattr(argparse, "_", str)
 # The columns of a help, and the first one of an option's text. A help fits a screen.
 COLUMNS, TEXTS = 80, 30
+# What the shell's printf has to be told by number, and a path in which git sees no pattern.
+ESCAPED = re.compile(r"[^ -&(-\[\]-~]")
+SIMPLE_PATH = re.compile(r"[\w./][\w./@+,-]*", re.ASCII)
 
 
 class Refused(Exception):
@@ -37,6 +42,23 @@ class NotWritten(Refused):
 def shown(name: str) -> str:
     """A file name in printable form: line ends and terminal control characters are escaped."""
     return name if name.isprintable() else ascii(name)
+
+
+def word(text: str) -> str:
+    """A path as a word of a shell command in a message. No program takes it for an option."""
+    path = f"./{text}" if text.startswith("-") else text
+    if path.isprintable():
+        return shlex.quote(path)
+    escaped = ESCAPED.sub(lambda byte: f"\\0{ord(byte[0]):03o}", os.fsencode(path).decode("latin-1"))
+    return f"\"$(printf %b '{escaped}')\""
+
+
+def pathspec(path: str, is_below_top: bool = False) -> str:
+    """A word by which git means this file alone, from the current directory or from any directory of its
+    repository."""
+    if SIMPLE_PATH.fullmatch(path):
+        return f":/{path}" if is_below_top else path
+    return word(f":({'top,' * is_below_top}literal){path}")
 
 
 def write(data: bytes) -> None:

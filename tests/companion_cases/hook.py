@@ -169,7 +169,8 @@ def test_unmerged(place: Place) -> None:
     fork(place, {"a.yml": b"1\n"}, {"a.yml": b"2\n"}, {"a.yml": b"3\n"})
     place.shell("git merge -q theirs")
     for words in ([HOOK], [HOOK, "a.yml"]):
-        ended("a conflict", place.run(*words), 1, f"{HOOK}: a.yml is unmerged; resolve the conflict, and run git add\n")
+        why = "a.yml is unmerged; resolve the conflict, and run `git add -- :/a.yml`"
+        ended("a conflict", place.run(*words), 1, f"{HOOK}: {why}\n")
 
 
 def test_merges(place: Place) -> None:

@@ -56,7 +56,7 @@ def test_other_hooks(place: Place) -> None:
     stays. The message contains the line to add to a hook."""
     under_git(place, ATTRIBUTES)
     hooks, old = place.tree / ".git/hooks", place.path / "old" / HOOK
-    hook, line = hooks / "pre-commit", f"{HOOK} || exit 1"
+    hook, line = hooks / "pre-commit", f"{place.tools}/{HOOK} || exit 1"
     hooks.mkdir(exist_ok=True)
     for name in NAMES:
         (hooks / name).symlink_to(old)

@@ -63,7 +63,7 @@ def meant(name: str, attribute: str = "-ansible-vault") -> str:
 
 
 def restoring(name: str) -> str:
-    first = f"  restore it, for example with `git checkout HEAD -- {name}` if it is whole there; "
+    first = f"  restore it, for example with `git checkout HEAD -- :/{name}` if it is whole there; "
     return first + meant(name).lstrip()
 
 

@@ -37,10 +37,11 @@ def test_how_they_start(place: Place, request: pytest.FixtureRequest, option: st
     assert (TEXT in output, started.read_text()) == (True, wanted), ("by Ansible's tool", errors)
 
 
+NO_PROGRAM = "this script cannot be run: Exec format error; if it is not a script, run `chmod -x ../data`"
 SPACE = "the password of this script begins or ends with white space, which a password file cannot have"
 # Names and texts of scripts that fail, and why. A client's own messages are shown in one line.
 FAILING = [
-    ("data", "no script", "this script cannot be run: Exec format error; if it is not a script, `chmod -x` it"),
+    ("data", "no script", NO_PROGRAM),
     ("script", "kill -9 $$", "signal 9 ended this script"),
     ("script", "printf ' word'", SPACE),
     ("script", "head -c 5000 /dev/zero | tr '\\0' x", "a password file is longer than 4096 bytes"),

@@ -17,7 +17,7 @@ from ansible_vault_companions.envelopes.document import Document
 from ansible_vault_companions.envelopes.envelope import ALIAS, MAGIC, NO_SCALAR, Path, Value, label_of, quoted
 from ansible_vault_companions.files import reading
 from ansible_vault_companions.passwords.sources import NO_OPTION, Password
-from ansible_vault_companions.program import Refused, shown
+from ansible_vault_companions.program import Refused, pathspec, shown
 from ansible_vault_companions.tool import Decrypt, Key, Tool
 
 if TYPE_CHECKING:
@@ -141,7 +141,7 @@ def _of_conflict(
     if all(are_vaults):
         return texts.Conflict(decrypt, target, content, sides, key)
     if any(are_vaults):
-        raise Refused(texts.ONE_SIDE.format(shown(target)))
+        raise Refused(texts.ONE_SIDE.format(pathspec(target)))
     # Where git has merged the digits of values, only whole ones are between the markers of the merged text.
     is_merged = sides.ours and sides.theirs
     merged = texts.merged(tool, decrypt, sides, conflicts.SIZE, key).content if is_merged else content

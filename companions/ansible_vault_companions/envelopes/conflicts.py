@@ -3,14 +3,13 @@
 from __future__ import annotations
 
 import re
-import shlex
 from bisect import bisect_left
 from typing import Iterable
 
 from ansible_vault_companions.envelopes import document
 from ansible_vault_companions.envelopes.document import Document
 from ansible_vault_companions.envelopes.envelope import Value
-from ansible_vault_companions.program import shown
+from ansible_vault_companions.program import pathspec
 
 # The usual number of characters in a marker. The attribute `conflict-marker-size` asks for others.
 SIZE = 7
@@ -27,13 +26,13 @@ UNMERGED = "has git's conflict markers"
 STILL = "it still has git's conflict markers: choose between the sides, and remove the markers"
 AGAIN = (
     "resolve them with ansible-vault-edit; or set up the merge driver (see `ansible-vault-merge --help`), and run "
-    "`git checkout --merge {}`"
+    "`git checkout --merge -- {}`"
 )
 
 
 def again(path: str) -> str:
     """For a message: what to do about a file with conflict markers."""
-    return AGAIN.format(shlex.quote(shown(path)))
+    return AGAIN.format(pathspec(path))
 
 
 def is_unmerged(text: bytes) -> bool:

@@ -13,7 +13,7 @@ from ansible_vault_companions.envelopes.envelope import MAGIC
 from ansible_vault_companions.envelopes.scalars import LONGEST
 from ansible_vault_companions.files.reading import LIMIT
 from ansible_vault_companions.git.repository import command, environment, git, line
-from ansible_vault_companions.program import Refused, shown, temporary_folder
+from ansible_vault_companions.program import Refused, pathspec, shown, temporary_folder
 
 # The modes of regular files and of links, as opposed to submodules.
 FILE_MODES, LINK_MODE = ("100644", "100755"), "120000"
@@ -125,7 +125,9 @@ def _differences(*words: str, data: bytes = b"", index: str | None = None) -> It
         if status.startswith("R"):
             name = next(fields)
         if status == "U":
-            raise Refused(f"{shown(os.fsdecode(name))} is unmerged; resolve the conflict, and run git add")
+            path = os.fsdecode(name)
+            to_add = f"`git add -- {pathspec(path, is_below_top=True)}`"
+            raise Refused(f"{shown(path)} is unmerged; resolve the conflict, and run {to_add}")
         yield name, old_mode, mode, old_blob, blob
 
 

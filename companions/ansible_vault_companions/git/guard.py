@@ -3,7 +3,6 @@
 from __future__ import annotations
 
 import os
-import shlex
 from collections import Counter
 from functools import cached_property
 from typing import Iterable, Iterator, NamedTuple
@@ -18,7 +17,7 @@ from ansible_vault_companions.git.attributes import PLAIN_VALUES, VAULT
 from ansible_vault_companions.git.commits import Blobs, Change, File, Index
 from ansible_vault_companions.git.facts import NONE, Facts, Keys, written
 from ansible_vault_companions.git.repository import git, line
-from ansible_vault_companions.program import shown, write_error
+from ansible_vault_companions.program import pathspec, shown, write_error
 
 WAS_VAULT = "is not a vault, but was one{}"
 SUCCESSOR = "is not encrypted, and {}, which is gone, was a vault{}"
@@ -32,7 +31,7 @@ RESTORE = "restore it, for example with `git checkout HEAD -- {}` if it is whole
 REPAIR = "repair it; "
 UNMARK = "  encrypt it, or unmark it with a line at the end of {}"
 RESOLVE = "  resolve the conflict with ansible-vault-edit"
-REMOVE = "  look at its content, and remove it with `git rm --cached {0}` and `rm {0}`"
+REMOVE = "  look at its content, and remove it with `git rm -f -- {}`"
 
 EXEMPT, UNMARKED = f"-{VAULT}", f"!diff !{VAULT}"
 # What a file with this name is, its directory says.
@@ -102,11 +101,12 @@ class Guard:
         if given.is_exempt or name.lower().endswith(PROSE) and not given.is_marked:
             return None
         if replacing.is_leftover(os.path.basename(name)):
-            return Fault(LEFTOVER, REMOVE.format(_quoted(file)))
+            return Fault(LEFTOVER, REMOVE.format(pathspec(name, is_below_top=True)))
         if now.damage == conflicts.UNMERGED:
             return Fault(now.damage, RESOLVE)
         if now.damage:
-            return Fault(now.damage, self._meant(file, first=RESTORE.format(_quoted(file))))
+            restore = RESTORE.format(pathspec(name, is_below_top=True))
+            return Fault(now.damage, self._meant(file, first=restore))
         if before.encrypted and now.fault and name.lower().endswith(YAML):
             return Fault(NOT_YAML.format(now.fault), self._meant(file, first=REPAIR))
         return None
@@ -157,10 +157,6 @@ class Guard:
 def _envelopes(files: Iterable[Facts]) -> Iterator[int]:
     """The envelopes in values, each as often as it is there."""
     return (text for file in files for texts in file.encrypted.values() for text in texts.elements())
-
-
-def _quoted(file: File) -> str:
-    return shlex.quote(shown(os.fsdecode(file.name)))
 
 
 def _places(name: bytes, whole: bytes, end: bytes) -> Iterator[tuple[bytes, ...]]:

@@ -9,7 +9,7 @@ import os
 import shlex
 
 from ansible_vault_companions.git.repository import git, line, top
-from ansible_vault_companions.program import Refused, shown
+from ansible_vault_companions.program import Refused, shown, word
 
 HOOKS = ("pre-commit", "pre-merge-commit")
 # If the driver does not start, git's own merge leaves a conflict; otherwise git would keep ours without a word.
@@ -41,7 +41,7 @@ def install_hook(hook: str, program: str) -> str:
     if _is_ours(old, program):
         os.unlink(hook)
     elif os.path.lexists(hook):
-        raise Refused(f"exists already; add this line to it: {os.path.basename(program)} || exit 1")
+        raise Refused(f"exists already; add this line to it: {word(program)} || exit 1")
     os.symlink(program, hook)
     return f"installed in place of a link to {shown(old)}" if old else "installed"
 

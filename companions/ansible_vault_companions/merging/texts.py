@@ -18,7 +18,7 @@ from ansible_vault_companions.tool import Decrypt, Key, NotDecrypted, Tool
 
 NOT_MERGED = "not merged, so both sides are whole in the file: {}"
 KINDS_DIFFER = "one side is a vault and the other is not"
-ONE_SIDE = f"{KINDS_DIFFER}; take one with `git checkout --ours {{0}}` or `--theirs`"
+ONE_SIDE = f"{KINDS_DIFFER}; take one with `git checkout --ours -- {{}}` or with `--theirs`"
 BOTH_CHANGED = "both sides changed the same lines"
 LABELS_DIFFER = "the labels differ: {} in ours, {} in theirs; choose one with --encrypt-vault-id"
 PASSWORDS_DIFFER = "the passwords of the two sides differ; choose one with --encrypt-vault-id"

@@ -9,7 +9,7 @@ from collections.abc import Iterable
 from ansible_vault_companions import processes
 from ansible_vault_companions.passwords import prompts
 from ansible_vault_companions.passwords.settings import ASK, PROMPT, Settings, expanded
-from ansible_vault_companions.program import Refused, reason, shown, write_error
+from ansible_vault_companions.program import Refused, reason, shown, word, write_error
 
 # The maximum length of a password file, in bytes.
 LIMIT = 4096
@@ -198,7 +198,8 @@ def _printed(path: str, label: str) -> bytes:
     try:
         done = processes.run(words, **streams)
     except OSError as fault:
-        raise Refused(f"this script cannot be run: {reason(fault)}; if it is not a script, `chmod -x` it") from None
+        to_do = f"if it is not a script, run `chmod -x {word(path)}`"
+        raise Refused(f"this script cannot be run: {reason(fault)}; {to_do}") from None
     status = done.returncode
     if status:
         message = " ".join((done.stderr or b"").decode(errors="replace").split())
