@@ -13,20 +13,16 @@ from pathlib import Path
 
 import pytest
 
-from companion_cases import ABOVE_EDITOR, CHANGE, CHANGED, CHECK, EDIT, ENCRYPTED, HOOK, MERGE, PASSWORDS, ROTATE, TEXT
-from companion_cases import TEXTCONV, WITH, Companions, Place, block, decrypted, edit, run_changed, sealed, silent
-from companion_cases import texts, to_new, versions, wait_until
-from companion_cases.repository import add_and_commit, under_git
+from companion_cases import ABOVE_EDITOR, CHANGE, CHANGED, CHECK, EDIT, ENCRYPTED, MERGE, PASSWORDS, ROTATE, TEXT
+from companion_cases import WITH, Companions, Place, block, decrypted, edit, run_changed, sealed, silent, texts, to_new
+from companion_cases import versions, wait_until
 from companion_cases.terminal import READY, SHELL, ask
 from lib.limits import SECONDS
 from lib.processes import started
 from lib.subtests import SubTests
 from model.vaults import seal, yaml_block
 
-RUNS = (EDIT, ROTATE, "merge", "decrypt")
-Process = subprocess.Popen[str]
-
-
+RUNS = (EDIT, ROTATE, MERGE)
 # The same text in two envelopes, since equal envelopes are decrypted only once.
 BLOCKS = b"x: 1\n" + block("old") + yaml_block(seal(PASSWORDS["old"], TEXT, b"", bytes(32)), b"c")
 
@@ -38,29 +34,21 @@ def tree(place: Place) -> dict[str, list[str]]:
     place.put("b.yml", BLOCKS, 0o600)
     place.environment["EDITOR"] = place.script(f"{CHANGE}; touch ../saved; sleep 0.1", "editor")
     old, both = place.by_file("old"), [*place.by_file("old"), *place.by_file("new")]
-    lines = [
-        [EDIT, *old, "a.yml"],
-        [ROTATE, *to_new(place), "--jobs", "1", "."],
-        [MERGE, *both, *vaults],
-        [WITH, "decrypt", *old, "a.yml"],
-    ]
-    return dict(zip(RUNS, lines, strict=True))
+    lines = [[EDIT, *old, "a.yml"], [ROTATE, *to_new(place), "--jobs", "1", "."], [MERGE, *both, *vaults]]
+    return {line[0]: line for line in lines}
 
 
 def check_whole(place: Place) -> None:
-    """Check that each vault is the old or the new one, plaintext for its owner only, or a conflict of two whole ones,
-    and that no file is left."""
+    """Check that each vault is the old or the new one, or a conflict of two whole ones, and that no file is left."""
     vault, blocks = place.get("a.yml"), place.get("b.yml")
-    is_vault = vault.startswith((b"$ANSIBLE_VAULT", b"<<<<<<<"))
-    pairs = [*zip(texts(vault, "old"), texts(vault, "new"))] if is_vault else [(vault, None)]
+    pairs = [*zip(texts(vault, "old"), texts(vault, "new"))]
     assert len(pairs) == (2 if b"<<<<<<<" in vault else 1), ("the vault is whole", vault)
     assert all({TEXT, CHANGED}.intersection(pair) for pair in pairs), ("the vault is whole", vault)
     pairs = [*zip(texts(blocks, "old"), texts(blocks, "new"))]
     assert [TEXT in pair for pair in pairs] == [True, True], ("the values are whole", blocks)
     left = place.left() + os.listdir(place.temporary)
     assert (place.names(), left) == (["a.yml", "b.yml"], []), "nothing is left"
-    modes = (place.mode("a.yml"), place.mode("b.yml"))
-    assert modes == ("0o640" if is_vault else "0o600", "0o600"), "modes stay"
+    assert (place.mode("a.yml"), place.mode("b.yml")) == ("0o640", "0o600"), "modes stay"
 
 
 def check_edit(place: Place, errors: str, wanted: bytes = CHANGED) -> None:
@@ -227,32 +215,11 @@ subprocess.Popen = Late
 
 def test_signals_at_the_start(place: Place) -> None:
     companion, *words = tree(place)[EDIT]
-    place.environment["EDITOR"] = place.script("sleep 5; touch ../survived", "editor")
+    place.environment["EDITOR"] = place.script("sleep 5 > /dev/null 2>&1; touch ../survived", "editor")
     done = run_changed(place, companion, AT_START, words)
     assert done.returncode == -signal.SIGTERM, "the status"
     assert not (place.path / "survived").exists(), "the editor is ended"
     check_whole(place)
-
-
-# The numbers of a system call and of its descriptor.
-READS_INPUT, WRITES_OUTPUT = ["0", "0x0"], ["1", "0x1"]
-
-
-def check_wait(place: Place, words: list[str], waits: Callable[[Process], object], number: int, **streams: int) -> None:
-    """Check that a signal ends a companion that waits, without a word. `waits` says whether it does."""
-    pipes = {"stdin": subprocess.DEVNULL, "stdout": subprocess.PIPE, "stderr": subprocess.PIPE}
-    where = {"cwd": place.tree, "env": place.environment, "text": True}
-    with started(words, **where, **pipes | streams) as process:
-        wait_until(lambda: waits(process), "the wait")
-        process.send_signal(number)
-        assert process.wait(SECONDS) == -number, "it ends by the signal"
-        output, errors = process.communicate(timeout=SECONDS)
-        assert (output or "", errors) == ("", ""), "without a word"
-
-
-def is_in(process: Process, call: list[str]) -> bool:
-    """Return whether the process is in this system call."""
-    return Path("/proc", str(process.pid), "syscall").read_text().split()[:2] == call
 
 
 # Each directory contains another one, and the companion signals itself in each.
@@ -270,55 +237,48 @@ def test_endless_folders(place: Place) -> None:
     assert (done.returncode, done.stdout, done.stderr) == (-signal.SIGTERM, "", "")
 
 
-@pytest.mark.parametrize("companion, number", ((CHECK, signal.SIGTERM), (ROTATE, signal.SIGINT)))
-def test_while_files_are_searched(place: Place, companion: str, number: int) -> None:
-    """Without a signal, reading these files takes minutes."""
-    first = place.tree / "0.img"
-    with open(first, "wb") as file:
-        file.truncate(1 << 40)
-    for name in range(1, 3000):
-        os.link(first, place.tree / f"{name}.img")
-
-    def searches(process: Process) -> bool:
-        files = Path("/proc", str(process.pid), "fd")
-        # A file may be closed before its link is read.
-        with suppress(FileNotFoundError):
-            return any(os.readlink(each).endswith(".img") for each in files.iterdir())
-        return False
-
-    words = place.by_file("old") if companion == CHECK else to_new(place)
-    check_wait(place, [companion, *words, "."], searches, number)
+def calls(process: subprocess.Popen[str], number: int, descriptor: int) -> bool:
+    """Return whether a process is in this system call."""
+    return Path(f"/proc/{process.pid}/syscall").read_text().split()[:2] == [str(number), hex(descriptor)]
 
 
-# Makes a run of git with this command wait until it is signalled.
-WAITS = 'case " $* " in *" {} "*) exec 2> /dev/null; : > {}/started; exec sleep {};; esac'
+def searches(process: subprocess.Popen[str]) -> bool:
+    """Return whether a process has an image open. A file may be closed before its link is read."""
+    with suppress(FileNotFoundError):
+        return any(os.readlink(path).endswith(".img") for path in Path(f"/proc/{process.pid}/fd").iterdir())
+    return False
 
 
-@pytest.mark.parametrize("companion, command", ((CHECK, "check-attr"), (MERGE, "merge-file"), (HOOK, "rev-parse")))
-def test_while_git_runs(place: Place, git: None, companion: str, command: str) -> None:
-    words = {MERGE: tree(place)["merge"], CHECK: [CHECK, *place.by_file("old"), "."], HOOK: [HOOK, "--all"]}
-    under_git(place, "*.yml diff=ansible-vault\n")
-    add_and_commit(place)
-    place.wrap_tool(WAITS.format(command, place.path, SECONDS), "git")
-    check_wait(place, words[companion], lambda _: (place.path / "started").exists(), signal.SIGTERM)
-    assert (os.listdir(place.temporary), place.left()) == ([], [])
+def check_wait(place: Place, waits: Callable[[subprocess.Popen[str]], object], *words: str) -> None:
+    """Check that a signal ends a companion that waits, without a word. Nobody writes to its input or reads its output.
+    `waits` says whether it does."""
+    reader, writer = os.pipe()
+    with open(reader), open(writer, "wb") as full:
+        os.write(writer, bytes(fcntl.fcntl(writer, fcntl.F_SETPIPE_SZ, 4096)))
+        streams = {"stdin": subprocess.PIPE, "stdout": full, "stderr": subprocess.PIPE}
+        with started([*words], cwd=place.tree, env=place.environment, text=True, **streams) as process:
+            wait_until(lambda: waits(process), "the wait")
+            process.terminate()
+            assert process.wait(SECONDS) == -signal.SIGTERM, "it ends by the signal"
+            assert process.communicate(timeout=SECONDS)[1] == "", "without a word"
+    assert (os.listdir(place.temporary), place.left()) == ([], []), "nothing is left"
 
 
-def test_while_input_is_awaited(place: Place) -> None:
-    """Nobody writes to standard input."""
-    words = [WITH, "encrypt_string", *place.by_file("old"), "--stdin-name", "a", "word", "--name", "b"]
-    pipe = subprocess.PIPE
-    check_wait(place, words, lambda process: is_in(process, READS_INPUT), signal.SIGINT, stdin=pipe)
-
-
-@pytest.mark.parametrize("companion", (CHECK, ROTATE, TEXTCONV, WITH))
-def test_while_nobody_reads(place: Place, companion: str) -> None:
+def test_waits(place: Place) -> None:
+    """Without a signal, reading the images takes minutes."""
     tree(place)
     old = place.by_file("old")
-    words = {CHECK: [*old, "."], ROTATE: [*to_new(place), "."], TEXTCONV: [*old, "a.yml"]}
-    words[WITH] = ["view", *old, "a.yml", "a.yml"]
-    reader, writer = os.pipe()
-    with open(reader), open(writer, "wb") as pipe:
-        os.write(writer, bytes(fcntl.fcntl(writer, fcntl.F_SETPIPE_SZ, 4096)))
-        full = [companion, *words[companion]]
-        check_wait(place, full, lambda process: is_in(process, WRITES_OUTPUT), signal.SIGTERM, stdout=pipe.fileno())
+    check_wait(place, lambda process: calls(process, 0, 0), EDIT, *old, "--value", "c", "b.yml")
+    check_wait(place, lambda process: calls(process, 1, 1), WITH, "view", *old, "a.yml", "a.yml")
+    with open(place.tree / "0.img", "wb") as file:
+        file.truncate(1 << 40)
+    for number in range(1, 3000):
+        os.link(place.tree / "0.img", place.tree / f"{number}.img")
+    check_wait(place, searches, CHECK, *old, ".")
+
+
+def test_while_git_runs(place: Place, git: None) -> None:
+    words, noted = tree(place)[MERGE], place.path / "noted"
+    waits = f": > {noted}; exec sleep {SECONDS} 2> /dev/null"
+    place.wrap_tool(f'case " $* " in *" merge-file "*) {waits};; esac', "git")
+    check_wait(place, lambda _: noted.exists(), *words)
