@@ -4,7 +4,7 @@ terminal, the editor opens again. --resume continues a kept edit.
 
 import pytest
 
-from companion_cases import CHANGE, CHANGED, EDIT, ROTATE, TEXT, Place, block, decrypted, edit, ended, sealed
+from companion_cases import CHANGE, CHANGED, EDIT, TEXT, Place, block, decrypted, edit, ended, sealed
 from companion_cases import silent, texts
 from companion_cases.terminal import READING, ask
 from lib.needs import needs, needs_pyyaml
@@ -96,47 +96,38 @@ def break_off(place: Place, content: bytes, *words: str) -> None:
     ended("a failed edit", edit(place, f"{CHANGE}; exit 3", *words, "a.yml"), 1, f"encrypted in {place.copies()[0]}\n")
 
 
-LABELLED = block("prod", label="prod", name="a") + block("prod", TEXT * 2, "prod", "b")
-
-
-@pytest.mark.parametrize("content", (sealed("prod", label="prod"), LABELLED))
-def test_rotated_meanwhile(place: Place, content: bytes) -> None:
-    """Somebody else gave the file a new password."""
-    needs_pyyaml()
-    prod, new = place.by_id("prod", "prod"), place.by_id("prod", "prod2")
-    break_off(place, content, *prod)
-    assert place.run(ROTATE, *prod, *place.by_id("prod", "prod2", "new-"), "a.yml").returncode == 0
-    silent("it is taken up", edit(place, "true", *prod, *new, "--resume", "a.yml"))
-    after = texts(b"a: !vault |\n" + place.get("a.yml"), "prod2")
-    assert (after[0], place.copies()) == (CHANGED, []), "it is under the new password, and no copy is left"
-
-
-# A file at first, what somebody else makes of it, and why the text of an edit is not taken up.
+# A file at first, what somebody else makes of it, and why the text of an edit is not taken up, if it is not.
 CHANGED_SINCE = "its text or its label has changed since the edit that left "
-OF_PROD = block("prod", label="prod")
+VAULT, VALUE = sealed("prod", label="prod"), block("prod", label="prod")
+VALUES, ROTATED = (
+    b"".join(block(password, label="prod", name=name) for name in "ab") for password in ("prod", "prod2")
+)
 CHANGES = {
-    "another text": (sealed("prod", label="prod"), sealed("prod", b"x", "prod"), CHANGED_SINCE),
-    "another label": (sealed("prod", label="prod"), sealed("dev", label="dev"), CHANGED_SINCE),
-    "a false label": (sealed("prod", label="prod"), sealed("dev", label="prod"), "its label is prod, but dev@"),
-    "a value": (OF_PROD, block("prod", label="prod", name="b"), CHANGED_SINCE),
-    "two passwords": (OF_PROD, OF_PROD + block("dev", label="dev"), CHANGED_SINCE),
+    "another text": (VAULT, sealed("prod", b"x", "prod"), CHANGED_SINCE),
+    "another label": (VAULT, sealed("dev", label="dev"), CHANGED_SINCE),
+    "a false label": (VAULT, sealed("dev", label="prod"), "its label is prod, but dev@"),
+    "a value": (VALUE, block("prod", label="prod", name="b"), CHANGED_SINCE),
+    "two passwords": (VALUE, VALUE + block("dev", label="dev"), CHANGED_SINCE),
+    "a rotated vault": (VAULT, sealed("prod2", label="prod"), ""),
+    "rotated values": (VALUES, ROTATED, ""),
 }
 
 
-@pytest.mark.parametrize("what", CHANGES)
-def test_changed_meanwhile(place: Place, what: str) -> None:
-    """If what the file says has changed, or for whom, the text does not replace it, and gets no other password."""
+@pytest.mark.parametrize("before, changed, why", CHANGES.values(), ids=CHANGES)
+def test_changed_meanwhile(place: Place, before: bytes, changed: bytes, why: str) -> None:
+    """If what the file says has changed, or for whom, the text does not replace it, and gets no other password. If only
+    the password of its label is new, the text gets that one."""
     needs_pyyaml()
-    before, changed, why = CHANGES[what]
-    both = [*place.by_id("dev", "dev"), *place.by_id("prod", "prod")]
-    break_off(place, before, *both)
+    words = [*place.by_id("dev", "dev"), *place.by_id("prod", "prod"), *place.by_id("prod", "prod2")]
+    break_off(place, before, *words)
     place.put("a.yml", changed)
-    done = edit(place, "touch ../started", *both, "--resume", "a.yml")
-    ended(what, done, 1, why)
-    assert (place.get("a.yml"), (place.path / "started").exists()) == (changed, False)
-    place.put("a.yml", before)
-    silent("as it was", edit(place, "true", *both, "--resume", "a.yml"))
-    assert (place.get("a.yml") != before, place.copies()) == (True, [])
+    if why:
+        ended("it is refused", edit(place, "touch ../started", *words, "--resume", "a.yml"), 1, why)
+        assert (place.get("a.yml"), (place.path / "started").exists()) == (changed, False)
+        place.put("a.yml", before)
+    silent("it is taken up", edit(place, "true", *words, "--resume", "a.yml"))
+    after = texts(place.get("a.yml"), "prod" if why else "prod2")
+    assert ({*after}, place.copies()) == ({CHANGED}, []), "no copy is left"
 
 
 def test_copies_of_strangers(place: Place) -> None:
