@@ -27,7 +27,7 @@ Tool.encrypt = encrypt
 FULL = """
 write = replacing.write_new
 def full(folder, *words, **options):
-    if not folder.endswith({}):
+    if not folder.endswith("/ansible-vault"):
         raise OSError(28, "no space")
     return write(folder, *words, **options)
 replacing.write_new, replacing.check_replaceable = full, lambda target: None
@@ -42,8 +42,7 @@ STOPS = {
     "a change": (f"{CHANGE}; echo x > all.yml", "", CHANGED_MEANWHILE, SEALED, {"all.yml": b"x\n"}),
     "a removal": (f"{CHANGE}; rm all.yml", "", CHANGED_MEANWHILE, SEALED, {}),
     "an exception": (CHANGE, BROKEN, "too deep", SEALED, STAYS),
-    "a full disk": (CHANGE, FULL.format("'/ansible-vault'"), "no space", SEALED, STAYS),
-    "full disks": (CHANGE, FULL.format("'nowhere'"), "no space", PLAIN, STAYS),
+    "a full disk": (CHANGE, FULL, "no space", SEALED, STAYS),
     "no vault": (CHANGE, UNSEALED, "no memory", PLAIN, STAYS),
     IN_REPOSITORY: (f"{CHANGE}; rm all.yml", "", CHANGED_MEANWHILE, PLAIN, {}),
 }

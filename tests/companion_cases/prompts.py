@@ -4,7 +4,7 @@ import pytest
 
 from companion_cases import EDIT, FOUND, PASSWORDS, ROTATE, TEXT, WITH, Place, block, decrypted
 from companion_cases import described, sealed, texts
-from companion_cases.terminal import READY, SHELL, Session, ask, theirs_at_terminal
+from companion_cases.terminal import FOR_ANSIBLE, READY, SHELL, Session, ask
 from lib.needs import needs, needs_ansible
 from model.vaults import seal
 
@@ -47,7 +47,7 @@ def test_sources(place: Place, settings: str, options: list[str], passwords: dic
     answers = [answer for question, password in passwords.items() for answer in typed(password, question)]
     session = ask(place, WITH, *words, answers=answers)
     assert outcome(session) == (0, TEXT.decode(), "")
-    other = theirs_at_terminal(place, needs_ansible(), words, answers)
+    other = ask(place, needs_ansible(), *words, answers=answers, **FOR_ANSIBLE)
     for each in (session, other):
         check_asked(each, *passwords)
     assert other.stdout.strip() == TEXT.decode().strip()

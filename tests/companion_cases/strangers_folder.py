@@ -25,12 +25,7 @@ OTHERS = {
 HOOKS = "post-checkout post-index-change post-merge pre-commit pre-merge-commit reference-transaction".split()
 ATTRIBUTES = "* filter=x merge=ansible-vault ident\n*.yml diff=ansible-vault\n*.dat filter=y\n"
 # Commands of git in the same directory, without a companion, and the programs that they start.
-PLAIN = """
-    git hash-object a.yml other.dat
-    git read-tree HEAD
-    git diff
-    git diff --no-ext-diff
-"""
+PLAIN = "git hash-object a.yml other.dat; git read-tree HEAD; git diff; git diff --no-ext-diff"
 STARTED = """
     core.fsmonitor filter.x.clean filter.y.process post-index-change diff.external diff.ansible-vault.command
     diff.ansible-vault.textconv remote.origin.url

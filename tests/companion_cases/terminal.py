@@ -85,7 +85,3 @@ def written_by_theirs(place: Place, ansible: str, *words: str) -> str:
     done = theirs(place, ansible, *words)
     assert done.returncode == 0, f"{ansible} {words[0]}: {done.stderr}"
     return done.stdout
-
-
-def theirs_at_terminal(place: Place, ansible: str, words: list[str], answers: list[tuple[str, bytes]]) -> Session:
-    return ask(place, ansible, *words, answers=answers, **FOR_ANSIBLE)
