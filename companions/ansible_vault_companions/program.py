@@ -10,6 +10,7 @@ import resource
 import shlex
 import sys
 from collections.abc import Callable, Iterable
+from contextlib import suppress
 
 from ansible_vault_companions import VERSION, processes
 
@@ -93,6 +94,18 @@ def refusal(path: str, fault: Exception) -> str:
     return f"{shown(path)}: {reason(fault)}"
 
 
+def attempt(companion: str, path: str, work: Callable[[], None]) -> int:
+    """Works on a file. Returns the exit status, after a message if the file is refused."""
+    try:
+        work()
+    except NotWritten:
+        raise
+    except (Refused, OSError) as fault:
+        write_error(f"{companion}: {refusal(path, fault)}")
+        return fault.status if isinstance(fault, Refused) else 1
+    return 0
+
+
 def temporary_folder() -> str:
     """The directory for temporary files. `tempfile` might choose another one, even the current directory."""
     return os.path.abspath(os.environ.get("TMPDIR") or "/tmp")
@@ -105,9 +118,19 @@ def run(name: str, main: Callable[[list[str]], int]) -> None:
     # A core dump would contain plaintext and passwords.
     resource.setrlimit(resource.RLIMIT_CORE, (0, resource.getrlimit(resource.RLIMIT_CORE)[1]))
     try:
-        status = _status_of(main)
-    except Exception as fault:
-        status = _status_of_fault(name, fault)
+        try:
+            status = main(sys.argv[1:])
+        except SystemExit as end:
+            # argparse exits after the help and after an invalid command line.
+            status = int(end.code or 0)
+        write(b"")
+    except processes.Stopped:
+        status = 1
+    except (Refused, OSError) as fault:
+        status = fault.status if isinstance(fault, Refused) else 1
+        where = f"{shown(fault.filename)}: " if isinstance(fault, OSError) and isinstance(fault.filename, str) else ""
+        with suppress(OSError):
+            write_error(f"{name}: {where}{shown(reason(fault))}")
     processes.end_by_signal()
     for stream in (sys.stdout, sys.stderr):
         try:
@@ -116,29 +139,6 @@ def run(name: str, main: Callable[[list[str]], int]) -> None:
             _discard(stream.fileno())
             status = status or 1
     sys.exit(status)
-
-
-def _status_of(main: Callable[[list[str]], int]) -> int:
-    try:
-        status = main(sys.argv[1:])
-    except SystemExit as end:
-        # argparse exits after the help and after an invalid command line.
-        status = int(end.code or 0)
-    write(b"")
-    return status
-
-
-def _status_of_fault(name: str, fault: Exception) -> int:
-    if isinstance(fault, processes.Stopped):
-        return 1
-    if not isinstance(fault, (Refused, OSError)):
-        raise fault
-    try:
-        where = f"{shown(fault.filename)}: " if isinstance(fault, OSError) and isinstance(fault.filename, str) else ""
-        write_error(f"{name}: {where}{shown(reason(fault))}")
-    except OSError:
-        pass
-    return fault.status if isinstance(fault, Refused) else 1
 
 
 def _prepare_streams() -> None:

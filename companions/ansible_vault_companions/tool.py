@@ -52,8 +52,7 @@ class Tool:
 
     def run(self, words: list[str], data: bytes, passwords: list[Password]) -> bytes:
         """The tool's output. Raises Refused with the tool's message if it fails."""
-        kept = [password.descriptor for password in passwords if password.descriptor is not None]
-        done = processes.run([self.path, *words], data, pass_fds=kept)
+        done = processes.run([self.path, *words], data, pass_fds=[password.descriptor for password in passwords])
         if done.returncode < 0:
             raise Refused(f"signal {-done.returncode} ended {NAME}; run this again")
         if done.returncode > 0:

@@ -92,9 +92,15 @@ def parsed(words: list[str]) -> Namespace:
         parser.error(f"no command is given; {NAME} --help lists the commands")
     args.vault_id = [*args.before_vault_id, *args.vault_id]
     args.vault_password_file = [*args.before_vault_password_file, *args.vault_password_file]
-    fault = _fault(args)
-    if fault:
-        parser.error(fault)
+    count = len(args.arguments)
+    if args.command == CREATE and count > 1:
+        parser.error("create takes one FILE")
+    if len(args.new_vault_id) + len(args.new_vault_password_file) > 1:
+        parser.error("rekey takes one new password")
+    if args.command == ENCRYPT_STRING:
+        count += args.prompt + (STANDARD_INPUT not in args.arguments and args.stdin_name is not None)
+    if count > 1 and args.command in SEALING and (args.salt is not None or args.salt_file is not None):
+        parser.error("--salt and --salt-file are for a single FILE or STRING: two would share a key stream")
     return args
 
 
@@ -117,20 +123,6 @@ def _add_options(parser: argparse.ArgumentParser, command: str) -> None:
     what, texts = ("STRING", "texts") if command == ENCRYPT_STRING else ("FILE", "files")
     text = f"the {texts}, or - for standard input"
     parser.add_argument("arguments", metavar=what, nargs="+" if command in EDITING else "*", help=text)
-
-
-def _fault(args: Namespace) -> str:
-    """Why the command line is invalid; empty if it is not."""
-    count = len(args.arguments)
-    if args.command == CREATE and count > 1:
-        return "create takes one FILE"
-    if len(args.new_vault_id) + len(args.new_vault_password_file) > 1:
-        return "rekey takes one new password"
-    if args.command == ENCRYPT_STRING:
-        count += args.prompt + (STANDARD_INPUT not in args.arguments and args.stdin_name is not None)
-    if count > 1 and args.command in SEALING and (args.salt is not None or args.salt_file is not None):
-        return "--salt and --salt-file are for a single FILE or STRING: two would share a key stream"
-    return ""
 
 
 def passed_on(args: Namespace, without: Iterable[str] = ()) -> list[str]:
@@ -159,10 +151,8 @@ class Call:
         # The label of the password to encrypt with.
         self.label = getattr(args, "encrypt_vault_id", None) or settings.encrypt_label()
         named = sources.named(args.vault_id, args.vault_password_file, settings)
-        if named:
-            sources.load(NAME, named, settings, encrypts, args.any_label)
-        else:
-            named = [_typed(encrypts, options.NONE)]
+        sources.load(NAME, named, settings, encrypts, args.any_label)
+        named = named or [_typed(encrypts, options.NONE)]
         self.new = self._new(named) if args.command == REKEY else []
         self.passwords = self._to_encrypt_with(named) if encrypts else [one for one in named if not one.is_left_out]
         # With a rekeying, too, a label counts if there are several passwords.
@@ -203,15 +193,6 @@ class Call:
             *([MATCH] if self.needs_match and not self.args.require_id_match else []),
             *passed_on(self.args, (ENCRYPT_ID, "--any-label", *without)),
         ]
-
-    def texts(self) -> list[str]:
-        """The words for what a single run handles."""
-        names = [f"--name={name}" for name in getattr(self.args, "name", [])]
-        return [*names, *(["--", *self.args.arguments] if self.args.arguments else [])]
-
-    def descriptors(self) -> list[int]:
-        """The descriptors of the passwords."""
-        return [one.descriptor for one in [*self.passwords, *self.new] if one.descriptor is not None]
 
 
 def _typed(encrypts: bool, none: str) -> Password:

@@ -4,13 +4,14 @@ from __future__ import annotations
 
 import os
 from argparse import Namespace
-from typing import Callable, NamedTuple
+from functools import partial
+from typing import NamedTuple
 
 from ansible_vault_companions import program
 from ansible_vault_companions.alias.command_line import DECRYPT, ENCRYPT_STRING, NAME, STANDARD_INPUT, VIEW, Call
 from ansible_vault_companions.files import reading, replacing
 from ansible_vault_companions.passwords import prompts
-from ansible_vault_companions.program import Refused, write_error
+from ansible_vault_companions.program import write_error
 from ansible_vault_companions.tool import Tool
 
 STDIN_NAME, OUTPUT = "--stdin-name", "--output"
@@ -42,16 +43,7 @@ def handle(companion: str, call: Call) -> int:
         else:
             replacing.replace(path, after, before, call.args.command == DECRYPT)
 
-    return max(_status(work, path) for path in call.args.arguments)
-
-
-def _status(work: Callable[[str], None], path: str) -> int:
-    try:
-        work(path)
-    except (Refused, OSError) as fault:
-        write_error(f"{NAME}: {program.refusal(path, fault)}")
-        return fault.status if isinstance(fault, Refused) else 1
-    return 0
+    return max(program.attempt(NAME, path, partial(work, path)) for path in call.args.arguments)
 
 
 def _values(tool: Tool, call: Call) -> int:

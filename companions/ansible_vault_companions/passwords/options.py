@@ -71,11 +71,6 @@ def words(args: argparse.Namespace) -> list[str]:
     return [*by_id, *(f"--vault-password-file={path}" for path in args.vault_password_file)]
 
 
-def encrypt_label(args: argparse.Namespace) -> str | None:
-    """The label of the password to encrypt with, from the settings that apply along with these options."""
-    return settings_beside(args).encrypt_label()
-
-
 def settings_beside(args: argparse.Namespace, warn: Callable[[str], None] = lambda _: None) -> Settings:
     """The settings that apply along with these options."""
     named = (args.vault_id, args.vault_password_file, args.new_vault_id, args.new_vault_password_file)

@@ -37,8 +37,7 @@ class Password:
         self.place, self.given, self.is_prompt = place, given, is_prompt
         self.is_setting = False
         # What the tool takes for the password, and the file in memory that contains it.
-        self.content = b""
-        self.descriptor: int | None = None
+        self.content, self.descriptor = b"", -1
         # Why it cannot be used; empty if it can.
         self.fault = ""
         # Whether it is ignored for that reason, and only the other passwords decrypt.
@@ -75,10 +74,6 @@ class Password:
     def option(self, name: str = "--vault-id", label: str | None = None) -> str:
         """The word that names it to the tool, with its own label or another one."""
         return f"{name}={self.label if label is None else label}@/dev/fd/{self.descriptor}"
-
-    def is_same(self, other: Password) -> bool:
-        """Whether both have the same password."""
-        return self.content == other.content
 
     def may_be_missing(self) -> bool:
         """Whether it is a setting and, if somebody is at the terminal, none that was mistyped, as with Ansible."""
@@ -157,7 +152,7 @@ def load(
         if not password.is_left_out:
             password.require()
         password.requires_match = settings.requires_match()
-        password.serves_any_label = any_label or all(password.is_same(other) for other in passwords)
+        password.serves_any_label = any_label or all(password.content == other.content for other in passwords)
     return passwords
 
 

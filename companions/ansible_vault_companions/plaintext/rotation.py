@@ -106,7 +106,7 @@ class Rotation:
         if fault:
             raise Refused(fault)
         after = self._within(plaintext, where, report)
-        had_it = password.is_same(new)
+        had_it = password.content == new.content
         report.counts[HAD_IT if had_it else CHANGED] += 1
         return None if had_it and after == plaintext else self._encrypted(value.text, after, new, label)
 
