@@ -80,7 +80,7 @@ def write_line(text: str) -> None:
 
 def write_error(text: str) -> None:
     """Prints a message on standard error, in one write. Its only control characters are the ends of its lines."""
-    lines = "".join(each if each.isprintable() or each == "\n" else ascii(each)[1:-1] for each in text)
+    lines = "".join(sign if sign.isprintable() or sign == "\n" else ascii(sign)[1:-1] for sign in text)
     print(f"{lines}\n", end="", file=sys.stderr, flush=True)
 
 
@@ -104,11 +104,6 @@ def attempt(companion: str, path: str, work: Callable[[], None]) -> int:
         write_error(f"{companion}: {refusal(path, fault)}")
         return fault.status if isinstance(fault, Refused) else 1
     return 0
-
-
-def temporary_folder() -> str:
-    """The directory for temporary files. `tempfile` might choose another one, even the current directory."""
-    return os.path.abspath(os.environ.get("TMPDIR") or "/tmp")
 
 
 def run(name: str, main: Callable[[list[str]], int]) -> None:

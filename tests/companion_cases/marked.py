@@ -44,7 +44,7 @@ def test_broken_repository(place: Place) -> None:
     place.put("a.vault.yml", VAULT)
     ended("all is well", place.run(CHECK, *place.by_file("old"), "."), 0, "1 decrypted, 0 not\n")
     place.put(".git/config", b"[no config\n")
-    why = f"{CHECK}: cannot check which files have to be encrypted: git check-attr failed\n"
+    why = f"{CHECK}: cannot check which files have to be encrypted: git check-attr failed: "
     done = place.run(CHECK, *place.by_file("old"), ".")
     ended("git fails", done, 1, why, "1 decrypted, 0 not\n", "bad config line 1 in file ")
 

@@ -13,7 +13,7 @@ from ansible_vault_companions.envelopes.envelope import MAGIC
 from ansible_vault_companions.envelopes.scalars import LONGEST
 from ansible_vault_companions.files.reading import LIMIT
 from ansible_vault_companions.git.repository import command, environment, git, line
-from ansible_vault_companions.program import Refused, pathspec, shown, temporary_folder
+from ansible_vault_companions.program import Refused, pathspec, shown
 
 # The modes of regular files and of links, as opposed to submodules.
 FILE_MODES, LINK_MODE = ("100644", "100755"), "120000"
@@ -155,7 +155,9 @@ def commit_of(name: str) -> str:
 @contextmanager
 def index_of(commit: str) -> Iterator[Index]:
     """A context with a temporary index that contains the files of a commit."""
-    with tempfile.TemporaryDirectory(prefix="ansible-vault-", dir=temporary_folder()) as folder:
+    # If none is named, `tempfile` might choose another directory, even the current one.
+    above = os.path.abspath(os.environ.get("TMPDIR") or "/tmp")
+    with tempfile.TemporaryDirectory(prefix="ansible-vault-", dir=above) as folder:
         path = os.path.join(folder, "index")
         git("read-tree", commit, index=path)
         yield Index(git("rev-list", "--parents", "--max-count=1", commit).decode().split()[1:], path)

@@ -10,7 +10,7 @@ from typing import Any
 
 from ansible_vault_companions import processes
 from ansible_vault_companions.files import reading
-from ansible_vault_companions.program import Refused, write_error
+from ansible_vault_companions.program import Refused
 
 # A stranger's repository has its own settings, hooks and attributes, which name programs. git would start the program
 # in core.fsmonitor to read an index, the hook post-index-change to write one, and a transport (and so core.sshCommand
@@ -46,22 +46,18 @@ def run(
         raise Refused("git is not installed; install it") from None
 
 
-def git(
-    *words: str, data: bytes = b"", index: str | None = None, folder: str | None = None, is_quiet: bool = False
-) -> bytes:
+def git(*words: str, data: bytes = b"", index: str | None = None, folder: str | None = None) -> bytes:
     """The output of a git command. If it fails, so does this, with git's own message. Warnings are left out."""
-    done = run(*words, data=data, index=index, cwd=folder, stderr=subprocess.PIPE)
+    done = run(*words, data=data, index=index, cwd=folder)
     if done.returncode != 0:
-        if not is_quiet:
-            write_error(done.stderr.decode(errors="replace").rstrip())
-        raise Refused(f"git {words[0]} failed")
+        raise Refused(f"git {words[0]} failed: {' '.join(done.stderr.decode(errors='replace').split())}")
     return done.stdout
 
 
 def answer(*words: str, folder: str | None = None) -> bytes:
     """The output of a git command, or nothing if it fails."""
     try:
-        return git(*words, folder=folder, is_quiet=True)
+        return git(*words, folder=folder)
     except Refused:
         return b""
 
