@@ -123,10 +123,6 @@ def random_secret(random: Random, secrets: Path, is_setting: bool, labels: list[
 def random_settings(random: Random, secrets: Path) -> Settings:
     count = random.choice([0, 1, 2, 2, 3])
     identities = [random_secret(random, secrets, True, ["", *LABELS]) for _ in range(count)]
-    if random.random() < 0.08:
-        # Almost as many secrets as the tool takes.
-        wrong = [Named(random.choice(LABELS), str(secrets), "wrong") for _ in range(random.randint(6, 8))]
-        identities = [*wrong, *identities]
     password_files = [random_secret(random, secrets, True, [DEFAULT])] if random.random() < 0.3 else []
     label = random.choice(LABELS) if random.random() < 0.35 else ""
     return Settings(identities, password_files, label, random.choice(["", "", "", "True", "False"]))
@@ -229,7 +225,6 @@ def test_command_lines(place: Place, ansible_runs: AnsibleRuns, pytestconfig: py
     place.script("cat ~/secrets/dev", "secrets/script-dev")
     place.script('cat ~/secrets/"$2"', "secrets/keys-client")
     (place.secrets / "empty").write_bytes(b"\n")
-    (place.secrets / "wrong").write_bytes(b"no password\n")
     most = pytestconfig.getoption("--comparisons")
     random, counts = Random(SEED), {"succeed in both": 0, "refused by both": 0, "refused only here, as documented": 0}
     end = time.monotonic() + SHARE

@@ -5,7 +5,6 @@ tool gets them.
 import os
 import re
 import resource
-from pathlib import Path
 
 import pytest
 
@@ -109,30 +108,26 @@ def test_which_tool(place: Place) -> None:
     assert (place.path / "runs").read_text() == "run\n", "is asked its version alone"
 
 
-def lay_out(kind: str, path: Path, place: Place) -> None:
-    """Put something that is not the program in its place."""
-    if kind == "a directory":
-        path.mkdir()
-    elif kind == "a file without the right to run it":
-        path.touch()
-    else:
-        targets = {"a dangling link": Path("nowhere"), "a link to itself": path, "a companion": place.tools / CHECK}
-        path.symlink_to(targets[kind])
+# What puts something else in the program's place.
+OTHERS = {
+    "a directory": "mkdir",
+    "a file without the right to run it": "touch",
+    "a dangling link": "ln -s nowhere",
+    "a link to itself": "ln -s ansible-vault",
+    "a companion": f"ln -s ../tools/{CHECK}",
+}
 
 
-KINDS = ["a directory", "a file without the right to run it", "a dangling link", "a link to itself", "a companion"]
-
-
-@pytest.mark.parametrize("kind", KINDS)
-def test_on_the_path(place: Place, kind: str) -> None:
+@pytest.mark.parametrize("command", OTHERS.values(), ids=OTHERS)
+def test_on_the_path(place: Place, command: str) -> None:
     """What cannot be the program is passed over, beside the companion and on PATH."""
     place.put("a.yml", sealed("old"))
     (place.tools / "ansible-vault").unlink()
-    lay_out(kind, place.tools / "ansible-vault", place)
     folders = [place.path / name for name in ("first", "last")]
     for folder in folders:
         folder.mkdir()
-    lay_out(kind, folders[0] / "ansible-vault", place)
+    for folder in (place.tools, folders[0]):
+        assert place.shell(f"{command} {folder}/ansible-vault").returncode == 0
     # Ansible's tool may be beside Python.
     for name in ("python3", "env"):
         (folders[1] / name).symlink_to(os.path.realpath(needs_tool(name)))
