@@ -4,7 +4,7 @@ import pytest
 
 from companion_cases import CHECK, EDIT, PASSWORDS, TEXT, TEXTCONV, WITH, Place, decrypted, run_changed
 from companion_cases import sealed
-from companion_cases.terminal import READING, ask, ours
+from companion_cases.terminal import READING, ask
 from companion_cases.signals import has_ended
 
 # Options that name scripts, and the arguments that each script gets.
@@ -26,7 +26,7 @@ def test_how_they_start(place: Place, request: pytest.FixtureRequest, option: st
     place.script('echo hello >&2; echo "$0" "$@" > ../started; cat ../secrets/dev', name)
     place.put("a.yml", sealed("dev"))
     started, wanted = place.path / "started", f"{place.path}/{name}{arguments}\n"
-    done = ours(place, "view", option, "a.yml")
+    done = place.run("setsid", "--wait", WITH, "view", option, "a.yml")
     errors = "" if "keys-client" in name and not name.endswith(".d.sh") else "hello\n"
     assert (done.returncode, done.stdout, done.stderr) == (0, TEXT.decode(), errors)
     assert started.read_text() == wanted

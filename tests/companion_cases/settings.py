@@ -6,7 +6,7 @@ import shutil
 import pytest
 
 from companion_cases import CHECK, EDIT, ROTATE, TEXT, TEXTCONV, WITH, Place, described, ended, sealed
-from companion_cases.terminal import ours, theirs
+from companion_cases.terminal import theirs
 from lib.needs import needs, needs_ansible, needs_root
 from lib.subtests import SubTests
 
@@ -39,7 +39,7 @@ def test_variables_and_files(
     for name, content in files.items():
         place.put(f"../{name}", content.encode())
     variables = {f"ANSIBLE_{name}": text.format(place.path) for name, text in settings.items()}
-    done = ours(place, "view", *(f"{name}.yml" for name in OPEN), **variables)
+    done = place.run("setsid", "--wait", WITH, "view", *(f"{name}.yml" for name in OPEN), **variables)
     assert (done.returncode, done.stdout) == (1, "".join(f"{name}\n" for name in OPEN if name in wanted))
     ansible = request.getfixturevalue("ansible_runs")
     for name in OPEN:

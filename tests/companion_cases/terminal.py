@@ -9,7 +9,7 @@ import termios
 from contextlib import suppress
 from typing import Any, NamedTuple
 
-from companion_cases import WITH, Done, Place
+from companion_cases import Done, Place
 from lib.limits import SECONDS
 from shells import all_shown
 
@@ -70,10 +70,6 @@ def _shown_until(controller: int, question: bytes) -> bytes:
             shown += os.read(controller, 4096)
     assert shown.endswith(question), f"{question!r} is not asked: {shown!r}"
     return shown
-
-
-def ours(place: Place, *words: str, **variables: str) -> Done:
-    return place.run("setsid", "--wait", WITH, *words, **variables)
 
 
 def theirs(place: Place, ansible: str, *words: str, **variables: str) -> Done:
