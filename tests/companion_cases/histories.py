@@ -33,9 +33,8 @@ PW, PW2 = block("old", name="pw"), block("new", name="pw")
 SCRIPT = b"[ -e x ] && echo x\n"
 PLAIN, JINJA, X = b"pw: plain\n", b'pw: "{{ vault_pw }}"\n', b"x: 1\n"
 HIDDEN = PW.replace(b"pw:", b"vault_pw:")
-DB, DB2, DB_PLAIN = below("db", PW), below("db", PW2), below("db", PLAIN)
+DB, DB_PLAIN = below("db", PW), below("db", PLAIN)
 QUOTED = b'pw: !vault "%s"\n' % VAULT.replace(b"$", b"\\x24").replace(b"\n", b"\\n")
-ANCHOR = b"one: &x" + PW.removeprefix(b"pw:")
 USERS = b"users:\n" + item(b"name: a\n" + PW) + item(b"name: b\n" + PW2) + item(b"name: c\n" + PLAIN)
 CONFLICT = b"<<<<<<< HEAD\n%b=======\n%b>>>>>>> branch\n"
 # An envelope that is shortened, in a comment.

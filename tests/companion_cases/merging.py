@@ -1,6 +1,5 @@
 """ansible-vault-merge as git runs it: two branches change a vault, or values of YAML that are vaults. What cannot be
-merged is a conflict of whole envelopes in the file. All merges and edits under a few secrets, without a process for
-each envelope.
+merged is a conflict of whole envelopes in the file. All merges of vaults under a few secrets, in one process.
 """
 
 import itertools
@@ -10,21 +9,17 @@ from pathlib import Path
 
 import pytest
 
-from ansible_vault_companions.editing.matching import Choice
-from ansible_vault_companions.editing.values import YamlFile
 from ansible_vault_companions.merging.versions import Versions, merged_lines
 from companion_cases import CHECK, EDIT, HOOK, MERGE, PASSWORDS, Place, block, decrypted, ended
 from companion_cases import sealed, silent, texts, versions
-from companion_cases.random_merges import ITEM, LABELS, Model, Value, common, document, secret_of
+from companion_cases.random_merges import Model, Value, common
 from companion_cases.repository import BASE, BOTH, OURS, SALTS, THEIRS, add_and_commit, commit, fork
 from companion_cases.repository import repository, set_driver, under_git
-from lib.needs import needs_pyyaml
 from model.vaults import seal
 
 pytestmark = pytest.mark.usefixtures("git")
 
 ATTRIBUTES = "*.yml merge=ansible-vault\n"
-TAKE_THEIRS = "sed -i '/^<<<</,/^====/d; /^>>>>/d' \"$1\""
 WHOLE = "not merged, so both sides are whole in the file: "
 
 
@@ -81,7 +76,7 @@ def test_branches(place: Place) -> None:
     ended("the hook", commit(place), 1, *(f"{HOOK}: {name} " for name in unmerged.split()))
 
 
-OLD, PROD = ([sealed(name, text) for text in (BASE, OURS, THEIRS)] for name in ("old", "prod"))
+OLD = [sealed("old", text) for text in (BASE, OURS, THEIRS)]
 # Versions whose lines git would merge, although together they are not YAML.
 FIVE = block("old") + b"a: 1\nb: 1\nc: 1\nd: 1\ne: 1\n"
 BROKEN = [FIVE, FIVE.replace(b"a: 1", b'a: "1').replace(b"e: 1", b'e: 1"'), FIVE.replace(b"c: 1", b'c: "1"')]
@@ -233,20 +228,3 @@ def test_secrets_of_vaults(tmp_path: Path, monkeypatch: pytest.MonkeyPatch) -> N
         merged = BOTH if changed == plaintexts else next(iter({ours.text, theirs.text} - {before.text}), BASE)
         assert (secret.place, text) == (wanted, merged), vaults
     assert counts["refused"] > 10 and counts["under a new secret"] == 24, counts
-
-
-def test_secrets_of_edits() -> None:
-    """An edit of a value, in a list or not, keeps its secret, its label and everything else."""
-    needs_pyyaml()
-    choice = Choice([*map(secret_of, LABELS)], None)
-    for pair, number in itertools.product(itertools.product(VAULTS, repeat=2), range(4)):
-        values = [Value(key, b"same", *vault, 0, 10) for key, vault in zip(("a", "b", ITEM, ITEM), pair * 2)]
-        tool = Model()
-        data = document(values, [each.block() for each in values])
-        file = YamlFile("", data, tool.opened, choice)
-        parts = file.plaintext.split(b"same")
-        text = b"same".join(parts[: number + 1]) + b"changed" + b"same".join(parts[number + 1 :])
-        after = file.encrypted(tool, text)
-        [made] = tool.made.values()
-        values[number] = values[number]._replace(text=b"changed", salt=made.salt)
-        assert after == document(values, [each.block() for each in values]), (pair, number)
