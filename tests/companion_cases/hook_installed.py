@@ -37,8 +37,8 @@ def test_installed(place: Place, file: str) -> None:
         # A relative path starts at the top directory of the repository.
         given = "../hooks" if file == ".git/config" else str(hooks)
         place.run("git", "config", "--file", file, "core.hooksPath", given)
-    for told in ("installed", "already installed"):
-        installs(told, place.run(HOOK, "--install", folder="inner"), hooks, told)
+    for when in ("once", "again"):
+        installs(when, place.run(HOOK, "--install", folder="inner"), hooks, "installed")
     assert all((hooks / name).is_symlink() for name in NAMES)
     for folder in (".", "../second"):
         place.put(f"{folder}/a.vault.yml", TEXT)
@@ -61,7 +61,7 @@ def test_other_hooks(place: Place) -> None:
     for name in NAMES:
         (hooks / name).symlink_to(old)
     silent("git runs no hook", again(place, "a.vault.yml", TEXT))
-    installs("repaired", place.run(HOOK, "--install"), hooks, f"installed in place of a link to {old}")
+    installs("repaired", place.run(HOOK, "--install"), hooks, "installed")
     refused("git runs it", again(place, "a.vault.yml", TEXT * 2), "a.vault.yml")
     hook.unlink()
     hook.symlink_to("/nowhere/else")

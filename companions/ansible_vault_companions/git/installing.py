@@ -35,26 +35,23 @@ def hooks() -> list[str]:
 
 def install_hook(hook: str, program: str) -> str:
     """Installs a hook, and says what was done."""
-    old = os.readlink(hook) if os.path.islink(hook) else ""
-    if os.path.exists(hook) and os.path.realpath(hook) == os.path.realpath(program):
-        return "already installed"
-    if _is_ours(old, program):
+    if _is_ours(hook, program):
         os.unlink(hook)
     elif os.path.lexists(hook):
         raise Refused(f"exists already; add this line to it: {word(program)} || exit 1")
     os.symlink(program, hook)
-    return f"installed in place of a link to {shown(old)}" if old else "installed"
+    return "installed"
 
 
 def uninstall_hook(hook: str, program: str) -> str:
-    if os.path.islink(hook) and _is_ours(os.readlink(hook), program):
+    if _is_ours(hook, program):
         os.unlink(hook)
         return "removed"
     return "left alone, since --install did not make it" if os.path.lexists(hook) else "not installed"
 
 
-def _is_ours(target: str, program: str) -> bool:
-    return os.path.basename(target) == os.path.basename(program)
+def _is_ours(hook: str, program: str) -> bool:
+    return os.path.islink(hook) and os.path.basename(os.readlink(hook)) == os.path.basename(program)
 
 
 def wanted(setting: str, program: str, passwords: list[str]) -> str:
