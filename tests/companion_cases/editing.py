@@ -65,8 +65,8 @@ REFUSED = [
     (OLD, "missing/new.yml", "No such file"),
     (PROD, "odd.yml", "its label a@b"),
     (OLD, "vars.yml", "line 2: secret: no secret decrypts this vault (no label; tried ../secrets/old)"),
-    (OLD, "vars.yml", "; or, to add values without seeing the others, choose a secret for the new ones with"),
-    (BOTH, "new.yml", "the vault is new; choose its secret with --encrypt-vault-id"),
+    (OLD, "vars.yml", "; or, to add values without seeing the others, choose a password for the new ones with"),
+    (BOTH, "new.yml", "the vault is new; choose its password with --encrypt-vault-id"),
     (f"{BOTH} --encrypt-vault-id other", "new.yml", "no secret has the label of --encrypt-vault-id"),
 ]
 
@@ -253,5 +253,5 @@ def test_equal_values(place: Place) -> None:
     place.put("vars.yml", content := block("old", b"same", "old", "a") + block("prod", b"same", "prod", "b"))
     words = [*place.by_id("old", "old"), *place.by_id("prod", "prod"), "vars.yml"]
     done = edit(place, 'sed -i "s/^a:/c:/; s/^b:/d:/" "$1"', *words)
-    ended("both get other keys", done, 1, "c is new; choose its secret with --encrypt-vault-id")
+    ended("both get other keys", done, 1, "c is new; choose its password with --encrypt-vault-id")
     assert place.get("vars.yml") == content

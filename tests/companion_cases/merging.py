@@ -113,7 +113,7 @@ def test_what_fails(place: Place) -> None:
     """A file is missing, there is no secret, the tool fails, or a signal ends the driver. Whatever git does then, both
     sides are in the file, with markers of git's size."""
     words = [*place.by_file("old"), *versions(place, "a.yml", *OLD)]
-    ended("no base", place.run(MERGE, *words[:2], "../missing", *words[3:]), 1, "is missing")
+    ended("no base", place.run(MERGE, *words[:2], "../missing", *words[3:]), 1, "missing: No such file or directory")
     assert place.files() == {"a.yml": OLD[1]}, "ours stays"
     failures = {"exit 4": "ansible-vault ended with status 4", "kill -9 $PPID": "", "": "no password is given"}
     for tool, why in failures.items():

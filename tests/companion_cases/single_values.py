@@ -153,7 +153,7 @@ REFUSED = [
     (NEVER, f"{TO_PROD} app.new vars.yml", 1, "there is no value app.new"),
     (NEVER, "--encrypt-vault-id x --value db_password vars.yml", 1, "no secret has the label"),
     ("< /dev/null", "--value a relabelled.yml", 1, "its label is prod, but dev@"),
-    (NEVER, "--value port vars.yml", 1, "port is not encrypted; to encrypt it there, choose its secret with"),
+    (NEVER, "--value port vars.yml", 1, "port is not encrypted; to encrypt it there, choose its password with"),
     (NEVER, "--value db.password vault.yml", 1, "the whole file is a vault"),
     (NEVER, "--value db_password conflict.yml", 1, "git's conflict markers"),
     (NEVER, "--value db_password new.yml", 1, "new.yml: No such file"),

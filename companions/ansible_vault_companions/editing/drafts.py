@@ -6,7 +6,7 @@ import errno
 import os
 import re
 from dataclasses import dataclass
-from typing import TYPE_CHECKING, Union
+from typing import Union
 
 from ansible_vault_companions import processes
 from ansible_vault_companions.editing.matching import Choice, place_of
@@ -16,19 +16,17 @@ from ansible_vault_companions.envelopes.changes import Change, changed
 from ansible_vault_companions.envelopes.document import Document
 from ansible_vault_companions.envelopes.envelope import ALIAS, MAGIC, NO_SCALAR, Path, Value, label_of, quoted
 from ansible_vault_companions.files import reading
+from ansible_vault_companions.merging import texts
 from ansible_vault_companions.passwords.sources import NO_OPTION, Password
 from ansible_vault_companions.program import Refused, pathspec, shown
 from ansible_vault_companions.tool import Decrypt, Key, Tool
-
-if TYPE_CHECKING:
-    from ansible_vault_companions.merging.texts import Conflict
 
 NO_VAULT = (
     "it is not a vault, and no value in it has the tag `!vault`; encrypt it with `ansible-vault-with encrypt`, or "
     "write `NAME: !vault TEXT` in it for a single value and run this again"
 )
-TO_ADD = "; or, to add values without seeing the others, choose a secret for the new ones with --encrypt-vault-id"
-TO_ENCRYPT = "; to encrypt it there, choose its secret with --encrypt-vault-id"
+TO_ADD = "; or, to add values without seeing the others, choose a password for the new ones with --encrypt-vault-id"
+TO_ENCRYPT = "; to encrypt it there, choose its password with --encrypt-vault-id"
 WHOLE = "the whole file is a vault; edit it without --value"
 NO_TEXT = "{} is a list, a mapping or an alias; name a value in it"
 NOT_ENCRYPTED = "{} is not encrypted"
@@ -71,14 +69,14 @@ class SingleValue:
             raise FileNotFoundError(errno.ENOENT, os.strerror(errno.ENOENT), target)
         self.text = _tagged(content or b"", path, is_chosen)
         self.value = self.text.value_at(path)
-        # The old text, if the secret that opens it is to encrypt the new one.
+        # The old text, if the password that opens it is to encrypt the new one.
         self.before: bytes | None = None
         if is_chosen:
             key = choice.key(shown(path), shown(path))
         else:
-            secret, self.before = decrypt(self.value.readable())
-            key = secret, self.value.label or ""
-        # If the secret has another label than the value, the new text may be for other readers.
+            password, self.before = decrypt(self.value.readable())
+            key = password, self.value.label or ""
+        # If the password has another label than the value, the new text may be for other readers.
         _require_label(*key)
         self.keys = [key]
         # A value at another path is another one, even if it is equal.
@@ -101,23 +99,23 @@ class SingleValue:
 
 
 # A text to change, and how the file becomes what was saved. Its `keys` may read a copy, if there is a single one.
-Draft = Union[Vault, YamlFile, SingleValue, "Conflict"]
+Draft = Union[Vault, YamlFile, SingleValue, texts.Conflict]
 
 
-def load(tool: Tool, secrets: list[Password], path: str, chosen: str | None, usual: str | None) -> Draft:
+def load(tool: Tool, passwords: list[Password], path: str, chosen: str | None, usual: str | None) -> Draft:
     """The draft for the file at a path. Refuses one whose text could not be encrypted again. The label that the user
     has chosen is also for the text of a conflict, and the usual one for new vaults and values alone."""
     target = os.path.realpath(path)
-    content, choice = content_of(target), Choice(secrets, chosen or usual)
+    content, choice = content_of(target), Choice(passwords, chosen or usual)
     if content is None:
         return Vault(target, None, [choice.key("the new vault", "the vault")])
-    decrypt: Decrypt = lambda envelope: tool.decrypt(envelope, secrets)
+    decrypt: Decrypt = lambda envelope: tool.decrypt(envelope, passwords)
     if conflicts.sides(content):
         return _of_conflict(tool, decrypt, target, content, choice, chosen)
     if not content.startswith(MAGIC):
         return _of_values(decrypt, target, content, choice)
-    secret, plaintext = decrypt(content)
-    key = secret, label_of(content) or ""
+    password, plaintext = decrypt(content)
+    key = password, label_of(content) or ""
     _require_label(*key)
     return Vault(target, content, [key], plaintext)
 
@@ -131,9 +129,6 @@ def content_of(target: str) -> bytes | None:
 def _of_conflict(
     tool: Tool, decrypt: Decrypt, target: str, content: bytes, choice: Choice, chosen: str | None
 ) -> Draft:
-    # Imported here, since few files have a conflict.
-    from ansible_vault_companions.merging import texts
-
     sides = texts.unmerged(target, content)
     assert sides
     key = next(iter(choice.keys()), None) if chosen else None
@@ -162,9 +157,9 @@ def _of_values(decrypt: Decrypt, target: str, content: bytes, choice: Choice) ->
     return draft
 
 
-def _require_label(secret: Password, label: str, where: str = "") -> None:
-    """Refuses an envelope whose text may not be encrypted again with the secret that opens it, or under its label."""
-    fault = NO_OPTION.format(label) if "@" in label else secret.label_fault(label)
+def _require_label(password: Password, label: str, where: str = "") -> None:
+    """Refuses an envelope whose text may not be encrypted again with the password that opens it, or under its label."""
+    fault = NO_OPTION.format(label) if "@" in label else password.label_fault(label)
     if fault:
         raise Refused(where + fault)
 

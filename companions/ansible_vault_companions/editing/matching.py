@@ -16,9 +16,9 @@ from ansible_vault_companions.passwords.sources import Password
 from ansible_vault_companions.program import Refused, shown
 from ansible_vault_companions.tool import Key
 
-NEW = "{} is new; choose its secret with --encrypt-vault-id"
+NEW = "{} is new; choose its password with --encrypt-vault-id"
 NO_SUCH_LABEL = "{} is new, and no secret has the label of --encrypt-vault-id"
-UNCLEAR = "{} may be a new value or a changed one, and the secret depends on which; save one change at a time"
+UNCLEAR = "{} may be a new value or a changed one, and the password depends on which; save one change at a time"
 
 # A path, and which of the values at that path it is, since a mapping may have a key twice.
 Place = tuple[Path, int]
@@ -40,17 +40,17 @@ class Match(NamedTuple):
 
 
 class Choice(NamedTuple):
-    """Chooses the secret for a new value or vault."""
+    """Chooses the password for a new value or vault."""
 
-    secrets: list[Password]
+    passwords: list[Password]
     # The label from --encrypt-vault-id.
     label: str | None
 
     def keys(self) -> list[Key]:
-        """The keys to choose from. A label chooses the first secret that has it, even one that was left out."""
+        """The keys to choose from. A label chooses the first password that has it, even one that was left out."""
         if self.label is None:
-            return [(secret, secret.label) for secret in self.secrets]
-        return [(secret, secret.label) for secret in self.secrets if secret.label == self.label][:1]
+            return [(password, password.label) for password in self.passwords]
+        return [(password, password.label) for password in self.passwords if password.label == self.label][:1]
 
     def key(self, name: str, place: str) -> Key:
         """The key for what has this name and place. Asks for the label at a terminal if it is unclear."""
@@ -115,7 +115,7 @@ def _changed(
         keys = [before[at].key for at in old[group]]
         if len(typed[group]) > len(vanished[group]):
             keys += choice.keys()
-        if len({secret.content for secret, _ in keys}) > 1 and vanished[group] != typed[group]:
+        if len({password.content for password, _ in keys}) > 1 and vanished[group] != typed[group]:
             raise Refused(UNCLEAR.format(place_of(after[min(typed[group])])))
         changed |= typed[group] & before.keys()
     return changed

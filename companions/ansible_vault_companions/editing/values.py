@@ -14,8 +14,8 @@ from ansible_vault_companions.editing.matching import Choice, Opened, place_of
 from ansible_vault_companions.envelopes import conflicts
 from ansible_vault_companions.envelopes.changes import HEADER, UNSHOWN, Change, changed, column, in_plaintext, indented
 from ansible_vault_companions.envelopes.document import Document
-from ansible_vault_companions.envelopes.envelope import ALIAS, LITERAL, MAGIC, NO_SCALAR, PLAIN, TAGS, Path, Value
-from ansible_vault_companions.envelopes.scalars import LINE_END
+from ansible_vault_companions.envelopes.envelope import ALIAS, LINE_END, LITERAL, MAGIC, NO_SCALAR, PLAIN, TAGS, Path
+from ansible_vault_companions.envelopes.envelope import Value
 from ansible_vault_companions.passwords import prompts
 from ansible_vault_companions.program import Refused
 from ansible_vault_companions.tool import Decrypt, Key, Tool, at_once
@@ -54,7 +54,7 @@ class YamlFile:
         """One key of each password that a value has, or that a new one may get."""
         keys = [old.key for old in self.opened.values()]
         keys += self.choice.keys() if self.choice.label is not None or not keys else []
-        return list({secret.content: (secret, label) for secret, label in reversed(keys)}.values())
+        return list({password.content: (password, label) for password, label in reversed(keys)}.values())
 
     def is_as_it_was(self, text: bytes) -> bool:
         is_done = self.content == self.file.data and all(value.is_envelope for value in self.tagged.values())
@@ -176,7 +176,7 @@ def _header_end(data: bytes, value: Value) -> int:
 def _opened(value: Value, decrypt: Decrypt) -> Opened | Refused:
     """A value in plaintext, or why it stays encrypted."""
     try:
-        secret, plaintext = decrypt(value.readable())
+        password, plaintext = decrypt(value.readable())
         plaintext.decode()
     except UnicodeDecodeError:
         return Refused(NOT_UTF_8)
@@ -184,7 +184,7 @@ def _opened(value: Value, decrypt: Decrypt) -> Opened | Refused:
         return fault
     if plaintext.strip().startswith(MAGIC):
         return Refused(VAULT_WITHIN)
-    return Opened(value, plaintext, (secret, value.label or ""))
+    return Opened(value, plaintext, (password, value.label or ""))
 
 
 def _is_typed(value: Value, closed: set[bytes]) -> bool:

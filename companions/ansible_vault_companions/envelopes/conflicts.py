@@ -9,7 +9,6 @@ from typing import Iterable
 from ansible_vault_companions.envelopes import document
 from ansible_vault_companions.envelopes.document import Document
 from ansible_vault_companions.envelopes.envelope import Value
-from ansible_vault_companions.program import pathspec
 
 # The usual number of characters in a marker. The attribute `conflict-marker-size` asks for others.
 SIZE = 7
@@ -24,15 +23,6 @@ LINES = re.compile(rb"[^\n]*\n|[^\n]+\Z")
 
 UNMERGED = "has git's conflict markers"
 STILL = "it still has git's conflict markers: choose between the sides, and remove the markers"
-AGAIN = (
-    "resolve them with ansible-vault-edit; or set up the merge driver (see `ansible-vault-merge --help`), and run "
-    "`git checkout --merge -- {}`"
-)
-
-
-def again(path: str) -> str:
-    """For a message: what to do about a file with conflict markers."""
-    return AGAIN.format(pathspec(path))
 
 
 def is_unmerged(text: bytes) -> bool:

@@ -140,14 +140,11 @@ def is_prose(path: str) -> bool:
     return os.path.realpath(path).lower().endswith(PROSE)
 
 
-def is_yaml(path: str) -> bool:
-    """Whether it is meant as YAML, by its name or by that of the file that it points to."""
-    return any(name.lower().endswith(YAML) for name in (path, os.path.realpath(path)))
-
-
 def fault(document: Document, path: str) -> str:
-    """Why a file that is meant as YAML, and has an envelope, cannot be read; empty if it is none, or can."""
-    return document.fault if is_yaml(path) and (document.values or BINARY in document.data) else ""
+    """Why a file cannot be read that has an envelope and is meant as YAML, by its name or that of the file to which it
+    points; empty if it is none, or can."""
+    is_yaml = any(name.lower().endswith(YAML) for name in (path, os.path.realpath(path)))
+    return document.fault if is_yaml and (document.values or BINARY in document.data) else ""
 
 
 def content(path: str) -> bytes:

@@ -9,7 +9,7 @@ from typing import NamedTuple, Union
 from ansible_vault_companions.program import Refused, shown
 
 MAGIC = b"$ANSIBLE_VAULT"
-LINE = re.compile(rb"[^\r\n]*")
+LINE_END = re.compile(rb"\r\n?|\n")
 START = re.compile(rb"\$ANSIBLE_VAULT[^;\r\n]*;")
 # A header with digits behind it, which no text has that only speaks of envelopes. In a folded scalar a space takes the
 # place of the line end, and in JSON an escape does. The lookahead and the limits keep a search linear.
@@ -98,7 +98,7 @@ class Value(NamedTuple):
     @property
     def is_envelope(self) -> bool:
         """Whether it is meant as an envelope, even if it is damaged."""
-        return has_header(self.text)
+        return START.match(self.text) is not None
 
     @property
     def is_whole(self) -> bool:
@@ -128,11 +128,6 @@ def quoted(key: str) -> str:
     return '"%s"' % re.sub(r'(["\\])', r"\\\1", key)
 
 
-def has_header(text: bytes) -> bool:
-    """Whether a text with a tag is meant as an envelope, even if it is damaged."""
-    return START.match(text) is not None
-
-
 def has_digits(text: bytes) -> bool:
     """Whether a text without a tag is meant as an envelope."""
     return WITH_DIGITS.match(text) is not None
@@ -152,8 +147,8 @@ def written_label(text: bytes) -> str | None:
 
 def is_whole(text: bytes) -> bool:
     """Whether a text is an envelope with a valid header and a salt, tag and ciphertext of the right form."""
-    fields, header = _fields(text), _first_line(text)
-    if not (fields and text.startswith(MAGIC) and len(header) <= LONGEST_HEADER and header.count(b";") < MOST_FIELDS):
+    fields, header = _fields(text), _header(text)
+    if not (fields and text.startswith(MAGIC) and header.count(b";") < MOST_FIELDS):
         return False
     if not (fields[1] in VERSIONS and fields[2] == CIPHER and LABEL.fullmatch(fields[3])):
         return False
@@ -166,13 +161,13 @@ def is_whole(text: bytes) -> bool:
     return has_lengths and len(ciphertext) > 0 and len(ciphertext) % CIPHER_BLOCK == 0
 
 
-def _first_line(text: bytes) -> bytes:
-    line = LINE.match(text)
-    assert line
-    return line[0]
+def _header(text: bytes) -> bytes:
+    """The first line, or a byte more than the longest header has."""
+    return LINE_END.split(text[: LONGEST_HEADER + 1], 1)[0]
 
 
 def _fields(text: bytes) -> list[bytes]:
     """The fields of the first line, of which the fourth may be empty; none if that line is not a header."""
-    fields = [field.strip() for field in _first_line(text).split(b";")]
-    return [*fields, b""] if len(fields) > 2 and b"".join(fields).isascii() else []
+    header = _header(text)
+    fields = [field.strip() for field in header.split(b";")]
+    return [*fields, b""] if len(fields) > 2 and len(header) <= LONGEST_HEADER and header.isascii() else []

@@ -13,8 +13,8 @@ from typing import Any, Iterator, Union
 
 from ansible_vault_companions import processes
 from ansible_vault_companions.envelopes import envelope
-from ansible_vault_companions.envelopes.envelope import ALIAS, FOLDED, JSON_KEY, LITERAL, NO_SCALAR, PLAIN, TAGS, Path
-from ansible_vault_companions.envelopes.envelope import Value
+from ansible_vault_companions.envelopes.envelope import ALIAS, FOLDED, JSON_KEY, LINE_END, LITERAL, NO_SCALAR, PLAIN
+from ansible_vault_companions.envelopes.envelope import TAGS, Path, Value
 from ansible_vault_companions.program import Refused
 
 BYTE_ORDER_MARK = b"\xef\xbb\xbf"
@@ -32,7 +32,6 @@ SURROGATE = re.compile(rb"\\u[dD][89a-fA-F](?=[0-9a-fA-F]{2})")
 # What precedes the text of a scalar: tag, anchor, comments; and the first line of a block with text.
 PROPERTIES = re.compile(rb"(?:[!&][^\s,\]}]*(?:\s|(?<=\s)#[^\r\n]*)*)*")
 FIRST_LINE = re.compile(rb"[^\n\r]*\s*[\r\n](?P<margin>[ \t]*)")
-LINE_END = re.compile(rb"\r\n?|\n")
 BLANKS = b" \t\r\n"
 
 NO_PYYAML = "PyYAML, which reads YAML, is missing: install Debian's python3-yaml, or PyYAML with pip"

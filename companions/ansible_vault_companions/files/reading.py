@@ -83,11 +83,8 @@ def read(path: str) -> bytes | None:
 
 def named(path: str) -> bytes:
     """The content of a file that must exist. A signal ends the reading at once."""
-    with processes.interruptible():
-        content = read(path)
-    if content is None:
-        raise FileNotFoundError(errno.ENOENT, os.strerror(errno.ENOENT), path)
-    return content
+    with processes.interruptible(), opened(path) as file:
+        return whole(file, path)
 
 
 def input_of(file: str | int) -> bytes:

@@ -11,8 +11,13 @@ from ansible_vault_companions.files.reading import Unsearched
 from ansible_vault_companions.git import facts
 from ansible_vault_companions.passwords.sources import Password
 from ansible_vault_companions.plaintext.reports import Report, opened
-from ansible_vault_companions.program import Refused, reason, shown
+from ansible_vault_companions.program import Refused, pathspec, reason, shown
 from ansible_vault_companions.tool import Tool, Workers
+
+RESOLVE = (
+    "resolve them with ansible-vault-edit; or set up the merge driver (see `ansible-vault-merge --help`), and run "
+    "`git checkout --merge -- {}`"
+)
 
 
 @dataclass
@@ -41,7 +46,7 @@ class Check:
             report.add(own)
         why = document.fault(file, path) or ("" if is_prose else _cannot_rotate(file))
         if facts.is_unmerged(file):
-            why = f"{conflicts.UNMERGED}; {conflicts.again(path)}"
+            why = f"{conflicts.UNMERGED}; {RESOLVE.format(pathspec(path))}"
         if is_marked and file.data.strip() and not (why or report.faults):
             why = facts.unencrypted(file)
         if why:

@@ -63,14 +63,11 @@ class Reports:
     def take_all(self, files: list[list[str]], work: Callable[[list[str], Report], None], workers: Workers) -> None:
         """Works on each file, to which one or more paths lead, and reports on it."""
         for report in workers.map(lambda paths: _of_file(paths, work), files):
-            self._take(report)
-
-    def _take(self, report: Report) -> None:
-        self.total.add(report)
-        for line in report.lines:
-            write_line(line)
-        for text in [*report.notes, *report.faults]:
-            self.tell(text)
+            self.total.add(report)
+            for line in report.lines:
+                write_line(line)
+            for text in [*report.notes, *report.faults]:
+                self.tell(text)
 
     def tell(self, text: str) -> None:
         write_error(f"{self.companion}: {text}")

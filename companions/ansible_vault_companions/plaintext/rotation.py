@@ -91,13 +91,15 @@ class Rotation:
         label = value.label
         if label is None:
             raise Refused(MALFORMED)
-        if label not in self.new:
+        new = self.new.get(label)
+        if new:
+            report.labels.add(label)
+            # Passwords with its label are tried first, so most envelopes are decrypted by the first one.
+            result = opened(self.tool, value, [*self.old, new], is_prose)
+        else:
             report.others[label] += 1
-            return self._change_within(value, label, where, report)
-        new = self.new[label]
-        report.labels.add(label)
-        # Passwords with its label are tried first, so most envelopes are decrypted by the first one.
-        result = opened(self.tool, value, [*self.old, new], is_prose)
+            passwords = [password for password in self.old if password.label == label]
+            result = opened(self.tool, value, passwords, is_prose=True) if value.is_whole else None
         if not result:
             report.labels.clear()
             return None
@@ -106,19 +108,10 @@ class Rotation:
         if fault:
             raise Refused(fault)
         after = self._within(plaintext, where, report)
-        had_it = password.content == new.content
-        report.counts[HAD_IT if had_it else CHANGED] += 1
-        return None if had_it and after == plaintext else self._encrypted(value.text, after, new, label)
-
-    def _change_within(self, value: Value, label: str, where: str, report: Report) -> bytes | None:
-        """The same for an envelope that keeps its password, if an old one has its label."""
-        passwords = [password for password in self.old if password.label == label]
-        result = opened(self.tool, value, passwords, is_prose=True) if passwords and value.is_whole else None
-        if not result:
-            return None
-        password, plaintext = result
-        after = self._within(plaintext, where, report)
-        return None if after == plaintext else self._encrypted(value.text, after, password, label)
+        keeps = not new or password.content == new.content
+        if new:
+            report.counts[HAD_IT if keeps else CHANGED] += 1
+        return None if keeps and after == plaintext else self._encrypted(value.text, after, new or password, label)
 
     def _within(self, plaintext: bytes, where: str, report: Report) -> bytes:
         """The plaintext of an envelope, with the envelopes in it rotated."""
