@@ -55,41 +55,28 @@ def test_other_passwords(place: Place) -> None:
     ended("no vault", edit(place, "touch ../started", *words), 1, "one side is a vault and the other is not")
 
 
-def test_values(place: Place) -> None:
-    """Both texts of a value are shown. The one that is taken keeps its envelope, and a new text its password."""
+@pytest.mark.parametrize("command", ("true", "git add a.yml", "cp ../whole a.yml"))
+def test_values(place: Place, command: str) -> None:
+    """Both texts of a value are shown, even if git's markers are between its digits, or the index has no base. The one
+    that is taken keeps its envelope, and a new text its password."""
     needs_pyyaml()
-    files = [b"a: 1\n" + block("old", text) + b"z: 1\n" for text in SIDES]
+    files = [b"a: 1\n" + block("old", text) + b"z: 1\n" for text in (b"base", b"ours", b"theirs")]
     merge(place, files)
-    place.put("a.yml", before := b"<<<<<<< ours\n%s=======\n%s>>>>>>> theirs\nz: 1\n" % tuple(
-        file.removesuffix(b"z: 1\n") for file in files[1:]
-    ))
-    words = [*place.by_file("old"), "a.yml"]
-    done = edit(place, 'cp "$1" ../seen', *words)
-    ended("no choice", done, 1, "it still has git's conflict markers")
-    assert (place.path / "seen").read_bytes().count(b"secret: !vault |\n  x: ") == 2
+    sides = [file.removesuffix(b"z: 1\n") for file in files[1:]]
+    place.put("../whole", b"<<<<<<< ours\n%s=======\n%s>>>>>>> theirs\nz: 1\n" % (*sides,))
+    place.shell(command)
+    before, words = place.get("a.yml"), [*place.by_file("old"), "a.yml"]
+    assert before.count(b"$ANSIBLE_VAULT") == (2 if "whole" in command else 1)
+    ended("no choice", edit(place, 'cp "$1" ../seen', *words), 1, "it still has git's conflict markers")
+    lines = (place.path / "seen").read_bytes().splitlines()
+    assert lines.count(b"secret: !vault |-") == 2 and {b"  ours", b"  theirs"} <= {*lines}
     assert place.get("a.yml") == before
     ended("theirs", edit(place, TAKE_THEIRS, *words), 0)
     assert place.get("a.yml") == files[2]
     place.put("a.yml", before)
     ended("both", edit(place, f"{TAKE_THEIRS}; sed -i s/theirs/both/ \"$1\"", *words), 0)
-    assert texts(place.get("a.yml"), "old") == [b"x: both\n" + LINES]
+    assert texts(place.get("a.yml"), "old") == [b"both"]
     silent("no marker is left", place.shell(f"{CHECK} {' '.join(words)} > /dev/null"))
-
-
-@pytest.mark.parametrize("command", ("true", "git add a.yml"))
-def test_digits(place: Place, command: str) -> None:
-    """If git's markers are between the digits of a value, both texts are shown, even if the index has no base."""
-    needs_pyyaml()
-    files = [b"a: 1\n" + block("old", text) + b"z: 1\n" for text in (b"base", b"ours", b"theirs")]
-    merge(place, files)
-    place.shell(command)
-    before, words = place.get("a.yml"), [*place.by_file("old"), "a.yml"]
-    assert before.count(b"$ANSIBLE_VAULT") == 1
-    ended("no choice", edit(place, 'cp "$1" ../seen', *words), 1, "it still has git's conflict markers")
-    lines = (place.path / "seen").read_bytes().splitlines()
-    assert lines.count(b"secret: !vault |-") == 2 and {b"  ours", b"  theirs"} <= {*lines}
-    ended("theirs", edit(place, TAKE_THEIRS, *words), 0)
-    assert place.get("a.yml") == files[2]
 
 
 def test_values_with_a_base(place: Place) -> None:

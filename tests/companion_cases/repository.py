@@ -62,15 +62,11 @@ def meant(name: str, attribute: str = "-ansible-vault") -> str:
     return f"  if that is intended, commit with --no-verify, or add to .gitattributes: /{name} {attribute}"
 
 
-def restoring(name: str) -> str:
-    first = f"  restore it, for example with `git checkout HEAD -- :/{name}` if it is whole there; "
-    return first + meant(name).lstrip()
-
-
 def advice(name: str, why: str) -> str:
     name = name.rpartition(": ")[2]
     if "is a damaged vault" in why or "has a damaged value" in why:
-        return restoring(name)
+        restored = f"restore it, for example with `git checkout HEAD -- :/{name}` if it is whole there"
+        return f"  {restored}; {meant(name).lstrip()}"
     if "cannot be checked any more" in why:
         return f"  repair it; {meant(name).lstrip()}"
     values = re.search("has (.+) in plaintext, which", why)
