@@ -13,42 +13,35 @@ from pathlib import Path
 
 import pytest
 
-from companion_cases import ABOVE_EDITOR, CHANGE, CHANGED, CHECK, EDIT, ENCRYPTED, MERGE, PASSWORDS, ROTATE, TEXT
+from companion_cases import ABOVE_EDITOR, CHANGE, CHANGED, CHECK, EDIT, ENCRYPTED, MERGE, ROTATE, TEXT
 from companion_cases import WITH, Companions, Place, block, decrypted, edit, run_changed, sealed, silent, texts, to_new
 from companion_cases import versions, wait_until
 from companion_cases.terminal import READY, SHELL, ask
 from lib.limits import SECONDS
 from lib.processes import started
 from lib.subtests import SubTests
-from model.vaults import seal, yaml_block
 
 RUNS = (EDIT, ROTATE, MERGE)
-# The same text in two envelopes, since equal envelopes are decrypted only once.
-BLOCKS = b"x: 1\n" + block("old") + yaml_block(seal(PASSWORDS["old"], TEXT, b"", bytes(32)), b"c")
 
 
 def tree(place: Place) -> dict[str, list[str]]:
-    """Write a vault and a file of values, and return each run over them. A merge puts ours under the new password."""
+    """Write a vault, and return each run over it. A merge puts ours under the new password."""
     vaults = versions(place, "a.yml", sealed("old", CHANGED), sealed("old"), sealed("new", CHANGED))
     (place.tree / "a.yml").chmod(0o640)
-    place.put("b.yml", BLOCKS, 0o600)
     place.environment["EDITOR"] = place.script(f"{CHANGE}; touch ../saved; sleep 0.1", "editor")
     old, both = place.by_file("old"), [*place.by_file("old"), *place.by_file("new")]
-    lines = [[EDIT, *old, "a.yml"], [ROTATE, *to_new(place), "--jobs", "1", "."], [MERGE, *both, *vaults]]
+    lines = [[EDIT, *old, "a.yml"], [ROTATE, *to_new(place), "."], [MERGE, *both, *vaults]]
     return {line[0]: line for line in lines}
 
 
 def check_whole(place: Place) -> None:
-    """Check that each vault is the old or the new one, or a conflict of two whole ones, and that no file is left."""
-    vault, blocks = place.get("a.yml"), place.get("b.yml")
+    """Check that the vault is the old or the new one, or a conflict of two whole ones, and that no file is left."""
+    vault = place.get("a.yml")
     pairs = [*zip(texts(vault, "old"), texts(vault, "new"))]
     assert len(pairs) == (2 if b"<<<<<<<" in vault else 1), ("the vault is whole", vault)
     assert all({TEXT, CHANGED}.intersection(pair) for pair in pairs), ("the vault is whole", vault)
-    pairs = [*zip(texts(blocks, "old"), texts(blocks, "new"))]
-    assert [TEXT in pair for pair in pairs] == [True, True], ("the values are whole", blocks)
-    left = place.left() + os.listdir(place.temporary)
-    assert (place.names(), left) == (["a.yml", "b.yml"], []), "nothing is left"
-    assert (place.mode("a.yml"), place.mode("b.yml")) == ("0o640", "0o600"), "modes stay"
+    assert (place.names(), place.left() + os.listdir(place.temporary)) == (["a.yml"], []), "nothing is left"
+    assert place.mode("a.yml") == "0o640", "the mode stays"
 
 
 def check_edit(place: Place, errors: str, wanted: bytes = CHANGED) -> None:
@@ -267,8 +260,9 @@ def check_wait(place: Place, waits: Callable[[subprocess.Popen[str]], object], *
 def test_waits(place: Place) -> None:
     """Without a signal, reading the images takes minutes."""
     tree(place)
+    place.put("b.yml", block("old"))
     old = place.by_file("old")
-    check_wait(place, lambda process: calls(process, 0, 0), EDIT, *old, "--value", "c", "b.yml")
+    check_wait(place, lambda process: calls(process, 0, 0), EDIT, *old, "--value", "secret", "b.yml")
     check_wait(place, lambda process: calls(process, 1, 1), WITH, "view", *old, "a.yml", "a.yml")
     with open(place.tree / "0.img", "wb") as file:
         file.truncate(1 << 40)
