@@ -158,8 +158,14 @@ CHOSEN = {
     "the second of a label": ("prod@../secrets/old, prod@../secrets/none", "prod", "old", True),
     "a label that is there": ("prod@../secrets/none, dev@../secrets/dev", "dev", "dev", True),
 }
-# Command lines that encrypt. `random_secrets` has `encrypt` and `encrypt_string`.
-SEALING = [[WITH, "rekey", "a.yml"], [EDIT, "new.yml"], [EDIT, "values.yml"], [EDIT, "--value=word", "values.yml"]]
+# Command lines that encrypt. `random_secrets` has `encrypt_string`.
+SEALING = [
+    [WITH, "encrypt", "plain.yml"],
+    [WITH, "rekey", "a.yml"],
+    [EDIT, "new.yml"],
+    [EDIT, "values.yml"],
+    [EDIT, "--value=word", "values.yml"],
+]
 
 
 @pytest.mark.parametrize("listed, label, there, encrypts", CHOSEN.values(), ids=CHOSEN)
@@ -168,7 +174,7 @@ def test_missing_secrets_to_encrypt_with(
     place: Place, line: list[str], listed: str, label: str, there: str, encrypts: bool
 ) -> None:
     """If the secret to encrypt with is missing, no other one encrypts in its place. Others may be missing."""
-    before = {"values.yml": b"word: !vault TEXT\n", "a.yml": sealed(there, label=label)}
+    before = {"plain.yml": TEXT, "values.yml": b"word: !vault TEXT\n", "a.yml": sealed(there, label=label)}
     for name, content in before.items():
         place.put(name, content)
     variables = {"ANSIBLE_VAULT_IDENTITY_LIST": listed, "ANSIBLE_VAULT_ENCRYPT_IDENTITY": label and f"'{label}'"}
