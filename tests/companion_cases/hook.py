@@ -29,7 +29,7 @@ def test_what_is_staged(place: Place) -> None:
     place.shell("git add -A")
     place.put("secrets/a.yml", TEXT)
     silent("a vault is staged", commit(place))
-    refused("a path", commit(place, "secrets/a.yml"), "secrets/a.yml")
+    refused("a path", commit(place, "secrets/a.yml"), "secrets/a.yml", why=WHOLE)
     place.shell("git checkout -q . && git rm -q secrets/a.yml")
     silent("a removal", commit(place))
     place.put(".gitattributes", b"")

@@ -83,7 +83,7 @@ class Guard:
 
     def faults(self) -> Iterator[tuple[File, Fault]]:
         """Each refused file, with the first of its faults."""
-        checks = (self._damage, self._unencrypted, self._vault, self._values, self._stale)
+        checks = (self._damage, self._vault, self._values, self._unencrypted, self._stale)
         for file in self.now:
             faults = (check(file, self.before[file], self.now[file]) for check in checks if file.blob)
             fault = next(filter(None, faults), None)
