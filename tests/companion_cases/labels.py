@@ -19,7 +19,6 @@ SECRETS: list[tuple[list[Pair], list[Pair]]] = [
     ([("dev", "dev"), ("", "prod")], []),
     ([("dev", "dev"), ("dev", "prod")], []),
     ([("dev", "dev"), ("prod", "dev")], []),
-    ([("", "old"), ("", "prod")], []),
     ([("", "old"), (DEFAULT, "old")], []),
     ([("dev", "dev")], [("prod", "prod")]),
     ([("prod", "prod")], [("dev", "missing")]),

@@ -119,7 +119,6 @@ NEW = {
     "app.plain": b"\n  plain: !vault | # why\n            $ANSIBLE_VAULT;1.2;AES256;prod\n",
     "app.nothing": b"\n  nothing: !vault |\n            $ANSIBLE_VAULT;1.2;AES256;prod\n",
     '"n.w: x"': b'\n"n.w: x": !vault |\n          $ANSIBLE_VAULT;1.2;AES256;prod\n',
-    "last one": b'\n"last one": !vault |\n          $ANSIBLE_VAULT;1.2;AES256;prod\n',
 }
 
 
