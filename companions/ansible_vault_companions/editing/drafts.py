@@ -89,8 +89,7 @@ class SingleValue:
         number, envelope = self.text.values.index(self.value), tool.encrypt(text, *self.keys[0])
 
         def block(_: int, value: Value) -> list[Change] | None:
-            old = value if value.is_envelope else None
-            return closed_block(self.text.data, value, envelope, self.text.data, old, is_kept=False)
+            return closed_block(self.text.data, value, envelope, value if value.is_envelope else None)
 
         try:
             return written(self.text, {number: envelope}, block)
@@ -102,14 +101,21 @@ class SingleValue:
 Draft = Union[Vault, YamlFile, SingleValue, texts.Conflict]
 
 
-def load(tool: Tool, passwords: list[Password], path: str, chosen: str | None, usual: str | None) -> Draft:
-    """The draft for the file at a path. Refuses one whose text could not be encrypted again. The label that the user
-    has chosen is also for the text of a conflict, and the usual one for new vaults and values alone."""
+def load(
+    tool: Tool, passwords: list[Password], path: str, value: str | None, chosen: str | None, usual: str | None
+) -> Draft:
+    """The draft for the file at a path, or for a single value in it. Refuses one whose text could not be encrypted
+    again. The label that the user has chosen is also for the text of a conflict and for a single value, and the usual
+    one for new vaults and values alone. A signal ends the reading."""
     target = os.path.realpath(path)
-    content, choice = content_of(target), Choice(passwords, chosen or usual)
+    with processes.interruptible():
+        content = reading.read(target)
+    decrypt: Decrypt = lambda envelope: tool.decrypt(envelope, passwords)
+    if value is not None:
+        return SingleValue(target, content, value, decrypt, Choice(passwords, chosen))
+    choice = Choice(passwords, chosen or usual)
     if content is None:
         return Vault(target, None, [choice.key("the new vault", "the vault")])
-    decrypt: Decrypt = lambda envelope: tool.decrypt(envelope, passwords)
     if conflicts.sides(content):
         return _of_conflict(tool, decrypt, target, content, choice, chosen)
     if not content.startswith(MAGIC):
@@ -118,12 +124,6 @@ def load(tool: Tool, passwords: list[Password], path: str, chosen: str | None, u
     key = password, label_of(content) or ""
     _require_label(*key)
     return Vault(target, content, [key], plaintext)
-
-
-def content_of(target: str) -> bytes | None:
-    """The content of a file, or None if there is none. A signal ends the reading."""
-    with processes.interruptible():
-        return reading.read(target)
 
 
 def _of_conflict(

@@ -82,7 +82,9 @@ class YamlFile:
         def block(number: int, value: Value) -> list[Change] | None:
             before, key = matches[number]
             old = before.value if before else None
-            return closed_block(text, value, envelopes[number], self.file.data, old, is_kept=key is None)
+            if old and not key:
+                return [Change(value.begin, value.end, self.file.data[old.begin : old.end])]
+            return closed_block(text, value, envelopes[number], old)
 
         envelopes = dict(zip(typed, at_once(envelope, typed)))
         return written(after, envelopes, block)
@@ -145,32 +147,19 @@ def _shown(data: bytes, value: Value, text: bytes) -> list[Change] | None:
     return in_plaintext(data, value, text)
 
 
-def closed_block(
-    data: bytes, value: Value, new: bytes, file: bytes, old: Value | None, is_kept: bool
-) -> list[Change] | None:
-    """The changes that write an envelope as it was in the file; or a new one as a block, in the style of the old one if
-    that is a block. None if both are in quotes. What follows in the line of the header stays."""
-    if old and is_kept:
-        return [Change(value.begin, value.end, file[old.begin : old.end])]
+def closed_block(data: bytes, value: Value, envelope: bytes, old: Value | None) -> list[Change] | None:
+    """The changes that write a new envelope as a block, as Ansible's tool does. None if the old one was none, and the
+    value is none. What follows in the line of the header stays."""
     if old and LITERAL not in (value.style, old.style):
         return None
-    header, indentation = b"|", INDENTATION
-    if old and old.style == LITERAL:
-        header = file[old.begin : _header_end(file, old)]
-        indentation = len(old.margin) - column(file, old.begin)
-    margin = b" " * (column(data, value.begin) + indentation)
-    lines = indented(new.rstrip(b"\n"), margin, value.ending)
+    margin = b" " * (column(data, value.begin) + INDENTATION)
+    lines = indented(envelope.rstrip(b"\n"), margin, value.ending)
+    header = HEADER.match(data, value.begin) if value.style == LITERAL else None
     # Empty lines above a typed text go with it: Ansible reads no envelope below one.
-    end = _header_end(data, value) if value.style == LITERAL else value.end
+    end = header.end() if header else value.end
     following = LINE_END.search(data, end)
     place = following.start() if following else len(data)
-    return [Change(value.begin, end, header), Change(place, max(place, value.end), value.ending + lines)]
-
-
-def _header_end(data: bytes, value: Value) -> int:
-    header = HEADER.match(data, value.begin)
-    assert header
-    return header.end()
+    return [Change(value.begin, end, b"|"), Change(place, max(place, value.end), value.ending + lines)]
 
 
 def _opened(value: Value, decrypt: Decrypt) -> Opened | Refused:
