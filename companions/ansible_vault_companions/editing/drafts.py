@@ -44,8 +44,6 @@ class Vault:
     content: bytes | None
     keys: list[Key]
     plaintext: bytes = b""
-    # None of its values stays encrypted.
-    faults: tuple[()] = ()
 
     def is_as_it_was(self, text: bytes) -> bool:
         """Whether the file may stay if this is saved."""
@@ -59,8 +57,6 @@ class Vault:
 
 class SingleValue:
     """A value of YAML that gets a new text, with its own password or a chosen one. Everything else stays."""
-
-    faults: tuple[()] = ()
 
     def __init__(self, target: str, content: bytes | None, path: str, decrypt: Decrypt, choice: Choice) -> None:
         self.target, self.content, self.path = target, content, path

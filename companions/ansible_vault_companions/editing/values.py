@@ -6,13 +6,13 @@ again, and what does not read as expected is refused.
 
 from __future__ import annotations
 
-import json
 from typing import Callable
 
 from ansible_vault_companions.editing import matching
 from ansible_vault_companions.editing.matching import Choice, Opened, place_of
 from ansible_vault_companions.envelopes import conflicts
-from ansible_vault_companions.envelopes.changes import HEADER, UNSHOWN, Change, changed, column, in_plaintext, indented
+from ansible_vault_companions.envelopes.changes import HEADER, NOT_UTF_8, Change, changed, column, in_plaintext
+from ansible_vault_companions.envelopes.changes import indented, quotes
 from ansible_vault_companions.envelopes.document import Document
 from ansible_vault_companions.envelopes.envelope import ALIAS, LINE_END, LITERAL, MAGIC, NO_SCALAR, PLAIN, TAGS, Path
 from ansible_vault_companions.envelopes.envelope import Value
@@ -24,7 +24,6 @@ from ansible_vault_companions.tool import Decrypt, Key, Tool, at_once
 INDENTATION = 10
 
 NO_PLACE = "its values cannot be written where they are; write each as `NAME: !vault |`"
-NOT_UTF_8 = "it is not UTF-8"
 SAVED_NOT_UTF_8 = "it is no longer UTF-8; save it as UTF-8"
 VAULT_WITHIN = "its plaintext is itself a vault"
 NEW_TAG = "line {}: it has a tag that the file did not have, other than `!vault`, so what follows stays in plaintext"
@@ -113,8 +112,8 @@ def written(
     wanted = [(value.path, contents.get(number, value.text)) for number, value in enumerate(text.values)]
     blocks = {number: changes for number in contents if (changes := block(number, text.values[number]))}
     while True:
-        quotes = [_quotes(text.values[number], contents[number]) for number in contents.keys() - blocks.keys()]
-        after = changed(text.data, [*quotes, *(change for changes in blocks.values() for change in changes)])
+        others = [quotes(text.values[number], contents[number].decode()) for number in contents.keys() - blocks.keys()]
+        after = changed(text.data, [*others, *(change for changes in blocks.values() for change in changes)])
         reading = _reading(after)
         if reading == wanted:
             return after
@@ -123,8 +122,8 @@ def written(
         if not wrong:
             raise Refused(NO_PLACE)
         # A value that is no block yet may be where no block can be, and so break the text around it.
-        others = [number for number in wrong if are_aligned or text.values[number].style != LITERAL]
-        for number in others or wrong:
+        unsure = [number for number in wrong if are_aligned or text.values[number].style != LITERAL]
+        for number in unsure or wrong:
             del blocks[number]
 
 
@@ -134,17 +133,10 @@ def _reading(data: bytes) -> list[tuple[Path, bytes]]:
     return [] if text.fault else [(value.path, value.text) for value in text.values]
 
 
-def _quotes(value: Value, content: bytes) -> Change:
-    text = json.dumps(content.decode(), ensure_ascii=False)
-    return Change(value.begin, value.end, UNSHOWN.sub(lambda match: f"\\U{ord(match[0]):08x}", text).encode())
-
-
 def _shown(data: bytes, value: Value, text: bytes) -> list[Change] | None:
     """The changes that show a plaintext as a block, if its envelope is one and the last line tells where it ends."""
     has_end = text.strip() and text.rstrip() == text.removesuffix(b"\n")
-    if value.style != LITERAL or not has_end or UNSHOWN.search(text.decode()):
-        return None
-    return in_plaintext(data, value, text)
+    return in_plaintext(data, value, text) if value.style == LITERAL and has_end else None
 
 
 def closed_block(data: bytes, value: Value, envelope: bytes, old: Value | None) -> list[Change] | None:

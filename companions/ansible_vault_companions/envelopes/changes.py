@@ -15,7 +15,7 @@ HEADER = re.compile(rb"[|>][-+0-9]*")
 BEGINS_WITH_BLANK = re.compile(rb"\n*[ \t]")
 # What precedes a key or the text of an item in its line.
 DASHES = re.compile(rb" *(?:- +)*")
-NOT_UTF_8, CONTROL = "it is not UTF-8", "it has control characters"
+NOT_UTF_8 = "it is not UTF-8"
 
 
 class Change(NamedTuple):
@@ -49,7 +49,7 @@ def replaced(value: Value, envelope: bytes) -> Change:
 
 
 def in_plaintext(data: bytes, value: Value, text: bytes) -> list[Change]:
-    """Puts plaintext in its place: a block becomes a literal, and any other value gets double quotes."""
+    """Puts plaintext in its place: a block becomes a literal if it can, and any other value gets double quotes."""
     if value.style == WHOLE:
         return [Change(value.start, value.end, text)]
     if value.style == STRAY:
@@ -58,11 +58,15 @@ def in_plaintext(data: bytes, value: Value, text: bytes) -> list[Change]:
         characters = text.decode()
     except UnicodeDecodeError:
         raise Refused(NOT_UTF_8) from None
-    if UNSHOWN.search(characters):
-        raise Refused(CONTROL)
-    if value.style == LITERAL:
+    if value.style == LITERAL and not UNSHOWN.search(characters):
         return _literal(data, value, text)
-    return [Change(value.start, value.end, json.dumps(characters, ensure_ascii=False).encode())]
+    return [quotes(value, characters)]
+
+
+def quotes(value: Value, text: str) -> Change:
+    """Puts a text in double quotes in its place."""
+    escaped = UNSHOWN.sub(lambda match: f"\\U{ord(match[0]):08x}", json.dumps(text, ensure_ascii=False))
+    return Change(value.begin, value.end, escaped.encode())
 
 
 def _literal(data: bytes, value: Value, text: bytes) -> list[Change]:

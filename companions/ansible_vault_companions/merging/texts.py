@@ -94,9 +94,6 @@ class Vaults:
 class Conflict(Vaults):
     """Two vaults between markers, for an edit: their texts are merged, and what is saved becomes one vault."""
 
-    # None of its values stays encrypted.
-    faults: tuple[()] = ()
-
     def __init__(self, decrypt: Decrypt, target: str, content: bytes, versions: Versions, chosen: Key | None) -> None:
         super().__init__(decrypt, versions)
         # The path of the file, and what it has.
