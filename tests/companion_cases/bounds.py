@@ -16,7 +16,6 @@ LONG = 400_000
 # The content of a file with an envelope in YAML that is not deep, and whose other lines are plain.
 FILES = {f"180 KB of {start!r}": BLOCK + start.encode() * count for start, count in DEEP.items()}
 FILES |= {
-    "400,000 lines": BLOCK + b"".join(b"k%d: v%d\n" % (number, number) for number in range(LONG)),
     "400,000 lines of text": b"x\n" * LONG + COMMENT,
     "400,000 items in one line": BLOCK + b"x: [%s]\n" % b", ".join([b"1"] * LONG),
     "4 MB in no ASCII": BLOCK + b"x: '" + "ä".encode() * 2_000_000 + b"'\n",
