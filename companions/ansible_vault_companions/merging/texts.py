@@ -11,7 +11,7 @@ import os
 from ansible_vault_companions.envelopes import conflicts
 from ansible_vault_companions.envelopes.envelope import MAGIC
 from ansible_vault_companions.git.repository import answer, repository_of
-from ansible_vault_companions.merging.versions import Keys, Merged, Opened, Values, Versions, common_key, merged_lines
+from ansible_vault_companions.merging.versions import Keys, Merged, Decrypted, Values, Versions, common_key, merged_lines
 from ansible_vault_companions.merging.versions import opened
 from ansible_vault_companions.program import Refused, shown
 from ansible_vault_companions.tool import Decrypt, Key, NotDecrypted, Tool
@@ -110,7 +110,7 @@ class Conflict(Vaults):
         return self.sealed(tool, text, self.keys[0])
 
 
-def _of_side(side: str, decrypt: Decrypt, vault: bytes) -> Opened:
+def _of_side(side: str, decrypt: Decrypt, vault: bytes) -> Decrypted:
     try:
         return opened(decrypt, vault)
     except Refused as fault:

@@ -67,7 +67,7 @@ def _in_memory(text: bytes) -> int:
     return file
 
 
-class Opened(NamedTuple):
+class Decrypted(NamedTuple):
     """An envelope that a password opens."""
 
     envelope: bytes
@@ -75,7 +75,7 @@ class Opened(NamedTuple):
     text: bytes
 
 
-def opened(decrypt: Decrypt, vault: bytes, may_encrypt: bool = True) -> Opened:
+def opened(decrypt: Decrypt, vault: bytes, may_encrypt: bool = True) -> Decrypted:
     """Refuses an envelope whose label does not allow the password that opens it to encrypt the text again, if it may
     have to."""
     password, text = decrypt(vault)
@@ -83,7 +83,7 @@ def opened(decrypt: Decrypt, vault: bytes, may_encrypt: bool = True) -> Opened:
     fault = password.label_fault(label) if may_encrypt else ""
     if fault:
         raise Refused(fault)
-    return Opened(vault, (password, label), text)
+    return Decrypted(vault, (password, label), text)
 
 
 def common_key(ours: Keys, base: Keys, theirs: Keys) -> Key | None:
@@ -134,12 +134,12 @@ class Values:
             raise Refused(TORN)
         return Merged(content, f"{count} conflict{'s' if count > 1 else ''}" if count else "")
 
-    def _open(self, decrypt: Decrypt) -> dict[bytes, Opened]:
+    def _open(self, decrypt: Decrypt) -> dict[bytes, Decrypted]:
         """Those that not all versions have, if a password opens them that their labels allow."""
         texts = [{value.text for value in self.values[side]} for side in SIDES]
         changed = sorted(set().union(*texts).difference(set.intersection(*texts)))
 
-        def known(text: bytes) -> Opened | None:
+        def known(text: bytes) -> Decrypted | None:
             try:
                 return opened(decrypt, text)
             except Refused:
