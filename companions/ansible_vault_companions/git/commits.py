@@ -43,8 +43,8 @@ class File(NamedTuple):
     is_link: bool = False
 
 
-class Change(NamedTuple):
-    """Differences from another commit, and how messages refer to it."""
+class Differences(NamedTuple):
+    """Files that differ from another commit, and how messages refer to it."""
 
     since: str
     files: list[File]
@@ -69,16 +69,16 @@ class Index:
     def files(self) -> dict[bytes, File]:
         return {file.name: file for file in self.at([])}
 
-    def change(self, commit: str) -> Change:
+    def change(self, commit: str) -> Differences:
         """The differences from a commit. A file that git calls renamed is not removed."""
         words = ("diff-index", "--cached", *RENAMES, commit)
         files = [
             File(name, blob if mode in MODES else "", before if old_mode in FILE_MODES else "", mode == LINK_MODE)
             for name, old_mode, mode, before, blob in _differences(*words, index=self.path)
         ]
-        return Change(commit[:10], files)
+        return Differences(commit[:10], files)
 
-    def changes(self) -> list[Change]:
+    def changes(self) -> list[Differences]:
         """The differences from each parent. What is as in the first one is left out."""
         changes = [self.change(parent) for parent in self.parents]
         names = {file.name for file in changes[0].files}

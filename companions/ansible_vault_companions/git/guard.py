@@ -14,7 +14,7 @@ from ansible_vault_companions.envelopes.scalars import TOO_LONG
 from ansible_vault_companions.files import replacing
 from ansible_vault_companions.git import attributes, commits, facts
 from ansible_vault_companions.git.attributes import PLAIN_VALUES, VAULT
-from ansible_vault_companions.git.commits import Blobs, Change, File, Index
+from ansible_vault_companions.git.commits import Blobs, Differences, File, Index
 from ansible_vault_companions.git.facts import NONE, Facts, Keys, written
 from ansible_vault_companions.git.repository import git, line
 from ansible_vault_companions.program import pathspec, shown, write_error
@@ -48,7 +48,7 @@ class Fault(NamedTuple):
 class Guard:
     """Checks the files of a change. It reads each content once, and again only if a plaintext may have moved."""
 
-    def __init__(self, change: Change, index: Index, blobs: Blobs) -> None:
+    def __init__(self, change: Differences, index: Index, blobs: Blobs) -> None:
         self.index = index
         self.blobs = blobs
         self.since = f" in {change.since}" if change.since else ""
@@ -181,12 +181,12 @@ class Review:
         self.blobs = blobs
         self.reported: set[tuple[bytes, str]] = set()
 
-    def look_at(self, index: Index, changes: list[Change], where: str = "") -> None:
+    def look_at(self, index: Index, changes: list[Differences], where: str = "") -> None:
         """Checks changes with the attributes of an index. `where` precedes each message. A link counts as the file that
         it leads to, and as none if that is not in the index."""
         for change in changes:
             blobs = {file: index.target(file, self.blobs) if file.is_link else file.blob for file in change.files}
-            guard = Guard(Change(change.since, [file._replace(blob=blobs[file]) for file in blobs]), index, self.blobs)
+            guard = Guard(Differences(change.since, [file._replace(blob=blobs[file]) for file in blobs]), index, self.blobs)
             for file, fault in guard.faults():
                 if (file.name, file.blob) in self.reported:
                     continue
@@ -200,7 +200,7 @@ class Review:
 def review_staged(review: Review, paths: list[str]) -> None:
     """Reviews the staged changes, and the files at or below these paths even if they did not change."""
     index = commits.staged()
-    named = Change("", index.at(paths) if paths else [])
+    named = Differences("", index.at(paths) if paths else [])
     review.look_at(index, [*index.changes(), named])
 
 
@@ -221,5 +221,5 @@ def review_all(review: Review) -> None:
     with commits.index_of(commit) as index:
         former = index.former(commit)
         vaults = {file.before for file in former if review.blobs.read(file.before, is_old=True) == MAGIC}
-        were_vaults = Change("an earlier commit", sorted(file for file in former if file.before in vaults))
-        review.look_at(index, [Change("", index.at([])), *index.changes(), were_vaults])
+        were_vaults = Differences("an earlier commit", sorted(file for file in former if file.before in vaults))
+        review.look_at(index, [Differences("", index.at([])), *index.changes(), were_vaults])
