@@ -186,7 +186,8 @@ class Review:
         it leads to, and as none if that is not in the index."""
         for change in changes:
             blobs = {file: index.target(file, self.blobs) if file.is_link else file.blob for file in change.files}
-            guard = Guard(Differences(change.since, [file._replace(blob=blobs[file]) for file in blobs]), index, self.blobs)
+            files = [file._replace(blob=blob) for file, blob in blobs.items()]
+            guard = Guard(Differences(change.since, files), index, self.blobs)
             for file, fault in guard.faults():
                 if (file.name, file.blob) in self.reported:
                     continue
