@@ -23,7 +23,7 @@ if TYPE_CHECKING:
 setattr(argparse, "_", str)
 # The columns of a help, and the first one of an option's text. A help fits a screen.
 COLUMNS, TEXTS = 80, 30
-# What the shell's printf has to be told by number, and a path in which git sees no pattern.
+# What bash and zsh read by number within `$'..'`, and a path in which git sees no pattern.
 ESCAPED = re.compile(r"[^ -&(-\[\]-~]")
 SIMPLE_PATH = re.compile(r"[\w./][\w./@+,-]*", re.ASCII)
 
@@ -50,8 +50,8 @@ def word(text: str) -> str:
     path = f"./{text}" if text.startswith("-") else text
     if path.isprintable():
         return shlex.quote(path)
-    escaped = ESCAPED.sub(lambda byte: f"\\0{ord(byte[0]):03o}", os.fsencode(path).decode("latin-1"))
-    return f"\"$(printf %b '{escaped}')\""
+    escaped = ESCAPED.sub(lambda byte: f"\\{ord(byte[0]):03o}", os.fsencode(path).decode("latin-1"))
+    return f"$'{escaped}'"
 
 
 def pathspec(path: str, is_below_top: bool = False) -> str:

@@ -41,7 +41,7 @@ class Case(NamedTuple):
         return f"{done.returncode}\n{done.stdout}{done.stderr}"
 
     def shell(self, text: str, folder: str = "") -> None:
-        done = self.place.shell(text, folder=folder or self.folder)
+        done = self.place.shell(text, "bash", folder or self.folder)
         assert done.returncode == 0, (text, done)
 
     def put(self, content: bytes, mode: int = 0o644) -> None:
@@ -136,13 +136,13 @@ def has_changed(case: Case) -> None:
 
 def has_hook(case: Case) -> None:
     """A hook of somebody else's, and companions in a directory with an awkward name that PATH does not have."""
-    case.place.put(".git/hooks/pre-commit", b"#!/bin/sh\n", 0o755)
+    case.place.put(".git/hooks/pre-commit", b"#!/usr/bin/env bash\n", 0o755)
     case.place.tools.rename(case.place.tree / case.name)
 
 
 def paste_into_hook(case: Case, told: "re.Match[str]") -> None:
     """Add the line to the hook, which refuses plaintext then. Only a further installation needs that it is gone."""
-    case.place.put(".git/hooks/pre-commit", f"#!/bin/sh\n{told[1]}\n".encode(), 0o755)
+    case.place.put(".git/hooks/pre-commit", f"#!/usr/bin/env bash\n{told[1]}\n".encode(), 0o755)
     case.stage(MARKED.encode(), ".gitattributes")
     case.stage(TEXT, "a.yml")
     assert "a.yml is not encrypted\n" in case.place.shell("git commit -qm plaintext").stderr
@@ -208,6 +208,7 @@ ROWS = {
 @pytest.mark.parametrize("row", ROWS.values(), ids=ROWS)
 def test_acted_on(place: Place, row: Row, folder: str, name: str) -> None:
     needs("git")
+    needs("bash")
     needs_pyyaml()
     under_git(place, row.attributes)
     case, neighbour = Case(place, folder, name), name.replace("*", "x")
