@@ -11,8 +11,8 @@ import os
 from ansible_vault_companions.envelopes import conflicts
 from ansible_vault_companions.envelopes.envelope import MAGIC
 from ansible_vault_companions.git.repository import answer, repository_of
-from ansible_vault_companions.merging.versions import Keys, Merged, Decrypted, Values, Versions, common_key, merged_lines
-from ansible_vault_companions.merging.versions import opened
+from ansible_vault_companions.merging.versions import Decrypted, Keys, Merged, Values, Versions, common_key
+from ansible_vault_companions.merging.versions import merged_lines, opened
 from ansible_vault_companions.program import Refused, shown
 from ansible_vault_companions.tool import Decrypt, Key, NotDecrypted, Tool
 
