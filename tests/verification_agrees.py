@@ -104,7 +104,7 @@ CHANGED = [
     (LIBRARY, r"^//! Decrypts a vault", "//! Encrypts a vault"),
     (FORMATS, "28  3  the input", "28  1  the input"),
     (ROOT / "man/ansible-vault.1", r"^\.Op Ar string", ".Op Ar text"),
-    (ROOT / "man/ansible-vault-edit.1", "^Take up what", "Take what"),
+    (ROOT / "man/ansible-vault-edit.1", "^Go on with what", "Go with what"),
     *((ROOT / f"completions/ansible-vault.{shell}", "dry-run", "dry") for shell in ("bash", "fish", "zsh")),
 ]
 

@@ -59,12 +59,12 @@ PASSED_ON: dict[str, tuple[tuple[str, ...], dict[str, Any]]] = {
         {"metavar": "LABEL", "help": "the label of the password to encrypt with, among those that are given"},
     ),
     MATCH: ((VIEW, DECRYPT, REKEY), {**FLAG, "help": "try only passwords with the label of the vault"}),
-    ANY_LABEL: ((REKEY, *EDITING), {**FLAG, "help": "a password may encrypt what it decrypts under another label"}),
+    ANY_LABEL: ((REKEY, *EDITING), {**FLAG, "help": "let a password encrypt what it decrypts, whatever the label"}),
     "--output": (WRITING, {"metavar": "PATH", "help": "the file to write, or - for standard output (default: FILE)"}),
     "--salt": (SEALING, {"metavar": "TEXT", "help": "the salt itself, used once"}),
     "--salt-file": (SEALING, {"metavar": "PATH", "help": "the file whose first 32 bytes are the salt"}),
     "--stdin-name": ((ENCRYPT_STRING,), {"metavar": "NAME", "help": "read standard input, a text with this name"}),
-    "--value": (EDITING, {"metavar": "KEY.PATH", "help": "set this value of YAML to the bytes of standard input"}),
+    "--value": (EDITING, {"metavar": "KEY.PATH", "help": "set this value of YAML from standard input"}),
     "--resume": (EDITING, {**FLAG, "help": "start from the text that the last edit of FILE saved in a copy"}),
 }
 

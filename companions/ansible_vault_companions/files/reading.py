@@ -30,8 +30,8 @@ class Unsearched(TooLong):
 
 def add_paths(parser: argparse.ArgumentParser) -> None:
     """Adds the paths to search, and the options that leave out files."""
-    parser.add_argument("--tracked", action="store_true", help="only files that git tracks")
-    about = "no files whose name or path matches PATTERN; may be repeated"
+    parser.add_argument("--tracked", action="store_true", help="search only files that git tracks")
+    about = "skip files whose name or path matches PATTERN; may be repeated"
     parser.add_argument("--exclude", action="append", default=[], metavar="PATTERN", help=about)
     parser.add_argument("paths", metavar="PATH", nargs="+", help="a file or directory to search")
 

@@ -40,7 +40,7 @@ def add_options(parser: argparse.ArgumentParser, new: str = "", before: str = ""
 
 def add_any_label(parser: argparse.ArgumentParser) -> None:
     parser.add_argument(
-        ANY_LABEL, action="store_true", help="a password may encrypt what it decrypts under another label"
+        ANY_LABEL, action="store_true", help="let a password encrypt what it decrypts, whatever the label"
     )
 
 
