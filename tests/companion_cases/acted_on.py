@@ -96,7 +96,9 @@ def paste(case: Case, told: "re.Match[str]") -> None:
 
 
 def remove(case: Case, told: "re.Match[str]") -> None:
-    case.stage(case.place.get(".gitattributes").replace(told[1].encode(), b""), ".gitattributes")
+    """Remove an attribute, with its value, or names from a value."""
+    named = re.escape(told[1].encode()) + rb"(=\S*)?"
+    case.stage(re.sub(named, b"", case.place.get(".gitattributes")), ".gitattributes")
 
 
 def resolve(case: Case, told: "re.Match[str]") -> None:
@@ -174,6 +176,7 @@ ROWS = {
     "marked": Row(staged(b"", TEXT), HOOK, "at the end of (.*)", paste, [], MARKED),
     "exempt": Row(staged(TEXT, OLD_VAULT), HOOK, "remove `(.*)` there", remove, [TEXT], EXEMPT),
     "exempt values": Row(staged(PLAIN, VALUES), HOOK, "remove `(.*)` there", remove, [TEXT, TEXT], EXEMPT_VALUES),
+    "values, now a vault": Row(staged(PLAIN, OLD_VAULT), HOOK, "remove `(.*)` there", remove, [TEXT], EXEMPT_VALUES),
     "markers": Row(merged(*VAULTS, is_added=True), HOOK, "conflict with (.*)", resolve, [THEIRS], "", TAKE_THEIRS),
     "unmerged": Row(merged(*VAULTS), HOOK, "and run `(.*)`", add_resolved),
     "no driver": Row(merged(*VAULTS), CHECKED, "and run `(.*)`", in_shell, [BOTH], DRIVER),
