@@ -33,7 +33,7 @@ OUTCOMES = "outcomes"
 FLOORS = {OUTCOMES: 1200, "fuzz": 4, "faults": 44, "allocations": 40, "valgrind": 65, "newcomer": 16}
 Report = pytest.TestReport | pytest.CollectReport
 HAS_FAILED = pytest.StashKey[bool]()
-LEAST = {"subtests": 550, "random requests": 200, "refused calls": 700, "signals": 36, "refused allocations": 1200}
+LEAST = {"subtests": 450, "random requests": 200, "refused calls": 700, "signals": 36, "refused allocations": 1200}
 
 
 def seed_of_commit() -> int:

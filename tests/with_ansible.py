@@ -140,7 +140,7 @@ REFUSED = {
     "the vault is cut off": "view --vault-password-file right cut",
     "the vault is not hexadecimal": "view --vault-password-file right odd",
     "the plaintext is a vault": "encrypt --vault-password-file right --output new vault",
-    "several secrets could encrypt": "encrypt --vault-id a@right --vault-id b@wrong --output new plain",
+    "several passwords could encrypt": "encrypt --vault-id a@right --vault-id b@wrong --output new plain",
     "none has the label": "encrypt --vault-id a@right --encrypt-vault-id b --output new plain",
     "the password is empty": "view --vault-password-file empty vault",
     "the password file is missing": "view --vault-password-file missing vault",
