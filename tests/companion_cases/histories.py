@@ -37,6 +37,8 @@ DB, DB_PLAIN = below("db", PW), below("db", PLAIN)
 QUOTED = b'pw: !vault "%s"\n' % VAULT.replace(b"$", b"\\x24").replace(b"\n", b"\\n")
 USERS = b"users:\n" + item(b"name: a\n" + PW) + item(b"name: b\n" + PW2) + item(b"name: c\n" + PLAIN)
 CONFLICT = b"<<<<<<< HEAD\n%b=======\n%b>>>>>>> branch\n"
+# The key and the header of a value.
+HEAD_OF_PW = b"".join(PW.splitlines(keepends=True)[:2])
 # An envelope that is shortened, in a comment.
 EXAMPLE = b"#   $ANSIBLE_VAULT;1.1;AES256\n#   %b\n#   ...\n" % (b"61" * 40)
 MARKED = b"*.vault.yml diff=ansible-vault\n"
@@ -141,6 +143,7 @@ REFUSED_ALONE: dict[str, tuple[bytes, bytes, str]] = {
     "an awkward key": (b'"a b,%":\n' + item(PW), b'"a b,%": [pw: x]\n', IN_PART.format("a%20b%2C%25[].pw")),
     "markers and CR LF": (PW, (CONFLICT % (PW, PW2)).replace(b"\n", b"\r\n"), UNMERGED),
     "a torn vault": (VAULT, VAULT[:27] + CONFLICT % (VAULT[27:], OTHER[27:]), UNMERGED),
+    "a torn value": (PW, HEAD_OF_PW + CONFLICT % (PW[len(HEAD_OF_PW) :], PW2[len(HEAD_OF_PW) :]), UNMERGED),
     "a cut vault again": (CUT, CUT[:-1], DAMAGED),
     "a shortened example in a text": (
         X,
