@@ -5,6 +5,7 @@ import re
 import shutil
 import subprocess
 import tarfile
+from datetime import datetime
 from pathlib import Path
 from typing import Any
 
@@ -37,7 +38,9 @@ def archives(program: str, tmp_path_factory: pytest.TempPathFactory) -> Path:
 
 
 def test_contents(archives: Path, tmp_path: Path) -> None:
-    """The files are sorted, nobody's and of one time, in a directory with the archive's name."""
+    """The files are sorted, nobody's and of the newest version's date, in a directory with the archive's name."""
+    [date, *_] = re.findall(r"^## .*, (.*)$", (ROOT / "CHANGELOG.md").read_text(), re.MULTILINE)
+    time = datetime.fromisoformat(f"{date}T00:00:00+00:00").timestamp()
     tracked = subprocess.run(["git", "ls-files", "-z"], cwd=ROOT, capture_output=True, text=True, check=True).stdout
     for name, files in {SOURCE: {*tracked.split("\0")} - {""}, PROGRAM: PREFIX_FILES}.items():
         with tarfile.open(archives / f"{name}.tar.gz") as archive:
@@ -45,7 +48,7 @@ def test_contents(archives: Path, tmp_path: Path) -> None:
             archive.extractall(tmp_path / name)
         paths, times = [each.name for each in members], {each.mtime for each in members}
         owners = {(each.uid, each.gid, each.uname, each.gname) for each in members}
-        assert (paths, owners, len(times)) == (sorted(paths), {(0, 0, "", "")}, 1), name
+        assert (paths, owners, times) == (sorted(paths), {(0, 0, "", "")}, {time}), name
         assert files_below(tmp_path / name) == {f"{name}/{file}" for file in files}, name
     check_program(tmp_path / PROGRAM / PROGRAM / "bin/ansible-vault", "the program of the archive")
     done = subprocess.run(["sha256sum", "--check", "--quiet", "SHA256SUMS"], cwd=archives, capture_output=True)

@@ -238,13 +238,16 @@ CODE = ("Makefile", "companions/**/*", "completions/*", "crates/*/src/**/*.rt", 
 
 
 def test_paths() -> None:
-    """Every absolute path in a document is also in the code."""
+    """Every absolute path in a document is also in the code, and every hidden one of the user's, but examples."""
     files = [path for pattern in CODE for path in ROOT.glob(pattern) if path.is_file() and path.suffix != ".pyc"]
     code = "".join(path.read_text() for path in files)
     paths = re.findall(r"(?<![\w$*./@~{}\]-])/(?:dev|etc|run|srv|tmp|usr|var)[\w./-]*", TEXT)
     named = {each.rstrip("./") for each in paths}
     assert len(named) > 10
     assert {each for each in named - EXAMPLES if each not in code} == set()
+    hidden = {each.rstrip("./") for each in re.findall(r"~/\.(?!vault)[\w./-]+", TEXT)}
+    assert len(hidden) > 1
+    assert {each for each in hidden if each.removesuffix("/ansible-vault") not in code} == set()
 
 
 def test_speed() -> None:

@@ -134,6 +134,11 @@ REFUSED_ALONE: dict[str, tuple[bytes, bytes, str]] = {
         below("x", DB).replace(b"x:", b"x: &x") + b"y: {<<: *x, db: plain}\n",
         IN_PART.format("y.db.pw"),
     ),
+    "a merged list of mappings and a key": (
+        below("x", DB).replace(b"x:", b"x: &x") + b"y: {<<: [*x]}\n",
+        below("x", DB).replace(b"x:", b"x: &x") + b"y: {<<: [*x], db: plain}\n",
+        IN_PART.format("y.db.pw"),
+    ),
     "an alias of a mapping": (DB, b"x: &x {pw: plain}\ndb: *x\n", db),
     "text between expressions": (PW, b'pw: "{{ x }}:{{ y }}"\n', pw),
     "a statement of Jinja": (PW, b'pw: "{% set x = 1 %}"\n', pw),

@@ -149,11 +149,13 @@ LINES = b"1\n2\n3\n"
 def test_changed_meanwhile(place: Place, subtests: SubTests) -> None:
     """What another program writes during a run is not overwritten, even if there was no file."""
     old = place.by_file("old")
+    files = versions(place, "a.yml", sealed("old", TEXT + LINES), b"", sealed("old", TEXT + LINES * 2))
     runs = [
         [ROTATE, *to_new(place), "a.yml"],
         [WITH, "decrypt", *old, "a.yml"],
         [EDIT, *old, "new.yml"],
-        [MERGE, *old, *versions(place, "a.yml", sealed("old", TEXT + LINES), b"", sealed("old", TEXT + LINES * 2))],
+        # git's name of the file, which messages have, is not that of ours.
+        [MERGE, *old, *files[:3], "b.yml"],
     ]
     place.environment["EDITOR"] = place.script('echo a > "$1"', "editor")
     place.wrap_tool(MEANWHILE)
@@ -164,6 +166,21 @@ def test_changed_meanwhile(place: Place, subtests: SubTests) -> None:
             ended("it is refused", place.run(*words), 1, f"{words[-1]}: another program changed it meanwhile")
             theirs = dict.fromkeys(["a.yml", "new.yml"], b"other\n")
             assert place.files() == theirs, "their change stays, and nothing is left"
+
+
+def test_changed_while_it_is_synced(place: Place) -> None:
+    """The old file is compared after the new one is on the disk, which may take long."""
+    sync = """
+sync = os.fsync
+def fsync(descriptor):
+    open("a.yml", "w").write("other")
+    sync(descriptor)
+os.fsync = fsync
+"""
+    place.put("a.yml", sealed("old"))
+    done = run_changed(place, ROTATE, sync, [*to_new(place), "a.yml"])
+    ended("it is refused", done, 1, "a.yml: another program changed it meanwhile")
+    assert place.files() == {"a.yml": b"other"}
 
 
 # Command lines that write to standard output, and others whose output is a file.
