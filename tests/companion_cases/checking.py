@@ -136,10 +136,11 @@ def test_help(name: str) -> None:
     """It fits a screen."""
     text = run_text([str(COMPANIONS[name]), "--help"]).stdout
     says = ["\n  $ ", f"`man {name}` says more. Companions are tested, not proved."]
-    says += ["git runs no hook with --no-verify"] if name == HOOK else []
+    says += ["git skips hooks with --no-verify"] if name == HOOK else []
     assert [each for each in says if each not in text] == []
     lines = text.splitlines()
     assert max(map(len, lines)) <= 80 and (len(lines) <= 34 or name == WITH)
+    assert "None" not in map(str.strip, lines)
 
 
 def test_same_password_in_another_file(place: Place) -> None:

@@ -85,14 +85,6 @@ def test_help(place: Place, command: str) -> None:
     assert f"\n    {command}  " in place.run(WITH, "--help").stdout
 
 
-def test_helps_fit_a_screen(place: Place) -> None:
-    """The help of each companion has its lines and columns, whatever the terminal's; that of this one may be longer."""
-    for companion in sorted(place.companions.glob("ansible-vault-*")):
-        lines = place.run(companion.name, "--help", COLUMNS="200").stdout.splitlines()
-        assert len(lines) <= (36 if companion.name == WITH else 34), companion.name
-        assert max(map(len, lines)) <= 80 and "None" not in map(str.strip, lines), companion.name
-
-
 OLD, DEV = "--vault-password-file ../secrets/old", "--vault-id dev@../secrets/dev"
 STRINGS, REKEY = f"encrypt_string {DEV}", "rekey --vault-id prod@../secrets/old --encrypt-vault-id prod a.yml"
 SALT_FOR_ONE = "--salt and --salt-file are for a single FILE or STRING"
