@@ -139,7 +139,6 @@ def test_pre_commit(place: Place) -> None:
     needs("pre-commit")
     under_git(place, ATTRIBUTES)
     place.put("a.yml", sealed("old"))
-    place.put("--all", block("old"))
     add_and_commit(place)
     source = place.path / "source"
     place.shell(f"mkdir {source} && cp -r {ROOT}/companions {ROOT}/.pre-commit-hooks.yaml {source}")
@@ -149,6 +148,7 @@ def test_pre_commit(place: Place) -> None:
     ended("all is well", place.run(*by_framework, **home), 0, "Passed")
     place.shell("ln -s a.yml secrets.vault.yml")
     place.put("a.yml", TEXT)
+    place.put("--all", block("old"))
     place.shell("git add -A")
     link = "secrets.vault.yml is a link to a file that is not encrypted"
     ended("plaintext", place.run(*by_framework, **home), 1, f"{HOOK}: a.yml {WHOLE}\n", f"{HOOK}: {link}\n")
