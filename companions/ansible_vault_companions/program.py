@@ -19,8 +19,6 @@ TYPE_CHECKING = False
 if TYPE_CHECKING:
     from typing import Any, NoReturn
 
-# Otherwise argparse looks for translations of each of its texts on the disk, whenever it makes a parser.
-setattr(argparse, "_", lambda text: text)
 # The columns of a help, and the first one of an option's text. A help fits a screen.
 COLUMNS, TEXTS = 80, 30
 # What bash and zsh read by number within `$'..'`, and a path in which git sees no pattern.
