@@ -13,7 +13,7 @@ from ansible_vault_companions.editing.matching import Choice, place_of
 from ansible_vault_companions.editing.values import YamlFile, closed_block, nodes, written
 from ansible_vault_companions.envelopes import conflicts, document
 from ansible_vault_companions.envelopes.changes import Change, changed
-from ansible_vault_companions.envelopes.document import Document
+from ansible_vault_companions.envelopes.document import NO_TEXT, NOT_ENCRYPTED, Document
 from ansible_vault_companions.envelopes.envelope import ALIAS, MAGIC, NO_SCALAR, Path, Value, label_of, quoted
 from ansible_vault_companions.files import reading
 from ansible_vault_companions.merging import texts
@@ -28,8 +28,6 @@ NO_VAULT = (
 TO_ADD = "; or, to add values without seeing the others, choose a password for the new ones with --encrypt-vault-id"
 TO_ENCRYPT = "; to encrypt it there, choose its password with --encrypt-vault-id"
 WHOLE = "the whole file is a vault; edit it without --value"
-NO_TEXT = "{} is a list, a mapping or an alias; name a value in it"
-NOT_ENCRYPTED = "{} is not encrypted"
 NO_PLACE = "there is no place for {} in this YAML; edit the file without --value"
 # A new key, and one that needs no further quotes.
 KEY = re.compile(r'[^."\[\]\x00-\x1f]+|"(?:[^"\\]|\\.)*"')

@@ -39,6 +39,8 @@ YAML = (".yml", ".yaml", ".json")
 # The number of a list item in a typed path, and how many values a message lists if such a path leads nowhere.
 NUMBER, MOST_LISTED = re.compile(r"\[\d+\]"), 20
 NUMBER_THEM = "number the items of lists, as in `users[0].name`"
+NO_TEXT = "{} is a list, a mapping or an alias; name a value in it"
+NOT_ENCRYPTED = "{} is not encrypted"
 
 
 @dataclass
