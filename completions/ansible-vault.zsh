@@ -102,7 +102,6 @@ _ansible_vault_specifications() {
             '*'{--vault-password-file=,--vault-pass-file=}'[the source of a password]:SOURCE:_ansible_vault_files'
             '*'{-J,--ask-vault-password,--ask-vault-pass}'[ask at the terminal for a password]'
             '*--label=[check only what has this label, and count the rest]:LABEL: '
-            '--tracked[search only files that git tracks]'
             '*--exclude=[skip files whose name or path matches PATTERN]:PATTERN: '
             '*:file:_ansible_vault_files'
         ) ;;
@@ -149,8 +148,6 @@ _ansible_vault_specifications() {
             '*--new-vault-password-file=[the source of a new password]:SOURCE:_ansible_vault_files'
             '--any-label[let a password encrypt what it decrypts, whatever the label]'
             '--dry-run[write nothing, and report what would be done]'
-            '--jobs=[run N programs at once]:N: '
-            '--tracked[search only files that git tracks]'
             '*--exclude=[skip files whose name or path matches PATTERN]:PATTERN: '
             '*:file:_ansible_vault_files'
         ) ;;

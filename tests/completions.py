@@ -36,7 +36,7 @@ OFFERED: dict[str, set[str]] = {
     "ansible-vault-rotate ": FILES,
     "ansible-vault-rotate one.yml two.yml folder/": {"folder/inner.yml"},
     "ansible-vault-rotate --new-vault-id dev@one.p": {"dev@one.pass"},
-    "ansible-vault-rotate --jobs ": set(),
+    "ansible-vault-check --exclude ": set(),
     "ansible-vault-check one.yml -- -": {"-dash.yml"},
     "ansible-vault-check --ask-vault-pass tw": {"two.yml"},
 }

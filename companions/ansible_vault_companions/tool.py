@@ -104,11 +104,11 @@ class Tool:
 
 
 class Workers(ThreadPoolExecutor):
-    """Threads for all work of a companion: by default twice as many as there are processors, so that each has a program
-    to run while a worker reads or writes. If the caller stops early, no new items are begun."""
+    """Threads for all work of a companion: twice as many as there are processors, so that each has a program to run
+    while a worker reads or writes. If the caller stops early, no new items are begun."""
 
-    def __init__(self, count: int | None = None) -> None:
-        super().__init__(count or 2 * len(os.sched_getaffinity(0)))
+    def __init__(self) -> None:
+        super().__init__(2 * len(os.sched_getaffinity(0)))
 
     def __exit__(self, *_: object) -> None:
         self.shutdown(cancel_futures=True)

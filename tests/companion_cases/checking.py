@@ -57,10 +57,7 @@ INVALID = {
     EDIT: [OLD, f"{OLD} --new-vault-id x@y a.yml", f"{OLD} --vault-i x a.yml"],
     HOOK: ["--all --install", "--since"],
     MERGE: [OLD],
-    ROTATE: [
-        *(f"{OLD} .", f"{NEW} .", f"{OLD} {NEW}", f"{OLD} {NEW} --new-vault-password-file ../secrets/dev ."),
-        *(f"{OLD} {NEW} --jobs {number} ." for number in ("0", "many")),
-    ],
+    ROTATE: [f"{OLD} .", f"{NEW} .", f"{OLD} {NEW}", f"{OLD} {NEW} --new-vault-password-file ../secrets/dev ."],
     TEXTCONV: ["", "--vault-password-file a.yml"],
 }
 LINES = [(name, line) for name, lines in INVALID.items() for line in (*lines, f"--{HOSTILE} a.yml")]

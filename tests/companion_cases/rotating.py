@@ -161,7 +161,7 @@ def test_closed_output(place: Place) -> None:
     """If the reader of the output goes away, files that were not begun stay."""
     for number in range(12):
         place.put(f"{number}.yml", sealed("old"))
-    place.shell(f"{ROTATE} --jobs 1 {' '.join(to_new(place))} . | :", "bash")
+    place.shell(f"taskset 1 {ROTATE} {' '.join(to_new(place))} . | :", "bash")
     assert {content == sealed("old") for content in place.files().values()} == {True, False}
 
 
@@ -187,6 +187,6 @@ def test_at_once(place: Place) -> None:
     done = place.run(TEXTCONV, *place.by_file("old"), "vars.yml")
     assert (done.returncode, done.stdout, done.stderr) == (0, shown, ""), "textconv"
     place.wrap_tool(MEET.format("encrypt"))
-    done = place.run(ROTATE, *to_new(place), "--jobs", "2", "vars.yml")
+    done = place.run(ROTATE, *to_new(place), "vars.yml")
     ended("rotate", done, 0, "vars.yml: 8 rotated", summary(8))
     assert texts(place.get("vars.yml"), "new") == wanted, "they are rotated"

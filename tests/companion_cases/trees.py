@@ -11,7 +11,6 @@ from ansible_vault_companions.envelopes import document
 from ansible_vault_companions.envelopes.envelope import MAGIC
 from ansible_vault_companions.files import reading
 from companion_cases import AWKWARD, CHECK, ROTATE, TEXT, Place, block, decrypted, ended, sealed, summary, to_new
-from lib.needs import needs
 
 
 def found(place: Place, *paths: str) -> list[str]:
@@ -136,22 +135,3 @@ def test_named(place: Place) -> None:
         place.put(name, sealed("old"))
     names = found(place, "--exclude=tests/*", "--exclude=b.txt", *FILES)
     assert names == ["[x]/e.yml", "a.yml", "roles/tests/d.yml"]
-
-
-def test_tracked(place: Place) -> None:
-    """--tracked covers a repository within another one. A link counts as the file that it points to. Outside of a
-    repository, it is refused, since it would find nothing."""
-    needs("git")
-    for name in ("it's ä.yml", "deep/a.yml", "inner/b.yml"):
-        place.put(name, sealed("old"))
-    (place.tree / "link.yml").symlink_to("untracked.yml")
-    check = [CHECK, *place.by_file("old"), "--tracked"]
-    ended("in no repository", place.run(*check, "."), 1, f"{CHECK}: --tracked needs a git repository")
-    place.shell("git init -q && git -C inner init -q && git -C inner add -A && git add 'it'*.yml deep link.yml")
-    for name in ("untracked.yml", "deep/untracked.yml", "inner/untracked.yml"):
-        place.put(name, sealed("dev"))
-    ended("check", place.run(*check, "."), 0, "3 decrypted, 0 not")
-    ended("both options", place.run(*check, "--exclude", "inner", "deep", "."), 0, "2 decrypted, 0 not")
-    ended("rotate", place.run(ROTATE, *to_new(place), "--tracked", "--exclude", "deep", "."), 0, summary(2))
-    assert decrypted("new", place.get("inner/b.yml")) == TEXT
-    assert (place.get("deep/a.yml"), place.get("untracked.yml")) == (sealed("old"), sealed("dev")), "they stay"

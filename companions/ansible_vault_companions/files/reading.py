@@ -29,8 +29,7 @@ class Unsearched(TooLong):
 
 
 def add_paths(parser: argparse.ArgumentParser) -> None:
-    """Adds the paths to search, and the options that leave out files."""
-    parser.add_argument("--tracked", action="store_true", help="search only files that git tracks")
+    """Adds the paths to search, and the option that leaves out files."""
     about = "skip files whose name or path matches PATTERN; may be repeated"
     parser.add_argument("--exclude", action="append", default=[], metavar="PATTERN", help=about)
     parser.add_argument("paths", metavar="PATH", nargs="+", help="a file or directory to search")

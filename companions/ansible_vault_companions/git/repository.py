@@ -2,14 +2,12 @@
 
 from __future__ import annotations
 
-import argparse
 import os
 import subprocess
 from functools import lru_cache
 from typing import Any
 
 from ansible_vault_companions import processes
-from ansible_vault_companions.files import reading
 from ansible_vault_companions.program import Refused
 
 # A stranger's repository has its own settings, hooks and attributes, which name programs. git would start the program
@@ -98,19 +96,3 @@ def by_repository(paths: list[str], follows: bool = True) -> dict[str, dict[byte
             name = os.fsencode(os.path.relpath(target, repository))
             repositories.setdefault(repository, {})[name] = path
     return repositories
-
-
-def files_named(args: argparse.Namespace) -> list[list[str]]:
-    """The paths that lead to each file of a command line, and what is no file; with --tracked, of the files only those
-    that git tracks."""
-    files = reading.files_below(args.paths, args.exclude)
-    if not (args.tracked and files):
-        return files
-    repositories = by_repository([paths[0] for paths in files])
-    if not repositories:
-        raise Refused("--tracked needs a git repository, and none of these files is in one; leave it out")
-    tracked: set[str] = set()
-    for folder, names in repositories.items():
-        known = git("ls-files", "-z", folder=folder).split(b"\0")
-        tracked.update(names[name] for name in known if name in names)
-    return [paths for paths in files if paths[0] in tracked or not os.path.isfile(paths[0])]
