@@ -15,7 +15,7 @@ from typing import Any
 import pytest
 
 from lib.cases import Cases, by_file
-from lib.counts import PARTS, REST, TOTAL, Done, built_by, count_instructions, imported_modules, parts_of
+from lib.counts import Done, built_by, count_instructions, imported_modules, parts_of
 from lib.needs import OF_ANOTHER_BUILD, needs
 from lib.paths import COMPANIONS, ROOT
 from lib.samples import COMMANDS, sample_of
@@ -29,14 +29,11 @@ Parts = dict[str, int]
 Table = dict[str, Any]
 
 TABLE = ROOT / "tests" / "counts.toml"
-SPEED = ROOT / "docs" / "speed.md"
 SIZES = {"1 KiB": 1 << 10, "1 MiB": 1 << 20, "16 MiB": 1 << 24}
 REFUSED = "view, refused as too long"
 # How many wrong passwords are tried before the right one.
 WRONG = {"view, 1 KiB, one wrong password": 1, "view, 1 KiB, nine wrong passwords": 9}
 RUNS = [*(f"{command}, {size}" for size in SIZES for command in COMMANDS), *WRONG, REFUSED]
-# Those that docs/speed.md shows.
-SHOWN = [f"view, {size}" for size in SIZES]
 # How far a count may differ from the table: by this fraction, or by how much the start of a process varies.
 TOLERANCE, SLACK = 0.01, 20_000
 
@@ -116,21 +113,6 @@ def test_imports(name: str) -> None:
     assert len(modules) == stored["imports"][name], f"{name} imports {', '.join(modules)}"
 
 
-def lines_of(stored: Table) -> list[str]:
-    """Return the table of docs/speed.md, in millions of instructions."""
-    heading = [TOTAL, *PARTS, REST]
-    lines = [f"| | {' | '.join(heading)} |", "|---" * (len(heading) + 1) + "|"]
-    for name in SHOWN:
-        parts = stored["instructions"][name]
-        lines.append(f"| {name} | {' | '.join(f'{parts[part] / 1e6:.1f}' for part in heading)} |")
-    return lines
-
-
-def test_table_of_the_page() -> None:
-    """docs/speed.md has figures of the stored table."""
-    assert "\n".join(lines_of(table())) in SPEED.read_text()
-
-
 def text_of(program: str, cases: Cases) -> str:
     counts = of_each(cases)
     lines = [
@@ -146,8 +128,5 @@ def text_of(program: str, cases: Cases) -> str:
 
 
 def store(program: str, folder: Path) -> None:
-    """Store the counts of this program in the table and in docs/speed.md."""
+    """Store the counts of this program in the table."""
     TABLE.write_text(text_of(program, Cases(program, folder)))
-    lines = lines_of(table())
-    before, _, after = SPEED.read_text().partition(lines[0])
-    SPEED.write_text("\n".join([before + lines[0], *lines[1:], after[after.index("\n\n") + 1 :]]))
