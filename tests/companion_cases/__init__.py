@@ -13,7 +13,7 @@ import subprocess
 import time
 from collections.abc import Callable, Iterable
 from pathlib import Path
-from typing import Any
+from typing import Any, NamedTuple
 
 from lib.limits import SECONDS
 from lib.paths import ROOT
@@ -208,16 +208,14 @@ runpy.run_path(sys.argv[0], run_name="__main__")
     return place.run(script, str(place.tools / companion), *words, **variables)
 
 
-class Companions:
+class Companions(NamedTuple):
     """Makes places with these copies of the companions and the program, each in a directory of its own."""
 
-    def __init__(self, copies: Path, folder: Path) -> None:
-        self.copies, self.folder = copies, folder
-        self.places = 0
+    copies: Path
+    folder: Path
 
     def place(self) -> Place:
-        self.places += 1
-        path = self.folder / f"place{self.places}"
+        path = self.folder / f"place{len(os.listdir(self.folder))}"
         path.mkdir()
         return Place(path, self.copies / "ansible-vault", self.copies / "companions")
 
@@ -242,10 +240,6 @@ def edit(place: Place, editor: str, *words: str, **variables: str) -> Done:
 def lines_of(envelope: bytes, spaces: int, end: bytes = b"\n") -> bytes:
     """Return an indented envelope, without a final newline."""
     return end.join(b" " * spaces + line for line in envelope.splitlines())
-
-
-def without_digits(data: bytes) -> bytes:
-    return re.sub(rb"(?m)^( *)[0-9a-fA-F]{20,}(?=\r?$)", rb"\1digits", data)
 
 
 def texts(data: bytes, password: str) -> list[bytes | None]:

@@ -6,9 +6,9 @@ from collections import Counter
 from itertools import product
 from operator import attrgetter
 
-from companion_cases import CHECK, NOBODY, PASSWORDS, ROTATE, TEXT, TEXTCONV, Place, block, decrypted, ended, sealed
-from companion_cases import summary, texts, to_new, without_digits
-from lib.needs import needs, needs_root
+from companion_cases import CHECK, NOBODY, PASSWORDS, ROTATE, TEXT, Place, block, decrypted, ended, sealed, summary
+from companion_cases import texts, to_new
+from lib.needs import needs_root
 from model.vaults import seal
 
 # A plaintext with blocks, the last of which is under another secret than its label says.
@@ -31,14 +31,9 @@ def test_by_label(place: Place) -> None:
     prod, dev = place.by_id("prod", "prod"), place.by_id("dev", "dev")
     why = "no secret decrypts this vault (label prod; "
     done = place.run(CHECK, *prod, *dev, "all.yml")
-    wanted = [
-        f"all.yml: prod: decrypted by {prod[1]}",
-        f"all.yml: {a}a: prod: decrypted by {prod[1]}",
-        f"all.yml: {b}b: dev: decrypted by {dev[1]}",
-        "3 decrypted, 1 not",
-    ]
-    assert (done.returncode, done.stdout.splitlines()) == (1, wanted), "the check"
-    assert done.stderr.startswith(f"{CHECK}: all.yml: {stray}stray: prod: {why}")
+    wanted = [f"{what}prod: decrypted by {prod[1]}" for what in ("", f"{a}a: ")]
+    wanted += [f"{b}b: dev: decrypted by {dev[1]}", f"{stray}stray: prod: {why}"]
+    ended("the check", done, 1, *(f"all.yml: {each}" for each in wanted), "\n3 decrypted, 1 not\n")
     rotate = [ROTATE, *prod, *place.by_id("prod", "prod2", "new-"), "."]
     names = ["all.yml", "done.yml"]
     reported = ["./all.yml: 2 rotated\n", "./done.yml: rotated\n", *(f"./{name}: {stray}{why}" for name in names)]
@@ -47,7 +42,8 @@ def test_by_label(place: Place) -> None:
     for name in names:
         after = decrypted("prod2", before[name]) or b""
         assert before[name].startswith(b"$ANSIBLE_VAULT;1.2;AES256;prod\n"), "the label stays"
-        assert without_digits(after) == without_digits(INNER), "all around the digits stays"
+        around = [re.sub(rb"(?m)^ +[0-9a-f]{20,}$", b"digits", text) for text in (after, INNER)]
+        assert around[0] == around[1], "all around the digits stays"
         found = [texts(after, password).index(TEXT) for password in ("prod2", "dev", "old")]
         assert found == [0, 1, 2], "one is rotated, and the others stay"
     ended("again", place.run(*rotate), 1, summary(0, 4, 2, " (dev 2)", 2))
@@ -55,37 +51,32 @@ def test_by_label(place: Place) -> None:
 
 
 def test_what_cannot_be_rotated(place: Place) -> None:
+    """A file that cannot be read may be a vault under an old secret."""
     before = {"all.yml": sealed("old", block("old")), "twice.yml": sealed("old", sealed("old"))}
+    before |= {"closed.yml": sealed("old"), "folder/a.yml": sealed("old")}
     for name, content in before.items():
         place.put(name, content)
+    place.give(*before, ".")
+    (place.tree / "closed.yml").chmod(0)
+    (place.tree / "folder").chmod(0)
     # The block within it is encrypted. Encrypting the vault itself fails.
-    place.wrap_tool('[ "$1" != encrypt ] || mkdir ../one 2> /dev/null || { echo "ERROR! out of memory" >&2; exit 4; }')
-    done = place.run(ROTATE, *to_new(place), ".")
-    whys = ["./all.yml: out of memory", "./twice.yml: its plaintext is itself a vault"]
-    ended("they are not sealed", done, 1, *whys, summary(0, failed=2))
+    fails = '{ echo "ERROR! out of memory" >&2; exit 4; }'
+    place.wrap_tool(f'[ "$1" != encrypt ] || mkdir "$TMPDIR/one" 2> /dev/null || {fails}')
+    done = place.as_nobody(ROTATE, *to_new(place), ".")
+    (place.tree / "folder").chmod(0o755)
+    whys = ["all.yml: out of memory", "twice.yml: its plaintext is itself a vault"]
+    whys += ["closed.yml: Permission denied", "folder: Permission denied"]
+    ended("they are not sealed", done, 1, *(f"./{why}" for why in whys), summary(0, failed=4))
     assert place.files() == before, "they stay"
 
 
 def test_nothing(place: Place) -> None:
     """A new secret with a label that nothing has may be a mistake, so the status is 1."""
     why = f"{ROTATE}: no vault or value has the label "
-    place.put("plain.yml", TEXT)
-    ended("no vault", place.run(ROTATE, *to_new(place), "."), 1, summary(0), f"{why}default\n")
     place.put("a.yml", sealed("old"))
     done = place.run(ROTATE, *to_new(place), *place.by_id("prd", "prod2", "new-"), ".")
     ended("one of two labels", done, 1, summary(1), f"{why}prd\n")
     assert decrypted("new", place.get("a.yml")) == TEXT, "the other is rotated"
-
-
-def test_unreadable(place: Place) -> None:
-    """A file that cannot be read may be a vault under an old secret."""
-    place.put("closed.yml", sealed("old"), 0o000)
-    place.put("folder/a.yml", sealed("old"))
-    (place.tree / "folder").chmod(0o000)
-    done = place.as_nobody(ROTATE, *to_new(place), ".")
-    parts = ["./closed.yml: Permission denied", "./folder: Permission denied"]
-    ended("what cannot be read", done, 1, *parts, summary(0, failed=2))
-    (place.tree / "folder").chmod(0o755)
 
 
 def test_owners_and_modes(place: Place) -> None:
@@ -105,10 +96,9 @@ def test_owners_that_cannot_be_kept(place: Place) -> None:
     needs_root()
     place.put("a.yml", sealed("old"))
     place.tree.chmod(0o777)
-    done = place.as_nobody(ROTATE, *to_new(place), "a.yml")
     why = "a.yml: its owner 0:0 cannot be kept: Operation not permitted; run this as that user, or as root\n"
-    ended("another user's file", done, 1, why, summary(0, failed=1))
-    assert (place.get("a.yml"), place.names()) == (sealed("old"), ["a.yml"]), "it stays, and nothing is left"
+    ended("it is refused", place.as_nobody(ROTATE, *to_new(place), "a.yml"), 1, why, summary(0, failed=1))
+    assert place.files() == {"a.yml": sealed("old")}, "it stays, and nothing is left"
 
 
 def test_documents(place: Place) -> None:
@@ -116,17 +106,14 @@ def test_documents(place: Place) -> None:
     rotated. A link is a document only if its file is."""
     rotated = {"README.md": b"An example:\n\n" + block("old"), "a.RST": block("new") + block("old", name="b")}
     rotated |= {"b.adoc": b"# x\n" + block("old"), "link.md": block("old"), "vault.md": sealed("old")}
-    damaged = b"$ANSIBLE_VAULT;1.1;AES256\n%s\n" % (b"61" * 40)
-    stay = {"c.md": block("dev"), "d.md": block("prod", label="prod"), "e.md": b"$ ANSIBLE_VAULT;1.1;AES256\n"}
-    stay |= {"f.html": b"<pre>\n" + damaged + b"[...]\n", "g.md": b'# x\n<p>"%s"' % damaged.replace(b"\n", b"\\n")}
+    stay = {"c.md": block("dev"), "d.md": block("prod", label="prod")}
+    stay["f.html"] = b"<pre>\n$ANSIBLE_VAULT;1.1;AES256\n%s\n[...]\n" % (b"61" * 40)
     place.put("vars.yml", rotated.pop("link.md"))
     for name, content in (rotated | stay).items():
         place.put(name, content)
     (place.tree / "link.md").symlink_to("vars.yml")
     done = place.run(CHECK, *place.by_file("old"), *place.by_file("new"), ".")
     assert (done.returncode, done.stderr) == (0, ""), "the check"
-    counts = summary(5, 1, 1, " (prod 1)").replace("rotated", "to be rotated", 1)
-    ended("a dry run", place.run(ROTATE, "--dry-run", *to_new(place), "."), 1, counts)
     done = place.run(ROTATE, *to_new(place), ".")
     assert (done.returncode, done.stderr, done.stdout.splitlines()[-1]) == (0, "", summary(5, 1, 1, " (prod 1)"))
     assert {name: place.get(name) for name in stay} == stay, "examples stay"
@@ -143,50 +130,17 @@ def test_what_would_be_read_otherwise(place: Place) -> None:
     assert place.get("vars.yml") == before, "it stays"
 
 
-def test_reads_and_writes(place: Place) -> None:
-    """Each file is read at most twice, and written once."""
-    needs("strace")
-    for name, content in {"a.yml": block("old"), "b.yml": sealed("old"), "c.yml": TEXT}.items():
-        place.put(name, content)
-    done, lines = place.traced("-y -e trace=openat,rename,renameat,renameat2", ROTATE, *to_new(place), str(place.tree))
-    ended("the rotation", done, 0, summary(2))
-    opened = Counter(re.findall(r'openat\(.*?"\S*/(?:tree)/(.*?)", O_(\w+)', "\n".join(lines)))
-    renamed = re.findall(r'rename\w*\(.*"\S*/tree/(\w\.yml)"', "\n".join(lines))
-    reads = {name: opened[name, "RDONLY"] for name in ("a.yml", "b.yml", "c.yml")}
-    written = [mode for name, mode in opened.elements() if name.startswith(".ansible-vault-")]
-    assert (reads, written, sorted(renamed)) == ({"a.yml": 2, "b.yml": 2, "c.yml": 1}, ["RDWR"] * 2, ["a.yml", "b.yml"])
-
-
-def test_closed_output(place: Place) -> None:
-    """If the reader of the output goes away, files that were not begun stay."""
-    for number in range(12):
-        place.put(f"{number}.yml", sealed("old"))
-    place.shell(f"taskset 1 {ROTATE} {' '.join(to_new(place))} . | :", "bash")
-    assert {content == sealed("old") for content in place.files().values()} == {True, False}
-
-
-# Makes a run of this command wait until another one has started, and fail if none does.
-MEET = """\
-if [ "$1" = {0} ]; then
-    touch ../{0}.$$
-    for i in $(seq 500); do [ "$(ls ../{0}.* | wc -l)" -gt 1 ] && break; sleep 0.02; done
-    [ "$(ls ../{0}.* | wc -l)" -gt 1 ] || {{ echo "ERROR! it runs alone" >&2; exit 4; }}
-fi"""
-
-
-def test_at_once(place: Place) -> None:
-    """The blocks of a file are encrypted concurrently, and with several processors also decrypted. A refused secret is
-    reported once."""
-    wanted = [b"text %d" % number for number in range(8)]
-    place.put("vars.yml", b"".join(block("old", text, name=f"n{number}") for number, text in enumerate(wanted)))
-    shown = "".join(f"n{number}: !vault |-\n  text {number}\n" for number in range(8))
-    done = place.run(TEXTCONV, *place.by_file("missing"), *place.by_file("old"), "vars.yml")
-    refused = done.stderr.count("missing: No such file or directory")
-    assert (done.returncode, done.stdout, refused) == (0, shown, 1), "textconv with a secret that is missing"
-    place.wrap_tool(MEET.format("view") if len(os.sched_getaffinity(0)) > 1 else ":")
-    done = place.run(TEXTCONV, *place.by_file("old"), "vars.yml")
-    assert (done.returncode, done.stdout, done.stderr) == (0, shown, ""), "textconv"
-    place.wrap_tool(MEET.format("encrypt"))
-    done = place.run(ROTATE, *to_new(place), "vars.yml")
-    ended("rotate", done, 0, "vars.yml: 8 rotated", summary(8))
-    assert texts(place.get("vars.yml"), "new") == wanted, "they are rotated"
+def test_copies(place: Place) -> None:
+    """An envelope is decrypted and encrypted once, however often it is there, and a copy stays a copy. Equal texts in
+    different envelopes get different ones, so that nobody can see that they are equal."""
+    place.put("a.yml", sealed("old", block("old", b"one")))
+    place.put("b.yml", place.get("a.yml"))
+    place.put("c.yml", block("old", b"one") + block("old", b"one", name="b"))
+    place.put("d.yml", sealed("old"))
+    place.put("e.yml", sealed("old", label="default"))
+    # A run that only checks a secret has no input.
+    place.wrap_tool('cat > "$0.$$"; [ -s "$0.$$" ] && echo "$1" >> ../runs; exec < "$0.$$"; rm "$0.$$"')
+    ended("rotate", place.run(ROTATE, *to_new(place), "."), 0, summary(8))
+    assert Counter((place.path / "runs").read_text().split()) == {"view": 4, "encrypt": 4}
+    assert place.get("a.yml") == place.get("b.yml"), "a copy stays a copy"
+    assert place.get("d.yml").split()[1:] != place.get("e.yml").split()[1:], "equal texts"
