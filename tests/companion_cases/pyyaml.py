@@ -1,0 +1,45 @@
+"""Without PyYAML, everything that needs no YAML works, and the rest stops and names the missing package."""
+
+import shutil
+
+from companion_cases import CHANGE, CHANGED, CHECK, MERGE, ROTATE, TEXT, TEXTCONV, WITH, Place, block, edit, ended
+from companion_cases import sealed, silent, to_new, versions
+from lib.needs import needs, needs_pyyaml
+
+
+def test_without_pyyaml(place: Place) -> None:
+    """No half of the envelopes is checked or rotated, and git shows a file as it is."""
+    needs("git")
+    # Copies of the companions are beside a module `yaml` that cannot be imported.
+    folder = shutil.copytree(place.companions, place.path / "without")
+    (folder / "yaml.py").write_text("raise ModuleNotFoundError\n")
+    place.environment["PATH"] = f"{folder}:{place.environment['PATH']}"
+    old, content, package = place.by_file("old"), block("old", b"one"), "python3-yaml"
+    place.put("all.yml", sealed("old"))
+    place.put("vars.yml", content)
+    silent("edit", edit(place, CHANGE, *old, "all.yml"))
+    assert place.run(WITH, "view", *old, "all.yml").stdout == CHANGED.decode(), "it is edited and shown"
+    base, ours, theirs = (sealed("old", text) for text in (b"a: 1\n\nb: 1\n", b"a: 2\n\nb: 1\n", b"a: 1\n\nb: 2\n"))
+    silent("merge", place.run(MERGE, *old, *versions(place, "a.yml", base, ours, theirs)))
+    before = place.files()
+    for words in ([CHECK, *old, "."], [ROTATE, *to_new(place), "."], [TEXTCONV, *old, "--value", "secret", "vars.yml"]):
+        done = place.run(*words)
+        ended(words[0], done, 1, "PyYAML, which reads YAML, is missing", package)
+        assert done.stdout == ""
+    ended("edit", edit(place, "touch started", *old, "vars.yml"), 1, "vars.yml: PyYAML, ", package)
+    done = place.run(TEXTCONV, *old, "vars.yml")
+    assert (done.returncode, done.stdout, place.files()) == (0, content.decode(), before)
+    assert done.stderr.startswith(f"{TEXTCONV}: vars.yml: shown as it is: PyYAML, ") and package in done.stderr
+
+
+def test_where_pyyaml_is(place: Place) -> None:
+    """PyYAML is never looked for in the current directory, nor below PYTHONPATH."""
+    needs_pyyaml()
+    for name in ("yaml", "sitecustomize", "usercustomize"):
+        place.put(f"{name}.py", b"open('../imported', 'w')\n")
+        place.put(f"{name}/__init__.py", b"open('../imported', 'w')\n")
+    place.put("own.pth", b"import yaml\n")
+    place.put("vars.yml", block("old"))
+    done = place.run(TEXTCONV, *place.by_file("old"), "vars.yml", PYTHONPATH=str(place.tree))
+    assert (done.stdout, done.stderr) == (f"secret: !vault |\n  {TEXT.decode()}", ""), "it is found"
+    assert not (place.path / "imported").exists(), "nothing of the current folder is imported"
