@@ -5,37 +5,43 @@ others are fixed lines.
 import itertools
 import os
 import re
+from collections.abc import Iterable
 
 import pytest
 from hypothesis import given, settings
 from hypothesis import strategies as st
 
-from lib.cases import Cases
+from lib.cases import Cases, answer_of
 from lib.paths import version
 from lib.processes import run
 from lib.samples import COMMANDS
-from lib.texts import MISTAKES, PROGRAM, Mistake, help_path, stored_mistakes
+from lib.texts import NAMES, PROGRAM, help_path, stored_mistakes
 
 
-@pytest.mark.parametrize("words", (["--help"], ["-h"], ["--help", "--loud"], ["-h", "--version"]), ids=" ".join)
-@pytest.mark.parametrize("name", MISTAKES)
-def test_helps(cases: Cases, name: str, words: list[str]) -> None:
+Answer = tuple[int, bytes, bytes]
+
+
+def answers(cases: Cases, lines: Iterable[str]) -> dict[str, Answer]:
+    return {line: answer_of(cases.done(line.split())) for line in lines}
+
+
+@pytest.mark.parametrize("name", NAMES)
+def test_helps(cases: Cases, name: str) -> None:
     """The whole help is printed, even if a mistake follows --help."""
-    cases.run([*([] if name == PROGRAM else [name]), *words], out=help_path(name).read_bytes())
+    command = "" if name == PROGRAM else name
+    lines = [f"{command} {options}" for options in ("--help", "-h", "--help --loud", "-h --version")]
+    assert answers(cases, lines) == dict.fromkeys(lines, (0, help_path(name).read_bytes(), b""))
 
 
-@pytest.mark.parametrize("line", ("--version", "-V", "--version --loud", "-V --help", "-Vh"))
-def test_versions(cases: Cases, line: str) -> None:
-    cases.run(line.split(), out=f"ansible-vault {version()}\n".encode())
+def test_versions(cases: Cases) -> None:
+    lines = ("--version", "-V", "--version --loud", "-V --help", "-Vh")
+    assert answers(cases, lines) == dict.fromkeys(lines, (0, f"ansible-vault {version()}\n".encode(), b""))
 
 
-@pytest.mark.parametrize("name, mistake", [(name, each) for name in MISTAKES for each in MISTAKES[name]], ids=str)
-def test_mistakes(cases: Cases, name: str, mistake: Mistake) -> None:
-    """Each mistake has the stored text, which names the wrong word."""
-    text = stored_mistakes(name)[mistake.line]
-    assert mistake.named in text
-    assert {*stored_mistakes(name)} == {each.line for each in MISTAKES[name]}, "each stored text is compared"
-    cases.run(mistake.words, status=2, err=text.encode())
+@pytest.mark.parametrize("name", NAMES)
+def test_mistakes(cases: Cases, name: str) -> None:
+    stored = stored_mistakes(name)
+    assert answers(cases, stored) == {line: (2, b"", text.encode()) for line, text in stored.items()}
 
 
 def test_not_utf8(cases: Cases) -> None:

@@ -37,9 +37,3 @@ def started(words: Sequence[str], **options: Any) -> Iterator[subprocess.Popen[A
         for stream in filter(None, (process.stdin, process.stdout, process.stderr)):
             with contextlib.suppress(BrokenPipeError):
                 stream.close()
-
-
-def read_to_end(reader: int) -> bytes:
-    """Return what is left in a pipe that nobody writes to any more, and close it."""
-    with open(reader, "rb") as pipe:
-        return pipe.read()

@@ -45,8 +45,3 @@ def sample_of(cases: Cases, command: str, text: bytes = TEXT) -> Sample:
             words = ["rekey", *given, "--new-vault-id", f"prod@{new}", *SALT_WORDS]
             return Sample(words, vault(), seal(b"new", text, b"prod", SALT_TEXT))
     return Sample(["encrypt_string", *given, *SALT_WORDS, "--stdin-name", "k"], text, yaml_block(sealed(), b"k"))
-
-
-def wanted_mode(sample: Sample, old: int) -> str:
-    """Return the mode of an overwritten file: plaintext is for its owner alone."""
-    return oct(0o600 if sample.command == "decrypt" else old)
