@@ -9,7 +9,7 @@ from collections.abc import Mapping
 from typing import NamedTuple
 
 from model.faults import Fault, Refused
-from model.options import DEFAULT_LABEL, NotParsed, Request, is_label, parse, settle
+from model.options import DEFAULT_LABEL, NotParsed, Request, SecretFile, is_label, request_of
 from model.vaults import CIPHERTEXT_LIMIT, ENVELOPE_LIMIT, MAGIC, PLAINTEXT_LIMIT
 from model.vaults import apply_keystream, padded, parts, serialized, tag_of, yaml_block
 
@@ -22,8 +22,6 @@ WHITESPACE = b"\t\n\x0b\x0c\r "
 
 # The contents of the files by path. A directory, with None, can be opened, but not read.
 Files = Mapping[str, bytes | None]
-# The label, the salt, the tag and the ciphertext of an envelope.
-Payload = tuple[str, bytes, bytes, bytes]
 
 
 class Secret(NamedTuple):
@@ -77,14 +75,6 @@ def chosen(secrets: list[Secret], label: str | None) -> Secret:
     raise Refused(Fault.UNKNOWN_ENCRYPT_ID)
 
 
-def salt_of(request: Request, content: bytes) -> bytes:
-    if request.salt_text is not None:
-        return request.salt_text.encode()
-    if len(content) < SALT_LENGTH:
-        raise Refused(Fault.SALT_SHORT)
-    return content[:SALT_LENGTH]
-
-
 def unhex(digits: bytes) -> bytes | None:
     """Decode pairs of digits, and return None for anything else. `bytes.fromhex` alone would skip spaces."""
     if len(digits) % 2 or digits.translate(None, string.hexdigits.encode()):
@@ -108,7 +98,8 @@ def header_label(line: bytes) -> str:
     return label
 
 
-def payload_in(envelope: bytes) -> Payload:
+def payload_in(envelope: bytes) -> tuple[str, bytes, bytes, bytes]:
+    """Return the label, the salt, the tag and the ciphertext."""
     if len(envelope) > ENVELOPE_LIMIT:
         raise Refused(Fault.TOO_LONG)
     if not envelope.startswith(MAGIC):
@@ -118,22 +109,13 @@ def payload_in(envelope: bytes) -> Payload:
     inner = unhex(envelope[len(line) :].translate(None, b"\r\n"))
     if inner is None:
         raise Refused(Fault.BAD_HEX)
-    match [unhex(part) for part in inner.split(b"\n", 2)]:
-        case [bytes(salt), bytes(tag), bytes(ciphertext)]:
-            pass
-        case _:
-            raise Refused(Fault.BAD_PAYLOAD)
-    if len(salt) > SALT_READ_LIMIT or len(tag) != TAG_LENGTH:
+    payload = [part for part in map(unhex, inner.split(b"\n", 2)) if part is not None]
+    if len(payload) < 3 or len(payload[0]) > SALT_READ_LIMIT or len(payload[1]) != TAG_LENGTH:
         raise Refused(Fault.BAD_PAYLOAD)
+    salt, tag, ciphertext = payload
     if len(ciphertext) > CIPHERTEXT_LIMIT:
         raise Refused(Fault.CIPHER_TOO_LONG)
     return label, salt, tag, ciphertext
-
-
-def tried(secrets: list[Secret], label: str, required: bool) -> list[Secret]:
-    same = [secret for secret in secrets if secret.label == label]
-    others = [secret for secret in secrets if secret.label != label]
-    return same if required else same + others
 
 
 def unpadded(whole: bytes) -> bytes:
@@ -144,9 +126,11 @@ def unpadded(whole: bytes) -> bytes:
 
 
 def decrypted(secrets: list[Secret], required: bool, envelope: bytes) -> bytes:
+    """Try the secrets with the envelope's label first, and the others unless the label is required."""
     label, salt, tag, ciphertext = payload_in(envelope)
-    for secret in tried(secrets, label, required):
-        if tag_of(secret.password, salt, ciphertext) == tag:
+    for secret in sorted(secrets, key=lambda secret: secret.label != label):
+        is_tried = secret.label == label or not required
+        if is_tried and tag_of(secret.password, salt, ciphertext) == tag:
             return unpadded(apply_keystream(secret.password, salt, ciphertext))
     raise Refused(Fault.NO_SECRET_FITS)
 
@@ -158,37 +142,35 @@ def sealed(secret: Secret, salt: bytes, plaintext: bytes) -> bytes:
     return serialized(*parts(secret.password, padded(plaintext), salt), label.encode())
 
 
-def encrypted(request: Request, secret: Secret, salt: bytes, plaintext: bytes) -> bytes:
-    if len(plaintext) > PLAINTEXT_LIMIT:
-        raise Refused(Fault.TOO_LONG)
-    if request.command == "encrypt_string" and not plaintext:
-        raise Refused(Fault.EMPTY_STRING)
-    envelope = sealed(secret, salt, plaintext)
-    return envelope if request.command == "encrypt" else yaml_block(envelope, (request.name or "").encode())
-
-
 def performed(request: Request, files: Files, stdin: bytes) -> bytes:
     """Open the files in their order, and return the output. The input is read only if the passwords, the choice and the
     salt are valid."""
-    contents = []
-    for file in request.files:
-        contents.append(read(opened(files, file.path, Fault.SECRET_NOT_OPENED), Fault.SECRET_NOT_READ))
-    salt = b""
+
+    def content_of(secret: SecretFile) -> bytes:
+        return read(opened(files, secret.path, Fault.SECRET_NOT_OPENED), Fault.SECRET_NOT_READ)
+
+    contents = [content_of(secret) for secret in request.secrets + request.new_secrets]
+    salt, given = (request.salt_text or "").encode(), stdin if request.positional is None else None
     if request.salt_path is not None:
         salt = read(opened(files, request.salt_path, Fault.SALT_NOT_OPENED), Fault.SALT_NOT_READ)
-    given: bytes | None = stdin
     if request.positional is not None:
         is_string = request.command == "encrypt_string"
         given = request.positional.encode() if is_string else opened(files, request.positional, Fault.INPUT_NOT_OPENED)
-    held = [Secret(file.label, password(content)) for file, content in zip(request.files, contents)]
-    secrets = held[: len(request.secrets)]
-    secret = chosen(secrets, request.choice) if request.command.startswith("encrypt") else None
-    sealing_salt = salt_of(request, salt) if request.salt_path or request.salt_text else b""
-    content = read(given, Fault.INPUT_NOT_READ)
-    if secret is not None:
-        return encrypted(request, secret, sealing_salt, content)
-    plaintext = decrypted(secrets, request.label_required, content)
-    return sealed(held[-1], sealing_salt, plaintext) if request.new_secret else plaintext
+    labels = [secret.label for secret in request.secrets + request.new_secrets]
+    held = [*map(Secret, labels, map(password, contents))]
+    secrets, is_encrypting = held[: len(request.secrets)], request.command.startswith("encrypt")
+    secret = chosen(secrets, request.choice) if is_encrypting else held[-1] if request.new_secrets else None
+    if request.salt_path is not None and len(salt) < SALT_LENGTH:
+        raise Refused(Fault.SALT_SHORT)
+    salt = salt if request.salt_path is None else salt[:SALT_LENGTH]
+    text = read(given, Fault.INPUT_NOT_READ)
+    if is_encrypting and len(text) > PLAINTEXT_LIMIT:
+        raise Refused(Fault.TOO_LONG)
+    if request.command == "encrypt_string" and not text:
+        raise Refused(Fault.EMPTY_STRING)
+    plaintext = text if is_encrypting else decrypted(secrets, request.label_required, text)
+    output = plaintext if secret is None else sealed(secret, salt, plaintext)
+    return yaml_block(output, request.name.encode()) if request.command == "encrypt_string" else output
 
 
 def refusal(fault: Fault) -> Answer:
@@ -198,7 +180,7 @@ def refusal(fault: Fault) -> Answer:
 def answer(words: list[str], files: Files, stdin: bytes) -> Answer:
     """Return the answer to the words after the program's name, provided that the output can be written."""
     try:
-        request = settle(parse(words))
+        request = request_of(words)
         return Answer(performed(request, files, stdin), request.output, b"", 0)
     except NotParsed:
         return Answer(None, None, None, 2)

@@ -1,18 +1,18 @@
 """Turn the words of a command line into a request, or raise the first fault."""
 
-from collections.abc import Iterator
 from typing import NamedTuple
 
 from model.faults import Fault, Refused
 
-COMMON = {"--vault-id", "--vault-password-file"}
+SECRETS, NEW_SECRETS = ("--vault-id", "--vault-password-file"), ("--new-vault-id", "--new-vault-password-file")
+COMMON = {*SECRETS}
 SALTS = {"--salt-file", "--salt"}
 # The options of each command, in addition to the common ones.
 OPTIONS = {
     "encrypt": {"--encrypt-vault-id", "--output"} | SALTS,
     "decrypt": {"--output", "--require-id-match"},
     "view": {"--require-id-match"},
-    "rekey": {"--new-vault-id", "--new-vault-password-file", "--output", "--require-id-match"} | SALTS,
+    "rekey": {*NEW_SECRETS, "--output", "--require-id-match"} | SALTS,
     "encrypt_string": {"--encrypt-vault-id", "--output", "--name", "--stdin-name"} | SALTS,
 }
 FLAGS = {"--require-id-match"}
@@ -29,20 +29,6 @@ class NotParsed(Exception):
     """The command line is invalid: the program prints a text on standard error, and its status is 2."""
 
 
-class Matches(NamedTuple):
-    """A command, the values of each option, and the positional arguments."""
-
-    command: str
-    values: dict[str, list[str]]
-    positionals: list[str]
-
-    def all(self, option: str) -> list[str]:
-        return self.values.get(option, [])
-
-    def one(self, option: str) -> str | None:
-        return next(iter(self.all(option)), None)
-
-
 class SecretFile(NamedTuple):
     label: str
     path: str
@@ -53,18 +39,14 @@ class Request(NamedTuple):
 
     command: str
     secrets: list[SecretFile]
-    new_secret: SecretFile | None
+    new_secrets: list[SecretFile]
     choice: str | None
-    name: str | None
+    name: str
     positional: str | None
     salt_text: str | None
     salt_path: str | None
     label_required: bool
     output: str | None
-
-    @property
-    def files(self) -> list[SecretFile]:
-        return self.secrets + ([self.new_secret] if self.new_secret else [])
 
 
 def split_word(word: str) -> tuple[str, str | None]:
@@ -76,39 +58,29 @@ def split_word(word: str) -> tuple[str, str | None]:
     return option, value if equals else None
 
 
-def given_value(option: str, value: str | None, rest: Iterator[str]) -> str:
-    if option in FLAGS:
-        if value is not None:
-            raise NotParsed(f"{option} takes no value")
-        return ""
-    if value is None:
-        value = next(rest, None)
-        if value is None or value.startswith("-") and value != "-":
-            raise NotParsed(f"{option} needs a value")
-    return value
-
-
-def parse(words: list[str]) -> Matches:
-    """Parse the words after the program's name."""
+def parse(words: list[str]) -> tuple[dict[str, list[str]], str | None]:
+    """Return the values of each option, and the argument, from the words after the program's name."""
     if not words or words[0] not in OPTIONS:
-        raise NotParsed("no command")
-    matches = Matches(words[0], {}, [])
-    rest = iter(words[1:])
+        raise NotParsed
+    values, arguments, rest = dict[str, list[str]](), list[str](), iter(words[1:])
     for word in rest:
         if word == "--":
-            matches.positionals.extend(rest)
+            arguments.extend(rest)
         elif not word.startswith("-") or word == "-":
-            matches.positionals.append(word)
+            arguments.append(word)
         else:
             option, value = split_word(word)
-            if option not in COMMON | OPTIONS[matches.command]:
-                raise NotParsed(f"{option} is not known")
-            if option in matches.values and option not in COMMON:
-                raise NotParsed(f"{option} is given twice")
-            matches.values.setdefault(option, []).append(given_value(option, value, rest))
-    if len(matches.positionals) > 1:
-        raise NotParsed("too many arguments")
-    return matches
+            is_twice = option in values and option not in COMMON
+            if is_twice or option not in COMMON | OPTIONS[words[0]] or option in FLAGS and value is not None:
+                raise NotParsed
+            if value is None and option not in FLAGS:
+                value = next(rest, "--")
+                if value.startswith("-") and value != "-":
+                    raise NotParsed
+            values.setdefault(option, []).append(value or "")
+    if len(arguments) > 1:
+        raise NotParsed
+    return values, next((each for each in arguments if each != "-"), None)
 
 
 def is_label(text: str) -> bool:
@@ -127,55 +99,35 @@ def vault_id(text: str) -> SecretFile:
     return SecretFile(label or DEFAULT_LABEL, path)
 
 
-def secret_files(matches: Matches) -> list[SecretFile]:
-    ids, paths = matches.all("--vault-id"), matches.all("--vault-password-file")
-    if len(ids) + len(paths) > SECRETS_LIMIT:
+def secret_files(ids: list[str], paths: list[str]) -> list[SecretFile]:
+    return [*map(vault_id, ids), *(SecretFile(DEFAULT_LABEL, path) for path in paths)]
+
+
+def request_of(words: list[str]) -> Request:
+    values, positional = parse(words)
+    command, one = words[0], {option: given[0] for option, given in values.items()}.get
+    ids, paths, new_ids, new_paths = (values.get(option, []) for option in (*SECRETS, *NEW_SECRETS))
+    if len(ids + paths) > SECRETS_LIMIT:
         raise Refused(Fault.TOO_MANY_SECRETS)
-    return [vault_id(text) for text in ids] + [SecretFile(DEFAULT_LABEL, path) for path in paths]
-
-
-def new_secret(matches: Matches) -> SecretFile | None:
-    if matches.command != "rekey":
-        return None
-    text, path = matches.one("--new-vault-id"), matches.one("--new-vault-password-file")
-    if (text is None) == (path is None):
+    secrets, choice = secret_files(ids, paths), one("--encrypt-vault-id")
+    if choice is not None and not is_label(choice):
+        raise Refused(Fault.BAD_LABEL)
+    if command == "rekey" and len(new_ids + new_paths) != 1:
         raise Refused(Fault.NEED_NEW_SECRET)
-    return vault_id(text) if text is not None else SecretFile(DEFAULT_LABEL, path or "")
-
-
-def variable_name(matches: Matches, positional: str | None) -> str | None:
-    name, stdin_name = matches.one("--name"), matches.one("--stdin-name")
-    if (name if positional is None else stdin_name) is not None:
+    new_secrets = secret_files(new_ids, new_paths)
+    if ("--name" if positional is None else "--stdin-name") in values:
         raise Refused(Fault.NAME_MISMATCH)
-    given = stdin_name if name is None else name
-    if given is not None and any(character < " " or character == "\x7f" for character in given):
+    name = one("--name") or one("--stdin-name") or ""
+    if any(character < " " or character == "\x7f" for character in name):
         raise Refused(Fault.BAD_NAME)
-    return given
-
-
-def salts(matches: Matches) -> tuple[str | None, str | None]:
-    """Return the salt text and the path of the salt file."""
-    text, path = matches.one("--salt"), matches.one("--salt-file")
+    if command in ("encrypt", "decrypt", "rekey") and positional is not None and "--output" not in values:
+        raise Refused(Fault.OUTPUT_NEEDED)
+    text, path, output = one("--salt"), one("--salt-file"), one("--output")
     if text is not None and path is not None:
         raise Refused(Fault.SALT_CHOICE)
     if text is not None and not 1 <= len(text.encode()) <= SALT_TEXT_LIMIT:
         raise Refused(Fault.BAD_SALT)
-    if text is not None or matches.command not in SEALING:
-        return text, None
-    return None, SALT_FILE if path is None else path
-
-
-def settle(matches: Matches) -> Request:
-    positional = next((each for each in matches.positionals if each != "-"), None)
-    secrets = secret_files(matches)
-    choice = matches.one("--encrypt-vault-id")
-    if choice is not None and not is_label(choice):
-        raise Refused(Fault.BAD_LABEL)
-    new = new_secret(matches)
-    name = variable_name(matches, positional)
-    output = matches.one("--output")
-    if matches.command in ("encrypt", "decrypt", "rekey") and positional is not None and output is None:
-        raise Refused(Fault.OUTPUT_NEEDED)
-    salt_text, salt_path = salts(matches)
-    required, output = "--require-id-match" in matches.values, None if output == "-" else output
-    return Request(matches.command, secrets, new, choice, name, positional, salt_text, salt_path, required, output)
+    if text is None and path is None and command in SEALING:
+        path = SALT_FILE
+    is_required, output = "--require-id-match" in values, None if output == "-" else output
+    return Request(command, secrets, new_secrets, choice, name, positional, text, path, is_required, output)

@@ -13,28 +13,23 @@ from model.vaults import ENVELOPE
 PASSWORDS = {
     "right": b"right\n",
     "two words": b" two words \r\n",
-    "abc": b"abc",
     "line\nend": b"abc\x00",
     "a;b@c": b"\xff\xfe\x80",
     "größe": "\npäß\nwort\t".encode(),
     "no white space": b"\x1cpw\x1f\xc2\x85\n",
     "\x1b]0;title\x07": b"k" * 64 + b"\n",
-    "65": b"k" * 65,
     "longest": b"k" * 4_096,
 }
 BAD_PASSWORDS = {
-    "empty": b"",
     "blank": b"\t\n\x0b\x0c\r ",
-    "script": b"#!/bin/sh\necho pw\n",
-    "start of a script": b"#!",
+    "script": b"#!",
     "vault": ENVELOPE,
     "start of a vault": b"$ANSIBLE_VAULT",
     "too long": b"k" * 4_097,
     "long and blank": b"pw".ljust(4_097, b"\n"),
     "long script": b"#!".ljust(5_000, b"k"),
 }
-SALTS = {"salt of 32": b"0123456789abcdef" * 2, "salt of 40": bytes(range(40))}
-SHORT_SALTS = {"salt of 31": bytes(31), "no salt": b""}
+SALTS, SHORT_SALTS = {"salt of 32": b"0123456789abcdef" * 2, "salt of 40": bytes(range(40))}, {"salt of 31": bytes(31)}
 FOLDER, OLD = "folder", "old"
 FILES = PASSWORDS | BAD_PASSWORDS | SALTS | SHORT_SALTS | {OLD: b"what stood there before\n" * 40}
 NO_FILES = ["missing", "", "right/below", "missing/x", FOLDER]
@@ -44,11 +39,9 @@ OUTPUTS = ["-", "new", "new", OLD, f"{FOLDER}/new", "input"]
 BAD_OUTPUTS = [FOLDER, "missing/new", "", "/dev/full", f"{OLD}/new"]
 LABELS = ["default", "dev", "prod", "Prod", "a b", "~!#$%&'\"\\", "a" * 128]
 BAD_LABELS = ["a;b", " a", "a ", "a\tb", "dév", "a" * 129, " ", "a\x7f"]
-NAMES = ["k", "", "my secret", "näme", "x" * 300, "-n", "a: b"]
-BAD_NAMES = ["tab\there", "\n", "del\x7f", "\x1f"]
+NAMES, BAD_NAMES = ["k", "", "my secret", "näme", "x" * 300, "-n", "a: b"], ["tab\there", "\n", "del\x7f", "\x1f"]
 STRINGS = ["secret", "", "-", "ünï→\n", "$ANSIBLE_VAULT", "$ANSIBLE_VAUL", "a" * 16, "-x", "s" * 5_000, "line\n" * 30]
-SALT_TEXTS = ["abc", "a", "a" * 64, "é" * 32, " ", "-x"]
-BAD_SALT_TEXTS = ["", "a" * 65, "é" * 33]
+SALT_TEXTS, BAD_SALT_TEXTS = ["abc", "a", "a" * 64, "é" * 32, " ", "-x"], ["", "a" * 65, "é" * 33]
 SECRET_COUNTS = [0] * 3 + [1] * 12 + [2] * 4 + [3, 4] + [16, 17]
 # Words that most command lines may not contain.
 WRONG = [["--loud"], ["x", "y"], ["--vault-id"], ["--vault-id", "--salt"], ["-x"]]
@@ -101,8 +94,7 @@ class Maker:
     def others(self, has_input: bool) -> Iterator[tuple[str, str]]:
         """Yield options with their values, some of which the command does not have."""
         if self.likely(0.2 if len(self.held) == 1 else 0.85):
-            labels = [label for label, _ in self.held] * 3 + LABELS
-            yield "--encrypt-vault-id", self.mostly(labels, BAD_LABELS, 0.98)
+            yield "--encrypt-vault-id", self.mostly([label for label, _ in self.held] * 3 + LABELS, BAD_LABELS, 0.98)
         if self.likely(0.3):
             yield "--require-id-match", ""
         for option in ("--name", "--stdin-name"):
@@ -113,7 +105,7 @@ class Maker:
         if has_text := self.likely(0.45):
             yield "--salt", self.mostly(SALT_TEXTS, BAD_SALT_TEXTS)
         if self.likely(0.06 if has_text else 0.5):
-            yield "--salt-file", self.mostly([*SALTS, "/dev/zero"], [*[*SHORT_SALTS] * 2, *NO_FILES], 0.75)
+            yield "--salt-file", self.mostly([*SALTS, "/dev/zero"], [*SHORT_SALTS, *NO_FILES], 0.75)
         if self.likely(0.95 if has_input else 0.3):
             yield "--output", self.mostly(OUTPUTS, BAD_OUTPUTS)
 
@@ -136,7 +128,12 @@ class Maker:
             return [f"-n{value}"] if is_joined and value else ["-n", value]
         return [f"{option}={value}"] if is_joined else [option, value]
 
-    def words(self, options: list[tuple[str, str]], positional: str | None) -> list[str]:
+    def case(self) -> Case:
+        options = [self.secret() for _ in range(self.random.choice(SECRET_COUNTS))]
+        content, is_string = self.content(), self.command == "encrypt_string"
+        positional = self.random.choice(STRINGS if is_string else INPUTS) if self.likely(0.6) else None
+        is_read = positional in (None, "-")
+        options += self.others(not is_read and not is_string)
         known = COMMON | OPTIONS[self.command]
         groups, last = [self.spelled(*each) for each in options if each[0] in known], list[str]()
         if self.likely(0.03):
@@ -146,15 +143,7 @@ class Maker:
         elif positional is not None:
             groups.append([positional])
         self.random.shuffle(groups)
-        return [self.command, *sum(groups, []), *last]
-
-    def case(self) -> Case:
-        options = [self.secret() for _ in range(self.random.choice(SECRET_COUNTS))]
-        content, is_string = self.content(), self.command == "encrypt_string"
-        positional = self.random.choice(STRINGS if is_string else INPUTS) if self.likely(0.6) else None
-        is_read = positional in (None, "-")
-        options += self.others(not is_read and not is_string)
-        words = self.words(options, positional)
+        words = [self.command, *sum(groups, []), *last]
         # Only files that a word may name, since more take longer.
         files = {name: text for name, text in {**FILES, "input": content}.items() if name in " ".join(words)}
         return Case(words, {**files, FOLDER: None}, content if is_read else b"not asked")
