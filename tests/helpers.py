@@ -2,11 +2,11 @@
 `conftest.py` and `pytest.ini`.
 """
 
+import ast
 import os
 import re
 import runpy
 import shutil
-import subprocess
 import sys
 from dataclasses import replace
 from pathlib import Path
@@ -14,7 +14,6 @@ from pathlib import Path
 import pytest
 
 from companion_cases import Done, ended, silent
-from companion_mutants import mutants_of
 from lib.cases import Cases
 from lib.links import dead_links
 from lib.paths import ROOT
@@ -56,13 +55,10 @@ def test_each_part_of_an_answer(tmp_path: Path) -> None:
     script = tmp_path / "program"
     cases = Cases(write_script(script, right), tmp_path)
     cases.refused(["view"], FAULT)
-    cases.refuses([], b"", FAULT)
     for wrong in (f"({right}); exit 9", f"echo output; {right}", f"echo >&2; {right}"):
         write_script(script, wrong)
         with pytest.raises(AssertionError):
             cases.refused(["view"], FAULT)
-        with pytest.raises(AssertionError):
-            cases.refuses([], b"", FAULT)
     for command in ("view", "decrypt"):
         write_script(script, f'[ "$1" = {command} ]')
         with pytest.raises(AssertionError):
@@ -93,28 +89,23 @@ def test_dead_links(tmp_path: Path) -> None:
     assert [*dead_links(page)] == dead
 
 
-# How pytest ends, and what becomes of the fault of the file or of the mutant that is planted.
+PLANT_FAULTS = runpy.run_path(str(ROOT / "tools" / "plant_faults"))
+# How pytest ends, and what becomes of what is planted.
 ENDS = {
-    "a test fails": (1, "FAILED tests/a.py::test_b - why\n", "caught", "caught"),
-    "no test fails": (0, "1 passed\n", "failed", "survived"),
-    "a test is skipped": (0, "SKIPPED [1] tests/a.py:2: why\n1 passed, 1 skipped\n", "skipped", "survived"),
-    "a test takes too long": (1, "FAILED tests/a.py::test_b - Failed: Timeout >9.0s\n", "caught", "undecided"),
-    "all take too long": (124, "2 passed\n", "failed", "undecided"),
-    "a file cannot be imported": (2, "ERROR tests/a.py - why\n", "failed", "caught"),
-    "pytest does not start": (1, "No module named pytest\n", "failed", "failed"),
+    "a test fails": (1, "FAILED tests/a.py::test_b - why\n", "caught"),
+    "a fixture fails": (1, "ERROR tests/a.py::test_b - why\n", "caught"),
+    "no test fails": (0, "\n1 passed, 0 failed, 1 skipped\n", "survived"),
+    "all tests are skipped": (0, "\n0 passed, 0 failed, 1 skipped\n", "skipped"),
+    "a test takes too long": (1, "FAILED tests/a.py::test_b - Failed: Timeout >9.0s\n", "not run"),
+    "all take too long": (124, "\n2 passed, 0 failed\n", "survived"),
+    "a file cannot be imported": (1, "ERROR tests/a.py - why\n", "not run"),
+    "pytest does not start": (1, "No module named pytest\n", "not run"),
 }
 
 
-@pytest.mark.parametrize("status, output, listed, mutant", ENDS.values(), ids=ENDS)
-def test_planted_faults(program: str, status: int, output: str, listed: str, mutant: str) -> None:
-    tool = runpy.run_path(str(ROOT / "tools" / "plant_faults"))
-    fault = tool["Fault"]("a fault", ("a.py",), str)
-    # The test passes without the fault.
-    ends = [subprocess.CompletedProcess([], code, text) for code, text in ((0, ""), (status, output))]
-    tool["run_tests"].__globals__["run_tests"] = lambda *_: ends.pop()
-    assert tool["result_of_mutant"](Path(program), 0, 0, fault).outcome.value == mutant
-    ends.append(subprocess.CompletedProcess([], status, output))
-    assert tool["result_of"](Path(program), fault).outcome.value == listed
+@pytest.mark.parametrize("status, printed, outcome", ENDS.values(), ids=ENDS)
+def test_planted_faults(status: int, printed: str, outcome: str) -> None:
+    assert PLANT_FAULTS["outcome_of"](status, printed)[0] == outcome
 
 
 MUTATED = """\
@@ -140,23 +131,20 @@ raise Refused(f'it has {shown(names)} as names', status=2) -> pass
 Refused(f'it has {shown(names)} as names', status=2) -> Refused(f'it has {shown(names)} as names')
 shown(names) -> names
 2 -> 3
-KeyError -> ()
 names[0] -> None
 0 -> 1
 """
 
 
-def test_mutants(tmp_path: Path) -> None:
-    (tmp_path / "mutated.py").write_text(MUTATED)
-    names = [mutant.name for mutant in mutants_of(tmp_path / "mutated.py") if mutant.is_valid()]
+def test_mutants() -> None:
+    names = [mutant.name for mutant in PLANT_FAULTS["mutants_of"](ast.parse(MUTATED))]
     assert names == [f"first: {change}" for change in CHANGES.splitlines()]
 
 
 def test_accepted_mutants() -> None:
     """Each mutant that need not be caught still exists."""
-    tool = runpy.run_path(str(ROOT / "tools" / "plant_faults"))
-    accepted = {entry["mutant"] for entry in tool["entries"]("accepted")}
-    assert accepted - {mutant.name for mutant in tool["every_mutant"]()} == set()
+    accepted = {entry["mutant"] for entry in PLANT_FAULTS["entries"]("accepted")}
+    assert accepted - {mutant.name for _, _, mutant in PLANT_FAULTS["every_mutant"]()} == set()
 
 
 # Tests, how each ends, and how with --require-all.
