@@ -68,9 +68,6 @@ SUMS := $(LIBRARY)/installed.sha256
 PYTEST ?= /usr/bin/python3 -B -X utf8 -m pytest
 PYTEST_PROCESSES ?= $(shell expr $$(nproc) + 2)
 TESTING = $(PYTEST) --quiet --numprocesses=$(PYTEST_PROCESSES) "--program=$(PROGRAM)"
-# The tests that `make coverage` runs, and the least percentage of the companions' lines that they must run.
-COVERED := tests/companion_cases
-LEAST_COVERED := 97
 # The arguments of tools/plant_faults, tools/mutants, tools/fresh_machine and tools/releases.
 PLANTED :=
 MUTANTS :=
@@ -81,7 +78,7 @@ SECONDS ?= 3600
 SHARE ?= 1
 
 .DELETE_ON_ERROR:
-.PHONY: all demo packages check mutants test planted coverage fuzz faults bench install uninstall portable dist package lint \
+.PHONY: all demo packages check mutants test planted fuzz faults bench install uninstall portable dist package lint \
 	fresh-machine releases clean FORCE
 
 all: $(if $(filter file,$(origin PROGRAM)),$(PROGRAM))
@@ -142,14 +139,6 @@ test: packages all $(if $(shell command -v rt),bin/vault_allocation_failures)
 # must catch each.
 planted: all
 	tools/plant_faults "--program=$(PROGRAM)" $(PLANTED)
-
-# Not part of the gate: show which lines of the companions their tests never run. Tests that watch what a companion
-# writes fail here, since it also writes its coverage data.
-coverage: all
-	@rm -rf bin/coverage && mkdir -p bin/coverage && chmod a+rwx bin/coverage
-	-LINES_RUN=$(abspath bin/coverage) $(TESTING) $(COVERED)
-	@/usr/bin/python3 -m coverage combine --quiet --rcfile=tests/lines_run.ini
-	@/usr/bin/python3 -m coverage report --rcfile=tests/lines_run.ini --fail-under=$(LEAST_COVERED)
 
 # Test with random requests.
 fuzz: all

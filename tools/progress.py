@@ -7,6 +7,7 @@ LOG keeps the command's output, and is printed, indented, if the command fails. 
 command's last line counts what passed, it is the last line here, too.
 """
 
+import contextlib
 import re
 import subprocess
 import sys
@@ -22,33 +23,23 @@ PROVED = re.compile(r"^(?:rt: (\w+) proved|crate (\w+): modules .*)$", re.MULTIL
 COUNT = re.compile(r"\d+ passed, \d+ failed\Z")
 
 
-def state(log: str) -> str:
-    """Return how many crates are proved, and the last line of the prover itself."""
-    said = SAID.findall(log) or ["nothing is said yet"]
-    return f"{len({''.join(names) for names in PROVED.findall(log)})} crates are proved; {said[-1]}"
-
-
 def main(log: Path, command: list[str]) -> int:
-    begun = time.monotonic()
-
-    def report(text: str) -> None:
-        print(f"{(time.monotonic() - begun) / 60:5.0f} min  {text}", flush=True)
-
+    begun, status = time.monotonic(), None
     with open(log, "w") as output:
         try:
             process = subprocess.Popen(command, stdout=output, stderr=subprocess.STDOUT)
         except (FileNotFoundError, PermissionError):
             sys.exit(f"{command[0]} is not on PATH; it comes with the Rattle kit")
-    while True:
-        try:
+    while status is None:
+        with contextlib.suppress(subprocess.TimeoutExpired):
             status = process.wait(PAUSE)
-            break
-        except subprocess.TimeoutExpired:
-            report(state(log.read_text(errors="replace")))
-    text = log.read_text(errors="replace")
-    if status:
-        print(textwrap.indent(text, "    "), end="")
-    report(f"{'FAILED' if status else 'done'}; the whole log is {log}")
+        text = log.read_text(errors="replace")
+        said = SAID.findall(text) or ["nothing is said yet"]
+        state = f"{len({''.join(names) for names in PROVED.findall(text)})} crates are proved; {said[-1]}"
+        if status is not None:
+            state = f"{'FAILED' if status else 'done'}; the whole log is {log}"
+        print(textwrap.indent(text, "    ") if status else "", end="")
+        print(f"{(time.monotonic() - begun) / 60:5.0f} min  {state}", flush=True)
     if found := COUNT.search(text.rstrip()):
         print(found[0])
     return status

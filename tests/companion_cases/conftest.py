@@ -11,7 +11,6 @@ import pytest
 
 from companion_cases import COMPANIONS, Companions, Place
 from lib.ansible_runs import AnsibleRuns
-from lib.lines_run import note_lines
 from lib.needs import needs, needs_ansible
 
 
@@ -20,7 +19,6 @@ def copies(program: str) -> Iterator[Path]:
     """The program and the compiled companions. Every user may read these copies, wherever the repository is."""
     with tempfile.TemporaryDirectory(prefix="ansible-vault-tools-") as folder:
         companions = shutil.copytree(COMPANIONS, Path(folder, "companions"))
-        note_lines(companions)
         compileall.compile_dir(companions, quiet=1)
         shutil.copy(program, f"{folder}/ansible-vault")
         subprocess.run(["chmod", "-R", "go=rX", folder], check=True)
