@@ -1,22 +1,18 @@
-"""Secrets must not appear in the arguments and the environment of programs, or on disks, and no other program than the
-tool gets them.
-"""
+"""No secret is in the arguments and the environment of programs, or on disks, and no program but the tool gets one."""
 
-import os
 import re
 import resource
 
 import pytest
 
-from companion_cases import CHECK, EDIT, MERGE, NOTE, PASSWORDS, ROTATE, TEXT, TEXTCONV, WITH, Place, block, ended
-from companion_cases import sealed, versions
+from companion_cases import CHECK, EDIT, MERGE, NOTE, PASSWORDS, ROTATE, TEXT, TEXTCONV, WITH, Place, ended, sealed
+from companion_cases import versions
 from companion_cases.terminal import ask
-from lib.needs import needs, needs_tool
+from lib.needs import needs
 
 
 def test_words_and_environment(place: Place) -> None:
-    """A password that is printed by a script, comes from a pipe or is typed is in no file, and a run of the program
-    gets only a path. Neither such a run nor the editor may leave a core dump."""
+    """A password from a script, a pipe or the terminal is in no file, and neither program nor editor dumps core."""
     if resource.getrlimit(resource.RLIMIT_CORE)[1] == 0:
         pytest.skip("the hard limit of core dumps is 0 here")
     place.put("a.yml", sealed("old"))
@@ -36,22 +32,19 @@ def test_words_and_environment(place: Place) -> None:
     assert [path for path in files if PASSWORDS["old"] in path.read_bytes()] == [], "no file has the password"
 
 
-# The texts of three versions, with words that must stay hidden, and of a value in them.
+# The texts of three versions, with words that must stay hidden.
 TEXTS = [b"one: horse\nx: 1\ny: 2\ntwo: horse\n", b"one: staple\nx: 1\ny: 2\ntwo: horse\n"]
 TEXTS += [b"one: horse\nx: 1\ny: 2\ntwo: battery\n"]
 HIDDEN = ["horse", "staple", "battery"]
 # Where plaintext is written, without the random parts of paths.
 PIPE, VERSION, BESIDE, PRIVATE = "pipe:[", "/memfd:version", "/tree/.ansible-vault-", "/runtime/"
 OLD, NEW = "--vault-password-file ../secrets/old", "--new-vault-password-file ../secrets/new"
-VERSIONS = "../versions/base-{0} {0} ../versions/theirs-{0} {0}"
 RUNS = {
     f"{EDIT} {OLD} a.yml": {PIPE, PRIVATE},
     f"{CHECK} {OLD} a.yml": {PIPE},
-    f"{TEXTCONV} {OLD} b.yml": {PIPE},
+    f"{TEXTCONV} {OLD} a.yml": {PIPE},
     f"{ROTATE} {OLD} {NEW} a.yml": {PIPE},
-    f"{MERGE} {OLD} {VERSIONS.format('a.yml')}": {PIPE, VERSION},
-    # Only one side has changed.
-    f"{MERGE} {OLD} {VERSIONS.format('b.yml')}": {PIPE},
+    f"{MERGE} {OLD} ../versions/base-a.yml a.yml ../versions/theirs-a.yml a.yml": {PIPE, VERSION},
     f"{WITH} encrypt {OLD} plain.yml": {PIPE},
     f"{WITH} rekey {OLD} {NEW} a.yml": set(),
     f"{WITH} decrypt {OLD} a.yml": {PIPE, BESIDE},
@@ -72,12 +65,9 @@ def writes_of(place: Place, lines: list[str], hidden: list[str]) -> set[str]:
 
 @pytest.mark.parametrize("line, places", RUNS.items())
 def test_plaintext(place: Place, line: str, places: set[str]) -> None:
-    """No process gets plaintext or a password in its arguments or environment. Plaintext is written only to memory, by
-    `decrypt` to a new file for its owner only, and by an edit to its private directory."""
+    """Plaintext is written only to memory, by `decrypt` to a private file, and by an edit to its private directory."""
     needs("strace", "git")
     versions(place, "a.yml", *(sealed("old", text) for text in TEXTS))
-    values = ((TEXTS[0], b"1"), (TEXTS[0], b"2"), (TEXTS[2], b"1"))
-    versions(place, "b.yml", *(block("old", text) + b"y: 1\nz: %s\n" % number for text, number in values))
     place.put("plain.yml", TEXTS[0])
     place.environment["EDITOR"] = place.script('sed -i s/one/three/ "$1"', "editor")
     before, passwords = place.files(), [each.decode() for each in PASSWORDS.values()]
@@ -106,32 +96,3 @@ def test_which_tool(place: Place) -> None:
     done = place.run(CHECK, *place.by_file("old"), ".")
     ended("Ansible's tool", done, 1, "is not the ansible-vault that the companions need")
     assert (place.path / "runs").read_text() == "run\n", "is asked its version alone"
-
-
-# What puts something else in the program's place.
-OTHERS = {
-    "a directory": "mkdir",
-    "a file without the right to run it": "touch",
-    "a dangling link": "ln -s nowhere",
-    "a link to itself": "ln -s ansible-vault",
-    "a companion": f"ln -s ../tools/{CHECK}",
-}
-
-
-@pytest.mark.parametrize("command", OTHERS.values(), ids=OTHERS)
-def test_on_the_path(place: Place, command: str) -> None:
-    """What cannot be the program is passed over, beside the companion and on PATH."""
-    place.put("a.yml", sealed("old"))
-    (place.tools / "ansible-vault").unlink()
-    folders = [place.path / name for name in ("first", "last")]
-    for folder in folders:
-        folder.mkdir()
-    for folder in (place.tools, folders[0]):
-        assert place.shell(f"{command} {folder}/ansible-vault").returncode == 0
-    # Ansible's tool may be beside Python.
-    for name in ("python3", "env"):
-        (folders[1] / name).symlink_to(os.path.realpath(needs_tool(name)))
-    words, path = [CHECK, *place.by_file("old"), "a.yml"], ":".join(map(str, [folders[0], place.tools, folders[1]]))
-    ended("no program", place.run(*words, PATH=path), 1, "there is no ansible-vault beside this program or on PATH")
-    (folders[1] / "ansible-vault").symlink_to(place.program)
-    ended("the program", place.run(*words, PATH=path), 0, "1 decrypted")
