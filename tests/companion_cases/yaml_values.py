@@ -104,26 +104,15 @@ def check_changed(file: YamlFile, generator: random.Random) -> bool:
     value, typed = generator.choice(shown), generator.choice(TYPED)
     lines = typed.format(" " * (column(text, value.begin) + 2)).removesuffix("\n").encode()
     ending = LINE_END.search(text)
-    place = Change(value.begin, value.end, lines.replace(b"\n", ending[0] if ending else b"\n"))
-    edited = changed(text, [place])
+    edited = changed(text, [Change(value.begin, value.end, lines.replace(b"\n", ending[0] if ending else b"\n"))])
     read = tagged(edited)
     if read is None:
         return False
     after = file.encrypted(Hexadecimal(), edited)
-    wanted = [(path, text if text.startswith("$ANSIBLE") else envelope(text.encode()).decode()) for path, text in read]
-    values = tagged(after)
-    assert values and [(path, text.split()) for path, text in values] == [(path, text.split()) for path, text in wanted]
+    envelopes = [text if text.startswith("$ANSIBLE") else envelope(text.encode()).decode() for _, text in read]
+    wanted = [(path, text.split()) for (path, _), text in zip(read, envelopes)]
+    assert [(path, text.split()) for path, text in tagged(after) or []] == wanted, (edited, after)
     scalars_before = Counter(file.file.data[old.value.begin : old.value.end] for old in file.opened.values())
     lost = scalars_before - Counter(after[value.begin : value.end] for value in nodes(after).values)
     assert sum(lost.values()) <= 1, (edited, after)
     return True
-
-
-def test_conflicts() -> None:
-    """Each side of a conflict is read without the others."""
-    ours, base, theirs = "b:\n  c: !vault |-\n    two\n", "b: !vault three\n", "d:\n- !vault 'fünf'\n"
-    text = f"a: !vault one\n<<<<<<< ours\n{ours}||||||| base\n{base}=======\n{theirs}>>>>>>> theirs\n"
-    data = text.encode()
-    values = [value for value in nodes(data).values if value.is_tagged]
-    found = [(*value.path, data[value.begin : value.end].decode()) for value in values]
-    assert found == [("a", "one"), ("b", "c", "|-\n    two"), ("b", "three"), ("d", 0, "'fünf'")]
