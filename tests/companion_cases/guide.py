@@ -7,7 +7,7 @@ from typing import NamedTuple
 
 import pytest
 
-from companion_cases import PASSWORDS, TEXT, WITH, Companions, Described, Place, described, sealed
+from companion_cases import FOUND, PASSWORDS, TEXT, WITH, Companions, Place, described, sealed
 from companion_cases.terminal import FOR_ANSIBLE, Session, ask
 from lib.ansible import ansible_release
 from lib.needs import needs, needs_ansible
@@ -17,12 +17,13 @@ FILES = {"a_password_file": "dev", "multi_password_file": "prod", "ppold": "old"
 NAMES = ["foo.yml", "bar.yml", "baz.yml"]
 ALL = " ".join(NAMES)
 DEV = "--vault-id dev@a_password_file"
-OLD, NEW, AGAIN = "Vault password: ", "New Vault password: ", "Confirm New Vault password: "
+# Questions, and what is typed for each: the name of a password, or a text.
+Typed = list[tuple[str, str]]
+OLD: Typed = [("Vault password: ", "old")]
+NEW: Typed = [("New Vault password: ", "new"), ("Confirm New Vault password: ", "new")]
 VARIABLE = "Variable name (enter for no name): "
-STRING, SHOWN_STRING = "String to encrypt (hidden): ", "String to encrypt:"
-# Later than every release.
-NONE = (3, 0)
-
+HIDDEN: Typed = [(VARIABLE, "one"), ("String to encrypt (hidden): ", " first ")]
+SHOWN: Typed = [(VARIABLE, ""), ("String to encrypt:", " first ")]
 
 class Row(NamedTuple):
     """A command line after `ansible-vault`."""
@@ -30,68 +31,47 @@ class Row(NamedTuple):
     line: str
     # The password of the three files, which are plaintext without one.
     password: str = ""
-    # The questions, and what is typed for each: the name of a password, or a text.
-    typed: list[tuple[str, str]] = []
+    typed: Typed = []
     # The first release of Ansible's tool that does the same.
     since: tuple[int, int] = (0, 0)
 
 
-def twice(label: str) -> list[tuple[str, str]]:
-    """Return the questions for a new password of this label, and the name of the password."""
+def twice(label: str) -> Typed:
+    """Return the questions for a new password of this label."""
     return [(f"New vault password ({label}): ", "new"), (f"Confirm new vault password ({label}): ", "new")]
 
 
-TWICE = [(NEW, "new"), (AGAIN, "new")]
 ROWS = [
     Row("create --vault-id test@multi_password_file new.yml"),
-    Row("create --vault-id my_new_password@prompt new.yml", typed=twice("my_new_password")),
-    Row("create new.yml", typed=TWICE),
-    Row(f"encrypt {ALL}", typed=TWICE),
+    Row("create --vault-id my_new_password@prompt new.yml", "", twice("my_new_password")),
+    Row("create new.yml", "", NEW),
+    Row(f"encrypt {ALL}", "", NEW),
     Row("encrypt foo.yml --vault-id dev@~/tree/a_password_file"),
-    Row(f"view {ALL}", "old", [(OLD, "old")]),
-    Row("view --vault-pass ppold foo.yml", "old", since=NONE),
+    Row(f"view {ALL}", "old", OLD),
     Row("edit --vault-id vault2@prompt foo.yml", "old", [("Vault password (vault2): ", "old")]),
     Row(f"edit --vault-password-file ppold {ALL}", "old"),
-    Row(f"rekey {ALL}", "old", [(OLD, "old"), *TWICE]),
+    Row(f"rekey {ALL}", "old", OLD + NEW),
     Row(f"rekey --vault-id preprod1@ppold --new-vault-id preprod2@prompt {ALL}", "old", twice("preprod2")),
     Row("rekey --vault-i ppold --new-vault-p new foo.yml", "old"),
     Row("decrypt --vault-pass-file=$HOME/tree/ppold foo.yml", "old"),
-    Row("encrypt_string --ask-vault-pass 'a' --name b", typed=TWICE),
-    Row(f"encrypt_string {DEV} -nname 'a string'"),
+    Row("encrypt_string --ask-vault-pass 'a' --name b", "", NEW),
     Row(f"encrypt_string {DEV} $' first\\n' 'größe: # two ' 'third' -n one --name two"),
-    Row(f"encrypt_string {DEV} --stdin-name 'db_password' <<< letmein"),
     Row(f"encrypt_string {DEV} 'first' --name one --stdin-name two <<< ' second '"),
     Row(f"encrypt_string {DEV} --stdin-name 'db_password' --output new.yml <<< letmein", since=(2, 14)),
-    Row(
-        f"encrypt_string {DEV} -p 'second' --name two --output new.yml",
-        typed=[(VARIABLE, "one"), (STRING, " first ")],
-        since=(2, 14),
-    ),
-    Row(
-        f"encrypt_string {DEV} --prompt --show-input 'second' --output new.yml",
-        typed=[(VARIABLE, ""), (SHOWN_STRING, " first ")],
-        since=(2, 14),
-    ),
-    # Ansible's tool asks for the name, too.
-    Row(f"encrypt_string {DEV} --prompt --name one --output new.yml", typed=[(STRING, "first")], since=NONE),
+    Row(f"encrypt_string {DEV} -p 'second' --name two --output new.yml", "", HIDDEN, (2, 14)),
+    Row(f"encrypt_string {DEV} --prompt --show-input 'second' --output new.yml", "", SHOWN, (2, 14)),
 ]
 
 
-# The first line of a block, or an empty line for other text; and the described content.
-Block = tuple[bytes, Described]
-
-
-def blocks(data: bytes) -> list[Block]:
-    """Return the first line and the content of each block, or describe other text as a whole."""
-    parts = re.split(rb"(?m)^(?=[^ \n]*:? ?!vault)", data) if b"!vault" in data else [data]
-    return [(part.partition(b"\n")[0] if b"!vault" in part else b"", described(part)) for part in parts if part]
+def opened(data: bytes) -> bytes:
+    """Return the text without empty lines, and with a description of each envelope in its place."""
+    return re.sub(rb"\n+", b"\n", FOUND.sub(lambda found: repr(described(found[0])).encode(), data).strip())
 
 
 def outcome(
     place: Place, row: Row, tool: str, line: str, **variables: str
-) -> tuple[tuple[bool, list[Block], dict[str, list[Block]]], Session]:
-    """Return whether the run succeeded, the blocks of its output, and those of each file except password files; and the
-    session."""
+) -> tuple[tuple[bool, bytes, dict[str, bytes]], Session]:
+    """Return whether the run succeeded, its output and each file except password files; and the session."""
     for name, password in FILES.items():
         place.put(name, PASSWORDS[password] + b"\n", 0o600)
     for number, name in enumerate(NAMES):
@@ -100,8 +80,8 @@ def outcome(
     answers = [(question, PASSWORDS.get(typed, typed.encode()) + b"\n") for question, typed in row.typed]
     editor = place.script('echo more >> "$1"', "editor")
     session = ask(place, "bash", "-c", text, answers=answers, EDITOR=editor, **variables)
-    files = {name: blocks(data) for name, data in place.files().items() if name not in FILES}
-    return (session.returncode == 0, blocks(session.stdout.strip().encode()), files), session
+    files = {name: opened(data) for name, data in place.files().items() if name not in FILES}
+    return (session.returncode == 0, opened(session.stdout.encode()), files), session
 
 
 @pytest.mark.parametrize("row", ROWS, ids=[row.line for row in ROWS])
