@@ -1,17 +1,16 @@
 """Messages are acted on: what one says to run, to write or to leave out is taken out of it, and then the fault is gone.
-Each is for a file with an awkward name, and acted on at the top of the repository or below. What they name exists.
+Each is for a file with an awkward name, and acted on at the top of the repository or below.
 """
 
-import ast
 import re
 import shlex
-from collections.abc import Callable, Iterator
+from collections.abc import Callable
 from typing import NamedTuple
 
 import pytest
 
-from companion_cases import CHANGE, CHANGED, CHECK, COMPANIONS, EDIT, HOOK, MERGE, PASSWORDS, ROTATE, TEXT, TEXTCONV
-from companion_cases import WITH, Place, block, lines_of, sealed, texts
+from companion_cases import CHANGE, CHANGED, CHECK, EDIT, HOOK, PASSWORDS, ROTATE, TEXT, TEXTCONV, WITH, Place, block
+from companion_cases import lines_of, sealed, texts
 from companion_cases.repository import BASE, BOTH, OURS, SALTS, THEIRS, add_and_commit, fork, set_driver, under_git
 from lib.needs import needs, needs_pyyaml
 from model.vaults import seal
@@ -106,11 +105,6 @@ def resolve(case: Case, told: "re.Match[str]") -> None:
     case.stage(case.place.get(case.name))
 
 
-def add_resolved(case: Case, told: "re.Match[str]") -> None:
-    case.put(OLD_VAULT)
-    case.shell(told[1])
-
-
 def write(text: str) -> Callable[[Case, "re.Match[str]"], object]:
     return lambda case, told: case.put(text.format(told[1]).encode())
 
@@ -178,7 +172,9 @@ ROWS = {
     "exempt values": Row(staged(PLAIN, VALUES), HOOK, "remove `(.*)` there", remove, [TEXT, TEXT], EXEMPT_VALUES),
     "values, now a vault": Row(staged(PLAIN, OLD_VAULT), HOOK, "remove `(.*)` there", remove, [TEXT], EXEMPT_VALUES),
     "markers": Row(merged(*VAULTS, is_added=True), HOOK, "conflict with (.*)", resolve, [THEIRS], "", TAKE_THEIRS),
-    "unmerged": Row(merged(*VAULTS), HOOK, "and run `(.*)`", add_resolved),
+    "unmerged": Row(
+        merged(*VAULTS), HOOK, "and run `(.*)`", lambda case, told: (case.put(OLD_VAULT), case.shell(told[1]))
+    ),
     "no driver": Row(merged(*VAULTS), CHECKED, "and run `(.*)`", in_shell, [BOTH], DRIVER),
     "one side": Row(merged(*VAULTS[:2], THEIRS), EDITED, "take one with `(.*?)` or", in_shell, [OURS]),
     "labels": Row(merged(*LABELLED), BY_BOTH, "one with (.*)", rf"{BY_BOTH} \1 prod", [THEIRS], "", TAKE_THEIRS),
@@ -210,8 +206,7 @@ ROWS = {
 @pytest.mark.parametrize("folder, name", STANDS.values(), ids=STANDS)
 @pytest.mark.parametrize("row", ROWS.values(), ids=ROWS)
 def test_acted_on(place: Place, row: Row, folder: str, name: str) -> None:
-    needs("git")
-    needs("bash")
+    needs("git", "bash")
     needs_pyyaml()
     under_git(place, row.attributes)
     case, neighbour = Case(place, folder, name), name.replace("*", "x")
@@ -238,44 +233,3 @@ def test_acted_on(place: Place, row: Row, folder: str, name: str) -> None:
     assert left == row.plaintexts, told[0]
     assert place.run_on(b"", "git", "show", f":{neighbour}").stdout == NEIGHBOUR[1], "nothing else is changed"
     assert place.get(neighbour) == NEIGHBOUR[2] and not [*place.path.rglob("x")], "nor made"
-
-
-# What messages name, and the files of companions and of examples.
-NAMES = re.compile(
-    r"(?<![\w.$~=/-])(?:--[a-z-]+|ansible-vault-[a-z]+|ANSIBLE_[A-Z_]+|[~\w./]*\.(?:pass|yml|cfg|git\w+))"
-)
-FILES = {"ansible.cfg", ".gitattributes", "vault.yml", "a.yml", "b.yml", "host_vars/web1.yml"}
-FILES |= {"group_vars/all/vault.yml", "prod.pass", "old.pass", "new.pass", "~/.vault/prod.pass", "~/.vault/dev.pass"}
-SETTINGS = (COMPANIONS / "ansible_vault_companions/passwords/settings.py").read_text()
-
-
-def messages() -> Iterator[tuple[str, str]]:
-    """Yield the texts of several words in each companion and in its modules, except doc comments."""
-    for path in (*COMPANIONS.glob("ansible-vault-*"), *COMPANIONS.rglob("*.py")):
-        nodes = [*ast.walk(ast.parse(path.read_text()))]
-        comments = {id(node.value) for node in nodes if isinstance(node, ast.Expr)}
-        texts = (node for node in nodes if isinstance(node, ast.Constant) and id(node) not in comments)
-        yield from ((path.name, node.value) for node in texts if isinstance(node.value, str) and " " in node.value)
-
-
-def options_in(text: str) -> set[str]:
-    return {*re.findall("--[a-z-]+", re.sub(r"\[?\bno-\]?", "", text))}
-
-
-def test_names(place: Place) -> None:
-    """Each option is one of the companion, in a module of any of them, or of a git command in the same message."""
-    needs("git")
-    under_git(place, "")
-    helps = {name: place.run(name, "--help").stdout for name in (CHECK, EDIT, HOOK, MERGE, ROTATE, TEXTCONV, WITH)}
-    helps[WITH] += "".join(place.run(WITH, command, "--help").stdout for command in ("edit", "rekey", "encrypt_string"))
-    for name, text in messages():
-        commands = re.findall(r"\bgit ([a-z]+)|\b(commit|clone)\b", text)
-        known = [place.shell(f"git {''.join(command)} -h 2>&1").stdout for command in commands]
-        known.append(helps.get(name) or "".join(helps.values()))
-        for named in NAMES.findall(text.replace("code --wait", "")):
-            exists = {
-                "--": options_in(named) <= options_in("".join(known)),
-                "an": (COMPANIONS / named).exists() or named in FILES,
-                "AN": f'"{named}"' in SETTINGS,
-            }
-            assert exists.get(named[:2], named in FILES), (name, text, named)
