@@ -6,6 +6,7 @@ import os
 import re
 import shutil
 import subprocess
+from datetime import datetime
 from pathlib import Path
 
 import pytest
@@ -56,10 +57,12 @@ def test_contents(package: Path, tmp_path: Path) -> None:
 
 
 def test_changelog() -> None:
-    """The package's changelog is made from the project's, and names this version first."""
-    made = printed(str(ROOT / "tools/debian-changelog"))
-    assert (ROOT / "debian/changelog").read_text() == made
-    assert made.startswith(f"ansible-vault ({VERSION}) "), made[:80]
+    """The package's changelog has the versions of the project's, with their dates."""
+    listed = re.findall(r"^## (\S+), (\S+)$", (ROOT / "CHANGELOG.md").read_text(), re.MULTILINE)
+    text = (ROOT / "debian/changelog").read_text()
+    dates = [datetime.strptime(each, "%a, %d %b %Y").date().isoformat() for each in re.findall(r">  (.*) 00:", text)]
+    assert [*zip(re.findall(r"^ansible-vault \((\S+)\) ", text, re.MULTILINE), dates)] == listed
+    assert listed[0][0] == VERSION
 
 
 @pytest.fixture
