@@ -133,5 +133,4 @@ def completion(script: str, shell: str) -> str:
 WRITTEN: dict[Path, Callable[[str], str]] = {PAGE: written, REFERENCE: written, LIBRARY: partial(LISTING.sub, listing)}
 WRITTEN[FORMATS] = partial(FAULTS.sub, lambda _: faults())
 WRITTEN |= {ROOT / "man" / f"{name}.1": partial(manual.with_options, program=name) for name in NAMES}
-WRITTEN[ROOT / "man" / f"{PROGRAM}.1"] = manual.program_page
 WRITTEN |= {ROOT / f"completions/{PROGRAM}.{shell}": partial(completion, shell=shell) for shell in completing.WRITTEN}

@@ -1,14 +1,13 @@
-"""The OPTIONS of the manual pages, and the SYNOPSIS of the program's, which are made from the programs' parsers. A page
-may say more of an option, in further paragraphs, which stay.
+"""The OPTIONS of the manual pages, which are made from the programs' parsers. What a page says of an option in further
+paragraphs stays.
 """
 
 import re
 import textwrap
 from collections.abc import Collection
 
-from programs import PROGRAM, Command, Option, commands
+from programs import PROGRAM, Option, commands
 
-SYNOPSIS = re.compile(r"(?<=^\.Sh SYNOPSIS\n).*?(?=^\.Sh )", re.MULTILINE | re.DOTALL)
 # The first list of the section, which contains no other one, without its first and last line.
 OPTIONS = re.compile(r"(^\.Sh OPTIONS\n.*?^\.Bl -tag -width Ds\n)(.*?)(?=^\.El$)", re.MULTILINE | re.DOTALL)
 # The macros of words, by how they begin. A single dash is a value.
@@ -36,9 +35,9 @@ def paragraph(text: str, values: Collection[str]) -> str:
     return "".join(f"{line}\n" for line in lines)
 
 
-def spelled(option: Option, names: Collection[str]) -> str:
+def spelled(option: Option) -> str:
     value = f" Ar {option.value.lower()}" if option.value else ""
-    return " , ".join(f"Fl {name[1:]}{value}" for name in names) or value.strip()
+    return " , ".join(f"Fl {name[1:]}{value}" for name in option.names) or value.strip()
 
 
 def options_of(program: str) -> list[Option]:
@@ -62,28 +61,7 @@ def with_options(page: str, program: str) -> str:
         parts = [part.partition("\n") for part in re.split(r"^\.It ", section[2], flags=re.MULTILINE)[1:]]
         # The first name is the second word, whatever the value is called.
         further = {heading.split()[1]: "".join(text.partition(".Pp\n")[1:]) for heading, _, text in parts}
-        items = [(spelled(option, option.names), paragraph(option.text, values)) for option in listed]
+        items = [(spelled(option), paragraph(option.text, values)) for option in listed]
         return section[1] + "".join(f".It {name}\n{text}{further.get(name.split()[1], '')}" for name, text in items)
 
     return OPTIONS.sub(entries, page, count=1)
-
-
-def synopsis_of(command: Command) -> str:
-    """Return what a command of the program takes. Alternatives share a line."""
-    lines, named = [".Nm", f".Cm {command.name}"], {"--help"}
-    for option in command.options:
-        if not named & {*option.names}:
-            together = [each for each in command.options if option.alternatives & {*each.names}] or [option]
-            named |= {name for each in together for name in each.names}
-            text = " |\n.".join(spelled(each, each.names[:1]) for each in together)
-            opening, closing = ("Bro", "Brc") if "give this or" in option.text else ("Oo", "Oc")
-            lines.append(f".{opening} {text} {closing}{' Ns ...' * option.repeats}")
-    assert command.argument
-    return "\n".join([*lines, f".Op Ar {command.argument.value.lower()}\n"])
-
-
-def program_page(page: str) -> str:
-    """Return the page of the program."""
-    texts = [synopsis_of(command) for command in commands() if command.program == PROGRAM and command.name]
-    synopsis = "".join([*texts, ".Nm\n.Fl h | Fl V\n"])
-    return with_options(SYNOPSIS.sub(lambda _: synopsis, page), PROGRAM)
