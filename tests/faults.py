@@ -80,7 +80,7 @@ def test_short_transfers(cases: Cases, of_target: list[Scenario]) -> None:
 @each_file
 def test_size_limit(program: str, of_target: list[Scenario]) -> None:
     """A limit of file size ends a run with SIGXFSZ, which has its default action here; the output is a prefix. If the
-    signal is ignored, the write fails: see `closed_streams.py`."""
+    signal is ignored, the write fails."""
     differing = []
     for scenario in of_target:
         for size in (0, len(scenario.whole) // 2, len(scenario.whole) - 1):

@@ -91,7 +91,8 @@ def check_files(run: Run, traced: Traced) -> None:
     wanted += [("fsync", target, "", "")] if run.created else []
     assert steps(traced.own) == wanted, "what is opened and written"
     if run.fault:
-        assert traced.message == run.fault.line, "message"
+        writes = [call.fd for call in traced.own if call.name == "write"]
+        assert (traced.message, writes.count(STDERR)) == (run.fault.line, 1), "message, which is one write"
 
 
 def check_reads(run: Run, own: list[Call]) -> None:

@@ -44,38 +44,31 @@ def declared_in(path: str) -> set[str]:
 def file_with(item: str) -> str:
     """Return the file that declares a function or a type."""
     declared = re.compile(rf"^(?:pub(?:\(crate\))? )?{item}\b", re.MULTILINE)
-    found = [path for path, text in code().items() if declared.search(text)]
-    assert len(found) == 1, f"{item} stands in {found}"
-    return found[0]
+    [found] = [path for path, text in code().items() if declared.search(text)]
+    return found
 
 
 def definitions_of(crate: str, module: str, names: str) -> Path | None:
     """Return the file of this repository that an import takes its names from, or None. Names under `declared` come from
     the prover: for constants and traits, return the code; names of cases explain themselves.
     """
-    folder = CRATES / crate
-    if not folder.is_dir():
-        return None
-    parts = module.split(".")
+    folder, parts = CRATES / crate, module.split(".")
     if parts[0] == "declared":
-        if parts[-1] != "TheConstants" and "Ghosts" not in names:
-            return None
-        modules = [part for part in parts[1:] if part[0].islower()]
-        return folder.joinpath("src", *modules).with_suffix(".rt")
+        is_code = parts[-1] == "TheConstants" or "Ghosts" in names
+        path = folder.joinpath("src", *(part for part in parts[1:] if part[0].islower())).with_suffix(".rt")
+        return path if is_code and folder.is_dir() else None
     # An import of a type's cases has the type's name after the module's.
-    while not folder.joinpath("specs", *parts).with_suffix(".antt").is_file():
-        parts.pop()
-    return folder.joinpath("specs", *parts).with_suffix(".antt")
+    paths = [folder.joinpath("specs", *parts[:count]).with_suffix(".antt") for count in range(len(parts), 0, -1)]
+    return next((path for path in paths if path.is_file()), None)
 
 
 def imported(text: str, used: str | None = None) -> Iterator[Path]:
     """Yield the files whose names a text imports. With `used`, skip imports whose names it does not contain."""
     for crate, module, names, other_name in IMPORT.findall(text):
         # Names with a hyphen are lemmas, which only proofs need.
-        if names and all("-" in name for name in names.split(",")):
-            continue
+        is_needed = not names or any("-" not in name for name in names.split(","))
         words = set(re.findall(r"\w+", names or other_name))
-        if used is None or words & set(re.findall(r"\w+", used)):
+        if is_needed and (used is None or words & set(re.findall(r"\w+", used))):
             if file := definitions_of(crate, module, names):
                 yield file
 
@@ -94,8 +87,8 @@ def reached(items: list[str], laws: list[Path]) -> list[Path]:
     found = dict.fromkeys([*(CRATES / file_with(item) for item in items), *laws])
     waiting = [file for item in items for file in named_by(item)]
     waiting += [file for law in laws for file in imported(law.read_text())]
-    while waiting:
-        file = waiting.pop(0)
+    # The list grows meanwhile.
+    for file in waiting:
         if file not in found:
             found[file] = None
             waiting += imported(file.read_text()) if file.suffix == ".antt" else []
@@ -105,6 +98,5 @@ def reached(items: list[str], laws: list[Path]) -> list[Path]:
 @cache
 def needed() -> tuple[list[Path], list[Path]]:
     """Return the files that the theorem needs, and the further files that the other contracts need."""
-    theorem = reached(THEOREM, [])
-    laws = sorted(CRATES.glob("*/src/laws.rt"))
+    theorem, laws = reached(THEOREM, []), sorted(CRATES.glob("*/src/laws.rt"))
     return theorem, [file for file in reached(OTHERS, laws) if file not in theorem]

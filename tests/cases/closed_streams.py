@@ -6,11 +6,8 @@ import itertools
 import tempfile
 from pathlib import Path
 
-import pytest
-
 from cases import named
-from lib.cases import TEXT, Cases, answer_of
-from lib.needs import needs
+from lib.cases import Cases, answer_of
 from lib.processes import run
 from lib.samples import Sample, each_command, sample_of
 from model.compared import files_in
@@ -20,13 +17,11 @@ COMBINATIONS = [set(each) for count in range(4) for each in itertools.combinatio
 # The stream that each value of `--output` means.
 STREAMS = {"-": 1, "/dev/stdin": 0, "/dev/stdout": 1, "/dev/stderr": 2}
 NEW_FILE, OLD_FILE = "new", "old"
-# The first of these that can be opened takes the number of a closed stream.
-DIRECTORIES = ["/", "/proc", "/dev", "."]
 # The status of a run, what came through both pipes, and the files that it changed.
 Left = tuple[int, bytes, bytes, dict[str, bytes]]
 
 
-def run_closed(program: list[str], sample: Sample, closed: set[int], output: str, by_name: bool) -> Left:
+def run_closed(program: str, sample: Sample, closed: set[int], output: str, by_name: bool) -> Left:
     """Run a sample in a directory with some files. Its input has a name or is standard input."""
     to_output = [] if sample.command == "view" else ["--output", output]
     words = named(sample, "given", output) if by_name else [*sample.words, *to_output]
@@ -37,7 +32,7 @@ def run_closed(program: list[str], sample: Sample, closed: set[int], output: str
         for path, content in files.items():
             Path(folder, path).write_bytes(content)
         with open(f"{folder}/stdin", "rb") as stdin:
-            done = run(["sh", "-c", f'exec "$@" {closings}', "sh", *program, *words], stdin, cwd=folder)
+            done = run(["sh", "-c", f'exec "$@" {closings}', "sh", program, *words], stdin, cwd=folder)
         after = files_in(Path(folder))
     return *answer_of(done), {path: content for path, (content, _) in after.items() if files.get(path) != content}
 
@@ -60,24 +55,5 @@ def wanted(sample: Sample, closed: set[int], output: str, by_name: bool) -> Left
 def test_every_combination(cases: Cases, command: str) -> None:
     sample, outputs = sample_of(cases, command), ["-"] if command == "view" else [*STREAMS, NEW_FILE, OLD_FILE]
     runs = [*itertools.product(COMBINATIONS, outputs, (True, False))]
-    found = [run_closed([cases.program], sample, *each) for each in runs]
+    found = [run_closed(cases.program, sample, *each) for each in runs]
     assert found == [wanted(sample, *each) for each in runs]
-
-
-@pytest.mark.parametrize("count", range(len(DIRECTORIES) + 1))
-def test_refused_directories(cases: Cases, count: int) -> None:
-    """Another directory takes the number of a closed stream, so that the message of a write that fails does not go into
-    the output. If none can be opened, a run ends before it opens a file."""
-    needs("strace")
-    refused = [word for path in DIRECTORIES[:count] for word in ("-P", path)]
-    strace = ["strace", "-o", "/dev/null", *refused, "-e", "trace=openat", "-e", "inject=openat:error=EACCES"]
-    program = ["prlimit", "--fsize=100", "env", "--ignore-signal=XFSZ", *(strace if count else []), cases.program]
-    sample = sample_of(cases, "decrypt", TEXT * 400)
-    for closed in COMBINATIONS:
-        status, output, message, changed = run_closed(program, sample, closed, NEW_FILE, True)
-        # strace reports on standard error how it takes a relative path.
-        message = b"".join(line for line in message.splitlines(True) if b"strace" not in line)
-        is_early = count == len(DIRECTORIES) and closed != set()
-        fault = Fault.INPUT_NOT_READ if is_early and 0 in closed else Fault.NOT_WRITTEN
-        assert (status, output, message, {}) == failed(fault, closed)
-        assert changed == ({} if is_early else {NEW_FILE: sample.output[:100]})

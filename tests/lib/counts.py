@@ -53,38 +53,29 @@ def run(command: list[str], stdin: bytes, **options: Any) -> Done:
         return Done(done.returncode, output.read(), done.stderr)
 
 
-def functions_of(profile: Path) -> Counter[str]:
-    """Count the instructions of each function itself, from a callgrind file without compressed names."""
+def functions_of(profile: str) -> Counter[str]:
+    """Count the instructions of each function itself, from a callgrind file without compressed names. The line after
+    `calls=` is the cost of the call, which is counted in the called function."""
     counts: Counter[str] = Counter()
-    name, is_call = "", False
-    with profile.open(errors="replace") as lines:
-        for line in lines:
-            if line.startswith("fn="):
-                name = line[3:].strip()
-            elif line.startswith("calls="):
-                is_call = True
-            elif line[:1].isdigit():
-                # The line after `calls=` is the cost of the call, which is counted in the called function.
-                counts[name] += 0 if is_call else int(line.split()[1])
-                is_call = False
+    for part in re.sub(r"^calls=.*\n.*\n", "", profile, flags=re.MULTILINE).split("\nfn=")[1:]:
+        counts[part.partition("\n")[0].strip()] += sum(map(int, re.findall(r"^\d+ (\d+)$", part, re.MULTILINE)))
     return counts
 
 
-def calls_of(profile: Path) -> Counter[str]:
+def calls_of(profile: str) -> Counter[str]:
     """Count the calls of each function."""
     counts: Counter[str] = Counter()
-    for name, count in re.findall(r"^cfn=(.*)\ncalls=(\d+) ", profile.read_text(errors="replace"), re.MULTILINE):
+    for name, count in re.findall(r"^cfn=(.*)\ncalls=(\d+) ", profile, re.MULTILINE):
         counts[name] += int(count)
     return counts
 
 
-def counted(read: Callable[[Path], Counter[str]], command: list[str], stdin: bytes) -> tuple[Done, Counter[str]]:
+def counted(read: Callable[[str], Counter[str]], command: list[str], stdin: bytes) -> tuple[Done, Counter[str]]:
     with tempfile.TemporaryDirectory() as folder:
-        profile = Path(folder) / "profile"
-        options = ["--compress-strings=no", "--compress-pos=no", f"--callgrind-out-file={profile}"]
-        log = [f"--log-file={folder}/log"]
-        done = run(["valgrind", "--tool=callgrind", *options, *log, *command], stdin, env=ENVIRONMENT)
-        return done, read(profile)
+        options = ["--compress-strings=no", "--compress-pos=no", f"--callgrind-out-file={folder}/profile"]
+        log = f"--log-file={folder}/log"
+        done = run(["valgrind", "--tool=callgrind", *options, log, *command], stdin, env=ENVIRONMENT)
+        return done, read(Path(folder, "profile").read_text(errors="replace"))
 
 
 count_instructions = partial(counted, functions_of)

@@ -24,30 +24,26 @@ Description: a stand-in
 def stand_in(folder: Path, name: str, version: str, files: dict[str, str]) -> Path:
     """Build a package that contains these files."""
     with tempfile.TemporaryDirectory() as path:
-        top = Path(path)
-        top.chmod(0o755)
-        for file, content in files.items():
-            (top / file).parent.mkdir(parents=True, exist_ok=True)
-            (top / file).write_text(content)
-            (top / file).chmod(0o755)
-        return build_package(top, folder, CONTROL.format(name=name, version=version))
+        Path(path).chmod(0o755)
+        for file, content in {**files, "DEBIAN/control": CONTROL.format(name=name, version=version)}.items():
+            target = Path(path, file)
+            target.parent.mkdir(parents=True, exist_ok=True)
+            target.write_text(content)
+            target.chmod(0o755)
+        return build_package(path, folder / f"{name}_{version}.deb")
 
 
 def later(package: Path, folder: Path, version: str) -> Path:
     """Rebuild the package with another version."""
     with tempfile.TemporaryDirectory() as path:
-        top = Path(path) / "package"
-        subprocess.run(["dpkg-deb", "-R", str(package), str(top)], check=True)
-        control = (top / "DEBIAN/control").read_text()
-        return build_package(top, folder, re.sub(r"^Version: .*$", f"Version: {version}", control, flags=re.MULTILINE))
+        subprocess.run(["dpkg-deb", "-R", str(package), f"{path}/package"], check=True)
+        control = Path(path, "package", "DEBIAN", "control")
+        control.write_text(re.sub(r"^Version: .*$", f"Version: {version}", control.read_text(), flags=re.MULTILINE))
+        return build_package(f"{path}/package", folder / f"later_{version}.deb")
 
 
-def build_package(top: Path, folder: Path, control: str) -> Path:
-    (top / "DEBIAN").mkdir(exist_ok=True)
-    (top / "DEBIAN/control").write_text(control)
-    fields = dict(re.findall(r"^(Package|Version): (.*)$", control, re.MULTILINE))
-    package = folder / f"{fields['Package']}_{fields['Version']}.deb"
-    command = ["dpkg-deb", "--root-owner-group", "-Znone", "-b", str(top), str(package)]
+def build_package(top: str, package: Path) -> Path:
+    command = ["dpkg-deb", "--root-owner-group", "-Znone", "-b", top, str(package)]
     subprocess.run(command, check=True, capture_output=True)
     return package
 
@@ -62,17 +58,12 @@ class Root:
         for folder in ("bin", "lib", "lib64"):
             (self.path / "usr" / folder).mkdir(exist_ok=True)
             (self.path / folder).symlink_to(f"usr/{folder}")
-        for file in ("status", "available", "info/format"):
-            (self.path / "var/lib/dpkg" / file).write_text("1\n" if file == "info/format" else "")
-        for tool in TOOLS:
-            self.copy(tool)
-        for library in {each for tool in [*TOOLS, program] for each in libraries(tool)}:
-            self.copy(library)
-
-    def copy(self, path: str) -> None:
-        copy = self.path / path.lstrip("/")
-        copy.parent.mkdir(parents=True, exist_ok=True)
-        shutil.copy(path, copy)
+        for file, text in {"status": "", "available": "", "info/format": "1\n"}.items():
+            (self.path / "var/lib/dpkg" / file).write_text(text)
+        for path in {*TOOLS, *(each for tool in [*TOOLS, program] for each in libraries(tool))}:
+            copy = self.path / path.lstrip("/")
+            copy.parent.mkdir(parents=True, exist_ok=True)
+            shutil.copy(path, copy)
 
     def dpkg(self, *words: str) -> subprocess.CompletedProcess[str]:
         return run_text(["dpkg", f"--root={self.path}", *words], env=os.environ | {"LC_ALL": "C"})

@@ -1,7 +1,6 @@
 """The system calls of a run, as strace logs them."""
 
 import re
-from itertools import takewhile
 from pathlib import Path
 from typing import NamedTuple
 
@@ -47,36 +46,29 @@ class Traced(NamedTuple):
     own: list[Call]
 
 
-def call_in(line: str) -> Call:
-    """Return the call in a line. If a line is not a complete call (an unfinished one, a signal), the call's name is the
-    line, so that no test overlooks it."""
-    found = LINE.match(line)
-    if found is None:
-        return Call(line, "", 0, "", 0)
-    address, name, args, result, error = found.groups(default="")
-    value = 0 if result == "?" else int(result, 0)
-    return Call(name, args, value, error, 0 if "?" in address else int(address, 16))
-
-
 def calls_in(log: str) -> list[Call]:
-    return [call_in(line) for line in log.splitlines() if not ENDED.match(line)]
-
-
-def loaded(calls: list[Call]) -> int:
-    """Return the number of calls before the first of the program itself, including `execve`."""
-    loader, others = calls[1].address, calls[1:]
-    of_loader = (abs(call.address - loader) < LOADER_LENGTH or call.name in OF_THE_LOADER for call in others)
-    return 1 + len([*takewhile(bool, of_loader)])
+    """Return the calls in a log. If a line is not a complete call (an unfinished one, a signal), the call's name is the
+    line, so that no test overlooks it."""
+    calls = []
+    for line in log.splitlines():
+        if found := LINE.match(line):
+            address, name, args, result, error = found.groups(default="")
+            value = 0 if result == "?" else int(result, 0)
+            calls.append(Call(name, args, value, error, 0 if "?" in address else int(address, 16)))
+        elif not ENDED.match(line):
+            calls.append(Call(line, "", 0, "", 0))
+    return calls
 
 
 def own_calls(log: Path, programs: int = 1) -> tuple[list[Call], list[Call]]:
-    """Return the loader's calls and the program's own. If a run executes several programs, one after the other, return
-    the calls of the last."""
+    """Return the loader's calls, including `execve`, and the program's own. If a run executes several programs, one
+    after the other, return the calls of the last."""
     calls = calls_in(log.read_text())
     started = [number for number, call in enumerate(calls) if call.name == "execve" and not call.error]
-    calls = calls[started[programs - 1] :]
-    first = loaded(calls)
-    return calls[:first], calls[first:]
+    execve, *calls = calls[started[programs - 1] :]
+    near = [abs(call.address - calls[0].address) < LOADER_LENGTH or call.name in OF_THE_LOADER for call in calls]
+    first = [*near, False].index(False)
+    return [execve, *calls[:first]], calls[first:]
 
 
 def tracing(log: Path) -> list[str]:
