@@ -15,16 +15,11 @@ PROGRAMS = """
     gpg.program merge.ansible-vault.driver remote.origin.uploadpack uploadpack.packObjectsHook
 """.split()
 # Settings that make git start more of these programs.
-OTHERS = {
-    "core.repositoryFormatVersion": "1",
-    "extensions.partialClone": "origin",
-    "remote.origin.promisor": "true",
-    "protocol.allow": "always",
-    "protocol.ext.allow": "always",
-}
+OTHERS = {"core.repositoryFormatVersion": "1", "extensions.partialClone": "origin", "remote.origin.promisor": "true"}
+OTHERS |= {"protocol.allow": "always", "protocol.ext.allow": "always"}
 HOOKS = "post-checkout post-index-change post-merge pre-commit pre-merge-commit reference-transaction".split()
 ATTRIBUTES = "* filter=x merge=ansible-vault ident\n*.yml diff=ansible-vault\n*.dat filter=y\n"
-# Commands of git in the same directory, without a companion, and the programs that they start.
+# Commands of git in the same directory, without a companion, and the programs that they and a fetch start.
 PLAIN = "git hash-object a.yml other.dat; git read-tree HEAD; git diff; git diff --no-ext-diff"
 STARTED = """
     core.fsmonitor filter.x.clean filter.y.process post-index-change diff.external diff.ansible-vault.command
@@ -49,7 +44,7 @@ def commit_files(place: Place) -> None:
     place.shell("git add c.yml && git -c core.fsmonitor=true update-index --fsmonitor")
 
 
-def trap(place: Place, name: str, folder: str) -> str:
+def trap(place: Place, name: str, folder: str = "programs") -> str:
     """Write a program that notes its start, and return its path."""
     (place.path / folder).mkdir(exist_ok=True)
     return place.script(f'echo "${{0##*/}}" >> {place.path}/started', f"{folder}/{name}")
@@ -62,46 +57,27 @@ def started(place: Place) -> set[str]:
     return {*found}
 
 
-@pytest.fixture(params=["tree/.git/hooks", "hooks"])
-def stranger(place: Place, request: pytest.FixtureRequest) -> Place:
-    """The directory, whose hooks are git's own or those of core.hooksPath."""
+@pytest.mark.parametrize("folder", ("tree/.git/hooks", "hooks"))
+def test_companions(place: Place, folder: str) -> None:
+    """The hooks are git's own, or those of core.hooksPath. Without a companion, git starts some of the programs, one
+    of them to fetch a missing object; otherwise, no run could fail. The hook needs that object, but fetches nothing."""
     commit_files(place)
-    place.put("../started", b"")
-    settings = OTHERS | {name: trap(place, name, "programs") for name in PROGRAMS}
-    settings["remote.origin.url"] = f"ext::{trap(place, 'remote.origin.url', 'programs')}"
+    settings = OTHERS | {name: trap(place, name) for name in PROGRAMS}
+    settings["remote.origin.url"] = f"ext::{trap(place, 'remote.origin.url')}"
     for name in HOOKS:
-        trap(place, name, request.param)
-    if request.param == "hooks":
-        settings["core.hooksPath"] = str(place.path / "hooks")
+        trap(place, name, folder)
+    if folder == "hooks":
+        settings["core.hooksPath"] = str(place.path / folder)
     for name, value in settings.items():
         assert place.run("git", "config", name, value).returncode == 0, name
     place.put(".git/info/attributes", ATTRIBUTES.encode())
-    return place
-
-
-def test_missing_object(stranger: Place) -> None:
-    """Without a companion, git starts these programs, one of them to fetch a missing object; otherwise, no test could
-    fail. The hook needs the old version of a file that is staged, and does not fetch it."""
-    stranger.shell(PLAIN)
-    blob = stranger.shell("git rev-parse HEAD:b.yml").stdout.strip()
-    (stranger.tree / ".git/objects" / blob[:2] / blob[2:]).unlink()
-    stranger.shell("git cat-file -p HEAD:b.yml")
-    assert set(STARTED) - started(stranger) == set()
-    stranger.shell("git add b.yml")
-    started(stranger)
-    done = stranger.run(HOOK)
-    assert (done.returncode, started(stranger)) == (1, set()), done
-
-
-def test_companions(stranger: Place) -> None:
-    place, old = stranger, stranger.by_file("old")
+    config, old = place.get(".git/config"), place.by_file("old")
+    place.put("../started", b"")
     for name in ("base", "ours", "theirs"):
         place.put(f"../{name}", sealed("old", name.encode()))
     marks = place.script("printf '<<<<<<< ours\\nx: 1\\n=======\\nx: 2\\n>>>>>>> theirs\\n' > \"$1\"", "editor")
     hooks = [[HOOK], [HOOK, "--all"], [HOOK, "--since", "other"], [HOOK, "a.yml"], [HOOK, "--install", *old]]
     hooks.append([HOOK, "--uninstall"])
-    # The hook checks commits only in a clone that is not partial.
-    whole = ["sed", "-i", "/promisor/d; /partialClone/d", ".git/config"]
     runs = [
         [CHECK, *old, "."],
         *hooks,
@@ -110,9 +86,20 @@ def test_companions(stranger: Place) -> None:
         [EDIT, *old, "a.yml"],
         [MERGE, *old, "../base", "../ours", "../theirs", "a.yml"],
         [ROTATE, *old, *place.by_file("new", "new-"), "."],
-        whole,
+        # The hook checks commits only in a clone that is not partial.
+        ["sed", "-i", "/promisor/d; /partialClone/d", ".git/config"],
         *hooks,
     ]
     for words in runs:
         done = place.run(*words, EDITOR=marks)
         assert started(place) == set(), (words, done)
+    place.put(".git/config", config)
+    place.shell(PLAIN)
+    blob = place.shell("git rev-parse HEAD:b.yml").stdout.strip()
+    (place.tree / ".git/objects" / blob[:2] / blob[2:]).unlink()
+    place.shell("git cat-file -p HEAD:b.yml")
+    assert set(STARTED) - started(place) == set()
+    place.shell("git add b.yml")
+    started(place)
+    done = place.run(HOOK)
+    assert (done.returncode, started(place)) == (1, set()), done
