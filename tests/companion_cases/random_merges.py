@@ -5,11 +5,10 @@ git's merge of labels, passwords and plaintexts, in each style of conflicts and 
 torn, lost, in plaintext, or under another's password.
 """
 
-import functools
 import itertools
 import re
 from collections import Counter
-from contextlib import suppress
+from collections.abc import Callable
 from pathlib import Path
 from typing import NamedTuple
 
@@ -31,19 +30,18 @@ from model.vaults import seal
 
 # The label of each named secret. Two labels have an old secret and a new one. One secret is not named.
 LABELS = {"dev": "dev", "prod": "prod", "prod2": "prod", "old": "default", "new": "default"}
+SECRETS = {name: Password(label, name, f"{label}@{name}") for name, label in LABELS.items()}
 UNNAMED = "dev2"
 TEXTS = [b"clear x", b"clear y\n", b"two\nclear lines\n"]
 INDENTATIONS = [4, 10, 10]
 ITEM = ""
-KINDS = ["text", "encrypted anew", "rekeyed", "removed", "indented", "added", "unlabelled"]
 BLOCK = re.compile(rb"(?m)^((?:\w+:|  -) )!vault \|\r?\n((?: +\S+(?:\r?\n|\Z))+)")
 # The line below a value in a plaintext, which separates it from the next.
 BELOW = re.compile(rb"(?m)^# \w*\r?\n|\r?\n# \w*\Z")
 STYLES, ENDS = ["merge", "diff3", "zdiff3"], [b"\n", b"\r\n"]
 EXAMPLES = 900
-# The least number of merges of each kind, of changes of each kind, and of conflicts in each layout.
-LEAST: dict[object, int] = {"merged": 100, "conflicts": 15, "under a new secret": 4, "rotated": 100}
-LEAST |= dict.fromkeys(KINDS, 8) | dict.fromkeys(itertools.product(STYLES, ENDS), 3)
+# The least number of merges of each kind, and of conflicts in each style.
+LEAST = {"merged": 100, "under a new secret": 4, **dict.fromkeys(STYLES, 6)}
 
 
 class Value(NamedTuple):
@@ -66,36 +64,11 @@ class Value(NamedTuple):
         lines = self.envelope().splitlines(keepends=True)
         return self.head() + b"!vault |\n" + b"".join(b" " * self.indentation + line for line in lines)
 
+    def elsewhere(self) -> "Value":
+        return self._replace(key="", indentation=0)
+
     def is_mislabelled(self) -> bool:
         return (self.label or "default") != LABELS.get(self.password, self.label)
-
-    def is_closed(self) -> bool:
-        return self.password == UNNAMED or self.is_mislabelled()
-
-
-def document(values: list[Value], shown: list[bytes]) -> bytes:
-    """Return YAML with these lines in place of the values. Without any, the file is empty."""
-    keyed = [text for value, text in zip(values, shown) if value.key]
-    items = [text for value, text in zip(values, shown) if not value.key]
-    return b"".join([b"start: 1\n", *keyed, b"list:\n", *items] if values else [])
-
-
-class Layout(NamedTuple):
-    """The style of conflicts, the ends of lines, and which versions end their last lines."""
-
-    style: str = "merge"
-    end: bytes = b"\n"
-    are_ended: tuple[bool, ...] = (True, True, True)
-
-    def written(self, contents: list[bytes]) -> list[bytes]:
-        """Return the versions with these ends of lines."""
-        pairs = zip(contents, self.are_ended)
-        ended = [content if is_ended else content.removesuffix(b"\n") for content, is_ended in pairs]
-        return [each.replace(b"\n", self.end) for each in ended]
-
-
-ARE_ENDED = st.tuples(*[st.sampled_from([True, True, False])] * 3)
-LAYOUTS = st.builds(Layout, st.sampled_from(STYLES), st.sampled_from(ENDS), ARE_ENDED)
 
 
 def common(*used: set[str | None]) -> str | None:
@@ -106,22 +79,29 @@ def common(*used: set[str | None]) -> str | None:
 
 
 class Merge(NamedTuple):
-    base: list[Value]
-    ours: list[Value]
-    theirs: list[Value]
+    """Base, ours and theirs, the end of each line, and which versions end their last lines."""
 
-    def documents(self, layout: Layout) -> list[bytes]:
-        return layout.written([document(values, [value.block() for value in values]) for values in self])
+    versions: list[list[Value]]
+    end: bytes
+    are_ended: list[bool]
+
+    def written(self, shown: Callable[[Value], bytes]) -> list[bytes]:
+        """Return the versions as YAML, with these lines in place of the values. Without any, a file is empty."""
+        contents = []
+        for values, is_ended in zip(self.versions, self.are_ended):
+            keyed, items = ([shown(value) for value in values if bool(value.key) == each] for each in (True, False))
+            content = b"".join([b"start: 1\n", *keyed, b"list:\n", *items] if values else [])
+            contents.append((content if is_ended else content.removesuffix(b"\n")).replace(b"\n", self.end))
+        return contents
 
     def is_opened(self, value: Value) -> bool:
         """Return whether a secret opens it, and not all versions have it."""
-        same = value._replace(key="", indentation=0)
-        versions = ([each._replace(key="", indentation=0) for each in values] for values in self)
-        return not (value.is_closed() or all(same in values for values in versions))
+        is_everywhere = all(value.elsewhere() in map(Value.elsewhere, values) for values in self.versions)
+        return not (value.password == UNNAMED or value.is_mislabelled() or is_everywhere)
 
     def common(self, label: str) -> str | None:
         """Return the password of all values with a label; None if each keeps its own."""
-        of_label = ([value for value in values if value.label == label] for values in self)
+        of_label = ([value for value in values if value.label == label] for values in self.versions)
         return common(*({value.password if self.is_opened(value) else None for value in values} for values in of_label))
 
     def known_by(self, value: Value, is_result: bool = False) -> bytes:
@@ -131,17 +111,9 @@ class Merge(NamedTuple):
         salt = "" if self.is_opened(value) else value.salt
         return f"{value.label or 'default'} {own} {salt} {value.indentation} {value.text!r}".encode()
 
-    def plain(self, layout: Layout) -> list[bytes]:
-        """Return the versions with plaintexts, each with a line that separates it from the next."""
-        rows = [[b"%s%s\n# %s\n" % (v.head(), self.known_by(v), v.key.encode()) for v in values] for values in self]
-        return layout.written([document(values, own) for values, own in zip(self, rows)])
-
-
-@functools.cache
-def secret_of(name: str) -> Password:
-    secret = Password(LABELS[name], name, f"{LABELS[name]}@{name}")
-    secret.content = PASSWORDS[name]
-    return secret
+    def plain(self, value: Value) -> bytes:
+        """Return its plaintext, with a line that separates it from the next."""
+        return b"%s%s\n# %s\n" % (value.head(), self.known_by(value), value.key.encode())
 
 
 class Model(Tool):
@@ -152,16 +124,11 @@ class Model(Tool):
         # The new values, by their envelopes.
         self.made: dict[bytes, Value] = {}
 
-    def view(self, envelope: bytes, secret: Password) -> bytes:
-        text = decrypted(secret.place, envelope)
-        if text is None:
-            raise NotDecrypted("no secret decrypts this vault")
-        return text
-
     def opened(self, envelope: bytes) -> tuple[Password, bytes]:
-        for secret in sources.in_order([*map(secret_of, LABELS)], label_of(envelope)):
-            with suppress(NotDecrypted):
-                return secret, self.view(envelope, secret)
+        for secret in sources.in_order([*SECRETS.values()], label_of(envelope)):
+            text = decrypted(secret.place, envelope)
+            if text is not None:
+                return secret, text
         raise NotDecrypted("no secret decrypts this vault")
 
     def encrypt(self, plaintext: bytes, secret: Password, label: str) -> bytes:
@@ -185,30 +152,22 @@ def random_value(draw: st.DrawFn, key: str) -> Value:
 
 def rekeyed(value: Value) -> Value:
     """Return it under the other secret with the same label, if there is one."""
-    own = LABELS.get(value.password)
-    others = [name for name, label in LABELS.items() if label == own and name != value.password]
-    return value._replace(password=others[0] if others else value.password)
+    others = {"prod": "prod2", "prod2": "prod", "old": "new", "new": "old"}
+    return value._replace(password=others.get(value.password, value.password))
 
 
-def changed(kind: str, value: Value, new: Value) -> list[Value]:
-    """Return what replaces a value."""
+def changes(value: Value, new: Value) -> list[list[Value]]:
+    """Return what may replace a value. Most often, it stays."""
     anew = value._replace(salt=(value.salt + 1) % len(SALTS))
+    other_text = anew._replace(text=new.text)
     added = new._replace(key=value.key and f"{value.key}{new.text.split()[-1][:1].decode()}", text=value.text)
-    ways: dict[str, list[Value]] = {
-        "": [value],
-        "text": [anew._replace(text=new.text)],
-        "encrypted anew": [anew],
-        "rekeyed": [rekeyed(value)],
-        "removed": [],
-        "indented": [value._replace(indentation=new.indentation)],
-        "added": [added, value],
-        "unlabelled": [value._replace(label="")],
-    }
-    return ways[kind]
+    often = [value, value, value, other_text, other_text, rekeyed(value), rekeyed(value)]
+    seldom = [anew, value._replace(indentation=new.indentation), value._replace(label="")]
+    return [*([each] for each in often + seldom), [], [added, value]]
 
 
 @st.composite
-def random_merge(draw: st.DrawFn, counts: Counter[object]) -> Merge:
+def random_merge(draw: st.DrawFn) -> Merge:
     keys = ["a", "b", "c", ITEM, ITEM, ITEM][draw(st.integers(0, 3)) :][: draw(st.integers(1, 6))]
     base = [draw(random_value(key)) for key in keys]
     if draw(st.booleans()):
@@ -220,71 +179,54 @@ def random_merge(draw: st.DrawFn, counts: Counter[object]) -> Merge:
         base = [value._replace(password=older.get(value.password, value.password)) for value in base]
     sides: list[list[Value]] = [[], []]
     for side, value in itertools.product(sides, base):
-        kind = draw(st.sampled_from(["", "", "", "text", "rekeyed", *KINDS]))
-        side.extend(changed(kind, value, draw(random_value(ITEM))))
-        counts[kind] += 1
+        side.extend(draw(st.sampled_from(changes(value, draw(random_value(ITEM))))))
     rotated = draw(st.sampled_from([None, None, *sides]))
     if rotated is not None:
         rotated[:] = map(rekeyed, rotated)
-        counts["rotated"] += 1
-    return Merge(base if draw(st.integers(0, 9)) else [], *sides)
+    are_ended = [draw(st.sampled_from([True, True, False])) for _ in range(3)]
+    return Merge([base if draw(st.integers(0, 9)) else [], *sides], draw(st.sampled_from(ENDS)), are_ended)
 
 
-def blocks_of(content: bytes) -> list[tuple[str, bytes]]:
-    """Return the key and the envelope of each block."""
-    lines = [(match[1], [line.strip() for line in match[2].splitlines()]) for match in BLOCK.finditer(content)]
-    return [(head.decode().strip(" -:"), b"".join(line + b"\n" for line in own)) for head, own in lines]
-
-
-def in_plaintext(content: bytes, known: dict[bytes, Value], merge: Merge, is_merged: bool) -> bytes:
-    """Return a result with what each block is known by in place of the block."""
-
-    def shown(match: re.Match[bytes]) -> bytes:
-        [(_, envelope)] = blocks_of(match[0])
-        indentation = len(match[2]) - len(match[2].lstrip(b" "))
-        end = match[0][len(match[0].rstrip(b"\r\n")) :]
-        return match[1] + merge.known_by(known[envelope]._replace(indentation=indentation), is_merged) + end
-
-    return BLOCK.sub(shown, content)
-
-
-def check_merge(folder: Path, merge: Merge, layout: Layout) -> list[str]:
+def check_merge(folder: Path, merge: Merge) -> list[str]:
     """Check a merge, and return of which kinds it was."""
     import yaml
 
-    tool, contents = Model(), merge.documents(layout)
-    result = tool.merged(contents)
-    known = {value.envelope(): value for values in merge for value in values} | tool.made
-    blocks = blocks_of(result.content)
-    assert len(blocks) == result.content.count(MAGIC) and {*dict(blocks).values()} <= {*known}, "all are whole"
+    tool = Model()
+    result = tool.merged(merge.written(Value.block))
+    known = {value.envelope(): value for values in merge.versions for value in values} | tool.made
+    found: list[bytes] = []
+
+    def shown(match: re.Match[bytes]) -> bytes:
+        """Return what a block is known by."""
+        lines = match[2].splitlines(keepends=True)
+        found.append(b"".join(line.strip() + b"\n" for line in lines))
+        value = known[found[-1]]._replace(indentation=len(lines[0]) - len(lines[0].lstrip()))
+        return match[1] + merge.known_by(value, is_result=not result.why) + lines[-1][len(lines[-1].rstrip()) :]
+
+    text, count = by_git(folder, merge.written(merge.plain))
+    assert BLOCK.sub(shown, result.content) == BELOW.sub(b"", text), "the merge is git's"
+    assert bool(result.why) == (count > 0)
+    assert len(found) == result.content.count(MAGIC), "all are whole"
     assert b"clear" not in result.content, "nothing is in plaintext"
-    kinds = ["conflicts" if result.why else "merged", *(["under a new secret"] if tool.made else [])]
     if not result.why:
         yaml.load(result.content, Loader=yaml.BaseLoader)
-    text, count = by_git(folder, merge.plain(layout))
-    assert bool(result.why) == (count > 0)
-    wanted = BELOW.sub(b"", text)
-    assert in_plaintext(result.content, known, merge, is_merged=not result.why) == wanted, "the merge is git's"
-    return kinds
+    return [folder.name if result.why else "merged", *(["under a new secret"] if tool.made else [])]
 
 
 def test_of_values(request: pytest.FixtureRequest, tmp_path: Path, monkeypatch: pytest.MonkeyPatch) -> None:
     needs("git")
     needs_pyyaml()
-    counts: Counter[object] = Counter()
-    repositories = {style: repository(tmp_path / style, style) for style in STYLES}
+    counts: Counter[str] = Counter()
+    repositories = [repository(tmp_path / style, style) for style in STYLES]
 
     @hypothesis.seed(request.config.getoption("--seed"))
     @hypothesis.settings(
         max_examples=EXAMPLES, deadline=None, database=None, suppress_health_check=list(hypothesis.HealthCheck)
     )
-    @hypothesis.given(random_merge(counts), LAYOUTS)
-    def check(merge: Merge, layout: Layout) -> None:
-        folder = repositories[layout.style]
+    @hypothesis.given(random_merge(), st.sampled_from(repositories))
+    def check(merge: Merge, folder: Path) -> None:
         monkeypatch.chdir(folder)
-        kinds = check_merge(folder, merge, layout)
-        counts.update(kinds)
-        counts[layout.style, layout.end] += "conflicts" in kinds
+        counts.update(check_merge(folder, merge))
 
     check()
-    assert [(kind, counts[kind], least) for kind, least in LEAST.items() if counts[kind] < least] == []
+    assert all(counts[kind] >= least for kind, least in LEAST.items()), counts
