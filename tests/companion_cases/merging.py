@@ -9,31 +9,18 @@ from pathlib import Path
 
 import pytest
 
-from ansible_vault_companions.merging.versions import Versions, merged_lines
-from companion_cases import CHECK, EDIT, HOOK, MERGE, PASSWORDS, Place, block, decrypted, ended
-from companion_cases import sealed, silent, texts, versions
+from companion_cases import EDIT, MERGE, Place, block, decrypted, ended, sealed, silent, versions
 from companion_cases.random_merges import Model, Value, common
-from companion_cases.repository import BASE, BOTH, OURS, SALTS, THEIRS, add_and_commit, commit, fork
-from companion_cases.repository import repository, set_driver, under_git
-from model.vaults import seal
+from companion_cases.repository import BASE, BOTH, OURS, THEIRS, fork, repository, set_driver, under_git
 
 pytestmark = pytest.mark.usefixtures("git")
 
-ATTRIBUTES = "*.yml merge=ansible-vault\n"
 WHOLE = "not merged, so both sides are whole in the file: "
-
-
-def forked(place: Place, *files: dict[str, bytes]) -> None:
-    """Commit base, ours and theirs, with the driver configured."""
-    under_git(place, ATTRIBUTES)
-    set_driver(place, *place.by_file("old"))
-    fork(place, *files)
 
 
 def both(sides: Sequence[bytes], size: int = 7) -> bytes:
     """Return a conflict of two texts."""
-    markers = (b"<" * size, b"=" * size, b">" * size)
-    return b"%s ours\n%s%s\n%s%s theirs\n" % (markers[0], sides[0], markers[1], sides[1], markers[2])
+    return b"%s ours\n%s%s\n%s%s theirs\n" % (b"<" * size, sides[0], b"=" * size, sides[1], b">" * size)
 
 
 def values(a: bytes, b: bytes) -> bytes:
@@ -46,7 +33,6 @@ LINES, QUOTED = b"a: 1\nb: 1\nc: 1\n", b'q: !vault "%s"\n' % sealed("old").repla
 FILES = {
     "vault.yml": [sealed("old", text, "prod") for text in (BASE, OURS, THEIRS)],
     "values.yml": [values(b"a", b"b"), values(b"A", b"b"), values(b"a", b"B")],
-    "same.yml": [sealed("old", BASE), sealed("old", OURS), seal(PASSWORDS["old"], BASE, b"", SALTS[1])],
     "quoted.yml": [LINES, LINES.replace(b"1", b"2", 1), LINES + QUOTED],
     "torn.yml": [sealed("old", b"x: %s\n" % side) for side in SIDES],
     "torn_values.yml": [values(side, b"b") for side in SIDES],
@@ -54,34 +40,30 @@ FILES = {
 
 
 def test_branches(place: Place) -> None:
-    """A single secret decrypts every label. A result that equals ours, byte for byte, counts as merged."""
-    base, ours, theirs = ({name: each[number] for name, each in FILES.items()} for number in range(3))
-    forked(place, base, ours, theirs)
+    """Values keep the envelopes of their sides. A single secret decrypts every label."""
+    under_git(place, "*.yml merge=ansible-vault\n")
+    set_driver(place, *place.by_file("old"))
+    fork(place, *({name: each[number] for name, each in FILES.items()} for number in range(3)))
     done = place.shell("git merge --no-edit theirs")
     why = f"{MERGE}: torn.yml: {WHOLE}both sides changed the same lines; resolve with {EDIT}\n"
     ended("a merge", done, 1, why, f"{MERGE}: torn_values.yml: 1 conflict; resolve with {EDIT}\n")
     unmerged = place.shell("git diff --name-only --diff-filter=U").stdout
     assert unmerged == "torn.yml\ntorn_values.yml\n", "the other files are merged"
     assert decrypted("old", place.get("vault.yml")) == BOTH, "both changes are in the vault"
-    assert place.get("values.yml") == values(b"A", b"B"), "values keep the envelopes of their sides"
-    assert place.get("same.yml") == ours["same.yml"]
-    assert place.get("quoted.yml") == ours["quoted.yml"] + QUOTED, "values in quotes are merged, too"
-    assert place.get("torn.yml") == both(FILES["torn.yml"][1:]), "a vault stays whole"
     rest = values(b"ours", b"b").removeprefix(block("old", b"ours", name="a"))
-    wanted = both([block("old", side, name="a") for side in SIDES[1:]]) + rest
-    assert place.get("torn_values.yml") == wanted, "so does a value"
-    checked = place.run(CHECK, *place.by_file("old"), ".")
-    ended("the check", checked, 1, *(f"./{name}: has git's conflict markers" for name in unmerged.split()))
-    place.shell(f"git add -A; {HOOK} --install")
-    ended("the hook", commit(place), 1, *(f"{HOOK}: {name} " for name in unmerged.split()))
+    wanted = {
+        "values.yml": values(b"A", b"B"),
+        "quoted.yml": FILES["quoted.yml"][1] + QUOTED,
+        "torn.yml": both(FILES["torn.yml"][1:]),
+        "torn_values.yml": both([block("old", side, name="a") for side in SIDES[1:]]) + rest,
+    }
+    assert {name: place.get(name) for name in wanted} == wanted
 
 
 OLD = [sealed("old", text) for text in (BASE, OURS, THEIRS)]
 # Versions whose lines git would merge, although together they are not YAML.
 FIVE = block("old") + b"a: 1\nb: 1\nc: 1\nd: 1\ne: 1\n"
 BROKEN = [FIVE, FIVE.replace(b"a: 1", b'a: "1').replace(b"e: 1", b'e: 1"'), FIVE.replace(b"c: 1", b'c: "1"')]
-
-
 # Versions that are not merged, and why.
 REFUSED: dict[str, Sequence[bytes]] = {
     "base: no secret decrypts this vault (no label; ": [sealed("dev2"), *OLD[1:]],
@@ -89,9 +71,7 @@ REFUSED: dict[str, Sequence[bytes]] = {
     "one side is a vault and the other is not": [*OLD[:2], THEIRS],
     "the passwords of the two sides differ; choose": [sealed(name) for name in ("old", "new", "prod2")],
     "git merge-file cannot merge it; it may be binary": [sealed("old", b"\0%d" % number) for number in range(3)],
-    "the labels differ: default in ours, prod in theirs": [*OLD[:2], sealed("prod", THEIRS, "prod")],
     # The secret of another label decrypts a side.
-    "ours: its label is prod, but dev@": [sealed("prod"), sealed("dev", OURS, "prod"), sealed("prod", THEIRS)],
     "theirs: its label is prod, but dev@": [sealed("old"), sealed("old", OURS), sealed("dev", THEIRS, "prod")],
     "git can merge its lines, but then line ": BROKEN,
 }
@@ -110,16 +90,15 @@ def test_those_that_fail(place: Place, why: str) -> None:
 
 
 def test_what_fails(place: Place) -> None:
-    """A file is missing, there is no secret, the tool fails, or a signal ends the driver. Whatever git does then, both
-    sides are in the file, with markers of git's size."""
+    """There is no secret, the tool fails, or a signal ends the driver. Whatever git does then, both sides are in the
+    file, with markers of git's size. Without one of the versions, the file stays."""
     words = [*place.by_file("old"), *versions(place, "a.yml", *OLD)]
     ended("no base", place.run(MERGE, *words[:2], "../missing", *words[3:]), 1, "missing: No such file or directory")
-    assert place.files() == {"a.yml": OLD[1]}, "ours stays"
-    failures = {"exit 4": "ansible-vault ended with status 4", "kill -9 $PPID": "", "": "no password is given"}
-    for tool, why in failures.items():
+    assert place.files() == {"a.yml": OLD[1]}
+    for tool, why in {"exit 4": "ansible-vault ended with status 4", "kill -9 $PPID": "", ":": "no password"}.items():
         place.put("a.yml", OLD[1])
-        place.wrap_tool(f'[ "$1" != view ] || {tool or ":"}')
-        done = place.run(MERGE, *(words[:-1] if tool else words[2:-1]), "9", words[-1])
+        place.wrap_tool(f'[ "$1" != view ] || {tool}')
+        done = place.run(MERGE, *(words[2:-1] if tool == ":" else words[:-1]), "9", words[-1])
         ended(tool, done, 1 if why else -9, why)
         assert place.files() == {"a.yml": both(OLD[1:], 9)}, tool
 
@@ -141,90 +120,47 @@ def test_chosen_secret(place: Place) -> None:
     assert place.get("b.yml") == same[0]
 
 
-# Two merges of the same branches in turn, and then the merge of the two merges.
-CROSSED = """
-git checkout -qb crossed && git merge --no-edit theirs; cp ../merged.yml a.yml && git add -A && git commit -qm crossed
-git checkout -q theirs && git merge --no-edit @{-1}~1; cp ../merged.yml a.yml && git add -A && git commit -qm again
-change() { cp ../$1.yml a.yml && git commit -qam change; }
-change last && git checkout -q crossed && change first && git merge --no-edit theirs
-"""
-
-
-@pytest.mark.parametrize("kind", ("a vault", "a value"))
-def test_crossed(place: Place, kind: str) -> None:
-    """The base is a merge of two bases with a conflict, and still tells which side changed a line."""
-    lines = [f"{number}: 1\n" for number in range(9)]
-
-    def file(**changes: str) -> bytes:
-        text = "".join(changes.get(f"_{line[0]}", line) for line in lines).encode()
-        return sealed("old", text) if kind == "a vault" else text + block("old", name="a")
-
-    contents: dict[str, dict[str, str]] = {"first": {"_0": "0: I\n"}, "last": {"_8": "8: I\n"}, "merged": {}}
-    for name, changes in contents.items():
-        place.put(f"../{name}.yml", file(_4="4: both\n", **changes))
-    forked(place, *({"a.yml": file(_4=f"4: {side}\n")} for side in ("base", "ours", "theirs")))
-    done = place.shell(CROSSED)
-    assert done.returncode == 0, done.stderr
-    wanted = file(_0="0: I\n", _4="4: both\n", _8="8: I\n")
-    assert texts(place.get("a.yml"), "old") == texts(wanted, "old")
-    assert kind == "a vault" or place.get("a.yml") == wanted
-
-
-def test_reused_resolutions(place: Place) -> None:
-    """git asks the driver to merge a conflict with its earlier resolution, and has both only encrypted."""
-    forked(place, *({"a.yml": sealed("old", b"x: %s\n" % side)} for side in SIDES))
-    place.shell("git config rerere.enabled true; git config rerere.autoUpdate true; git merge theirs")
-    place.put("a.yml", sealed("old", b"x: both\n"))
-    add_and_commit(place)
-    done = place.shell("git reset -q --hard HEAD~1; git merge theirs")
-    assert "Staged 'a.yml' using previous resolution" in done.stdout + done.stderr, done
-    assert decrypted("old", place.get("a.yml")) == b"x: both\n"
-    ended("nothing in plaintext", place.shell("grep -r 'x: ' .git"), 1)
-
-
-@pytest.mark.parametrize("count", (1, 127, 128, 256))
-def test_counts(count: int) -> None:
-    """The exit status of git counts up to 127 conflicts, and tells them from a failure."""
-    lines = b"%d %s\n" + b"between\n" * 5
-    base, ours, theirs = (b"".join(lines % (number, side) for number in range(count)) for side in SIDES)
-    found = merged_lines(Versions(ours, base, theirs), 9)
-    assert (found.conflicts, found.text.count(b"\n=========\n")) == (min(count, 127), count)
+def test_conflict_as_base(tmp_path: Path, monkeypatch: pytest.MonkeyPatch) -> None:
+    """In a crossed history, the base is a merge of bases and may be a conflict, which still tells which side changed a
+    line. Where git reuses a resolution, ours is that conflict, too."""
+    monkeypatch.chdir(repository(tmp_path, "merge"))
+    lines = b"0: 1\n1: 1\n2: 1\n%s3: 1\n4: 1\n5: 1\n"
+    ours, theirs = (lines.replace(*change) % b"x: both\n" for change in ((b"0: 1", b"0: I"), (b"5: 1", b"5: I")))
+    wanted = ours.replace(b"5: 1", b"5: I")
+    base = both([sealed("old", lines % b"x: ours\n"), sealed("old", lines % b"x: theirs\n")], 9)
+    merged = Model().merged([base, sealed("old", ours), sealed("old", theirs)])
+    assert (decrypted("old", merged.content), merged.why) == (wanted, "")
+    assert Model().merged([base, base, sealed("old", ours)]).content == sealed("old", ours)
+    value, base = block("old"), lines % both([b"x: ours\n", b"x: theirs\n"], 9)
+    merged = Model().merged([base + value, ours + value, theirs + value])
+    assert (merged.content, merged.why) == (wanted + value, "")
 
 
 # Vaults by their labels and passwords.
-VAULTS = [
-    *itertools.product(["prod"], ["prod", "prod2", "dev"]),
-    *itertools.product([""], ["prod", "prod2", "dev", "old", "new"]),
-    ("dev", "dev"),
-]
-
-
-def wanted_password(*versions: Value) -> str | None:
-    """Return the password of the merged vault, or None if it is not merged."""
-    used: list[set[str | None]] = [{f"{each.label}@{each.password}"} for each in versions]
-    is_clear = versions[1].label == versions[2].label and not any(each.is_mislabelled() for each in versions[1:])
-    return (common(*used) or "").partition("@")[2] or None if is_clear else None
+VAULTS = [("prod", name) for name in ("prod", "prod2", "dev")] + [("dev", "dev")]
+VAULTS += [("", name) for name in ("prod", "prod2", "dev", "old", "new")]
 
 
 def test_secrets_of_vaults(tmp_path: Path, monkeypatch: pytest.MonkeyPatch) -> None:
     """A text is encrypted with the password of its side, or if all versions have one label, with the changed one."""
-    monkeypatch.chdir(repository(tmp_path / "diff3", "diff3"))
-    plaintexts = [BASE, OURS, THEIRS]
-    # Both sides change the text, or one of them.
-    changes = [plaintexts, [*plaintexts[:2], plaintexts[0]], [plaintexts[0], *plaintexts[::2]]]
+    monkeypatch.chdir(repository(tmp_path, "diff3"))
     counts: Counter[str] = Counter()
+    # Both sides change the text, or one of them.
+    changes = {(BASE, OURS, THEIRS): BOTH, (BASE, OURS, BASE): OURS, (BASE, BASE, THEIRS): THEIRS}
     for changed, vaults in itertools.product(changes, itertools.product(VAULTS, repeat=3)):
         rows = enumerate(zip(changed, vaults))
         before, ours, theirs = (Value("", text, *vault, number, 0) for number, (text, vault) in rows)
-        tool, wanted = Model(), wanted_password(before, ours, theirs)
+        tool = Model()
         contents = [each.envelope() for each in (before, ours, theirs)]
         result = tool.merged(contents)
-        if result.why:
-            assert (wanted, result.content) == (None, both(contents[1:])), vaults
+        used: list[set[str | None]] = [{f"{each.label}@{each.password}"} for each in (before, ours, theirs)]
+        wanted = common(*used)
+        is_clear = ours.label == theirs.label and not (ours.is_mislabelled() or theirs.is_mislabelled())
+        if not (wanted and is_clear):
+            assert (bool(result.why), result.content) == (True, both(contents[1:])), vaults
             counts["refused"] += 1
             continue
         secret, text = tool.opened(result.content)
         counts["under a new secret"] += ours.password != theirs.password
-        merged = BOTH if changed == plaintexts else next(iter({ours.text, theirs.text} - {before.text}), BASE)
-        assert (secret.place, text) == (wanted, merged), vaults
+        assert (result.why, secret.place, text) == ("", wanted.partition("@")[2], changes[changed]), vaults
     assert counts["refused"] > 10 and counts["under a new secret"] == 24, counts
