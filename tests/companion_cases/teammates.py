@@ -3,10 +3,10 @@
 import hashlib
 import subprocess
 from collections import Counter
-from copy import deepcopy
+from collections.abc import Iterator
+from itertools import islice
 from pathlib import Path
 from random import Random
-from typing import Any
 
 import pytest
 from hypothesis import given, settings
@@ -20,32 +20,43 @@ from model.vaults import serialized
 
 pytestmark = pytest.mark.usefixtures("git")
 
-# By key, the number of an envelope, a plaintext, or a table below. A file is a table, or the number of a vault.
-Table = dict[str, Any]
+# The number of an envelope, or a plaintext, by the name of the file and the keys. A vault has no keys.
+Steps = tuple[str, ...]
+Contents = dict[Steps, int | str]
+HEAD: Contents = {("a.yml", "one"): 1, ("a.yml", "m", "three"): "text", ("b.yml", "four"): 4, ("v.yml",): 1}
 EXAMPLES = 40
 PLAIN = ["{}", '"{}"', "'{{{{ x }}}}{}'", "[{}]", "{{x: {}}}", "!vault {}"]
 TAKEN_AWAY = ["", "~", "''", '"{{ y }}"', '" {{ x }} {{ y }} "', "{}"]
 
 
-def written(content: int | str | Table, depth: int = 0) -> bytes:
+def below(contents: Contents) -> dict[str, Contents]:
+    """Return what is below each name or key."""
+    found: dict[str, Contents] = {}
+    for (first, *rest), content in contents.items():
+        found.setdefault(first, {})[(*rest,)] = content
+    return found
+
+
+def written(contents: Contents, depth: int = 0) -> bytes:
     """Return the content of a file as YAML, with its values in several styles."""
+    if () not in contents:
+        rows = [(key, b" " if () in each else b"\n", each) for key, each in below(contents).items()]
+        lines = [b"%*s%s:%s%s" % (depth, b"", key.encode(), gap, written(each, depth + 1)) for key, gap, each in rows]
+        return b"\n".join(lines) + b"\n" * (not depth)
+    content = contents[()]
     if isinstance(content, str):
         return content.encode()
-    if isinstance(content, int):
-        # Its form is right, whatever its plaintext.
-        envelope = serialized(*(hashlib.sha256(b"%d %d" % (content, part)).digest() for part in range(3)))
-        quoted = b'!vault "%s"' % envelope.replace(b"\n", b"\\n")
-        return envelope if not depth else b"!vault |\n" + lines_of(envelope, depth + 2) if content % 3 else quoted
-    rows = [(key, b"\n" if isinstance(value, dict) else b" ", value) for key, value in content.items()]
-    lines = [b"%*s%s:%s%s" % (depth, b"", key.encode(), space, written(value, depth + 1)) for key, space, value in rows]
-    return b"\n".join(lines) + b"\n" * (not depth)
+    # Its form is right, whatever its plaintext.
+    envelope = serialized(*(hashlib.sha256(b"%d %d" % (content, part)).digest() for part in range(3)))
+    quoted = b'!vault "%s"' % envelope.replace(b"\n", b"\\n")
+    return envelope if not depth else b"!vault |\n" + lines_of(envelope, depth + 2) if content % 3 else quoted
 
 
 class Team:
     """A commit in the making, and the one before it."""
 
-    def __init__(self, random: Random, head: Table) -> None:
-        self.random, self.head, self.files = random, head, deepcopy(head)
+    def __init__(self, random: Random, head: Contents) -> None:
+        self.random, self.head, self.files = random, head, {**head}
 
     def number(self) -> int:
         return self.random.randrange(1 << 60)
@@ -53,111 +64,83 @@ class Team:
     def new(self, name: str) -> str:
         return name.format(self.number())
 
-    def names(self, kind: type) -> list[str]:
-        return [name for name, content in self.files.items() if isinstance(content, kind)]
+    def tables(self) -> list[str]:
+        """Return the names of the files with keys."""
+        return [*dict.fromkeys(name for name, *keys in self.files if keys)]
 
-    def places(self, kind: type) -> list[tuple[Table, str]]:
-        """Return the tables and keys with such values, in each file and below its keys."""
-        files = [self.files[name] for name in self.names(dict)]
-        tables = files + [value for table in files for value in table.values() if isinstance(value, dict)]
-        return [(table, key) for table in tables for key, value in table.items() if isinstance(value, kind)]
+    def envelopes(self, *lengths: int) -> list[Steps]:
+        """Return the paths of this length to envelopes."""
+        return [path for path, content in self.files.items() if len(path) in lengths and isinstance(content, int)]
 
-    # What teammates do.
+    def remove(self, *start: str) -> None:
+        self.files = {path: content for path, content in self.files.items() if path[: len(start)] != start}
 
     def add(self) -> None:
-        for name in self.names(dict):
-            below = {self.new("k{}"): self.number()}
-            self.files[name] |= {self.new("k{}"): self.number(), self.new("k{}"): self.new("text{}"), "m": below}
-        self.files[self.new("f{}.yml")] = self.random.choice([{}, self.number()])
+        for name in self.tables():
+            self.files |= {(name, self.new("k{}")): self.number(), (name, self.new("k{}")): self.new("text{}")}
+            self.files[name, "m", self.new("k{}")] = self.number()
+        contents: list[int | str] = ["", self.number()]
+        self.files[(self.new("f{}.yml"),)] = self.random.choice(contents)
 
     def encrypt_again(self) -> None:
-        for table, key in self.places(int):
-            table[key] = self.number()
-        self.files |= {name: self.number() for name in self.names(int)}
+        self.files |= {path: self.number() for path in self.envelopes(1, 2, 3)}
 
     def take_away(self) -> None:
-        for table, key in self.places(int)[:2]:
-            table[key] = self.random.choice(TAKEN_AWAY)
+        self.files |= {path: self.random.choice(TAKEN_AWAY) for path in self.envelopes(2, 3)[:2]}
 
     def change_text(self) -> None:
-        for table, key in [(table, key) for table, key in self.places(str) if "text" in table[key]][:2]:
-            table[key] = self.new("text{}")
+        texts = [path for path, content in self.files.items() if str(content).startswith("text")]
+        self.files |= {path: self.new("text{}") for path in texts[:2]}
 
     def move(self) -> None:
-        files = [self.files[name] for name in self.names(dict)]
-        for key in [key for table in files[:1] for key, value in table.items() if isinstance(value, int)][:1]:
-            self.random.choice(files)[key] = files[0].pop(key)
+        for path in self.envelopes(2)[:1]:
+            other = self.random.choice(self.tables())
+            self.files[other, path[1]] = self.files.pop(path)
 
     def rename(self) -> None:
-        self.files[self.new("r{}.yml")] = self.files.pop(self.random.choice([*self.files]))
+        old, new = self.random.choice([*below(self.files)]), self.new("r{}.yml")
+        self.files = {(new if name == old else name, *keys): each for (name, *keys), each in self.files.items()}
 
     def encrypt_file(self) -> None:
-        self.files |= {name: self.number() for name in self.names(dict)[:1]}
+        for name in self.tables()[:1]:
+            self.remove(name)
+            self.files[(name,)] = self.number()
 
     def drop(self) -> None:
-        self.files.pop(self.random.choice([*self.files]))
-        for table, key in self.places(int)[:1]:
-            del table[key]
+        self.remove(self.random.choice([*below(self.files)]))
+        for path in self.envelopes(2, 3)[:1]:
+            del self.files[path]
 
-    # What nobody may do. Each returns the file that is to be refused, or nothing if there is no place for it.
-
-    def kept(self, kind: type) -> list[tuple[str, str]]:
-        """Return the files and keys that have a value of this kind now and before."""
-        pairs = [(name, key) for name in self.names(dict) for key in self.files[name]]
-        both = [(name, key, self.head.get(name)) for name, key in pairs if isinstance(self.files[name][key], kind)]
-        return [(name, key) for name, key, old in both if isinstance(old, dict) and isinstance(old.get(key), kind)]
-
-    def plain(self) -> str:
-        return self.random.choice(PLAIN).format(self.new("text{}"))
-
-    def leak_value(self) -> str:
-        for name, key in self.kept(int):
-            self.files[name][key] = self.plain()
-            return name
-        return ""
-
-    def leak_below(self) -> str:
-        for name, key in self.kept(dict):
-            for below in [below for below, value in self.head[name][key].items() if isinstance(value, int)]:
-                self.files[name][key][below] = self.plain()
-                return name
-        return ""
-
-    def leak_above(self) -> str:
-        for name, key in self.kept(dict):
-            if any(isinstance(value, int) for value in self.head[name][key].values()):
-                self.files[name][key] = self.new("text{}")
-                return name
-        return ""
-
-    def leak_elsewhere(self) -> str:
-        for name, key in self.kept(int):
-            del self.files[name][key]
-            other = self.new("f{}.yml")
-            self.files[other] = {key: self.plain()}
-            return other
-        return ""
-
-    def leak_vault(self) -> str:
-        """In its own file, or in one that takes its place."""
-        for name in [name for name in self.names(int) if isinstance(self.head.get(name), int)]:
-            del self.files[name]
-            other = self.random.choice([name, name.replace(".yml", ".txt"), f"{name}.old", f"x/y/{name}"])
-            self.files[other] = {self.new("k{}"): self.new("text{}")}
-            return other
-        return ""
+    def leak(self, way: str) -> Iterator[str]:
+        """Do what nobody may do. Yield the file that is to be refused, if there is a place for it."""
+        paths = [path for path in self.envelopes(*LEAKS[way]) if isinstance(self.head.get(path), int)]
+        for name, *keys in self.random.sample(paths, len(paths)):
+            places, plain = [name], self.random.choice(PLAIN)
+            if way == "above":
+                keys, plain = keys[:1], "{}"
+            if way != "value":
+                self.remove(name, *keys)
+            if way == "elsewhere":
+                places = [self.new("f{}.yml")]
+            if way == "vault":
+                # In its own file, or in one that takes its place.
+                keys, places = ["k"], [name, name.replace(".yml", ".txt"), f"{name}.old", f"x/y/{name}"]
+            place = self.random.choice(places)
+            self.files[place, *keys] = plain.format(self.new("text{}"))
+            yield place
 
 
 CHANGES = [Team.add, Team.encrypt_again, Team.take_away, Team.change_text, Team.move, Team.rename, Team.encrypt_file]
-LEAKS = [Team.leak_value, Team.leak_below, Team.leak_above, Team.leak_elsewhere, Team.leak_vault]
+# Where a value or a vault was, above the value, or in another file; and how long the path to it is.
+LEAKS = {"value": (2, 3), "above": (3,), "elsewhere": (2, 3), "vault": (1,)}
 
 
-def refused(folder: Path, files: Table) -> set[str]:
+def refused(folder: Path, files: Contents) -> set[str]:
     """Stage these files alone, and return those that the hook refuses."""
     subprocess.run(["git", "rm", "-rfq", "--ignore-unmatch", "."], check=True)
-    for name, content in files.items():
+    for name, contents in below(files).items():
         (folder / name).parent.mkdir(parents=True, exist_ok=True)
-        (folder / name).write_bytes(written(content))
+        (folder / name).write_bytes(written(contents))
     subprocess.run(["git", "add", "-A"], check=True)
     with Blobs() as blobs:
         review = Review("hook", blobs)
@@ -174,8 +157,7 @@ def test_commits(tmp_path: Path, monkeypatch: pytest.MonkeyPatch) -> None:
     @settings(max_examples=EXAMPLES, deadline=None, database=None)
     @given(st.integers(0, 1 << 64).map(Random))
     def commits(random: Random) -> None:
-        values = {"two": random.randrange(9), "three": "text"}
-        head: Table = {"a.yml": {"one": 1, "below": values}, "b.yml": {"four": 4}, "v.yml": 1, "w.yml": 2}
+        head = HEAD | {("a.yml", "m", "two"): random.randrange(9), ("w.yml",): 2}
         refused(tmp_path, head)
         for _ in range(5):
             subprocess.run(["git", "commit", "-qm", "one", "--allow-empty", "--no-verify"], check=True)
@@ -184,14 +166,12 @@ def test_commits(tmp_path: Path, monkeypatch: pytest.MonkeyPatch) -> None:
                 random.choice([*CHANGES, Team.drop] if team.files else [Team.add])(team)
             assert refused(tmp_path, team.files) == set()
             counts["passes"] += 1
-            head = deepcopy(team.files)
-            for leak in random.sample(LEAKS, len(LEAKS)):
-                name = leak(team)
-                if name:
-                    assert refused(tmp_path, team.files) == {name}, leak
-                    counts[leak.__name__] += 1
-                    break
+            head = {**team.files}
+            leaks = ((way, name) for way in random.sample([*LEAKS], len(LEAKS)) for name in team.leak(way))
+            for way, name in islice(leaks, 1):
+                assert refused(tmp_path, team.files) == {name}, way
+                counts[way] += 1
             refused(tmp_path, head)
 
     commits()
-    assert counts["passes"] >= 100 and all(counts[leak.__name__] >= 5 for leak in LEAKS), counts
+    assert counts["passes"] >= 100 and all(counts[way] >= 5 for way in LEAKS), counts
