@@ -1,6 +1,5 @@
 """Helpers for a tree under git."""
 
-import re
 import subprocess
 from pathlib import Path
 
@@ -25,13 +24,34 @@ def under_git(place: Place, attributes: str) -> None:
     place.put(".gitattributes", attributes.encode())
 
 
-def commit(place: Place, *words: str) -> Done:
-    return place.run("git", "commit", "-qm", "change", *words)
+def with_hooks(place: Place, attributes: str = "") -> None:
+    under_git(place, attributes)
+    done = place.shell(f"{HOOK} --install")
+    assert done.returncode == 0, done.stderr
 
 
 def add_and_commit(place: Place) -> Done:
-    place.shell("git add -A")
-    return commit(place)
+    return place.shell("git add -A; git commit -qm change")
+
+
+def committed(place: Place, name: str, content: bytes) -> str:
+    """Commit this content, whatever a hook says, and return the first digits of the commit."""
+    place.put(name, content)
+    place.shell("git add -A && git commit -qm change --no-verify")
+    return place.shell("git rev-parse HEAD").stdout[:10]
+
+
+def staged(place: Place, files: dict[str, bytes]) -> list[str]:
+    """Stage these files, and return what the hook says."""
+    for name, content in files.items():
+        place.put(name, content)
+    return told(place.shell(f"git add -A && {HOOK}"))
+
+
+def told(done: Done) -> list[str]:
+    """Return what the hook says of the files that it refuses, without the advice below."""
+    assert done.returncode == (1 if done.stderr else 0), done
+    return [line.removeprefix(f"{HOOK}: ") for line in done.stderr.splitlines() if line.startswith(f"{HOOK}: ")]
 
 
 def fork(place: Place, base: dict[str, bytes], ours: dict[str, bytes], theirs: dict[str, bytes]) -> None:
@@ -45,65 +65,6 @@ def fork(place: Place, base: dict[str, bytes], ours: dict[str, bytes], theirs: d
 
 def set_driver(place: Place, *secrets: str) -> None:
     place.run("git", "config", "merge.ansible-vault.driver", f"{MERGE} {' '.join(secrets)} %O %A %B %L %P")
-
-
-def refused(what: str, done: Done, *names: str, why: str = "is not encrypted") -> None:
-    """Check that each name is refused with this reason, and with the advice for it below."""
-    leaked(what, done, dict.fromkeys(names, why))
-
-
-def unmarking(name: str, folder: str = "") -> str:
-    """Return the advice for a marked file. The directory has its own .gitattributes."""
-    return f"  encrypt it, or unmark it with a line at the end of {folder}.gitattributes: /{name} !diff !ansible-vault"
-
-
-def meant(name: str, attribute: str = "-ansible-vault") -> str:
-    """Return the advice for plaintext that may be intended."""
-    return f"  if that is intended, commit with --no-verify, or add to .gitattributes: /{name} {attribute}"
-
-
-def advice(name: str, why: str) -> str:
-    name = name.rpartition(": ")[2]
-    if "is a damaged vault" in why or "has a damaged value" in why:
-        restored = f"restore it, for example with `git checkout HEAD -- :/{name}` if it is whole there"
-        return f"  {restored}; {meant(name).lstrip()}"
-    if "cannot be checked any more" in why:
-        return f"  repair it; {meant(name).lstrip()}"
-    values = re.search("has (.+) in plaintext, which", why)
-    if values:
-        keys = [value.partition(" of ")[0] for value in values[1].split(", ")]
-        return meant(name, f"ansible-vault-plain={','.join(keys)}")
-    return unmarking(name) if why.endswith("is not encrypted") or "!vault" in why else meant(name)
-
-
-def leaked(what: str, done: Done, whys: dict[str, str]) -> None:
-    """Check that each file is refused for this reason, with the advice for it; without any, that nothing is."""
-    lines = [line for name, why in whys.items() for line in (f"{HOOK}: {name} {why}", advice(name, why))]
-    assert (done.returncode, done.stderr.splitlines()) == (1 if whys else 0, lines), what
-
-
-def with_hooks(place: Place, attributes: str = "") -> None:
-    under_git(place, attributes)
-    done = place.shell(f"{HOOK} --install")
-    assert done.returncode == 0, done.stderr
-
-
-def again(place: Place, name: str, content: bytes) -> Done:
-    place.put(name, content)
-    return add_and_commit(place)
-
-
-def staged(place: Place, name: str, content: bytes) -> Done:
-    """Stage this content, and run the hook without a commit."""
-    place.put(name, content)
-    return place.shell(f"git add -A && {HOOK}")
-
-
-def committed(place: Place, name: str, content: bytes) -> str:
-    """Commit this content, whatever a hook says, and return the commit."""
-    place.put(name, content)
-    place.shell("git add -A && git commit -qm change --no-verify")
-    return place.shell("git rev-parse HEAD").stdout.strip()
 
 
 def repository(folder: Path, style: str) -> Path:
