@@ -10,7 +10,7 @@ from pathlib import Path
 
 import completing
 import manual
-from contracts import CRATES, code, crates, declared_in, needed
+from contracts import CRATES, code, declared_in, needed
 from programs import NAMES, PROGRAM
 
 ROOT = CRATES.parent
@@ -31,9 +31,6 @@ TRUSTED = [
     r"(^pub fn drive\b.*?\) -> Status\n).*?(^\{.*?^\})",
     r"^const OWNER_ONLY.*\Z",
 ]
-
-# The files of the program and its libraries whose lines are counted.
-SIZES = {"Rust": "src/**/*.rt", "definitions": "specs/**/*.antt", "proofs": "proofs/**/*.antt"}
 BLOCK = re.compile(r"(^```(?:rust|antt)\n)(.*?)(^```$)", re.MULTILINE | re.DOTALL)
 # A call or a definition, and its file below crates/.
 PLACE = re.compile(r"`([\w:]+)` in `(\w+/[\w/]+\.(?:rt|antt))`")
@@ -52,21 +49,10 @@ OF_PARSERS = re.compile(
 )
 
 
-def length(file: Path) -> int:
-    return len(file.read_text().splitlines())
-
-
 def to_read(file: Path) -> int:
     """Return the number of lines to read: in code, only the contracts; in definitions, everything."""
-    if file.suffix == ".antt":
-        return length(file)
-    return sum(len(part.splitlines()) for part in CONTRACTS.findall(file.read_text()))
-
-
-def about(pattern: str) -> str:
-    """Return how many lines these files of the program and its libraries have, in steps of 500."""
-    lines = sum(length(file) for crate in crates() for file in (CRATES / crate).glob(pattern))
-    return f"{round(lines / 500) * 500:,}"
+    text = file.read_text()
+    return sum(len(part.splitlines()) for part in ([text] if file.suffix == ".antt" else CONTRACTS.findall(text)))
 
 
 def definition_files() -> list[Path]:
@@ -97,8 +83,6 @@ def written(page: str) -> str:
     page = BLOCK.sub(lambda block: f"{block[1]}{next(left)}{block[3]}", page)
     page = re.sub(r"\d+(?= lines of code)", str(sum(printed(pattern).count("\n") for pattern in TRUSTED)), page)
     page = re.sub(r"\d+(?= lines to read)", str(sum(map(to_read, needed()[0]))), page)
-    for what, pattern in SIZES.items():
-        page = re.sub(rf"[\d,]+(?= lines of {what}\b)", about(pattern), page)
     return PLACE.sub(place, page)
 
 
