@@ -54,11 +54,11 @@ def test_each_part_of_an_answer(tmp_path: Path) -> None:
     right = f"cat {tmp_path}/message >&2; exit {FAULT.status}"
     script = tmp_path / "program"
     cases = Cases(write_script(script, right), tmp_path)
-    cases.refused(["view"], FAULT)
+    cases.run(["view"], b"", FAULT.status, b"", FAULT.line)
     for wrong in (f"({right}); exit 9", f"echo output; {right}", f"echo >&2; {right}"):
         write_script(script, wrong)
         with pytest.raises(AssertionError):
-            cases.refused(["view"], FAULT)
+            cases.run(["view"], b"", FAULT.status, b"", FAULT.line)
     for command in ("view", "decrypt"):
         write_script(script, f'[ "$1" = {command} ]')
         with pytest.raises(AssertionError):

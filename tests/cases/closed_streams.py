@@ -6,7 +6,6 @@ import itertools
 import tempfile
 from pathlib import Path
 
-from cases import named
 from lib.cases import Cases, answer_of
 from lib.processes import run
 from lib.samples import Sample, each_command, sample_of
@@ -23,8 +22,11 @@ Left = tuple[int, bytes, bytes, dict[str, bytes]]
 
 def run_closed(program: str, sample: Sample, closed: set[int], output: str, by_name: bool) -> Left:
     """Run a sample in a directory with some files. Its input has a name or is standard input."""
-    to_output = [] if sample.command == "view" else ["--output", output]
-    words = named(sample, "given", output) if by_name else [*sample.words, *to_output]
+    words = [*sample.words, *([] if sample.command == "view" else ["--output", output])]
+    if by_name and sample.command == "encrypt_string":
+        words = [*("--name" if word == "--stdin-name" else word for word in words), sample.stdin.decode()]
+    elif by_name:
+        words.append("given")
     files = {OLD_FILE: b"what stood here before\n", "given": sample.stdin}
     files["stdin"] = b"not asked" if by_name else sample.stdin
     closings = " ".join(f"{stream}>&-" for stream in closed)

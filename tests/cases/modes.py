@@ -3,12 +3,17 @@
 """
 
 import os
+import stat
 from pathlib import Path
 
 import pytest
 
-from lib.cases import OLD, Cases, answer_of, mode
+from lib.cases import OLD, Cases, answer_of
 from lib.samples import Sample, each_to_output, sample_of
+
+
+def mode(path: str) -> str:
+    return oct(stat.S_IMODE(os.stat(path).st_mode))
 
 
 def check_written(cases: Cases, umask: int, sample: Sample, path: str, wanted: int) -> None:

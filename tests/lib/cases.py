@@ -22,10 +22,6 @@ def by_id(path: str, label: str = "default") -> list[str]:
     return ["--vault-id", f"{label}@{path}"]
 
 
-def mode(path: str) -> str:
-    return oct(stat.S_IMODE(os.stat(path).st_mode))
-
-
 def answer_of(done: subprocess.CompletedProcess[bytes]) -> tuple[int, bytes, bytes]:
     return done.returncode, done.stdout, done.stderr
 
@@ -76,9 +72,6 @@ class Cases:
         done = self.done(words, stdin)
         assert answer_of(done) == (status, done.stdout if out is None else out, err)
         return done.stdout
-
-    def refused(self, words: Sequence[str], fault: Fault, stdin: bytes = b"") -> None:
-        self.run(words, stdin, fault.status, b"", fault.line)
 
     def decrypts(self, options: Sequence[str], vault: bytes, plaintext: bytes) -> None:
         """Check that both commands that read print this plaintext."""

@@ -27,12 +27,6 @@ def needs(*tools: str) -> None:
         pytest.skip(f"without {', '.join(missing)}")
 
 
-def needs_tool(name: str) -> str:
-    """Return the path of a program, or skip the test if it is not on PATH."""
-    needs(name)
-    return str(shutil.which(name))
-
-
 def needs_checkout() -> None:
     """Skip the test outside a git checkout, or without git."""
     needs("git")

@@ -7,7 +7,6 @@ ROOT = Path(__file__).resolve().parent.parent.parent
 PAGE = ROOT / "man" / "ansible-vault.1"
 README = ROOT / "README.md"
 COMPANIONS = {path.name: path for path in sorted((ROOT / "companions").glob("ansible-vault-*"))}
-COMMAND_LINE = ROOT / "crates" / "vault_request" / "src" / "command_line.rt"
 
 
 def sections(page: Path) -> dict[str, str]:
@@ -18,5 +17,6 @@ def sections(page: Path) -> dict[str, str]:
 
 def version() -> str:
     """Return the program's version, from the one place that defines it."""
-    [found] = re.findall(r'^const VERSION: &str = "(.*)";$', COMMAND_LINE.read_text(), re.MULTILINE)
+    text = (ROOT / "crates" / "vault_request" / "src" / "command_line.rt").read_text()
+    [found] = re.findall(r'^const VERSION: &str = "(.*)";$', text, re.MULTILINE)
     return str(found)
