@@ -1,6 +1,4 @@
-"""ansible-vault-check; every companion's help, invalid command lines and refused secrets; and how companions recognise
-the same password in another file, and the tool behind links.
-"""
+"""ansible-vault-check; and every companion's help, invalid command lines, secrets that it refuses, and links to it."""
 
 import os
 
@@ -49,7 +47,7 @@ def test_labels_and_secrets(place: Place) -> None:
 HOSTILE = "\x1b]0;owned\a\x9b\nansible-vault:fine"
 OLD, NEW = "--vault-password-file ../secrets/old", "--new-vault-password-file ../secrets/new"
 INVALID = [
-    (CHECK, f"{OLD} --{HOSTILE}"),
+    (CHECK, f"{OLD} --{HOSTILE} a.yml"),
     (EDIT, f"{OLD} --new-vault-id x@y a.yml"),
     (EDIT, f"{OLD} --vault-i x a.yml"),
     (HOOK, "--all --install"),
@@ -130,11 +128,11 @@ def test_same_password_in_another_file(place: Place) -> None:
     assert place.files() == {"a.yml": vault}
 
 
-@pytest.mark.parametrize("holder", ("first", "second"))
+@pytest.mark.parametrize("holder", ("first", "first/second"))
 def test_chain_of_links(place: Place, holder: str) -> None:
     """The tool is found beside any link that leads to the companion, relative or absolute."""
     place.put("a.yml", sealed("old"))
-    for name, target in (("first", f"../second/{CHECK}"), ("second", os.readlink(place.tools / CHECK))):
+    for name, target in (("first", f"second/{CHECK}"), ("first/second", os.readlink(place.tools / CHECK))):
         (place.path / name).mkdir()
         (place.path / name / CHECK).symlink_to(target)
     (place.tools / "ansible-vault").rename(place.path / holder / "ansible-vault")
