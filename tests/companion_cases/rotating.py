@@ -70,15 +70,6 @@ def test_what_cannot_be_rotated(place: Place) -> None:
     assert place.files() == before, "they stay"
 
 
-def test_nothing(place: Place) -> None:
-    """A new secret with a label that nothing has may be a mistake, so the status is 1."""
-    why = f"{ROTATE}: no vault or value has the label "
-    place.put("a.yml", sealed("old"))
-    done = place.run(ROTATE, *to_new(place), *place.by_id("prd", "prod2", "new-"), ".")
-    ended("one of two labels", done, 1, summary(1), f"{why}prd\n")
-    assert decrypted("new", place.get("a.yml")) == TEXT, "the other is rotated"
-
-
 def test_owners_and_modes(place: Place) -> None:
     modes = {"a.yml": 0o600, "b.yml": 0o664, "c.yml": 0o444, "d.yml": 0o2755}
     for (name, mode), owner in zip(modes.items(), product((NOBODY, 0), repeat=2)):
@@ -132,7 +123,8 @@ def test_what_would_be_read_otherwise(place: Place) -> None:
 
 def test_copies(place: Place) -> None:
     """An envelope is decrypted and encrypted once, however often it is there, and a copy stays a copy. Equal texts in
-    different envelopes get different ones, so that nobody can see that they are equal."""
+    different envelopes get different ones, so that nobody can see that they are equal. A new secret with a label that
+    nothing has may be a mistake, so the status is 1."""
     place.put("a.yml", sealed("old", block("old", b"one")))
     place.put("b.yml", place.get("a.yml"))
     place.put("c.yml", block("old", b"one") + block("old", b"one", name="b"))
@@ -140,7 +132,8 @@ def test_copies(place: Place) -> None:
     place.put("e.yml", sealed("old", label="default"))
     # A run that only checks a secret has no input.
     place.wrap_tool('cat > "$0.$$"; [ -s "$0.$$" ] && echo "$1" >> ../runs; exec < "$0.$$"; rm "$0.$$"')
-    ended("rotate", place.run(ROTATE, *to_new(place), "."), 0, summary(8))
+    done = place.run(ROTATE, *to_new(place), *place.by_id("prd", "prod2", "new-"), ".")
+    ended("rotate", done, 1, summary(8), f"{ROTATE}: no vault or value has the label prd\n")
     assert Counter((place.path / "runs").read_text().split()) == {"view": 4, "encrypt": 4}
     assert place.get("a.yml") == place.get("b.yml"), "a copy stays a copy"
     assert place.get("d.yml").split()[1:] != place.get("e.yml").split()[1:], "equal texts"
