@@ -14,7 +14,6 @@ SAME = """
     view new.yml
     view --vault-password-file <(cat ../secrets/dev) a.yml
     view --vault-password-file prompt new.yml
-    view a.yml >&-
     view <&-
     decrypt --output=out.yml a.yml
     decrypt --output out.yml a.yml plain.yml
@@ -71,7 +70,6 @@ REFUSED = [
     (f"{STRINGS} a --stdin-name x --salt salt", 2, SALT_FOR_ONE),
     (f"{STRINGS} a --prompt --salt-file ../secrets/old", 2, SALT_FOR_ONE),
     (f"{STRINGS} a b --encrypt-vault-id prod", 1, "no secret has the label of --encrypt-vault-id"),
-    (f"{STRINGS} a b --output nowhere/c.yml", 1, "No such file or directory"),
     # The old secret is not taken for the new one, even if it has the label that was chosen.
     (REKEY, 1, NOT_NEW),
     (f"{REKEY} --new-vault-id dev@../secrets/new", 1, NOT_NEW),
