@@ -27,18 +27,16 @@ def release_of(path: str) -> tuple[int, int] | None:
 
 
 def ansible_vault() -> str | None:
-    named = os.environ.get("ANSIBLE_VAULT")
-    if named and not release_of(named):
-        raise RuntimeError(f"{named} is not of Ansible's core")
+    if named := os.environ.get("ANSIBLE_VAULT"):
+        assert release_of(named), f"{named} is not of Ansible's core"
+        return named
     folders = os.environ.get("PATH", "").split(os.pathsep)
-    found = [shutil.which(name, path=folder) for folder in folders for name in NAMES]
-    paths: list[str | None] = [named] if named else [*found]
+    paths = (shutil.which(name, path=folder) for folder in folders for name in NAMES)
     return next((path for path in paths if path and release_of(path)), None)
 
 
 def ansible_release() -> tuple[int, int]:
     """Return the release of the tool that `ansible_vault` finds, such as (2, 14)."""
-    path = ansible_vault()
-    release = release_of(path) if path else None
+    release = release_of(ansible_vault() or "")
     assert release, "a test asks for the release of a tool that it has"
     return release

@@ -6,7 +6,7 @@ from pathlib import Path
 
 import pytest
 
-from lib.needs import is_confined, needs, needs_checkout
+from lib.needs import needs, needs_checkout
 from lib.paths import ROOT
 from lib.processes import run_text
 
@@ -33,13 +33,10 @@ def cloned(tmp_path_factory: pytest.TempPathFactory) -> Path:
 
 
 def typed(command: str, folder: Path, **variables: str) -> str:
-    """Run a command in a shell without the variables of this test run and, if root may take it away, without a network.
-    Return what it prints. It must succeed.
-    """
+    """Run a command in a shell without the variables of this test run. Return what it prints. It must succeed."""
     ours = ("MAKE", "PYTEST_", "REQUIRE_")
     kept = {name: value for name, value in os.environ.items() if not name.startswith(ours)}
-    offline = [] if is_confined() else ["unshare", "--net"]
-    words = [*offline, "bash", "-O", "expand_aliases", "-c", command]
+    words = ["bash", "-O", "expand_aliases", "-c", command]
     done = run_text(words, cwd=folder, env=kept | variables, stderr=subprocess.STDOUT, timeout=None)
     assert done.returncode == 0, f"{command}\n{done.stdout}"
     return done.stdout

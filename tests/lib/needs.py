@@ -1,11 +1,9 @@
 """Skip tests that need something this machine lacks. With --require-all, they fail."""
 
 import os
-import re
 import shutil
 import subprocess
 from importlib.util import find_spec
-from pathlib import Path
 
 import pytest
 
@@ -16,8 +14,6 @@ from lib.paths import ROOT
 # or Python.
 TAKES_ROOT = "it takes the rights of root"
 OF_ANOTHER_BUILD = "its counts are of another build"
-# The number of the capability that allows mounting.
-CAP_SYS_ADMIN = 21
 
 
 def needs(*tools: str) -> None:
@@ -38,14 +34,6 @@ def needs_checkout() -> None:
 def needs_root() -> None:
     if os.geteuid() != 0:
         pytest.skip(TAKES_ROOT)
-
-
-def is_confined() -> bool:
-    """Return whether root may not mount, as in a container, or is in a chroot, where `/` is no mount point."""
-    status = Path("/proc/self/status").read_text()
-    [effective] = re.findall(r"^CapEff:\s+(\w+)$", status, re.MULTILINE)
-    mounted = {line.split()[4] for line in Path("/proc/self/mountinfo").read_text().splitlines()}
-    return not int(effective, 16) >> CAP_SYS_ADMIN & 1 or "/" not in mounted
 
 
 def needs_pyyaml() -> None:
