@@ -1,23 +1,26 @@
 """Watch the system calls of the built program.
 
-The tests check which paths are opened, in which order and how; how many bytes of each are read, and that none is read
-past its end; that standard input is not read if it is not needed; what is created, when and with which mode; how many
-bytes are written where; and that no other call is made. The loader may open its cache and the program's libraries for
-reading. The runs are in `watched`.
+The tests check which paths are opened, in which order and how; how many bytes of each are read, and that no more than
+its limit is asked for; that standard input is not read if it is not needed; what is created, when and with which mode;
+how many bytes are written where; and that no other call is made.
+
+Contracts say what a run opens and in which order, and what it writes, if the methods that make the calls are right; so
+each way to read, to write and to end has one run here, and each preparation one that is refused.
 """
 
-import os
 import re
 from collections import Counter
+from operator import attrgetter
 from pathlib import Path
+from typing import NamedTuple
 
 import pytest
 
-from lib.cases import Cases
+from lib.cases import TEXT, Cases
 from lib.needs import needs
-from lib.package_root import libraries
 from lib.system_calls import Call, Traced, trace
-from watched import LIMITS, RUNS, SIZES, STAND_IN, STDERR, STDIN, STDOUT, Run, write_files
+from model.faults import Fault
+from model.vaults import ENVELOPE_LIMIT, PLAINTEXT_LIMIT, SALT, seal, yaml_block
 
 OF_FILES = {"openat", "read", "write", "close", "statx", "fchmod", "ftruncate", "fsync"}
 OF_MEMORY = {"brk", "mmap", "munmap", "mremap"}
@@ -27,28 +30,79 @@ READING, CREATING = {"O_RDONLY"}, {"O_WRONLY", "O_CREAT"}
 # give no bytes.
 HARMLESS = {"O_NOCTTY", "O_CLOEXEC", "O_LARGEFILE", "O_DIRECTORY"}
 OWNER_ALONE = "0600"
+STDIN, STDOUT, STDERR = 0, 1, 2
+RANDOM = "/dev/urandom"
+# The most bytes that a run asks for: from a password file, from a salt.
+PASSWORD_LIMIT, SALT_LENGTH = 4_097, 32
+VAULT = seal(b"one", TEXT)
+# The files, with the most bytes of each that may be asked for.
+FILES = {
+    "one": (b"one\n", PASSWORD_LIMIT),
+    "two": (b"two\n", PASSWORD_LIMIT),
+    "empty": (b"", PASSWORD_LIMIT),
+    "salt": (SALT + b"more", SALT_LENGTH),
+    "short": (b"short", SALT_LENGTH),
+    "plain": (TEXT, PLAINTEXT_LIMIT + 1),
+    "vault": (VAULT, ENVELOPE_LIMIT + 1),
+    "unread": (VAULT, 0),
+    "old": (b"old" * 1_000, 0),
+}
+LIMITS = {RANDOM: SALT_LENGTH, str(STDIN): ENVELOPE_LIMIT + 1} | {name: limit for name, (_, limit) in FILES.items()}
+# How many bytes each gives if it is read to its end or its limit.
+SIZES = {RANDOM: SALT_LENGTH} | {name: min(len(content), limit) for name, (content, limit) in FILES.items()}
+
+
+class Run(NamedTuple):
+    """What a run must do: the paths that it opens for reading, each once and in this order; the path that it creates
+    last; how many bytes of output it writes, or None for a text of the parser's; what it gets from standard input, or
+    None if it must not ask; and how it ends."""
+
+    # In a command line, @ before a word makes it a password file.
+    line: str
+    read: str = ""
+    created: str | None = None
+    written: int | None = 0
+    stdin: bytes | None = None
+    fault: Fault | None = None
+    status: int = 0
+
+
+IN_YAML, REKEYED = len(yaml_block(seal(b"one", b"text"))), len(seal(b"two", TEXT, b"b"))
+RUNS = [
+    Run("encrypt @one --output=new plain", f"one {RANDOM} plain", "new", len(VAULT)),
+    Run("encrypt_string @one --output=new text", f"one {RANDOM}", "new", IN_YAML),
+    Run("rekey @one --new-vault-id=b@two --salt-file=salt --output=old vault", "one two salt vault", "old", REKEYED),
+    Run("decrypt @two @one --output=new vault", "two one vault", "new", len(TEXT)),
+    Run("decrypt @two @one --output=old vault", "two one vault", "old", len(TEXT)),
+    Run("encrypt @one", f"one {RANDOM}", written=len(VAULT), stdin=TEXT),
+    Run("view @one vault", "one vault", written=len(TEXT)),
+    Run("view @one", "one", written=len(TEXT), stdin=VAULT),
+    Run("view --help", written=None),
+    Run("view --loud", written=None, status=2),
+    # Nothing is created. Bad passwords and salts are refused before FILE or standard input is read.
+    Run("encrypt @one plain", fault=Fault.OUTPUT_NEEDED),
+    Run("view @one @missing @two vault", "one missing", fault=Fault.SECRET_NOT_OPENED),
+    Run("decrypt @two --output=new vault", "two vault", fault=Fault.NO_SECRET_FITS),
+    Run("encrypt --output=new", RANDOM, fault=Fault.NO_ENCRYPT_SECRET),
+    Run("encrypt @one --salt-file=short --output=new unread", "one short unread", fault=Fault.SALT_SHORT),
+    Run("view @one @empty unread", "one empty unread", fault=Fault.SECRET_EMPTY),
+]
 
 # A call that opens or changes a file: its name; the path or the descriptor; the other flags, the mode or the length.
 Step = tuple[str, str | int, object, object]
 
 
 def watch(program: str, run: Run, folder: Path) -> Traced:
-    words = ["sh", "-c", f'cd "$0" && exec "$@" {run.closings()}', str(folder), program, *run.words()]
-    return trace(words, folder / "log", 2, b"not asked for" if run.stdin is None else run.stdin)
+    for name, (content, _) in FILES.items():
+        (folder / name).write_bytes(content)
+    words = [f"--vault-password-file={word[1:]}" if word[0] == "@" else word for word in run.line.split()]
+    command = ["sh", "-c", 'cd "$0" && exec "$@"', str(folder), program, *words]
+    return trace(command, folder / "log", 2, b"not asked for" if run.stdin is None else run.stdin)
 
 
 def opening(call: Call) -> Step:
     flags, _, mode = call.args.rpartition('", ')[2].partition(", ")
     return call.name, call.path, {*flags.split("|")} - HARMLESS, mode
-
-
-def check_loading(program: str, traced: Traced) -> None:
-    """Check the loader's calls, which the other checks skip."""
-    allowed = {"/etc/ld.so.cache", "/etc/ld.so.preload", *(os.path.normpath(path) for path in libraries(program))}
-    opens = [opening(call) for call in traced.loading if call.name == "openat"]
-    others = [each for each in opens if os.path.normpath(str(each[1])) not in allowed or each[2] != READING]
-    assert others == [], "what else the loader opens"
-    assert traced.own != [], "the program makes calls of its own"
 
 
 def steps(own: list[Call]) -> list[Step]:
@@ -58,11 +112,11 @@ def steps(own: list[Call]) -> list[Step]:
     for call in own:
         if call.name == "openat":
             found.append(opening(call))
-        elif call.name == "write" and found and found[-1][:2] == (call.name, call.fd):
-            length += call.result
-            found[-1] = (call.name, call.fd, "", length)
         elif call.name == "write":
-            length = call.result
+            is_next = found != [] and found[-1][:2] == (call.name, call.fd)
+            length = call.result + (length if is_next else 0)
+            if is_next:
+                found.pop()
             found.append((call.name, call.fd, "", length))
         elif call.name in ("fchmod", "ftruncate", "fsync"):
             found.append((call.name, call.fd, "", call.args.partition(", ")[2]))
@@ -70,14 +124,10 @@ def steps(own: list[Call]) -> list[Step]:
 
 
 def check_files(run: Run, traced: Traced) -> None:
-    """Closed streams are replaced, and files are opened in order. After all reading, the output's file is opened, made
-    private, only then emptied, written, and finally synced."""
-    opens = [call for call in traced.own if call.name == "openat"]
-    stand_ins, files = opens[: len(run.closed)], opens[len(run.closed) :]
-    assert [call.result for call in stand_ins] == [*run.closed], "the numbers of closed streams"
-    assert [call.path for call in files if 0 <= call.result <= STDERR] == [], "no file takes a stream's number"
-    wanted: list[Step] = [("openat", STAND_IN, READING, "") for _ in run.closed]
-    wanted += [("openat", path, READING, "") for path in run.read.split()]
+    """Files are opened in order. After all reading, the output's file is opened, made private, only then emptied,
+    written, and finally synced."""
+    files = [call for call in traced.own if call.name == "openat"]
+    wanted: list[Step] = [("openat", path, READING, "") for path in run.read.split()]
     target, written, message = STDOUT, run.written, len(run.fault.line) if run.fault else 0
     if written is None:
         written, message = (0, len(traced.message or b"")) if run.status else (len(traced.output or b""), 0)
@@ -97,35 +147,19 @@ def check_files(run: Run, traced: Traced) -> None:
 
 def check_reads(run: Run, own: list[Call]) -> None:
     """Every source is read to its end or its limit, and no further. Standard input is only read if it is needed."""
-    reads: dict[str, list[tuple[int, int]]] = {}
-    paths: dict[int, str] = {}
+    given, most, paths = Counter[str](), Counter[str](), dict[int, str]()
     for call in own:
         if call.name == "openat":
             paths[call.result] = call.path
         elif call.name == "close":
             paths.pop(call.fd, None)
         elif call.name == "read":
-            asked = int(call.args.rsplit(", ", 1)[1])
-            reads.setdefault(paths.get(call.fd, str(call.fd)), []).append((asked, call.result))
-    wanted, stdin = Counter({path: SIZES.get(path, 0) for path in run.read.split()}), str(STDIN)
-    if run.stdin is not None:
-        wanted[stdin] = len(run.stdin)
-    given = {source: sum(max(got, 0) for _, got in each) for source, each in reads.items()}
-    assert +Counter(given) == +wanted, "what is read"
-    assert (stdin in reads) == (run.stdin is not None), "standard input is asked"
-    limits = LIMITS | {stdin: LIMITS["vault"]}
-    others = {source: each for source, each in reads.items() if not to_end(each, limits.get(source, 0))}
-    assert others == {}, "what is not asked to its end or its limit, or past it"
-
-
-def to_end(reads: list[tuple[int, int]], limit: int) -> bool:
-    """Return whether the source is read to its end or its limit, and no further."""
-    given, most = 0, 0
-    for asked, got in reads:
-        most = max(most, given + asked)
-        given += max(got, 0)
-    ends = [number for number, (_, got) in enumerate(reads, 1) if got <= 0]
-    return most <= limit and (ends == [len(reads)] or not ends and given == limit)
+            source = paths.get(call.fd, str(call.fd))
+            most[source] = max(most[source], given[source] + int(call.args.rsplit(", ", 1)[1]))
+            given[source] += max(call.result, 0)
+    wanted = Counter({path: SIZES.get(path, 0) for path in run.read.split()} | {str(STDIN): len(run.stdin or b"")})
+    assert (+given, str(STDIN) in most) == (+wanted, run.stdin is not None), "what is read"
+    assert {source for source, bytes_asked in most.items() if bytes_asked > LIMITS.get(source, 0)} == set()
 
 
 def check_others(own: list[Call]) -> None:
@@ -141,13 +175,11 @@ def check_others(own: list[Call]) -> None:
     assert others == [], "paths or streams that are looked at"
 
 
-@pytest.mark.parametrize("run", RUNS, ids=str)
+@pytest.mark.parametrize("run", RUNS, ids=attrgetter("line"))
 def test_calls(cases: Cases, run: Run) -> None:
     needs("strace")
-    write_files(cases.folder)
     traced = watch(cases.program, run, cases.folder)
     assert traced.status == (run.fault.status if run.fault else run.status)
-    check_loading(cases.program, traced)
     check_files(run, traced)
     check_reads(run, traced.own)
     check_others(traced.own)
