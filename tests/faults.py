@@ -1,152 +1,125 @@
-"""Fault injection: system calls that fail or transfer few bytes, signals, and a limit of file size.
+"""Fault injection: system calls that fail or transfer few bytes, and signals.
 
 Status, streams, files and modes must be right: the output is untouched or a prefix of the whole, and no other file
-exists. Of the runs with a failing call, one in --share is made, which --seed chooses, and at least one for each
-command, target, call and error.
+exists. Of the runs with a failing call, one in --share is made, which --seed chooses, and at least one for each call
+and error.
 """
 
 import signal
-import subprocess
 import tempfile
-import time
-from collections.abc import Callable
+from collections import Counter
+from collections.abc import Callable, Iterator
 from functools import partial
 from pathlib import Path
 from random import Random
-from typing import Any
+from subprocess import PIPE
 
 import pytest
 
-from fault_injection import KIB, OUTPUT, SCRATCH, TARGETS, TO_FILES, Left, Scenario, Target
-from fault_injection import files_in, refused_scenarios, run, scenarios
-from fault_injection.refused_calls import refused_calls
-from lib.cases import TEXT, Cases, by_file
+from fault_injection import OUTPUT, OWNER_ONLY, STREAM, TARGETS, Left, Scenario, scenario_of
+from lib.cases import OLD, TEXT, Cases, by_file
 from lib.limits import SECONDS
 from lib.needs import needs
 from lib.preloaded import build_library, run_with
-from lib.samples import SALT_TEXT
-from model.vaults import PLAINTEXT_LIMIT, SALT, seal
+from lib.processes import started
+from lib.system_calls import Call, own_calls, tracing
+from model.faults import Fault
 
 pytestmark = pytest.mark.faults
 
-SIGNALS = signal.SIGTERM, signal.SIGINT, signal.SIGHUP
-# How often each signal is sent to each long run, and how often at least with --share.
-MOMENTS, FEWEST = 20, 2
+# The errors of each call that can fail, apart from those that allocate memory (`failed_allocations.py`).
+ERRORS = {
+    "openat": ["EINTR", "EACCES", "EMFILE"],
+    "read": ["EINTR", "EIO"],
+    "write": ["EINTR", "EAGAIN", "ENOSPC", "EPIPE"],
+    "statx": ["EIO"],
+    "fchmod": ["EINTR", "EPERM"],
+    "ftruncate": ["EINTR", "EPERM"],
+    "fsync": ["EINTR", "EIO", "EINVAL"],
+    "close": ["EINTR", "EIO"],
+    "fcntl": ["EMFILE"],
+}
+# The library may try these again if they are interrupted.
+TRIED_AGAIN = ("openat", "fchmod", "ftruncate", "fsync")
+NOT_OPENED = Fault.SECRET_NOT_OPENED, Fault.INPUT_NOT_OPENED
+NOT_READ = Fault.SECRET_NOT_READ, Fault.INPUT_NOT_READ
+# A call of a run, its ordinal among those of its name, the loader's included, and its error.
+Refusal = tuple[Call, int, str]
 
 each_target = pytest.mark.parametrize("command, target", TARGETS)
-each_file = pytest.mark.parametrize("command, target", TO_FILES)
-Record = Callable[[str, object], None]
 
 
-@pytest.fixture
-def of_target(cases: Cases, command: str, target: Target) -> list[Scenario]:
-    """Return small and large ones. The small ones have their salt from a file."""
-    small, large = scenarios(cases, command, target, KIB, SALT), scenarios(cases, command, target, 200 * KIB, SALT_TEXT)
-    return [*small, *large]
+def refusals(program: str, scenario: Scenario) -> Iterator[Refusal]:
+    """Make a run without a failure, and yield each of its calls with each error."""
+    with tempfile.NamedTemporaryFile() as log:
+        left = scenario.run([*tracing(Path(log.name)), program])
+        loading, own = own_calls(Path(log.name))
+    assert left == scenario.fault_free()
+    counts = Counter(call.name for call in loading)
+    for call in own:
+        counts[call.name] += 1
+        yield from ((call, counts[call.name], error) for error in ERRORS.get(call.name, []))
 
 
-def chosen(config: pytest.Config) -> tuple[int, int]:
-    return int(config.getoption("--seed")), int(config.getoption("--share"))
+def is_allowed(left: Left, scenario: Scenario, call: Call, error: str) -> bool:
+    """Return whether a run may leave this. A failure of close is ignored, and so is EINVAL from fsync. If the query
+    whether a stream is open fails, the stream counts as closed."""
+    whole, creates = scenario.fault_free(), "O_CREAT" in call.args
+    if call.name in ("close", "fcntl") or (call.name, error) == ("fsync", "EINVAL"):
+        return left == whole
+    if error == "EINTR" and call.name in TRIED_AGAIN and left == whole:
+        return True
+    faults = {"openat": NOT_OPENED, "read": NOT_READ}.get("" if creates else call.name, (Fault.NOT_WRITTEN,))
+    fault = next((each for each in faults if (left.status, left.message) == (each.status, each.line)), None)
+    if fault is None or left in (scenario.untouched(fault), scenario.untouched(fault, OWNER_ONLY)):
+        return fault is not None
+    if scenario.target == STREAM:
+        return left.files == {} and whole.output.startswith(left.output)
+    (content, mode), wanted = left.files.get(OUTPUT, (b"", 0)), whole.files[OUTPUT]
+    return (left.output, [*left.files], mode) == (b"", [OUTPUT], wanted[1]) and wanted[0].startswith(content)
 
 
 @each_target
 def test_refused_calls(
-    program: str, of_target: list[Scenario], pytestconfig: pytest.Config, record_property: Record
+    cases: Cases, command: str, target: str, pytestconfig: pytest.Config, record_property: Callable[[str, object], None]
 ) -> None:
     needs("strace")
-    record_property("refused calls", refused_calls(program, of_target, *chosen(pytestconfig)))
-
-
-def test_calls_of_refused_runs(cases: Cases, pytestconfig: pytest.Config, record_property: Record) -> None:
-    needs("strace")
-    found = refused_calls(cases.program, refused_scenarios(cases), *chosen(pytestconfig))
-    record_property("refused calls", found)
+    share, random = int(pytestconfig.getoption("--share")), Random(int(pytestconfig.getoption("--seed")))
+    scenario = scenario_of(cases, command, target, 40_000)
+    every, kinds, differing = [*refusals(cases.program, scenario)], Counter[tuple[str, str]](), []
+    for call, number, error in random.sample(every, len(every)):
+        if kinds[call.name, error] and random.randrange(share) > 0:
+            continue
+        kinds[call.name, error] += 1
+        with tempfile.NamedTemporaryFile() as log:
+            failing = ["-e", f"trace={call.name}", "-e", f"inject={call.name}:error={error}:when={number}"]
+            left = scenario.run(["strace", "-f", "-s", "0", *failing, "-o", log.name, cases.program])
+            was_injected = b"(INJECTED)" in log.read()
+        if not was_injected or not is_allowed(left, scenario, call, error):
+            differing.append(f"{call.name} number {number} fails with {error} ({was_injected}): {left}")
+    assert kinds and differing == []
+    record_property("refused calls", (kinds.total(), len(every)))
 
 
 @each_target
-def test_short_transfers(cases: Cases, of_target: list[Scenario]) -> None:
+def test_short_transfers(cases: Cases, command: str, target: str) -> None:
     """Reads and writes that transfer fewer bytes than requested change no answer."""
     needs("cc")
-    library, differing = build_library(str(cases.folder), "short_transfers"), []
-    for scenario in of_target:
-        for most in (1, 100) if len(scenario.whole) < 100 * KIB else (10, 10_000):
-            left, cut = run_with(library, {"MOST_BYTES": str(most)}, partial(run, scenario, [cases.program]))
-            # The first letters of the calls that were cut short.
-            if (left, {*cut}) != (scenario.fault_free(), {*b"rw"}):
-                differing.append(f"{scenario.name}, at most {most} bytes a call: {left}, calls cut short: {cut!r}")
-    assert differing == []
+    library, scenario = build_library(str(cases.folder), "short_transfers"), scenario_of(cases, command, target, 1_000)
+    for most in (1, 100):
+        left, cut = run_with(library, {"MOST_BYTES": str(most)}, partial(scenario.run, [cases.program]))
+        # The first letters of the calls that were cut short.
+        assert (left, {*cut}) == (scenario.fault_free(), {*b"rw"})
 
 
-@each_file
-def test_size_limit(program: str, of_target: list[Scenario]) -> None:
-    """A limit of file size ends a run with SIGXFSZ, which has its default action here; the output is a prefix. If the
-    signal is ignored, the write fails."""
-    differing = []
-    for scenario in of_target:
-        for size in (0, len(scenario.whole) // 2, len(scenario.whole) - 1):
-            left = run(scenario, ["prlimit", f"--fsize={size}", "--core=0", program])
-            if left != scenario.written(-signal.SIGXFSZ, b"", size, scenario.last_mode()):
-                differing.append(f"{scenario.name}, a file takes {size} bytes: {left}")
-    assert differing == []
-
-
-def start(words: list[str], **options: Any) -> subprocess.Popen[bytes]:
-    """Start a run with pipes for its output and its message."""
-    return subprocess.Popen(words, stdout=subprocess.PIPE, stderr=subprocess.PIPE, **options)
-
-
-def ended_by(child: subprocess.Popen[bytes], number: int) -> tuple[int, bytes, bytes]:
-    """Send a signal, and then close the streams, so that a run that ignores it ends, too."""
-    child.send_signal(number)
-    output, message = child.communicate(timeout=SECONDS)
-    return child.returncode, output, message
-
-
-@pytest.mark.parametrize("number", SIGNALS)
+@pytest.mark.parametrize("number", (signal.SIGTERM, signal.SIGINT, signal.SIGHUP))
 def test_signal_while_blocked(cases: Cases, number: signal.Signals) -> None:
-    """The signal ends a run that waits for its input, or for the reader of its output. Each text is longer than a pipe
-    takes."""
-    secret, text = by_file(cases.file(b"right\n")), TEXT * 100_000
-    reading = start([cases.program, "encrypt", *secret], stdin=subprocess.PIPE, bufsize=0)
-    assert reading.stdin
-    # Once all of this is written, the run has read some of it.
-    reading.stdin.write(text)
-    assert ended_by(reading, number) == (-number, b"", b""), "where the input is waited for"
-    writing = start([cases.program, "view", *secret, cases.file(seal(b"right", text))], bufsize=0)
-    assert writing.stdout
-    begun = writing.stdout.read(1)
-    status, output, message = ended_by(writing, number)
-    is_part = text.startswith(begun + output) and begun + output != text
-    assert (status, is_part, message) == (-number, True, b""), "where the output is not taken"
-
-
-def run_signalled(program: str, scenario: Scenario, number: int, size: float) -> Left:
-    """Signal a run when its output has this size, and return what it leaves."""
-    with tempfile.TemporaryDirectory(dir=SCRATCH) as folder, open(scenario.stdin, "rb") as stdin:
-        scenario.lay_out(folder)
-        output = Path(folder, OUTPUT)
-        child = start([program, *scenario.words], stdin=stdin, cwd=folder)
-        while child.poll() is None and not (output.exists() and output.stat().st_size >= size):
-            time.sleep(0.0002)
-        return Left(*ended_by(child, number), files_in(folder))
-
-
-@pytest.mark.parametrize("command, target", [each for each in TO_FILES if each[0] != "encrypt_string"])
-def test_signals(
-    cases: Cases, command: str, target: Target, pytestconfig: pytest.Config, record_property: Record
-) -> None:
-    """A signal may come while the longest output is written. Then the file is as it was, a prefix, or whole."""
-    _, scenario = scenarios(cases, command, target, PLAINTEXT_LIMIT, SALT_TEXT)
-    seed, share = chosen(pytestconfig)
-    random, differing, count = Random(seed), [], max(MOMENTS // share, FEWEST)
-    runs = [(number, random.random() * len(scenario.whole)) for number in SIGNALS for _ in range(count)]
-    for number, size in runs:
-        left = run_signalled(cases.program, scenario, number, size)
-        content, _ = left.files.get(OUTPUT, (b"", 0))
-        modes = (scenario.first_mode(), scenario.last_mode())
-        untouched = [scenario.untouched(-number, b"", mode) for mode in modes]
-        prefix = scenario.written(-number, b"", len(content), scenario.last_mode())
-        if left not in [scenario.fault_free(), prefix, *untouched]:
-            differing.append(f"{number.name} after {size:.0f} bytes: {left}")
-    assert differing == []
-    record_property("signals", (len(runs), MOMENTS * len(SIGNALS)))
+    """The signal ends a run that waits for its input, and the output is as it was."""
+    words = [cases.program, "encrypt", *by_file(cases.file(b"right\n")), "--output", cases.file(OLD)]
+    with started(words, stdin=PIPE, stdout=PIPE, stderr=PIPE, bufsize=0) as child:
+        # A pipe does not take all of this, so the run has read some of it then.
+        assert child.stdin
+        child.stdin.write(TEXT * 100_000)
+        child.send_signal(number)
+        assert (*child.communicate(timeout=SECONDS), child.returncode) == (b"", b"", -number)
+    assert Path(words[-1]).read_bytes() == OLD
