@@ -2,11 +2,9 @@
 matches, one for each other secret that it tries, and three for each envelope that it writes.
 """
 
-from collections.abc import Callable
-
 import pytest
 
-from lib.cases import TEXT, Cases, by_file, by_id
+from lib.cases import TEXT, Cases, by_id
 from lib.counts import PARTS, count_calls
 from lib.needs import needs
 from lib.samples import SALT_TEXT, SALT_WORDS
@@ -19,7 +17,6 @@ pytestmark = pytest.mark.valgrind
 BLOCK = 20_000
 # What every other compression in a run may add up to, in blocks.
 TOLERANCE = 0.02
-MOST_SECRETS = 16
 # The blocks of a vault's keys, and of the key of its tag alone.
 KEYS, TAG = 3, 1
 
@@ -29,26 +26,20 @@ Run = tuple[list[str], bytes, int, tuple[int, bytes]]
 
 def runs(cases: Cases) -> dict[str, Run]:
     right, wrong, new = (cases.file(each) for each in (b"right\n", b"wrong\n", b"new\n"))
-    vault, rekeyed = seal(b"right", TEXT), seal(b"new", TEXT, salt=SALT_TEXT)
-    sealed = seal(b"right", TEXT, b"dev", SALT_TEXT)
-    others: Callable[[int], list[str]] = lambda count: by_id(wrong, "other") * count
+    vault, other, fits = seal(b"right", TEXT), by_id(wrong, "other"), by_id(right, "x")
+    sealed, rekeyed = seal(b"right", TEXT, b"dev", SALT_TEXT), seal(b"new", TEXT, salt=SALT_TEXT)
     unpadded = serialized(*parts(b"right", bytes(16)))
-    statuses = (Fault.NOT_VAULT.status, Fault.NO_SECRET_FITS.status, Fault.BAD_PADDING.status)
-    no_vault, refused, bad_padding = ((status, b"") for status in statuses)
-    to_new = ["--new-vault-password-file", new, *SALT_WORDS]
-    chosen = ["--encrypt-vault-id", "dev", *SALT_WORDS]
-    most = MOST_SECRETS - 1
-    third = [*others(2), *by_id(right, "x"), *others(1)]
+    refused, bad_padding = ((fault.status, b"") for fault in (Fault.NO_SECRET_FITS, Fault.BAD_PADDING))
+    chosen = [*other * 15, *by_id(right, "dev"), "--encrypt-vault-id", "dev", *SALT_WORDS]
+    to_new = [*fits, *other * 15, "--new-vault-password-file", new, *SALT_WORDS]
     return {
-        "no vault": (["view", *by_file(right), *others(most)], b"", 0, no_vault),
-        "one secret": (["view", *by_id(right)], vault, KEYS, (0, TEXT)),
-        "the last has the label": (["decrypt", *others(most), *by_id(right)], vault, KEYS, (0, TEXT)),
-        "the third of four fits": (["view", *third], vault, 2 * TAG + KEYS, (0, TEXT)),
-        "none fits": (["view", *others(MOST_SECRETS)], vault, MOST_SECRETS * TAG, refused),
-        "none may be tried": (["view", "--require-id-match", *others(most)], vault, 0, refused),
-        "a wrong padding": (["view", *by_id(right), *others(most)], unpadded, KEYS, bad_padding),
-        "a choice of all": (["encrypt", *others(most), *by_id(right, "dev"), *chosen], TEXT, KEYS, (0, sealed)),
-        "another secret": (["rekey", *by_id(right), *others(most), *to_new], vault, 2 * KEYS, (0, rekeyed)),
+        "the last has the label": (["decrypt", *other * 15, *by_id(right)], vault, KEYS, (0, TEXT)),
+        "the third of four fits": (["view", *other * 2, *fits, *other], vault, 2 * TAG + KEYS, (0, TEXT)),
+        "none fits": (["view", *other * 16], vault, 16 * TAG, refused),
+        "none may be tried": (["view", "--require-id-match", *other * 15], vault, 0, refused),
+        "a wrong padding": (["view", *fits, *other * 15], unpadded, KEYS, bad_padding),
+        "a choice of all": (["encrypt", *chosen], TEXT, KEYS, (0, sealed)),
+        "another secret": (["rekey", *to_new], vault, 2 * KEYS, (0, rekeyed)),
     }
 
 
@@ -60,4 +51,3 @@ def test_derivations(cases: Cases) -> None:
         assert (done.status, done.output) == answer, name
         found[name] = sum(count for called, count in calls.items() if called.startswith(PARTS["SHA-256"])) / BLOCK
     assert found == pytest.approx({name: blocks for name, (_, _, blocks, _) in every.items()}, abs=TOLERANCE)
-    assert found != pytest.approx({name: blocks + 1 for name, (_, _, blocks, _) in every.items()}, abs=TOLERANCE)
