@@ -1,6 +1,6 @@
-"""What somebody types who has only a clone: the README's commands, in order, and then each other target of the Makefile
-and each script that it runs, at a small size. `rt` is the real one, and nothing is copied into the clone, which these
-tests use one after the other.
+"""What somebody types who has only a clone: the README's commands, in order, and then each other target of the
+Makefile, at a small size. `rt` is the real one, and nothing is copied into the clone, which these tests use one after
+the other.
 """
 
 import re
@@ -10,9 +10,8 @@ import pytest
 
 from lib.clone import PROVING, cloned, git, typed
 from lib.installed import PREFIX_FILES, files_below
-from lib.paths import README, ROOT
-from lib.readme import commands, steps
-from lib.scripts import searched_first
+from lib.paths import README
+from lib.readme import commands
 from makefile import GOALS
 
 pytestmark = [pytest.mark.newcomer, pytest.mark.timeout(PROVING)]
@@ -57,15 +56,6 @@ def test_readme(clone: Path, prefix: Path) -> None:
     assert [each.name for each in (clone / "bin").glob("*.deb")] != [], "make package"
 
 
-def test_session(clone: Path, prefix: Path, tmp_path: Path) -> None:
-    """The commands with a prompt work with the installed program."""
-    path = searched_first(prefix / "bin")["PATH"]
-    session = steps(README.read_text())
-    found = [(step, typed(step.command, tmp_path, PATH=path)) for step in session]
-    assert [step.command for step, printed in found if not step.is_met_by(printed)] == []
-    assert len(found) > 4
-
-
 @pytest.mark.parametrize("command, wanted", SMALL.items(), ids=SMALL)
 def test_target(clone: Path, request: pytest.FixtureRequest, command: str, wanted: str) -> None:
     printed = typed(command.format(seed=request.config.getoption("--seed")), clone)
@@ -80,11 +70,6 @@ def test_uninstall_and_clean(clone: Path, prefix: Path) -> None:
 
 
 def test_all_are_typed() -> None:
-    """Some test runs each target of the Makefile, and something runs each script."""
+    """Some test runs each target of the Makefile."""
     typed_words = " ".join([*commands(README.read_text()), *SMALL, "make uninstall make clean"])
     assert {goal for goal in GOALS if not re.search(rf"(?<![-\w]){goal}\b", typed_words)} == RUN_BY_OTHERS
-    scripts = [path for folder in ("tools", "bench") for path in (ROOT / folder).iterdir() if path.is_file()]
-    callers = [ROOT / "Makefile", ROOT / ".ci" / "run", *scripts, *ROOT.glob("tests/*.py")]
-    for script in scripts:
-        texts = [typed_words, *(path.read_text() for path in callers if path != script)]
-        assert any(re.search(rf"\b{re.escape(script.stem)}\b", text) for text in texts), f"nothing runs {script}"
