@@ -16,7 +16,6 @@ from pathlib import Path
 from typing import Any
 
 import pytest
-import pytest_timeout
 
 from lib.cases import Cases
 from lib.needs import OF_ANOTHER_BUILD, TAKES_ROOT
@@ -126,14 +125,6 @@ def pytest_runtest_makereport(item: pytest.Function, call: pytest.CallInfo[None]
         item.stash[HAS_FAILED] = True
         if "tmp_path" in item.funcargs:
             report.sections.append(("files", f"kept in {item.funcargs['tmp_path']}"))
-
-
-@pytest.hookimpl(trylast=True)
-def pytest_exception_interact(node: pytest.Item | pytest.Collector, report: pytest.TestReport) -> None:
-    """Restart the time limit after a failed subtest: the test goes on, but pytest-timeout cancels its timer here."""
-    settings = pytest_timeout.get_env_settings(node.config)
-    if hasattr(report, "context") and settings.timeout:
-        node.ihook.pytest_timeout_set_timer(item=node, settings=settings)
 
 
 def reports_of(config: pytest.Config, *kinds: str) -> list[Any]:
