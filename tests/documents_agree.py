@@ -13,7 +13,7 @@ import pytest
 from ansible_vault_companions import OLDEST
 from ansible_vault_companions.files import reading
 from contracts import CRATES, code, declared_in
-from documents import FORMATS, LIBRARY, PAGE as VERIFICATION, REFERENCE, WRITTEN, definition_files
+from documents import FORMATS, PAGE as VERIFICATION, REFERENCE, WRITTEN, definition_files
 from lib.links import dead_links
 from lib.needs import needs
 from lib.paths import COMPANIONS, PAGE, README, ROOT, sections
@@ -89,18 +89,6 @@ def test_written(page: Path) -> None:
     """tools/write_documents changes nothing, and finds each name in one file."""
     assert WRITTEN[page](page.read_text()) == page.read_text()
     assert "in `none.rt`" not in page.read_text()
-
-
-def test_library() -> None:
-    """docs/library.md has lines of crates.txt and names calls that the crates offer."""
-    page = LIBRARY.read_text()
-    lines = re.findall(r"^    (vault_\w+:.*)$", page, re.MULTILINE)
-    assert len(lines) > 3 and {*lines} <= {*(ROOT / "crates.txt").read_text().splitlines()}
-    offers = re.findall(r"^- `(vault_\w+)`: (.*)$", page, re.MULTILINE)
-    assert len(offers) > 3
-    for crate, call in ((crate, call) for crate, text in offers for call in re.findall(r"`(\w+)[\w:]*`", text)):
-        offered = (CRATES / crate / "src" / "lib.rt").read_text()
-        assert re.search(rf"^pub use .*\b{call}\b", offered, re.MULTILINE), (crate, call)
 
 
 PAGES = [*ROOT.glob("*.md"), ROOT / "tests" / "README.md", *ROOT.glob("docs/*.md"), *ROOT.glob("man/*")]
