@@ -11,7 +11,7 @@ from __future__ import annotations
 import _signal  # type: ignore
 import os
 from collections.abc import Iterable, Iterator
-from contextlib import contextmanager, suppress
+from contextlib import contextmanager
 
 # The module `typing` takes long to import, and so does `subprocess`, which most runs of ansible-vault-with do not need.
 TYPE_CHECKING = False
@@ -26,10 +26,6 @@ NOT_NOTED = ("KILL", "STOP", "CHLD", "CONT", "URG", "WINCH", "TSTP", "TTIN", "TT
 ENDING: list[int] = sorted(_signal.valid_signals() - {getattr(_signal, f"SIG{name}") for name in NOT_NOTED})
 # Signals that a terminal sends to all its foreground processes.
 KEYBOARD_SIGNALS = (_signal.SIGINT, _signal.SIGQUIT)
-# Seconds that programs have to end by themselves before they are killed.
-GRACE_PERIOD = 5
-# Seconds between wake-ups. A signal that arrives just before a blocking system call does not interrupt that call.
-WAITING_PERIOD = 1
 
 
 class Stopped(Exception):
@@ -60,15 +56,10 @@ def listen() -> None:
 
 
 def _note(number: int, _frame: object) -> None:
-    if state.leaves_keys and number in KEYBOARD_SIGNALS:
-        return
-    if state.noted is not None:
-        # Only the first signal counts, so that nothing interrupts the restoring of the terminal.
-        if number == _signal.SIGALRM:
-            _send(_signal.SIGKILL, state.programs)
+    # Only the first signal counts, so that nothing interrupts the restoring of the terminal.
+    if state.noted is not None or state.leaves_keys and number in KEYBOARD_SIGNALS:
         return
     state.noted = number
-    _signal.alarm(GRACE_PERIOD)
     _send(number, state.programs)
     if state.is_interruptible:
         raise Stopped
@@ -156,21 +147,10 @@ def _run(words: list[str], data: bytes | None, **options: Any) -> CompletedProce
         try:
             if state.noted is not None and not state.is_postponed:
                 _send(state.noted, {program})
-            output, errors = _wait_for_end(program, data)
+            output, errors = program.communicate(data)
         finally:
             state.programs.discard(program)
     return CompletedProcess(words, program.returncode, output, errors)
-
-
-def _wait_for_end(program: Popen[bytes], data: bytes | None) -> tuple[bytes, bytes]:
-    from subprocess import TimeoutExpired
-
-    # A program that reads data ends by itself. Besides, Python does not write the rest of the data after a timeout.
-    if data is not None:
-        return program.communicate(data)
-    while True:
-        with suppress(TimeoutExpired):
-            return program.communicate(timeout=WAITING_PERIOD)
 
 
 def beside(companion: str, name: str) -> str | None:

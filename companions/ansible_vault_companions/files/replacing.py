@@ -69,8 +69,8 @@ def write_new(
 
 
 def _copy_metadata(descriptor: int, target: str, is_private: bool) -> None:
-    """Copies owner, mode and extended attributes (such as ACLs), in an order in which none resets another. A private
-    file gets only the owner, and the mode 0600."""
+    """Copies owner, mode and extended attributes (such as ACLs). A private file gets only the owner, and the mode
+    0600."""
     old, new = os.stat(target), os.fstat(descriptor)
     if old.st_nlink > 1:
         raise Refused(f"it has {old.st_nlink} names (hard links); replace the others by symbolic links first")
