@@ -5,8 +5,9 @@ from __future__ import annotations
 import errno
 import os
 import re
-import stat
+import shutil
 import tempfile
+from contextlib import suppress
 
 from ansible_vault_companions.files import reading
 from ansible_vault_companions.program import Refused
@@ -16,6 +17,8 @@ PREFIX, SUFFIX = ".ansible-vault-", ".new"
 RANDOM = "[a-z0-9_]{8}"
 # The mode of a file that only its owner may read.
 PRIVATE = 0o600
+# What a directory may give to each new file: its default access control list.
+ACCESS_LIST = "system.posix_acl_access"
 
 
 def replace(path: str, content: bytes, before: bytes | None, is_private: bool = False) -> None:
@@ -76,13 +79,12 @@ def _copy_metadata(descriptor: int, target: str, is_private: bool) -> None:
         raise Refused(f"it has {old.st_nlink} names (hard links); replace the others by symbolic links first")
     if (old.st_uid, old.st_gid) != (new.st_uid, new.st_gid):
         _give(descriptor, old.st_uid, old.st_gid)
-    wanted = [] if is_private else _attributes(target)
-    # Attributes that the directory gives to every new file.
-    for name in _attributes(descriptor):
-        os.removexattr(descriptor, name)
-    os.fchmod(descriptor, PRIVATE if is_private else stat.S_IMODE(old.st_mode))
-    for name in wanted:
-        os.setxattr(descriptor, name, os.getxattr(target, name))
+    with suppress(OSError):
+        os.removexattr(descriptor, ACCESS_LIST)
+    os.fchmod(descriptor, PRIVATE)
+    if not is_private:
+        shutil.copystat(target, f"/dev/fd/{descriptor}")
+        os.utime(descriptor)
 
 
 def _give(descriptor: int, user: int, group: int) -> None:
@@ -93,28 +95,14 @@ def _give(descriptor: int, user: int, group: int) -> None:
         raise Refused(why) from None
 
 
-def _attributes(target: str | int) -> list[str]:
-    """The names of the extended attributes, except those of security modules, which the system sets."""
-    try:
-        return [name for name in os.listxattr(target) if not name.startswith("security.")]
-    except OSError as fault:
-        if fault.errno == errno.ENOTSUP:
-            return []
-        raise
-
-
 def _sync(folder: str) -> None:
-    try:
+    """Syncs a directory, unless it cannot be read, or its file system cannot do that."""
+    with suppress(PermissionError):
         descriptor = os.open(folder, os.O_RDONLY)
-    except PermissionError:
-        # The directory may be writable but not readable.
-        os.sync()
-        return
-    try:
-        os.fsync(descriptor)
-    except OSError as fault:
-        # Some file systems cannot sync directories.
-        if fault.errno != errno.EINVAL:
-            raise
-    finally:
-        os.close(descriptor)
+        try:
+            os.fsync(descriptor)
+        except OSError as fault:
+            if fault.errno != errno.EINVAL:
+                raise
+        finally:
+            os.close(descriptor)
