@@ -8,7 +8,7 @@ import re
 import threading
 from concurrent.futures import Future, ThreadPoolExecutor
 from contextlib import suppress
-from typing import Callable, Hashable, Iterable, Sequence, TypeVar
+from typing import Callable, Hashable, Iterable, NamedTuple, Sequence, TypeVar
 
 from ansible_vault_companions import processes
 from ansible_vault_companions.envelopes.envelope import label_of, written_label
@@ -20,8 +20,6 @@ Item = TypeVar("Item")
 Result = TypeVar("Result")
 # A password, and the label that the envelope gets.
 Key = tuple[Password, str]
-# Decrypts an envelope, and also returns the password that worked.
-Decrypt = Callable[[bytes], tuple[Password, bytes]]
 NAME = "ansible-vault"
 NOT_DECRYPTED = "no secret decrypts this vault"
 # The beginning of an error message.
@@ -32,6 +30,27 @@ MOST_REMEMBERED = 1 << 26
 
 class NotDecrypted(Refused):
     """No password decrypts a vault."""
+
+
+class Decrypted(NamedTuple):
+    """An envelope, the password that decrypts it, and the plaintext."""
+
+    envelope: bytes
+    password: Password
+    text: bytes
+
+    @property
+    def key(self) -> Key:
+        return self.password, label_of(self.envelope) or ""
+
+    def require_label(self, where: str = "") -> None:
+        """Refuses a text that its label does not allow to encrypt again with this password."""
+        fault = self.password.label_fault(self.key[1])
+        if fault:
+            raise Refused(where + fault)
+
+
+Decrypt = Callable[[bytes], Decrypted]
 
 
 class Tool:
@@ -66,15 +85,14 @@ class Tool:
         view = lambda: self.run(["view", password.option()], envelope, [password])
         return self.once((envelope, password), len(envelope), view)
 
-    def decrypt(self, envelope: bytes, passwords: list[Password]) -> tuple[Password, bytes]:
-        """The password that decrypts the envelope, and the plaintext. Tries passwords one at a time, those with its
-        label first, so it is certain which one worked. `label_fault` says whether the label allows that password."""
+    def decrypt(self, envelope: bytes, passwords: list[Password]) -> Decrypted:
+        """Tries passwords one at a time, those with the envelope's label first, so it is certain which one works."""
         tried = sources.in_order(passwords, label_of(envelope))
         for password in tried:
             with suppress(NotDecrypted):
                 plaintext = self.view(envelope, password)
                 password.is_certain = True
-                return password, plaintext
+                return Decrypted(envelope, password, plaintext)
         raise NotDecrypted(f"{NOT_DECRYPTED} {sources.tried(written_label(envelope), tried)}")
 
     def encrypt(self, plaintext: bytes, password: Password, label: str) -> bytes:

@@ -17,10 +17,9 @@ import pytest
 from hypothesis import strategies as st
 
 from ansible_vault_companions.envelopes import conflicts
-from ansible_vault_companions.envelopes.envelope import MAGIC, label_of
+from ansible_vault_companions.envelopes.envelope import MAGIC
 from ansible_vault_companions.merging import texts
 from ansible_vault_companions.merging.versions import Merged, Versions
-from ansible_vault_companions.passwords import sources
 from ansible_vault_companions.passwords.sources import Password
 from ansible_vault_companions.tool import NotDecrypted, Tool
 from companion_cases import PASSWORDS, decrypted
@@ -116,6 +115,9 @@ class Merge(NamedTuple):
         return b"%s%s\n# %s\n" % (value.head(), self.known_by(value), value.key.encode())
 
 
+SECRETS = [*map(secret_of, LABELS)]
+
+
 class Model(Tool):
     """Replaces the program by the model of the tests."""
 
@@ -138,7 +140,8 @@ class Model(Tool):
 
     def merged(self, contents: list[bytes]) -> Merged:
         base, ours, theirs = contents
-        return texts.merged(self, self.opened, Versions(ours, base, theirs), conflicts.SIZE, None)
+        decrypt = functools.partial(self.decrypt, passwords=SECRETS)
+        return texts.merged(self, decrypt, Versions(ours, base, theirs), conflicts.SIZE, None)
 
 
 @st.composite

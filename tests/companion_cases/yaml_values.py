@@ -17,7 +17,7 @@ from ansible_vault_companions.envelopes.changes import Change, changed, column
 from ansible_vault_companions.envelopes.envelope import LINE_END, Path
 from ansible_vault_companions.passwords.sources import Password
 from ansible_vault_companions.program import Refused
-from ansible_vault_companions.tool import Tool
+from ansible_vault_companions.tool import Decrypted, Tool
 from companion_cases.spellings import LOADERS, Generator, composed
 
 SECRET = Password("default", "", "")
@@ -31,9 +31,9 @@ def envelope(plaintext: bytes) -> bytes:
     return b"$ANSIBLE_VAULT;1.1;AES256\n" + binascii.hexlify(plaintext) + b"\n"
 
 
-def decrypt(text: bytes) -> tuple[Password, bytes]:
+def decrypt(text: bytes) -> Decrypted:
     try:
-        return SECRET, binascii.unhexlify(b"".join(text.split()[1:]))
+        return Decrypted(text, SECRET, binascii.unhexlify(b"".join(text.split()[1:])))
     except ValueError:
         raise Refused("a comment below is part of its text") from None
 
@@ -89,7 +89,7 @@ def tagged(data: bytes) -> list[tuple[Path, str]] | None:
 def shown_text(envelope: str) -> str:
     """Return the plaintext of an envelope if an edit can show it, since it is not folded."""
     try:
-        text = decrypt(envelope.encode())[1].decode()
+        text = decrypt(envelope.encode()).text.decode()
     except Refused:
         return envelope
     return envelope if text.startswith("$ANSIBLE_VAULT") or re.search(" [0-9a-f]{16}", envelope) else text

@@ -14,10 +14,10 @@ from ansible_vault_companions.editing.values import YamlFile, closed_block, node
 from ansible_vault_companions.envelopes import conflicts, document
 from ansible_vault_companions.envelopes.changes import Change, changed
 from ansible_vault_companions.envelopes.document import NO_TEXT, NOT_ENCRYPTED, Document
-from ansible_vault_companions.envelopes.envelope import ALIAS, MAGIC, NO_SCALAR, Path, Value, label_of, quoted
+from ansible_vault_companions.envelopes.envelope import ALIAS, MAGIC, NO_SCALAR, Path, Value, quoted
 from ansible_vault_companions.files import reading
 from ansible_vault_companions.merging import texts
-from ansible_vault_companions.passwords.sources import NO_OPTION, Password
+from ansible_vault_companions.passwords.sources import Password
 from ansible_vault_companions.program import Refused, pathspec, shown
 from ansible_vault_companions.tool import Decrypt, Key, Tool
 
@@ -68,10 +68,10 @@ class SingleValue:
         if is_chosen:
             key = choice.key(shown(path), shown(path))
         else:
-            password, self.before = decrypt(self.value.readable())
-            key = password, self.value.label or ""
-        # If the password has another label than the value, the new text may be for other readers.
-        _require_label(*key)
+            decrypted = decrypt(self.value.readable())
+            # If the password has another label than the value, the new text may be for other readers.
+            decrypted.require_label()
+            key, self.before = decrypted.key, decrypted.text
         self.keys = [key]
         # A value at another path is another one, even if it is equal.
         self.plaintext = b"%s\n%s" % (path.encode(errors="surrogateescape"), self.before or b"")
@@ -114,10 +114,9 @@ def load(
         return _of_conflict(tool, decrypt, target, content, choice, chosen)
     if not content.startswith(MAGIC):
         return _of_values(decrypt, target, content, choice)
-    password, plaintext = decrypt(content)
-    key = password, label_of(content) or ""
-    _require_label(*key)
-    return Vault(target, content, [key], plaintext)
+    decrypted = decrypt(content)
+    decrypted.require_label()
+    return Vault(target, content, [decrypted.key], decrypted.text)
 
 
 def _of_conflict(
@@ -144,18 +143,11 @@ def _of_values(decrypt: Decrypt, target: str, content: bytes, choice: Choice) ->
     if not draft or not draft.tagged:
         raise Refused(NO_VAULT)
     for old in draft.opened.values():
-        _require_label(*old.key, where=f"{place_of(old.value)}: ")
+        old.decrypted.require_label(f"{place_of(old.value)}: ")
     if len(draft.faults) == len(draft.tagged) and choice.label is None:
         value, why = draft.faults[0]
         raise Refused(f"{place_of(value)}: {why}{TO_ADD}")
     return draft
-
-
-def _require_label(password: Password, label: str, where: str = "") -> None:
-    """Refuses an envelope whose text may not be encrypted again with the password that opens it, or under its label."""
-    fault = NO_OPTION.format(label) if "@" in label else password.label_fault(label)
-    if fault:
-        raise Refused(where + fault)
 
 
 def _tagged(data: bytes, path: str, is_chosen: bool) -> Document:

@@ -14,7 +14,7 @@ from ansible_vault_companions.envelopes.envelope import Path, Value
 from ansible_vault_companions.passwords import prompts
 from ansible_vault_companions.passwords.sources import Password
 from ansible_vault_companions.program import Refused, shown
-from ansible_vault_companions.tool import Key
+from ansible_vault_companions.tool import Decrypted, Key
 
 NEW = "{} is new; choose its password with --encrypt-vault-id"
 NO_SUCH_LABEL = "{} is new, and no secret has the label of --encrypt-vault-id"
@@ -25,11 +25,10 @@ Place = tuple[Path, int]
 
 
 class Opened(NamedTuple):
-    """A value of the file in plaintext, and what opened its envelope."""
+    """A value of the file, and its plaintext."""
 
     value: Value
-    plaintext: bytes
-    key: Key
+    decrypted: Decrypted
 
 
 class Match(NamedTuple):
@@ -82,11 +81,12 @@ def matches(opened: list[Opened], typed: list[Value], choice: Choice) -> list[Ma
     before = dict(zip(_places(old.value for old in opened), opened))
     after = dict(zip(_places(typed), typed))
     # The places of typed values whose envelope stays, with the places where those were.
-    kept = {at: at for at, value in after.items() if at in before and before[at].plaintext == value.text}
+    kept = {at: at for at, value in after.items() if at in before and before[at].decrypted.text == value.text}
     _keep_moved(kept, before, after, _list_of)
     changed = _changed(kept, before, after, choice)
     _keep_moved(kept, before, {at: value for at, value in after.items() if at not in changed}, lambda _: ())
-    known = {at: Match(before[at], before[at].key) for at in changed} | {at: Match(before[kept[at]]) for at in kept}
+    known = {at: Match(before[at], before[at].decrypted.key) for at in changed}
+    known |= {at: Match(before[kept[at]]) for at in kept}
     return [known.get(at) or Match(None, choice.key(name_of(new), place_of(new))) for at, new in after.items()]
 
 
@@ -96,7 +96,7 @@ def _keep_moved(
     """Adds typed values whose text a single other value of the same group had, which is gone."""
     vanished: dict[tuple[Path, bytes], list[Place]] = defaultdict(list)
     for at in before.keys() - {*kept.values()}:
-        vanished[group(at), before[at].plaintext].append(at)
+        vanished[group(at), before[at].decrypted.text].append(at)
     for at, value in after.items():
         sources = vanished[group(at), value.text] if at not in kept else []
         if len(sources) == 1:
@@ -112,7 +112,7 @@ def _changed(
     typed = _by_list(after.keys() - kept.keys())
     changed: set[Place] = set()
     for group in vanished.keys() & typed.keys():
-        keys = [before[at].key for at in old[group]]
+        keys = [before[at].decrypted.key for at in old[group]]
         if len(typed[group]) > len(vanished[group]):
             keys += choice.keys()
         if len({password.content for password, _ in keys}) > 1 and vanished[group] != typed[group]:

@@ -114,7 +114,7 @@ def save_copy(tool: Tool, key: Key, target: str, base: bytes, text: bytes) -> st
 def taken_up(path: str, base: bytes, keys: list[Key], decrypt: Decrypt) -> bytes:
     """The text of a copy. The file may be under new passwords by now, but what it says, and for whom, is as before."""
     content = reading.named(path)
-    _, text = decrypt(content)
+    text = decrypt(content).text
     if [label for _, label in keys] != [label_of(content)] or not text.startswith(_head(base)):
         raise Refused(CHANGED.format(shown(path)))
     return text[len(_head(base)) :]

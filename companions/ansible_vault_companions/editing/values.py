@@ -45,13 +45,13 @@ class YamlFile:
         self.opened = {number: result for number, result in results.items() if isinstance(result, Opened)}
         # The values that stay encrypted, and why.
         self.faults = [(closed[number], why) for number, why in results.items() if isinstance(why, Refused)]
-        texts = {number: old.plaintext for number, old in self.opened.items()}
+        texts = {number: old.decrypted.text for number, old in self.opened.items()}
         self.plaintext = written(self.file, texts, lambda number, value: _shown(content, value, texts[number]))
 
     @property
     def keys(self) -> list[Key]:
         """One key of each password that a value has, or that a new one may get."""
-        keys = [old.key for old in self.opened.values()]
+        keys = [old.decrypted.key for old in self.opened.values()]
         keys += self.choice.keys() if self.choice.label is not None or not keys else []
         return list({password.content: (password, label) for password, label in reversed(keys)}.values())
 
@@ -90,7 +90,8 @@ class YamlFile:
 
     def uncovered(self, text: bytes) -> list[str]:
         """The paths of values that are no longer encrypted. Of an item in a list, only the text tells which it was."""
-        paths, texts = {value.path for value in self.tagged.values()}, {old.plaintext for old in self.opened.values()}
+        paths = {value.path for value in self.tagged.values()}
+        texts = {old.decrypted.text for old in self.opened.values()}
         plain = [value for value in nodes(text).values if value.text and value.path in paths and not value.is_tagged]
         is_same = lambda value: value.text in texts or not any(isinstance(step, int) for step in value.path)
         return [value.typed_path for value in filter(is_same, plain)]
@@ -157,15 +158,15 @@ def closed_block(data: bytes, value: Value, envelope: bytes, old: Value | None) 
 def _opened(value: Value, decrypt: Decrypt) -> Opened | Refused:
     """A value in plaintext, or why it stays encrypted."""
     try:
-        password, plaintext = decrypt(value.readable())
-        plaintext.decode()
+        decrypted = decrypt(value.readable())
+        decrypted.text.decode()
     except UnicodeDecodeError:
         return Refused(NOT_UTF_8)
     except Refused as fault:
         return fault
-    if plaintext.strip().startswith(MAGIC):
+    if decrypted.text.strip().startswith(MAGIC):
         return Refused(VAULT_WITHIN)
-    return Opened(value, plaintext, (password, value.label or ""))
+    return Opened(value, decrypted)
 
 
 def _is_typed(value: Value, closed: set[bytes]) -> bool:

@@ -11,10 +11,9 @@ import os
 from ansible_vault_companions.envelopes import conflicts
 from ansible_vault_companions.envelopes.envelope import MAGIC
 from ansible_vault_companions.git.repository import answer, repository_of
-from ansible_vault_companions.merging.versions import Decrypted, Keys, Merged, Values, Versions, common_key
-from ansible_vault_companions.merging.versions import merged_lines, opened
+from ansible_vault_companions.merging.versions import Keys, Merged, Values, Versions, common_key, merged_lines
 from ansible_vault_companions.program import Refused, shown
-from ansible_vault_companions.tool import Decrypt, Key, NotDecrypted, Tool
+from ansible_vault_companions.tool import Decrypt, Decrypted, Key, NotDecrypted, Tool
 
 NOT_MERGED = "not merged, so both sides are whole in the file: {}"
 KINDS_DIFFER = "one side is a vault and the other is not"
@@ -84,7 +83,7 @@ class Vaults:
         if not data.startswith(MAGIC):
             return data, set()
         try:
-            vault = opened(decrypt, data, may_encrypt=False)
+            vault = decrypt(data)
         except NotDecrypted as fault:
             self.why = f"base: {fault}"
             return b"", set()
@@ -112,9 +111,11 @@ class Conflict(Vaults):
 
 def _of_side(side: str, decrypt: Decrypt, vault: bytes) -> Decrypted:
     try:
-        return opened(decrypt, vault)
+        decrypted = decrypt(vault)
+        decrypted.require_label()
     except Refused as fault:
         raise Refused(f"{side}: {fault}") from None
+    return decrypted
 
 
 def unmerged(path: str, data: bytes) -> Versions | None:

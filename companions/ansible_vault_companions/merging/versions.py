@@ -12,12 +12,12 @@ import secrets as randomness
 from collections import Counter, defaultdict
 from typing import AbstractSet, Hashable, NamedTuple, Optional, Union
 
-from ansible_vault_companions.envelopes import conflicts, envelope
+from ansible_vault_companions.envelopes import conflicts
 from ansible_vault_companions.envelopes.changes import Change, changed, replaced
 from ansible_vault_companions.envelopes.envelope import LITERAL, LOOSE, STRAY, Value
 from ansible_vault_companions.git import repository
 from ansible_vault_companions.program import Refused
-from ansible_vault_companions.tool import Decrypt, Key, Tool, at_once
+from ansible_vault_companions.tool import Decrypt, Decrypted, Key, Tool, at_once
 
 # The names of the sides in git's conflict markers.
 SIDES = OURS, BASE, THEIRS = ("ours", "base", "theirs")
@@ -65,25 +65,6 @@ def _in_memory(text: bytes) -> int:
     with open(file, "wb", closefd=False) as writer:
         writer.write(text)
     return file
-
-
-class Decrypted(NamedTuple):
-    """An envelope that a password opens."""
-
-    envelope: bytes
-    key: Key
-    text: bytes
-
-
-def opened(decrypt: Decrypt, vault: bytes, may_encrypt: bool = True) -> Decrypted:
-    """Refuses an envelope whose label does not allow the password that opens it to encrypt the text again, if it may
-    have to."""
-    password, text = decrypt(vault)
-    label = envelope.label_of(vault) or ""
-    fault = password.label_fault(label) if may_encrypt else ""
-    if fault:
-        raise Refused(fault)
-    return Decrypted(vault, (password, label), text)
 
 
 def common_key(ours: Keys, base: Keys, theirs: Keys) -> Key | None:
@@ -141,9 +122,11 @@ class Values:
 
         def known(text: bytes) -> Decrypted | None:
             try:
-                return opened(decrypt, text)
+                decrypted = decrypt(text)
+                decrypted.require_label()
             except Refused:
                 return None
+            return decrypted
 
         return {each.envelope: each for each in at_once(known, changed) if each}
 

@@ -100,6 +100,8 @@ class Password:
         passwords are given, all are tried, but only one with the envelope's label may encrypt the text again, or the
         text would get the password that belongs to another label. With one password, no other can be meant."""
         label = label or DEFAULT
+        if "@" in label:
+            return NO_OPTION.format(shown(label))
         if self.label == label or self.serves_any_label:
             return ""
         return (

@@ -10,9 +10,9 @@ from ansible_vault_companions.envelopes.envelope import Value
 from ansible_vault_companions.files.reading import Unsearched
 from ansible_vault_companions.git import facts
 from ansible_vault_companions.passwords.sources import Password
-from ansible_vault_companions.plaintext.reports import Report, opened
+from ansible_vault_companions.plaintext.reports import Report, decrypted
 from ansible_vault_companions.program import Refused, pathspec, reason, shown
-from ansible_vault_companions.tool import Tool, Workers
+from ansible_vault_companions.tool import Decrypted, Tool, Workers
 
 RESOLVE = (
     "resolve them with ansible-vault-edit; or set up the merge driver (see `ansible-vault-merge --help`), and run "
@@ -62,24 +62,24 @@ class Check:
         names = [name for name in (value.name, label or "no label") if name]
         what = ": ".join([where, *map(shown, names)])
         try:
-            result = opened(self.tool, value, self.passwords, is_prose)
+            result = decrypted(self.tool, value, self.passwords, is_prose)
         except Refused as fault:
             report.faults.append(f"{what}: {fault}")
             return report
         if not result:
             return Report()
-        self._plaintext(where, what, value, *result, report)
+        self._plaintext(where, what, result, report)
         return report
 
-    def _plaintext(self, where: str, what: str, value: Value, by: Password, plaintext: bytes, report: Report) -> None:
-        why = by.label_fault(value.label)
-        if why:
-            report.faults.append(f"{what}: {why}")
-        else:
-            report.lines.append(f"{what}: decrypted by {shown(by.given)}")
-        if conflicts.is_unmerged(plaintext):
+    def _plaintext(self, where: str, what: str, result: Decrypted, report: Report) -> None:
+        try:
+            result.require_label()
+            report.lines.append(f"{what}: decrypted by {shown(result.password.given)}")
+        except Refused as fault:
+            report.faults.append(f"{what}: {fault}")
+        if conflicts.is_unmerged(result.text):
             report.faults.append(f"{what}: its plaintext {conflicts.UNMERGED}")
-        for within in document.read(plaintext).envelopes().values():
+        for within in document.read(result.text).envelopes().values():
             report.add(self._value(f"{where}: in its plaintext, line {max(within.line, 1)}", within))
 
 

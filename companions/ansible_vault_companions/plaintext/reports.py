@@ -11,12 +11,12 @@ from ansible_vault_companions.envelopes.envelope import Value
 from ansible_vault_companions.files.reading import Unsearched
 from ansible_vault_companions.passwords.sources import Password
 from ansible_vault_companions.program import Refused, shown, write_error, write_line
-from ansible_vault_companions.tool import NotDecrypted, Tool, Workers
+from ansible_vault_companions.tool import Decrypted, NotDecrypted, Tool, Workers
 
 
-def opened(tool: Tool, value: Value, passwords: list[Password], is_prose: bool) -> tuple[Password, bytes] | None:
-    """The password that decrypts an envelope, and the plaintext. None if it is an example: in prose, one that is
-    damaged or that no password decrypts."""
+def decrypted(tool: Tool, value: Value, passwords: list[Password], is_prose: bool) -> Decrypted | None:
+    """An envelope in plaintext. None if it is an example: in prose, one that is damaged or that no password
+    decrypts."""
     try:
         return tool.decrypt(value.readable(), passwords)
     except Refused as fault:

@@ -11,7 +11,7 @@ from ansible_vault_companions.envelopes.document import Document
 from ansible_vault_companions.envelopes.envelope import Value
 from ansible_vault_companions.files import replacing
 from ansible_vault_companions.passwords.sources import Password
-from ansible_vault_companions.plaintext.reports import Report, opened
+from ansible_vault_companions.plaintext.reports import Report, decrypted
 from ansible_vault_companions.program import Refused, shown
 from ansible_vault_companions.tool import Tool, Workers
 
@@ -95,23 +95,22 @@ class Rotation:
         if new:
             report.labels.add(label)
             # Passwords with its label are tried first, so most envelopes are decrypted by the first one.
-            result = opened(self.tool, value, [*self.old, new], is_prose)
+            result = decrypted(self.tool, value, [*self.old, new], is_prose)
         else:
             report.others[label] += 1
             passwords = [password for password in self.old if password.label == label]
-            result = opened(self.tool, value, passwords, is_prose=True) if value.is_whole else None
+            result = decrypted(self.tool, value, passwords, is_prose=True) if value.is_whole else None
         if not result:
             report.labels.clear()
             return None
-        password, plaintext = result
-        fault = password.label_fault(label)
-        if fault:
-            raise Refused(fault)
-        after = self._within(plaintext, where, report)
-        keeps = not new or password.content == new.content
+        result.require_label()
+        after = self._within(result.text, where, report)
+        keeps = not new or result.password.content == new.content
         if new:
             report.counts[HAD_IT if keeps else CHANGED] += 1
-        return None if keeps and after == plaintext else self._encrypted(value.text, after, new or password, label)
+        if keeps and after == result.text:
+            return None
+        return DRY if self.is_dry else self.tool.encrypt_again(value.text, after, new or result.password, label)
 
     def _within(self, plaintext: bytes, where: str, report: Report) -> bytes:
         """The plaintext of an envelope, with the envelopes in it rotated."""
@@ -119,6 +118,3 @@ class Rotation:
         if text.is_vault:
             raise Refused(WITHIN_VAULT)
         return self._rotated(text, lambda value: f"{where}: in its plaintext, line {value.line}", report)
-
-    def _encrypted(self, envelope: bytes, plaintext: bytes, password: Password, label: str) -> bytes:
-        return DRY if self.is_dry else self.tool.encrypt_again(envelope, plaintext, password, label)
