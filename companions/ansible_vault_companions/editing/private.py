@@ -10,7 +10,6 @@ import os
 import shutil
 import stat
 import tempfile
-import time
 from contextlib import suppress
 
 from ansible_vault_companions.envelopes.envelope import label_of
@@ -20,9 +19,6 @@ from ansible_vault_companions.program import Refused, shown
 from ansible_vault_companions.tool import Decrypt, Key, Tool
 
 PREFIX = "ansible-vault-"
-# Attempts to remove a directory in which something is still being written, and the seconds between them.
-REMOVALS = 20
-PAUSE = 0.05
 # Precedes the text of a copy, so that no text begins like a vault, which ansible-vault would not encrypt. The digest is
 # that of the text that the edit began with.
 HEAD = b"# ansible-vault-edit %s: what was saved begins below.\n"
@@ -47,18 +43,12 @@ class PrivateFolder:
         return self
 
     def __exit__(self, _kind: object, fault: BaseException | None, _trace: object) -> None:
-        if not (self.is_kept or self._is_removed()):
+        if self.is_kept:
+            return
+        shutil.rmtree(self.path, ignore_errors=True)
+        if os.path.lexists(self.path):
             left = LEFT.format(self.path)
             raise Refused(f"{fault}; {left}" if isinstance(fault, Refused) else left) from None
-
-    def _is_removed(self) -> bool:
-        """Tries repeatedly, since a process of the editor may still be writing to it."""
-        for _ in range(REMOVALS):
-            shutil.rmtree(self.path, ignore_errors=True)
-            if not os.path.lexists(self.path):
-                return True
-            time.sleep(PAUSE)
-        return False
 
     def create(self, name: str, content: bytes) -> None:
         with open(os.path.join(self.path, name), "xb", opener=lambda path, flags: os.open(path, flags, 0o600)) as file:

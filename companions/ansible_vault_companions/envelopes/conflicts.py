@@ -34,18 +34,9 @@ def unused_size(texts: Iterable[bytes]) -> int:
     return max([SIZE, *(len(run[0]) + 1 for text in texts for run in RUN.finditer(text))])
 
 
-def _marker(size: int) -> re.Pattern[bytes]:
-    return re.compile(rb"^([<|=>])\1{%d}(?:[ \t][^\r\n]*)?\r?$" % (size - 1), re.MULTILINE)
-
-
-def has_markers(text: bytes, size: int) -> bool:
-    """Whether a line is a marker of this size, even one of equal signs."""
-    return _marker(size).search(text) is not None
-
-
 def signed_lines(text: bytes, size: int) -> list[tuple[bytes, bytes]]:
     """Each line, with the sign of its side before it: none outside of conflicts, and END for a marker itself."""
-    marker = _marker(size)
+    marker = re.compile(rb"^([<|=>])\1{%d}(?:[ \t][^\r\n]*)?\r?$" % (size - 1), re.MULTILINE)
     side, lines = b"", []
     for line in LINES.findall(text):
         match = marker.match(line)

@@ -57,8 +57,7 @@ class Vaults:
         self.theirs = _of_side("theirs", decrypt, versions.theirs)
         text, self.base_keys = self._base(decrypt, versions.base)
         texts = Versions(self.ours.text, text, self.theirs.text)
-        self.marker_size = conflicts.unused_size(texts)
-        self.merge = merged_lines(texts, self.marker_size)
+        self.merge = merged_lines(texts, conflicts.unused_size(texts))
 
     def key(self, chosen: Key | None) -> Key:
         key = common_key({self.ours.key}, self.base_keys, {self.theirs.key}) or chosen
@@ -101,10 +100,10 @@ class Conflict(Vaults):
         self.plaintext = self.merge.text
 
     def is_as_it_was(self, text: bytes) -> bool:
-        return text == self.plaintext and conflicts.has_markers(text, self.marker_size)
+        return text == self.plaintext and conflicts.is_unmerged(text)
 
     def encrypted(self, tool: Tool, text: bytes) -> bytes:
-        if conflicts.has_markers(text, self.marker_size):
+        if conflicts.is_unmerged(text):
             raise Refused(conflicts.STILL)
         return self.sealed(tool, text, self.keys[0])
 
