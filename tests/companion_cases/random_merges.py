@@ -16,10 +16,10 @@ import hypothesis
 import pytest
 from hypothesis import strategies as st
 
+from ansible_vault_companions import merging
 from ansible_vault_companions.envelopes import conflicts
 from ansible_vault_companions.envelopes.envelope import MAGIC
-from ansible_vault_companions.merging import texts
-from ansible_vault_companions.merging.versions import Merged, Versions
+from ansible_vault_companions.merging import Merged, Versions
 from ansible_vault_companions.passwords.sources import Password
 from ansible_vault_companions.tool import NotDecrypted, Tool
 from companion_cases import PASSWORDS, decrypted
@@ -141,7 +141,7 @@ class Model(Tool):
     def merged(self, contents: list[bytes]) -> Merged:
         base, ours, theirs = contents
         decrypt = functools.partial(self.decrypt, passwords=SECRETS)
-        return texts.merged(self, decrypt, Versions(ours, base, theirs), conflicts.SIZE, None)
+        return merging.merged(self, decrypt, Versions(ours, base, theirs), conflicts.SIZE, None)
 
 
 @st.composite

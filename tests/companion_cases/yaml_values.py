@@ -13,7 +13,7 @@ import yaml
 
 from ansible_vault_companions.editing.matching import Choice
 from ansible_vault_companions.editing.values import YamlFile, nodes
-from ansible_vault_companions.envelopes.changes import Change, changed, column
+from ansible_vault_companions.envelopes.document import Change, changed, column
 from ansible_vault_companions.envelopes.envelope import LINE_END, Path
 from ansible_vault_companions.passwords.sources import Password
 from ansible_vault_companions.program import Refused

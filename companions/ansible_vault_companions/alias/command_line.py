@@ -7,7 +7,7 @@ from collections.abc import Collection, Iterable
 from argparse import Namespace
 
 from ansible_vault_companions import program
-from ansible_vault_companions.passwords import options, prompts, sources
+from ansible_vault_companions.passwords import prompts, sources
 from ansible_vault_companions.passwords.sources import ANY_LABEL, ASKED, Password
 from ansible_vault_companions.program import Refused, shown, write_error
 
@@ -72,7 +72,7 @@ PASSED_ON: dict[str, tuple[tuple[str, ...], dict[str, Any]]] = {
 def command_line(words: Collection[str] = tuple(COMMANDS)) -> program.Parser:
     """The parser, with the options of the commands that are among the words."""
     parser = program.parser(NAME, SUMMARY, EXAMPLE, allow_abbrev=True)
-    options.add_options(parser, before="before_")
+    sources.add_options(parser, before="before_")
     parser.add_argument("-v", "--verbose", action="count", help=argparse.SUPPRESS)
     commands = parser.add_subparsers(dest="command", metavar="COMMAND", title="commands")
     for name, text in COMMANDS.items():
@@ -106,13 +106,13 @@ def parsed(words: list[str]) -> Namespace:
 
 def _add_options(parser: argparse.ArgumentParser, command: str) -> None:
     program.add_common(parser, NAME)
-    options.add_options(parser)
+    sources.add_options(parser)
     parser.add_argument("-v", "--verbose", action="count", help=argparse.SUPPRESS)
     for option, (commands, settings) in PASSED_ON.items():
         if command in commands:
             parser.add_argument(option, **settings)
     if command == REKEY:
-        options.add_options(parser, "new-")
+        sources.add_options(parser, "new-")
     if command == CREATE:
         parser.add_argument("--skip-tty-check", help="ignored", **FLAG)
     if command == ENCRYPT_STRING:
@@ -145,14 +145,14 @@ class Call:
     """The command line, and the passwords in the order in which they are tried."""
 
     def __init__(self, args: Namespace) -> None:
-        settings = options.settings_beside(args, lambda text: write_error(f"{NAME}: {text}"))
+        settings = sources.settings_beside(args, lambda text: write_error(f"{NAME}: {text}"))
         encrypts = args.command in ENCRYPTING
         self.args = args
         # The label of the password to encrypt with.
         self.label = getattr(args, "encrypt_vault_id", None) or settings.encrypt_label()
         named = sources.named(args.vault_id, args.vault_password_file, settings)
         sources.load(NAME, named, settings, encrypts, args.any_label)
-        named = named or [_typed(encrypts, options.NONE)]
+        named = named or [_typed(encrypts, sources.NONE)]
         self.new = self._new(named) if args.command == REKEY else []
         self.passwords = self._to_encrypt_with(named) if encrypts else [one for one in named if not one.is_left_out]
         # With a rekeying, too, a label counts if there are several passwords.
@@ -171,7 +171,7 @@ class Call:
 
     def _new(self, old: list[Password]) -> list[Password]:
         """The new password of options, else the one of the settings with the chosen label, else a typed one."""
-        new = options.new_passwords(self.args)
+        new = sources.new_passwords(self.args)
         fitting = [one for one in new or old if one.label == self.label and (new or one.is_setting)]
         if new and (fitting or not self.args.encrypt_vault_id):
             return new

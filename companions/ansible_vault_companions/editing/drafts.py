@@ -8,15 +8,13 @@ import re
 from dataclasses import dataclass
 from typing import Union
 
-from ansible_vault_companions import processes
+from ansible_vault_companions import merging, processes
 from ansible_vault_companions.editing.matching import Choice, place_of
 from ansible_vault_companions.editing.values import YamlFile, closed_block, nodes, written
 from ansible_vault_companions.envelopes import conflicts, document
-from ansible_vault_companions.envelopes.changes import Change, changed
-from ansible_vault_companions.envelopes.document import NO_TEXT, NOT_ENCRYPTED, Document
+from ansible_vault_companions.envelopes.document import NO_TEXT, NOT_ENCRYPTED, Change, Document, changed
 from ansible_vault_companions.envelopes.envelope import ALIAS, MAGIC, NO_SCALAR, Path, Value, quoted
 from ansible_vault_companions.files import reading
-from ansible_vault_companions.merging import texts
 from ansible_vault_companions.passwords.sources import Password
 from ansible_vault_companions.program import Refused, pathspec, shown
 from ansible_vault_companions.tool import Decrypt, Key, Tool
@@ -92,7 +90,7 @@ class SingleValue:
 
 
 # A text to change, and how the file becomes what was saved. Its `keys` may read a copy, if there is a single one.
-Draft = Union[Vault, YamlFile, SingleValue, texts.Conflict]
+Draft = Union[Vault, YamlFile, SingleValue, merging.Conflict]
 
 
 def load(
@@ -122,17 +120,17 @@ def load(
 def _of_conflict(
     tool: Tool, decrypt: Decrypt, target: str, content: bytes, choice: Choice, chosen: str | None
 ) -> Draft:
-    sides = texts.unmerged(target, content)
+    sides = merging.unmerged(target, content)
     assert sides
     key = next(iter(choice.keys()), None) if chosen else None
     are_vaults = [side.startswith(MAGIC) for side in (sides.ours, sides.theirs)]
     if all(are_vaults):
-        return texts.Conflict(decrypt, target, content, sides, key)
+        return merging.Conflict(decrypt, target, content, sides, key)
     if any(are_vaults):
-        raise Refused(texts.ONE_SIDE.format(pathspec(target)))
+        raise Refused(merging.ONE_SIDE.format(pathspec(target)))
     # Where git has merged the digits of values, only whole ones are between the markers of the merged text.
     is_merged = sides.ours and sides.theirs
-    merged = texts.merged(tool, decrypt, sides, conflicts.SIZE, key).content if is_merged else content
+    merged = merging.merged(tool, decrypt, sides, conflicts.SIZE, key).content if is_merged else content
     draft = _of_values(decrypt, target, merged, choice)
     draft.content = content
     return draft

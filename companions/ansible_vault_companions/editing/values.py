@@ -11,9 +11,8 @@ from typing import Callable
 from ansible_vault_companions.editing import matching
 from ansible_vault_companions.editing.matching import Choice, Opened, place_of
 from ansible_vault_companions.envelopes import conflicts
-from ansible_vault_companions.envelopes.changes import HEADER, NOT_UTF_8, Change, changed, column, in_plaintext
-from ansible_vault_companions.envelopes.changes import indented, quotes
-from ansible_vault_companions.envelopes.document import Document
+from ansible_vault_companions.envelopes.document import HEADER, NOT_UTF_8, Change, Document, changed, column
+from ansible_vault_companions.envelopes.document import in_plaintext, indented, quotes
 from ansible_vault_companions.envelopes.envelope import ALIAS, LINE_END, LITERAL, MAGIC, NO_SCALAR, PLAIN, TAGS, Path
 from ansible_vault_companions.envelopes.envelope import Value
 from ansible_vault_companions.passwords import prompts

@@ -1,10 +1,11 @@
-"""The passwords that a command line and Ansible's settings name, in Ansible's order, and what each may be used for."""
+"""The passwords that options and Ansible's settings name, in Ansible's order, and what each may be used for."""
 
 from __future__ import annotations
 
+import argparse
 import os
 import stat
-from collections.abc import Iterable
+from collections.abc import Callable, Iterable
 
 from ansible_vault_companions import processes
 from ansible_vault_companions.passwords import prompts
@@ -19,11 +20,16 @@ MOST, LONGEST_LABEL = 16, 128
 # The options that ask for a password without a label, and the word for them in place of [LABEL@]FILE.
 ASKING = ("-J", "--ask-vault-password", "--ask-vault-pass")
 ASKED = f"{DEFAULT}@{ASK}"
+BY_PATH = ["--vault-password-file", "--vault-pass-file"]
 # A script gets the label if its name, without the suffix, ends with this.
 CLIENT = "-client"
 ANY_LABEL = "--any-label"
 NO_OPTION = "its label {} has an @, so no option can name it; change it in its first line"
 NOT_STRIPPED = "the password of this script begins or ends with white space, which a password file cannot have"
+NONE = (
+    "no password is given: name one with --vault-id or --vault-password-file, in ANSIBLE_VAULT_PASSWORD_FILE or "
+    "in ansible.cfg, or type one with --ask-vault-password"
+)
 
 
 class Password:
@@ -206,3 +212,60 @@ def _printed(path: str, label: str) -> bytes:
     if password != password.strip():
         raise Refused(NOT_STRIPPED)
     return password[: LIMIT + 1]
+
+
+def add_options(parser: argparse.ArgumentParser, new: str = "", before: str = "") -> None:
+    """Adds the options that name passwords: old ones, to which settings belong, or with `new-` new ones. `before`
+    begins the names of the attributes that get the values."""
+    if not new:
+        parser.set_defaults(new_vault_id=[], new_vault_password_file=[], any_label=False)
+    ids, paths = (f"{before}{new}{name}".replace("-", "_") for name in ("vault-id", "vault-password-file"))
+    text = f"the source of a {'new ' * bool(new)}password"
+    many = f"{text}; may be repeated"
+    parser.add_argument(
+        f"--{new}vault-id", dest=ids, action="append", default=[], metavar="[LABEL@]SOURCE", help=many
+    )
+    names, about = ([f"--{new}vault-password-file"], text) if new else (BY_PATH, many)
+    parser.add_argument(*names, dest=paths, action="append", default=[], metavar="SOURCE", help=about)
+    if not new:
+        asks = "ask at the terminal for a password"
+        parser.add_argument(*ASKING, dest=ids, action="append_const", const=ASKED, help=asks)
+
+
+def add_any_label(parser: argparse.ArgumentParser) -> None:
+    parser.add_argument(
+        ANY_LABEL, action="store_true", help="let a password encrypt what it decrypts, whatever the label"
+    )
+
+
+def from_options(
+    parser: argparse.ArgumentParser, args: argparse.Namespace, encrypts: bool = False, skips: bool = False
+) -> list[Password]:
+    """The passwords from a command line and from the settings, in Ansible's order. To encrypt, the user has to type
+    each twice. With `skips`, those that cannot be used are ignored."""
+    settings = settings_beside(args, lambda text: write_error(f"{parser.prog}: {text}"))
+    passwords = named(args.vault_id, args.vault_password_file, settings)
+    if not passwords:
+        parser.error(NONE)
+    return load(parser.prog, passwords, settings, encrypts, args.any_label, skips)
+
+
+def new_passwords(args: argparse.Namespace) -> list[Password]:
+    """The new passwords from a command line."""
+    passwords = [*map(of_id, args.new_vault_id), *map(of_path, args.new_vault_password_file)]
+    for password in passwords:
+        password.obtain(encrypts=True)
+        password.require()
+    return passwords
+
+
+def words(args: argparse.Namespace) -> list[str]:
+    """The words of a command line that name the same passwords."""
+    by_id = ("-J" if text == ASKED else f"--vault-id={text}" for text in args.vault_id)
+    return [*by_id, *(f"--vault-password-file={path}" for path in args.vault_password_file)]
+
+
+def settings_beside(args: argparse.Namespace, warn: Callable[[str], None] = lambda _: None) -> Settings:
+    """The settings that apply along with these options."""
+    given = (args.vault_id, args.vault_password_file, args.new_vault_id, args.new_vault_password_file)
+    return Settings(any(given), warn)
