@@ -34,10 +34,6 @@ class Refused(Exception):
         self.status = status
 
 
-class NotWritten(Refused):
-    """Standard output cannot be written."""
-
-
 def shown(name: str) -> str:
     """A file name in printable form: line ends and terminal control characters are escaped."""
     return name if name.isprintable() else ascii(name)
@@ -68,7 +64,7 @@ def write(data: bytes) -> None:
             sys.stdout.flush()
     except OSError as fault:
         _discard(sys.stdout.fileno())
-        raise NotWritten(f"standard output cannot be written: {reason(fault)}") from None
+        raise Refused(f"standard output cannot be written: {reason(fault)}") from None
 
 
 def write_line(text: str) -> None:
@@ -96,8 +92,6 @@ def attempt(companion: str, path: str, work: Callable[[], None]) -> int:
     """Works on a file. Returns the exit status, after a message if the file is refused."""
     try:
         work()
-    except NotWritten:
-        raise
     except (Refused, OSError) as fault:
         write_error(f"{companion}: {refusal(path, fault)}")
         return fault.status if isinstance(fault, Refused) else 1

@@ -15,12 +15,11 @@ from contextlib import suppress
 
 from ansible_vault_companions import processes, program
 from ansible_vault_companions.editing.drafts import Draft, SingleValue
-from ansible_vault_companions.editing.values import YamlFile
 from ansible_vault_companions.envelopes.envelope import MAGIC, label_of
 from ansible_vault_companions.files import reading, replacing
 from ansible_vault_companions.git.repository import repository_of
 from ansible_vault_companions.passwords import prompts
-from ansible_vault_companions.program import Refused, shown, write_error
+from ansible_vault_companions.program import Refused, shown
 from ansible_vault_companions.tool import Decrypt, Key, Tool
 
 NAME = "ansible-vault-edit"
@@ -179,9 +178,6 @@ class Edit:
                 replacing.replace(draft.target, content, draft.content)
         except (Refused, OSError) as failed:
             raise self._rescued(text, program.reason(failed)) from None
-        names = draft.uncovered(text) if isinstance(draft, YamlFile) else []
-        if names:
-            write_error(f"{NAME}: {shown(self.path)}: no longer encrypted: {', '.join(names)}")
         return True
 
     def _opens_again(self, why: Refused) -> bool:

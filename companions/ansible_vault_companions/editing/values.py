@@ -87,14 +87,6 @@ class YamlFile:
         envelopes = dict(zip(typed, at_once(envelope, typed)))
         return written(after, envelopes, block)
 
-    def uncovered(self, text: bytes) -> list[str]:
-        """The paths of values that are no longer encrypted. Of an item in a list, only the text tells which it was."""
-        paths = {value.path for value in self.tagged.values()}
-        texts = {old.decrypted.text for old in self.opened.values()}
-        plain = [value for value in nodes(text).values if value.text and value.path in paths and not value.is_tagged]
-        is_same = lambda value: value.text in texts or not any(isinstance(step, int) for step in value.path)
-        return [value.typed_path for value in filter(is_same, plain)]
-
 
 def nodes(data: bytes) -> Document:
     """All nodes of a YAML text, or of the sides of one with a conflict."""

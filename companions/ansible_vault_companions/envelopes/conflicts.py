@@ -14,11 +14,8 @@ from ansible_vault_companions.envelopes.envelope import Value
 SIZE = 7
 # The first characters of the markers, before each side and at the end.
 OURS, BASE, THEIRS, END = b"<", b"|", b"=", b">"
-FIRST = re.compile(rb"^(<{7,})(?:[ \t][^\r\n]*)?\r?$", re.MULTILINE)
-# What no text has beside envelopes. A line of equal signs is a title in other formats.
-MARKER = re.compile(rb"^(?:<{7,}|>{7,}|\|{7,})(?:[ \t][^\r\n]*)?\r?$", re.MULTILINE)
-# What may begin a line with a marker of some size.
-RUN = re.compile(rb"^([<|=>])\1{6,}", re.MULTILINE)
+# A line that is a marker of some size.
+MARKER = re.compile(rb"^(([<|=>])\2{6,})(?:[ \t][^\r\n]*)?\r?$", re.MULTILINE)
 LINES = re.compile(rb"[^\n]*\n|[^\n]+\Z")
 
 UNMERGED = "has git's conflict markers"
@@ -26,22 +23,23 @@ STILL = "it still has git's conflict markers: choose between the sides, and remo
 
 
 def is_unmerged(text: bytes) -> bool:
-    return any(sign * SIZE in text for sign in (OURS, END, BASE)) and MARKER.search(text) is not None
+    """Whether a text has a marker. A line of equal signs may also be a title."""
+    signs = OURS, END, BASE
+    return any(sign * SIZE in text for sign in signs) and any(match[2] in signs for match in MARKER.finditer(text))
 
 
 def unused_size(texts: Iterable[bytes]) -> int:
     """A size of markers that no line of these texts has."""
-    return max([SIZE, *(len(run[0]) + 1 for text in texts for run in RUN.finditer(text))])
+    return max([SIZE, *(len(match[1]) + 1 for text in texts for match in MARKER.finditer(text))])
 
 
 def signed_lines(text: bytes, size: int) -> list[tuple[bytes, bytes]]:
     """Each line, with the sign of its side before it: none outside of conflicts, and END for a marker itself."""
-    marker = re.compile(rb"^([<|=>])\1{%d}(?:[ \t][^\r\n]*)?\r?$" % (size - 1), re.MULTILINE)
     side, lines = b"", []
     for line in LINES.findall(text):
-        match = marker.match(line)
-        if match and (side or match[1] == OURS):
-            side = match[1].strip(END)
+        match = MARKER.match(line)
+        if match and len(match[1]) == size and (side or match[2] == OURS):
+            side = match[2].strip(END)
             lines.append((END, line))
         else:
             lines.append((side, line))
@@ -51,8 +49,9 @@ def signed_lines(text: bytes, size: int) -> list[tuple[bytes, bytes]]:
 def sides(text: bytes, is_masked: bool = False) -> dict[bytes, bytes]:
     """The text of each side, by the character of its first marker; empty if there is no whole conflict. The first
     marker has the size. If they are masked, the bytes of other lines become newlines, so that all places stay."""
-    first = FIRST.search(text) if OURS * SIZE in text else None
-    lines = signed_lines(text, len(first[1])) if first else []
+    if OURS * SIZE not in text:
+        return {}
+    lines = signed_lines(text, next((len(match[1]) for match in MARKER.finditer(text) if match[2] == OURS), 0))
     markers = [line[:1] for sign, line in lines if sign == END]
     if not {OURS, THEIRS, END} <= {*markers} or markers[-1] != END:
         return {}

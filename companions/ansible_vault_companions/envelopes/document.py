@@ -7,7 +7,6 @@ digits is a stray.
 
 from __future__ import annotations
 
-import errno
 import json
 import os
 import re
@@ -18,14 +17,13 @@ from typing import Iterable, Iterator, NamedTuple
 from ansible_vault_companions import processes
 from ansible_vault_companions.envelopes.envelope import LITERAL, LOOSE, MAGIC, STRAY, WHOLE, WITH_DIGITS, Value
 from ansible_vault_companions.envelopes.scalars import BINARY, NotYaml, scalars
-from ansible_vault_companions.files.reading import LIMIT, TooLong, Unsearched, opened, parts, whole
+from ansible_vault_companions.files.reading import opened, parts, whole
 from ansible_vault_companions.program import Refused, shown
 
 # A file with an envelope has one of these words, or spells it with escapes, which take no more than OVERLAP bytes.
 WORDS = (b"ANSIBLE_VAULT", b"!vault", b"__ansible_vault", b"%TAG")
 ESCAPES = re.compile(rb"![^\s%]{0,64}%[0-9a-fA-F]{2}|\\(?:x|u00|U000000)(?:24|[4-7][0-9a-fA-F])")
 OVERLAP = 80
-UNSEARCHED = f"it is longer than any vault, so only its first {LIMIT:,} bytes were searched"
 NO_PLACE = "its values cannot be replaced where they are; write each as `NAME: !vault |`"
 # The lines of an envelope behind one margin.
 LINES_OF_STRAY = re.compile(
@@ -230,17 +228,12 @@ def fault(document: Document, path: str) -> str:
 
 def content(path: str) -> bytes:
     """The content of a file with envelopes; of any other, only a part, which is not blank unless the whole is. It is
-    searched in pieces, since a long one would take much memory. A signal ends the search."""
+    searched in pieces, since it may be long, and no further than a vault reaches. A signal ends the search."""
     text = before = b""
     with opened(path) as file:
-        try:
-            for piece in parts(file, path):
-                processes.check()
-                if mentions(before[-OVERLAP:] + piece):
-                    break
-                text, before = text if text.strip() else piece, piece
-            else:
-                return text
-        except TooLong:
-            raise Unsearched(errno.EFBIG, UNSEARCHED, path) from None
-        return whole(file, path)
+        for piece in parts(file):
+            processes.check()
+            if mentions(before[-OVERLAP:] + piece):
+                return whole(file, path)
+            text, before = text if text.strip() else piece, piece
+    return text

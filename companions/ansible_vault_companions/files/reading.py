@@ -24,10 +24,6 @@ class TooLong(OSError):
     """A file is longer than the limit."""
 
 
-class Unsearched(TooLong):
-    """A file has no envelope up to the limit, but is longer."""
-
-
 def add_paths(parser: argparse.ArgumentParser) -> None:
     """Adds the paths to search, and the option that leaves out files."""
     about = "skip files whose name or path matches PATTERN; may be repeated"
@@ -95,29 +91,24 @@ def input_of(file: str | int) -> bytes:
 def pieces(path: str) -> Iterator[bytes]:
     """Yields the content of a file, up to its stated size if that exceeds LIMIT."""
     with opened(path) as file:
-        yield from parts(file, path, max(LIMIT, os.fstat(file.fileno()).st_size))
+        yield from parts(file, max(LIMIT, os.fstat(file.fileno()).st_size))
 
 
 def whole(file: BinaryIO, path: str) -> bytes:
     """The content of a file. Raises TooLong, and reads nothing of a file whose stated size exceeds the limit."""
-    if os.fstat(file.fileno()).st_size > LIMIT:
-        raise _too_long(path, LIMIT)
-    return b"".join(parts(file, path))
+    is_longer = os.fstat(file.fileno()).st_size > LIMIT
+    content = b"" if is_longer else b"".join(parts(file, LIMIT + 1))
+    if is_longer or len(content) > LIMIT:
+        raise TooLong(errno.EFBIG, f"it has more than {LIMIT:,} bytes, more than any vault", path)
+    return content
 
 
-def parts(file: BinaryIO, path: str, limit: int = LIMIT) -> Iterator[bytes]:
-    """Yields the content of a file from its beginning. Raises TooLong after the limit."""
+def parts(file: BinaryIO, limit: int = LIMIT) -> Iterator[bytes]:
+    """Yields the content of a file from its beginning, up to the limit."""
     file.seek(0)
-    left = limit
-    while piece := file.read(CHUNK_SIZE):
-        yield piece[:left]
-        if len(piece) > left:
-            raise _too_long(path, limit)
-        left -= len(piece)
-
-
-def _too_long(path: str, limit: int) -> TooLong:
-    return TooLong(errno.EFBIG, f"it has more than {limit:,} bytes, more than any vault", path)
+    while limit > 0 and (piece := file.read(CHUNK_SIZE)):
+        yield piece[:limit]
+        limit -= len(piece)
 
 
 def opened(path: str) -> BinaryIO:

@@ -7,11 +7,10 @@ from dataclasses import dataclass
 from ansible_vault_companions.envelopes import conflicts, document
 from ansible_vault_companions.envelopes.document import Document
 from ansible_vault_companions.envelopes.envelope import Value
-from ansible_vault_companions.files.reading import Unsearched
 from ansible_vault_companions.git import facts
 from ansible_vault_companions.passwords.sources import Password
 from ansible_vault_companions.plaintext.reports import Report, decrypted
-from ansible_vault_companions.program import Refused, pathspec, reason, shown
+from ansible_vault_companions.program import Refused, pathspec, shown
 from ansible_vault_companions.tool import Decrypted, Tool, Workers
 
 RESOLVE = (
@@ -36,10 +35,7 @@ class Check:
         """Checks the file to which these paths lead. It is marked if one of them is."""
         path = next((path for path in paths if path in self.marked), paths[0])
         is_marked = path in self.marked
-        try:
-            file = document.read(document.content(path))
-        except Unsearched as fault:
-            raise Refused(reason(fault)) if is_marked else fault
+        file = document.read(document.content(path))
         is_prose = document.is_prose(path) and not (is_marked or file.is_vault)
         envelopes = [*file.envelopes().values()]
         for own in self.workers.shared(lambda value: self._value(value.place(path), value, is_prose), envelopes):

@@ -8,7 +8,6 @@ from typing import Callable, Collection
 
 from ansible_vault_companions import program
 from ansible_vault_companions.envelopes.envelope import Value
-from ansible_vault_companions.files.reading import Unsearched
 from ansible_vault_companions.passwords.sources import Password
 from ansible_vault_companions.program import Refused, shown, write_error, write_line
 from ansible_vault_companions.tool import Decrypted, NotDecrypted, Tool, Workers
@@ -29,9 +28,8 @@ def decrypted(tool: Tool, value: Value, passwords: list[Password], is_prose: boo
 class Report:
     """The results for an envelope, a file or all files."""
 
-    # Lines for standard output; messages that are not failures, and failures.
+    # Lines for standard output, and failures.
     lines: list[str] = field(default_factory=list)
-    notes: list[str] = field(default_factory=list)
     faults: list[str] = field(default_factory=list)
     # The numbers of envelopes, by what was done with them.
     counts: Counter[str] = field(default_factory=Counter)
@@ -41,7 +39,6 @@ class Report:
 
     def add(self, other: Report) -> None:
         self.lines += other.lines
-        self.notes += other.notes
         self.faults += other.faults
         self.counts += other.counts
         self.labels |= other.labels
@@ -66,7 +63,7 @@ class Reports:
             self.total.add(report)
             for line in report.lines:
                 write_line(line)
-            for text in [*report.notes, *report.faults]:
+            for text in report.faults:
                 self.tell(text)
 
     def tell(self, text: str) -> None:
@@ -85,8 +82,6 @@ def _of_file(paths: list[str], work: Callable[[list[str], Report], None]) -> Rep
     report, path = Report(), paths[0]
     try:
         work(paths, report)
-    except Unsearched as fault:
-        report.notes.append(program.refusal(path, fault))
     except (Refused, OSError) as fault:
         report.faults.append(program.refusal(path, fault))
     return report
