@@ -26,14 +26,10 @@ SIDES = OURS, BASE, THEIRS = ("ours", "base", "theirs")
 # The status of `git merge-file` is the number of conflicts, up to this. A greater status means failure.
 MOST_CONFLICTS = 127
 NOT_YAML = "git can merge its lines, but then {}"
-TORN = "git can merge its lines, but the result has a value that neither side has"
 OF_SIGN = {conflicts.OURS: OURS, conflicts.BASE: BASE, conflicts.THEIRS: THEIRS}
 NOT_MERGED = "not merged, so both sides are whole in the file: {}"
 KINDS_DIFFER = "one side is a vault and the other is not"
 ONE_SIDE = f"{KINDS_DIFFER}; take one with `git checkout --ours -- {{}}` or with `--theirs`"
-BOTH_CHANGED = "both sides changed the same lines"
-LABELS_DIFFER = "the labels differ: {} in ours, {} in theirs; choose one with --encrypt-vault-id"
-PASSWORDS_DIFFER = "the passwords of the two sides differ; choose one with --encrypt-vault-id"
 # The keys of envelopes; None for one that is not opened.
 Keys = AbstractSet[Optional[Key]]
 # What an envelope means: the key of the result and the text, or, if it is not opened, itself.
@@ -55,7 +51,10 @@ class Lines(NamedTuple):
 
 def merged_lines(versions: Versions, size: int) -> Lines:
     """The result of git's merge, with markers of this size. The texts are passed in memory, never on disk."""
-    files = [_in_memory(text) for text in versions]
+    files = [os.memfd_create(side) for side in SIDES]
+    for file, text in zip(files, versions):
+        with open(file, "wb", closefd=False) as writer:
+            writer.write(text)
     names = [word for side in SIDES for word in ("-L", side)]
     words = ["merge-file", "-p", f"--marker-size={size}", *names, *(f"/proc/self/fd/{file}" for file in files)]
     try:
@@ -66,13 +65,6 @@ def merged_lines(versions: Versions, size: int) -> Lines:
     if not 0 <= done.returncode <= MOST_CONFLICTS:
         raise Refused("git merge-file cannot merge it; it may be binary")
     return Lines(done.stdout, done.returncode)
-
-
-def _in_memory(text: bytes) -> int:
-    file = os.memfd_create("version")
-    with open(file, "wb", closefd=False) as writer:
-        writer.write(text)
-    return file
 
 
 def common_key(ours: Keys, base: Keys, theirs: Keys) -> Key | None:
@@ -120,7 +112,7 @@ class Values:
         if not count and result.fault and not any(self.documents[side].fault for side in (OURS, THEIRS)):
             raise Refused(NOT_YAML.format(result.fault))
         if Counter(value.text.strip() for value in result.values if _has_token(value)) != Counter(envelopes):
-            raise Refused(TORN)
+            raise Refused("git can merge its lines, but the result has a value that neither side has")
         return Merged(content, f"{count} conflict{'s' if count > 1 else ''}" if count else "")
 
     def _open(self, decrypt: Decrypt) -> dict[bytes, Decrypted]:
@@ -238,7 +230,7 @@ class Vaults:
 
     def __init__(self, decrypt: Decrypt, versions: Versions) -> None:
         # Why their merge may have a conflict.
-        self.why = BOTH_CHANGED
+        self.why = "both sides changed the same lines"
         self.ours = _of_side("ours", decrypt, versions.ours)
         self.theirs = _of_side("theirs", decrypt, versions.theirs)
         text, self.base_keys = self._base(decrypt, versions.base)
@@ -250,7 +242,9 @@ class Vaults:
         if key:
             return key
         ours, theirs = (shown(vault.key[1]) for vault in (self.ours, self.theirs))
-        raise Refused(PASSWORDS_DIFFER if ours == theirs else LABELS_DIFFER.format(ours, theirs))
+        labels = f"labels differ: {ours} in ours, {theirs} in theirs"
+        what = "passwords of the two sides differ" if ours == theirs else labels
+        raise Refused(f"the {what}; choose one with --encrypt-vault-id")
 
     def sealed(self, tool: Tool, text: bytes, key: Key) -> bytes:
         """The vault of a side, if it has this text under this key, or else a new one."""

@@ -92,8 +92,7 @@ def postponed() -> Iterator[None]:
 
 @contextmanager
 def interruptible() -> Iterator[None]:
-    """A context for waiting for the user or another program. A signal ends the wait at once, even where signals are
-    postponed."""
+    """A context for a wait, which a signal ends at once, even where signals are postponed."""
     mask = _signal.pthread_sigmask(_signal.SIG_UNBLOCK, ENDING if state.is_postponed else ())
     state.is_interruptible = True
     try:
@@ -119,8 +118,7 @@ def end_by_signal() -> None:
 
 
 def run(words: list[str], data: bytes | None = None, **options: Any) -> CompletedProcess[bytes]:
-    """Runs a program to its end. Its output and errors are kept, unless these options of Popen say something else.
-    Raises Stopped if a signal arrived before or during the run."""
+    """Runs a program to its end, and keeps its output. A signal before or during the run raises Stopped."""
     check()
     done = _run(words, data, **options)
     check()
@@ -128,8 +126,7 @@ def run(words: list[str], data: bytes | None = None, **options: Any) -> Complete
 
 
 def run_on_terminal(words: list[str]) -> int:
-    """Runs a program that owns the terminal, and so handles Ctrl-C itself. A signal during the run raises nothing
-    afterwards, so that the caller can first look at what the program wrote."""
+    """Runs a program that owns the terminal, and so handles Ctrl-C itself. A signal meanwhile raises nothing."""
     check()
     state.leaves_keys = True
     try:

@@ -49,8 +49,7 @@ def word(text: str) -> str:
 
 
 def pathspec(path: str, is_below_top: bool = False) -> str:
-    """A word by which git means this file alone, from the current directory or from any directory of its
-    repository."""
+    """A word by which git means this file alone, from the current directory or from any of its repository."""
     if SIMPLE_PATH.fullmatch(path):
         return f":/{path}" if is_below_top else path
     return word(f":({'top,' * is_below_top}literal){path}")
@@ -129,8 +128,7 @@ def run(name: str, main: Callable[[list[str]], int]) -> None:
 
 
 def _prepare_streams() -> None:
-    """Opens /dev/null for each closed standard stream, so that no other file gets its number. It is opened in the
-    wrong direction, so reading or writing the stream still fails."""
+    """Opens /dev/null for each closed standard stream, so that no file gets its number. Using it still fails."""
     for number, mode in enumerate((os.O_WRONLY, os.O_RDONLY, os.O_RDONLY)):
         try:
             os.fstat(number)

@@ -62,7 +62,8 @@ def test_links(place: Place) -> None:
 def test_what_is_looked_at(place: Place) -> None:
     vaults = ["vault", ".hidden/vault.yml", "host_vars/www.example.org", "notes.md"]
     blocks = ["vars.yaml", "host_vars/db.example.org", "a.json", "b.YML", ".github/x.yml", "prose.md", "prose.RST"]
-    for name in [*vaults, ".git/config", "sub/.git/vault.yml"]:
+    place.shell("git init -q")
+    for name in [*vaults, ".git/vault.yml", "sub/.git/vault.yml"]:
         place.put(name, sealed("old"))
     for name in blocks:
         place.put(name, block("old"))

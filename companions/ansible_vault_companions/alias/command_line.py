@@ -33,7 +33,6 @@ ENCRYPTING, EDITING = (ENCRYPT, ENCRYPT_STRING), (CREATE, EDIT)
 WRITING, SEALING = (DECRYPT, *ENCRYPTING, REKEY), (*ENCRYPTING, REKEY)
 STANDARD_INPUT = "-"
 MATCH, ENCRYPT_ID = "--require-id-match", "--encrypt-vault-id"
-SEVERAL = "several passwords were given; choose one with --encrypt-vault-id"
 NO_NEW = (
     "no new password is given: name one with --new-vault-id or --new-vault-password-file, or run this at a terminal "
     "and type it"
@@ -166,7 +165,7 @@ class Call:
             chosen.require()
             return [chosen]
         if any(password.is_left_out for password in named):
-            raise Refused(SEVERAL)
+            raise Refused("several passwords were given; choose one with --encrypt-vault-id")
         return named
 
     def _new(self, old: list[Password]) -> list[Password]:

@@ -24,7 +24,6 @@ from ansible_vault_companions.tool import Decrypt, Key, Tool
 
 NAME = "ansible-vault-edit"
 A_VAULT = "what you gave is a vault, which ansible-vault does not encrypt again; decrypt it first"
-AT_TERMINAL = "--value reads standard input, which is a terminal; use a pipe or a file"
 TOO_LONG = "standard input has more bytes than a vault can hold; split it"
 NOTHING_GIVEN = "standard input is empty"
 NO_FILE = "the editor left no file"
@@ -36,9 +35,6 @@ PREFIX = "ansible-vault-"
 # that of the text that the edit began with.
 HEAD = b"# ansible-vault-edit %s: what was saved begins below.\n"
 
-NO_FOLDER = "no private directory can be made for the plaintext; set TMPDIR to a directory outside of git"
-LEFT = "plaintext is left in {}; remove it yourself"
-IN_REPOSITORY, NOT_PRIVATE = "{} is in a git repository", "{} is not a directory that only you can open"
 CHANGED = (
     "its text or its label has changed since the edit that left {}, so --resume would undo that, or give the text to "
     "other readers; `ansible-vault-textconv` shows the copy: take from it what you need"
@@ -60,7 +56,7 @@ class PrivateFolder:
             return
         shutil.rmtree(self.path, ignore_errors=True)
         if os.path.lexists(self.path):
-            left = LEFT.format(self.path)
+            left = f"plaintext is left in {self.path}; remove it yourself"
             raise Refused(f"{fault}; {left}" if isinstance(fault, Refused) else left) from None
 
     def create(self, name: str, content: bytes) -> None:
@@ -68,8 +64,7 @@ class PrivateFolder:
             file.write(content)
 
     def keep(self, why: str, name: str, text: bytes | None = None) -> Refused:
-        """Keeps the directory, since there is no other copy of the user's work, with this text, which may never have
-        been in it, or be gone. Returns the exception to raise."""
+        """Keeps the directory, with a text that may be missing in it. Returns the exception that says where."""
         self.is_kept = True
         if text is not None and not os.path.lexists(os.path.join(self.path, name)):
             os.makedirs(self.path, 0o700, exist_ok=True)
@@ -83,7 +78,7 @@ def _made() -> str:
         if place and os.path.isabs(place) and not repository_of(os.path.realpath(place)):
             with suppress(OSError):
                 return tempfile.mkdtemp(prefix=PREFIX, dir=place)
-    raise Refused(NO_FOLDER)
+    raise Refused("no private directory can be made for the plaintext; set TMPDIR to a directory outside of git")
 
 
 def copies_folder() -> str:
@@ -91,11 +86,11 @@ def copies_folder() -> str:
     state = os.environ.get("XDG_STATE_HOME", "")
     path = os.path.join(state if os.path.isabs(state) else os.path.expanduser("~/.local/state"), "ansible-vault")
     if not os.path.isabs(path) or repository_of(os.path.realpath(path)):
-        raise Refused(IN_REPOSITORY.format(shown(path)))
+        raise Refused(f"{shown(path)} is in a git repository")
     with suppress(FileNotFoundError):
         about = os.lstat(path)
         if not stat.S_ISDIR(about.st_mode) or about.st_uid != os.geteuid() or about.st_mode & 0o077:
-            raise Refused(NOT_PRIVATE.format(shown(path)))
+            raise Refused(f"{shown(path)} is not a directory that only you can open")
     return path
 
 
@@ -157,8 +152,7 @@ class Edit:
         return text, f"the editor failed ({editor}, status {status})" if status else NO_FILE if text is None else ""
 
     def put_back(self, text: bytes, fault: str = "") -> bool:
-        """Encrypts a text into the file or, if anything fails, into a copy, before the plaintext is removed. Returns
-        False if the user wants to edit it again."""
+        """Encrypts a text into the file or, if that fails, a copy. False if the user wants to edit it again."""
         if fault:
             raise self._rescued(text, fault)
         draft = self.draft
@@ -234,7 +228,7 @@ def set_value(tool: Tool, draft: Draft, path: str, text: bytes | None) -> None:
 
 def _standard_input() -> bytes:
     if os.isatty(0):
-        raise Refused(AT_TERMINAL)
+        raise Refused("--value reads standard input, which is a terminal; use a pipe or a file")
     text = reading.input_of(0)
     faults = {TOO_LONG: len(text) > reading.LONGEST_PLAINTEXT, NOTHING_GIVEN: not text, A_VAULT: text.startswith(MAGIC)}
     for fault, holds in faults.items():

@@ -16,8 +16,6 @@ from ansible_vault_companions.passwords.sources import Password
 from ansible_vault_companions.program import Refused, shown
 from ansible_vault_companions.tool import Decrypted, Key
 
-NEW = "{} is new; choose its password with --encrypt-vault-id"
-NO_SUCH_LABEL = "{} is new, and no secret has the label of --encrypt-vault-id"
 UNCLEAR = "{} may be a new value or a changed one, and the password depends on which; save one change at a time"
 
 # A path, and which of the values at that path it is, since a mapping may have a key twice.
@@ -55,11 +53,11 @@ class Choice(NamedTuple):
         """The key for what has this name and place. Asks for the label at a terminal if it is unclear."""
         keys = self.keys()
         if not keys:
-            raise Refused(NO_SUCH_LABEL.format(place))
+            raise Refused(f"{place} is new, and no secret has the label of --encrypt-vault-id")
         labels = [*dict.fromkeys(label for _, label in keys)]
         if len(keys) > 1:
             if len(labels) == 1 or not os.isatty(0):
-                raise Refused(NEW.format(place))
+                raise Refused(f"{place} is new; choose its password with --encrypt-vault-id")
             typed = prompts.choice(f"Label to encrypt {name} with", labels)
             keys = [key for key in keys if key[1] == typed]
         keys[0][0].require()

@@ -23,8 +23,6 @@ from ansible_vault_companions.tool import Decrypt, Key, Tool, at_once
 INDENTATION = 10
 
 NO_PLACE = "its values cannot be written where they are; write each as `NAME: !vault |`"
-SAVED_NOT_UTF_8 = "it is no longer UTF-8; save it as UTF-8"
-VAULT_WITHIN = "its plaintext is itself a vault"
 NEW_TAG = "line {}: it has a tag that the file did not have, other than `!vault`, so what follows stays in plaintext"
 NO_TEXT = "is a list, a mapping or a key, not a string; put quotes around a text"
 NOTHING = 'is missing after `!vault`; write `""` for an empty one'
@@ -60,7 +58,7 @@ class YamlFile:
 
     def encrypted(self, tool: Tool, text: bytes) -> bytes:
         if _is_utf_8(self.plaintext) and not _is_utf_8(text):
-            raise Refused(SAVED_NOT_UTF_8)
+            raise Refused("it is no longer UTF-8; save it as UTF-8")
         if conflicts.is_unmerged(text):
             raise Refused(conflicts.STILL)
         after = nodes(text)
@@ -156,7 +154,7 @@ def _opened(value: Value, decrypt: Decrypt) -> Opened | Refused:
     except Refused as fault:
         return fault
     if decrypted.text.strip().startswith(MAGIC):
-        return Refused(VAULT_WITHIN)
+        return Refused("its plaintext is itself a vault")
     return Opened(value, decrypted)
 
 

@@ -145,8 +145,7 @@ class Document:
         return after
 
     def values_at(self, path: str) -> list[Value]:
-        """The encrypted values at a typed path, or else all values there, among all nodes. A list item may also be
-        written as `[]`."""
+        """The encrypted values at a typed path, else all nodes there. A list item may also be written as `[]`."""
         names = ((value, value.typed_path) for value in self.values)
         values = [value for value, name in names if path in (name, NUMBER.sub("[]", name))]
         return [value for value in values if value.is_value] or values
@@ -220,8 +219,7 @@ def is_prose(path: str) -> bool:
 
 
 def fault(document: Document, path: str) -> str:
-    """Why a file cannot be read that has an envelope and is meant as YAML, by its name or that of the file to which it
-    points; empty if it is none, or can."""
+    """Why a file with an envelope that is YAML, by its name or by that of its target, cannot be read; else empty."""
     is_yaml = any(name.lower().endswith(YAML) for name in (path, os.path.realpath(path)))
     return document.fault if is_yaml and (document.values or BINARY in document.data) else ""
 

@@ -36,7 +36,6 @@ JOINED = (
     "its lines are joined, since it is not a block; write it as a block (`NAME: !vault |`), or, if the file is to be a "
     "vault, let the file begin with it"
 )
-PLAINTEXT = "it has the tag `!vault` but is plaintext"
 
 # A key that needs no quotes in a typed path.
 UNQUOTED = re.compile(r'[^."\[\]\x00-\x1f]+')
@@ -113,7 +112,7 @@ class Value(NamedTuple):
         if self.style == LOOSE:
             raise Refused(ELSEWHERE)
         if self.style != WHOLE and not self.is_envelope:
-            raise Refused(PLAINTEXT)
+            raise Refused("it has the tag `!vault` but is plaintext")
         if JOINED_LINES.match(self.text):
             raise Refused(JOINED)
         return self.text

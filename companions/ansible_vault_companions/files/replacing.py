@@ -48,8 +48,7 @@ def is_leftover(name: str) -> bool:
 
 
 def _write_beside(target: str, content: bytes, is_private: bool = False) -> str:
-    """Writes a file beside the target, and returns its path. It gets the target's owner and mode if the target exists;
-    otherwise only its owner may read it."""
+    """Writes a file beside the target, with its owner and mode if it exists. Returns the path."""
     return write_new(os.path.dirname(target), content, target if os.path.lexists(target) else None, is_private)
 
 
@@ -72,27 +71,23 @@ def write_new(
 
 
 def _copy_metadata(descriptor: int, target: str, is_private: bool) -> None:
-    """Copies owner, mode and extended attributes (such as ACLs). A private file gets only the owner, and the mode
-    0600."""
+    """Copies owner, mode and extended attributes such as ACLs; to a private file, the owner alone."""
     old, new = os.stat(target), os.fstat(descriptor)
     if old.st_nlink > 1:
         raise Refused(f"it has {old.st_nlink} names (hard links); replace the others by symbolic links first")
     if (old.st_uid, old.st_gid) != (new.st_uid, new.st_gid):
-        _give(descriptor, old.st_uid, old.st_gid)
+        try:
+            os.fchown(descriptor, old.st_uid, old.st_gid)
+        except PermissionError as fault:
+            owner = f"{old.st_uid}:{old.st_gid}"
+            why = f"its owner {owner} cannot be kept: {fault.strerror}; run this as that user, or as root"
+            raise Refused(why) from None
     with suppress(OSError):
         os.removexattr(descriptor, ACCESS_LIST)
     os.fchmod(descriptor, PRIVATE)
     if not is_private:
         shutil.copystat(target, f"/dev/fd/{descriptor}")
         os.utime(descriptor)
-
-
-def _give(descriptor: int, user: int, group: int) -> None:
-    try:
-        os.fchown(descriptor, user, group)
-    except PermissionError as fault:
-        why = f"its owner {user}:{group} cannot be kept: {fault.strerror}; run this as that user, or as root"
-        raise Refused(why) from None
 
 
 def _sync(folder: str) -> None:

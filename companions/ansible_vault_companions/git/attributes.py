@@ -13,7 +13,6 @@ from ansible_vault_companions.program import shown
 # third exempts the values at these key paths.
 DIFF, VAULT, PLAIN_VALUES = ATTRIBUTES = ("diff", "ansible-vault", "ansible-vault-plain")
 NAME = b"ansible-vault"
-NO_VALUES = (b"unspecified", b"set", b"unset")
 FILE = b".gitattributes"
 # What needs no escape in a pattern, and what has a meaning there.
 PLAIN = re.compile(rb"[\w/.@+,-]+", re.ASCII)
@@ -41,7 +40,8 @@ def of(names: Iterable[bytes], index: str | None = None, folder: str | None = No
 def _attributes(diff: bytes, vault: bytes, plain: bytes) -> Attributes:
     is_exempt = vault == b"unset"
     is_marked = not is_exempt and (diff == NAME or vault == b"set")
-    return Attributes(is_marked, is_exempt, set() if plain in NO_VALUES else {*os.fsdecode(plain).split(",")})
+    has_values = plain not in (b"unspecified", b"set", b"unset")
+    return Attributes(is_marked, is_exempt, {*os.fsdecode(plain).split(",")} if has_values else set())
 
 
 def marked(paths: list[str]) -> set[str]:

@@ -30,7 +30,6 @@ SHALLOW = (
     "this clone is shallow, so earlier commits are missing; run `git fetch --unshallow` first, and let a pipeline "
     "fetch all of them (fetch-depth: 0, GIT_DEPTH: 0)"
 )
-PARTIAL = "this is a partial clone, which lacks contents of files; clone again without --filter"
 
 
 class File(NamedTuple):
@@ -184,7 +183,7 @@ class Blobs:
         self.git.stdin.flush()
         words = self.git.stdout.readline().split()
         if len(words) != 3:
-            raise Refused(PARTIAL)
+            raise Refused("this is a partial clone, which lacks contents of files; clone again without --filter")
         size = int(words[2])
         content: bytes = self.git.stdout.read(min(size, len(MAGIC)))
         if size <= (LIMIT if content == MAGIC and not is_old else LONGEST):

@@ -24,14 +24,10 @@ WORDS = reduce(lambda inner, _: rf"[^{{}}'\"]|{STRING}|\{{(?:{inner})*\}}", rang
 JINJA = re.compile(rf"(?:\s|\{{\{{(?:{WORDS})+\}}\}})+".encode(), re.DOTALL)
 # The most texts of a file, with those that aliases stand for.
 MOST = 100_000
-TOO_MANY = f"it has more than {MOST:,} values"
 # What the value of an attribute cannot have, or what separates keys.
 UNWRITTEN = re.compile(r"[^\w$@/:+*-]")
 
 NOT_ENCRYPTED = "is not encrypted"
-DAMAGED = "is a damaged vault"
-DAMAGED_VALUE = "has a damaged value in line {}"
-ONLY_TAGGED = "has plaintext with the tag `!vault` in line {}"
 NOT_READ = "cannot be checked: {}"
 
 Keys = tuple[str, ...]
@@ -87,7 +83,7 @@ def _document(data: bytes) -> tuple[Document, list[Leaf]]:
             if node.style != NO_SCALAR and not (text.lower() in NOTHING or JINJA.fullmatch(text)):
                 leaves.append((node.path, node.is_value and node.is_envelope, hash(text)))
             if len(leaves) > MOST:
-                raise NotYaml(TOO_MANY)
+                raise NotYaml(f"it has more than {MOST:,} values")
     except NotYaml as fault:
         document, leaves = Document(data, fault=str(fault)), []
     if BINARY not in data:
@@ -155,10 +151,10 @@ def damage(document: Document) -> str:
     if is_unmerged(document):
         return conflicts.UNMERGED
     if document.is_vault:
-        return "" if envelope.is_whole(document.data) else DAMAGED
+        return "" if envelope.is_whole(document.data) else "is a damaged vault"
     envelopes = (value for value in document.values if value.is_envelope and value.style != LOOSE)
     line = next((value.line for value in envelopes if not value.is_whole), 0)
-    return DAMAGED_VALUE.format(line) if line else ""
+    return f"has a damaged value in line {line}" if line else ""
 
 
 def unencrypted(document: Document) -> str:
@@ -171,5 +167,5 @@ def unencrypted(document: Document) -> str:
             return NOT_ENCRYPTED
         line = next((value.line for value in values if not value.is_envelope), 0)
         if line:
-            return ONLY_TAGGED.format(line)
+            return f"has plaintext with the tag `!vault` in line {line}"
     return damage(document)

@@ -19,19 +19,14 @@ from ansible_vault_companions.git.facts import NONE, Facts, Keys, written
 from ansible_vault_companions.git.repository import git, line
 from ansible_vault_companions.program import pathspec, shown, write_error
 
-WAS_VAULT = "is not a vault, but was one{}"
 SUCCESSOR = "is not encrypted, and {}, which is gone, was a vault{}"
 NOW_PLAIN = "has {} in plaintext, which {} encrypted{}"
 NOT_YAML = "had encrypted values, but cannot be checked any more: {}"
-LEFTOVER = "was left behind by a companion, and may be plaintext"
 STALE = "is encrypted again, but .gitattributes allows plaintext in it: remove `{}` there, or narrow its pattern"
 # What to do.
 MEANT = "  {}if that is intended, commit with --no-verify, or add to {}"
-RESTORE = "restore it, for example with `git checkout HEAD -- {}` if it is whole there; "
-REPAIR = "repair it; "
 UNMARK = "  encrypt it, or unmark it with a line at the end of {}"
 RESOLVE = "  resolve the conflict with ansible-vault-edit"
-REMOVE = "  look at its content, and remove it with `git rm -f -- {}`"
 
 EXEMPT, UNMARKED = f"-{VAULT}", f"!diff !{VAULT}"
 # What a file with this name is, its directory says.
@@ -101,14 +96,16 @@ class Guard:
         if given.is_exempt or name.lower().endswith(PROSE) and not given.is_marked:
             return None
         if replacing.is_leftover(os.path.basename(name)):
-            return Fault(LEFTOVER, REMOVE.format(pathspec(name, is_below_top=True)))
+            to_do = f"  look at its content, and remove it with `git rm -f -- {pathspec(name, is_below_top=True)}`"
+            return Fault("was left behind by a companion, and may be plaintext", to_do)
         if now.damage == conflicts.UNMERGED:
             return Fault(now.damage, RESOLVE)
         if now.damage:
-            restore = RESTORE.format(pathspec(name, is_below_top=True))
-            return Fault(now.damage, self._meant(file, first=restore))
+            command = f"git checkout HEAD -- {pathspec(name, is_below_top=True)}"
+            first = f"restore it, for example with `{command}` if it is whole there; "
+            return Fault(now.damage, self._meant(file, first=first))
         if before.encrypted and now.fault and name.lower().endswith(YAML):
-            return Fault(NOT_YAML.format(now.fault), self._meant(file, first=REPAIR))
+            return Fault(NOT_YAML.format(now.fault), self._meant(file, first="repair it; "))
         return None
 
     def _unencrypted(self, file: File, _: Facts, now: Facts) -> Fault | None:
@@ -120,7 +117,7 @@ class Guard:
         if now.is_vault or now.is_empty or self.attributes[file.name].is_exempt:
             return None
         if before.is_vault:
-            return Fault(WAS_VAULT.format(self.since), self._meant(file))
+            return Fault(f"is not a vault, but was one{self.since}", self._meant(file))
         places = () if file.before else _places(file.name, b"of", b"in")
         vault = next((self.vaults[place] for place in places if place in self.vaults), None)
         if vault is None:

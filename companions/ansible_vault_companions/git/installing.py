@@ -26,8 +26,7 @@ git diff and git merge recognize vaults by .gitattributes; for the whole team, a
 
 
 def hooks() -> list[str]:
-    """The paths of the hooks of this repository. Changes to its top directory, where a relative core.hooksPath
-    starts."""
+    """The paths of this repository's hooks. Changes to its top, where a relative core.hooksPath starts."""
     os.chdir(top())
     folder = os.path.abspath(os.fsdecode(git("rev-parse", "--git-path", "hooks").removesuffix(b"\n")))
     return [os.path.join(folder, name) for name in HOOKS]

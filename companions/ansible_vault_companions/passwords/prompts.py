@@ -12,7 +12,6 @@ from ansible_vault_companions import processes
 from ansible_vault_companions.passwords.settings import ASK, PROMPT
 from ansible_vault_companions.program import Refused, shown
 
-TERMINAL = "/dev/tty"
 NO_TERMINAL = "there is no terminal to ask for the password; name a password file"
 DIFFER = "the two passwords differ; try again"
 # The character that Ctrl-Z types when it sends no signal, and the value that disables a special key.
@@ -74,8 +73,7 @@ def _answer(question: str) -> bytes:
 
 
 def _hidden(question: str) -> bytes:
-    """A line that the user types. It is not shown. It must be UTF-8, whatever the locale, so that the same keys always
-    give the same password."""
+    """A line that is not shown. It must be UTF-8, so that the same keys give the same password in every locale."""
     with _terminal() as terminal:
         with _without_echo(terminal):
             text = _typed(terminal, question).replace(SUSPEND, b"")
@@ -98,7 +96,7 @@ def _typed(terminal: FileIO, question: str) -> bytes:
 @contextmanager
 def _terminal() -> Iterator[FileIO]:
     try:
-        terminal = open(TERMINAL, "r+b", buffering=0)
+        terminal = open("/dev/tty", "r+b", buffering=0)
     except OSError:
         raise Refused(NO_TERMINAL) from None
     with terminal, processes.interruptible():

@@ -24,8 +24,6 @@ BY_PATH = ["--vault-password-file", "--vault-pass-file"]
 # A script gets the label if its name, without the suffix, ends with this.
 CLIENT = "-client"
 ANY_LABEL = "--any-label"
-NO_OPTION = "its label {} has an @, so no option can name it; change it in its first line"
-NOT_STRIPPED = "the password of this script begins or ends with white space, which a password file cannot have"
 NONE = (
     "no password is given: name one with --vault-id or --vault-password-file, in ANSIBLE_VAULT_PASSWORD_FILE or "
     "in ansible.cfg, or type one with --ask-vault-password"
@@ -54,8 +52,7 @@ class Password:
         self.is_certain = False
 
     def obtain(self, encrypts: bool) -> None:
-        """Reads it, and keeps it in memory for all runs of the tool: a file such as `<(..)` can be read only once. To
-        encrypt, the user has to type it twice."""
+        """Keeps it in memory, since `<(..)` can be read only once. To encrypt, the user has to type it twice."""
         try:
             content = self._read(encrypts)
         except (Refused, OSError) as fault:
@@ -92,8 +89,7 @@ class Password:
             raise Refused(f"{shown(self.given)}: {why}")
 
     def confirm(self) -> None:
-        """Asks again for a password before it encrypts, if it was typed once and has decrypted nothing: after a typing
-        mistake, nobody could read the vault."""
+        """Asks again for a password that was typed once and has decrypted nothing: it may be mistyped."""
         if self.is_prompt and not self.is_certain and not self.is_left_out:
             if not prompts.is_confirmed(self.place, self.label, self.content):
                 raise Refused(f"{shown(self.given)}: {prompts.DIFFER}")
@@ -107,7 +103,7 @@ class Password:
         text would get the password that belongs to another label. With one password, no other can be meant."""
         label = label or DEFAULT
         if "@" in label:
-            return NO_OPTION.format(shown(label))
+            return f"its label {shown(label)} has an @, so no option can name it; change it in its first line"
         if self.label == label or self.serves_any_label:
             return ""
         return (
@@ -210,7 +206,7 @@ def _printed(path: str, label: str) -> bytes:
         raise Refused(f"{why}: {shown(message)}" if message else why)
     password = done.stdout.strip(b"\r\n")
     if password != password.strip():
-        raise Refused(NOT_STRIPPED)
+        raise Refused("the password of this script begins or ends with white space, which a file cannot have")
     return password[: LIMIT + 1]
 
 
@@ -241,8 +237,7 @@ def add_any_label(parser: argparse.ArgumentParser) -> None:
 def from_options(
     parser: argparse.ArgumentParser, args: argparse.Namespace, encrypts: bool = False, skips: bool = False
 ) -> list[Password]:
-    """The passwords from a command line and from the settings, in Ansible's order. To encrypt, the user has to type
-    each twice. With `skips`, those that cannot be used are ignored."""
+    """The passwords that are named, in Ansible's order. With `skips`, those that cannot be used are ignored."""
     settings = settings_beside(args, lambda text: write_error(f"{parser.prog}: {text}"))
     passwords = named(args.vault_id, args.vault_password_file, settings)
     if not passwords:

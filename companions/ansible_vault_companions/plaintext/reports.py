@@ -14,8 +14,7 @@ from ansible_vault_companions.tool import Decrypted, NotDecrypted, Tool, Workers
 
 
 def decrypted(tool: Tool, value: Value, passwords: list[Password], is_prose: bool) -> Decrypted | None:
-    """An envelope in plaintext. None if it is an example: in prose, one that is damaged or that no password
-    decrypts."""
+    """An envelope in plaintext; None for an example: one in prose that is damaged or that nothing decrypts."""
     try:
         return tool.decrypt(value.readable(), passwords)
     except Refused as fault:

@@ -19,9 +19,6 @@ from ansible_vault_companions.tool import Tool, Workers
 CHANGED, HAD_IT = "changed", "had it"
 # A placeholder for the new envelope in a dry run.
 DRY = b"$ANSIBLE_VAULT;1.1;AES256\n%s\n" % (b"61" * 16)
-MALFORMED = "its first line is malformed"
-OUTSIDE = "it points to {}, outside the paths you named; name that file to rotate it"
-WITHIN_VAULT = "its plaintext is itself a vault, which ansible-vault does not encrypt; decrypt it first"
 
 
 @dataclass
@@ -58,7 +55,7 @@ class Rotation:
 
     def _put(self, target: str, after: bytes, before: bytes) -> None:
         if not any(target == place or target.startswith(os.path.join(place, "")) for place in self.places):
-            raise Refused(OUTSIDE.format(shown(target)))
+            raise Refused(f"it points to {shown(target)}, outside the paths you named; name that file to rotate it")
         if self.is_dry:
             replacing.check_replaceable(target)
         else:
@@ -90,7 +87,7 @@ class Rotation:
         """The new text of an envelope, which is rotated itself and within; None if it stays unchanged."""
         label = value.label
         if label is None:
-            raise Refused(MALFORMED)
+            raise Refused("its first line is malformed")
         new = self.new.get(label)
         if new:
             report.labels.add(label)
@@ -116,5 +113,5 @@ class Rotation:
         """The plaintext of an envelope, with the envelopes in it rotated."""
         text = document.read(plaintext)
         if text.is_vault:
-            raise Refused(WITHIN_VAULT)
+            raise Refused("its plaintext is itself a vault, which ansible-vault does not encrypt; decrypt it first")
         return self._rotated(text, lambda value: f"{where}: in its plaintext, line {value.line}", report)
