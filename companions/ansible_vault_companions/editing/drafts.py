@@ -71,8 +71,6 @@ class SingleValue:
             decrypted.require_label()
             key, self.before = decrypted.key, decrypted.text
         self.keys = [key]
-        # A value at another path is another one, even if it is equal.
-        self.plaintext = b"%s\n%s" % (path.encode(errors="surrogateescape"), self.before or b"")
 
     def is_as_it_was(self, text: bytes) -> bool:
         return text == self.before
@@ -90,12 +88,12 @@ class SingleValue:
 
 
 # A text to change, and how the file becomes what was saved. Its `keys` may read a copy, if there is a single one.
-Draft = Union[Vault, YamlFile, SingleValue, merging.Conflict]
+Draft = Union[Vault, YamlFile, merging.Conflict]
 
 
 def load(
     tool: Tool, passwords: list[Password], path: str, value: str | None, chosen: str | None, usual: str | None
-) -> Draft:
+) -> Union[Draft, SingleValue]:
     """The draft for the file at a path, or for a single value in it. Refuses one whose text could not be encrypted
     again. The label that the user has chosen is also for the text of a conflict and for a single value, and the usual
     one for new vaults and values alone. A signal ends the reading."""

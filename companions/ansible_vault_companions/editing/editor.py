@@ -176,8 +176,6 @@ class Edit:
 
     def _opens_again(self, why: Refused) -> bool:
         """Whether the user, asked at the terminal, wants to correct the saved text."""
-        if isinstance(self.draft, SingleValue):
-            return False
         try:
             return prompts.agrees(f"{shown(self.path)}: {why}. Open the editor again?")
         # A signal arrived, or the terminal is gone.
@@ -217,13 +215,12 @@ def edited(tool: Tool, draft: Draft, path: str, text: bytes | None) -> bytes | N
     return None
 
 
-def set_value(tool: Tool, draft: Draft, path: str, text: bytes | None) -> None:
-    """Sets the value of a draft to standard input, or to `text` if given."""
-    with PrivateFolder() as folder:
-        new = _standard_input() if text is None else text
+def set_value(tool: Tool, draft: SingleValue) -> None:
+    """Sets the value of a draft to standard input."""
+    text = _standard_input()
+    if not draft.is_as_it_was(text):
         with processes.postponed():
-            if not draft.is_as_it_was(new):
-                Edit(tool, draft, path, folder).put_back(new)
+            replacing.replace(draft.target, draft.encrypted(tool, text), draft.content)
 
 
 def _standard_input() -> bytes:

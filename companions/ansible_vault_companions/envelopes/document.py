@@ -36,7 +36,6 @@ YAML = (".yml", ".yaml", ".json")
 
 # The number of a list item in a typed path, and how many values a message lists if such a path leads nowhere.
 NUMBER, MOST_LISTED = re.compile(r"\[\d+\]"), 20
-NUMBER_THEM = "number the items of lists, as in `users[0].name`"
 NO_TEXT = "{} is a list, a mapping or an alias; name a value in it"
 NOT_ENCRYPTED = "{} is not encrypted"
 # What YAML does not allow, or takes for the end of a line.
@@ -158,9 +157,7 @@ class Document:
             listed = f"; encrypted here: {', '.join(names)}" if 0 < len(names) <= MOST_LISTED else ""
             raise Refused(f"there is no value {shown(path)}{listed}")
         if len(values) > 1:
-            is_twice = len({value.path for value in values}) < len(values)
-            hint = "a key is there twice, so rename one" if is_twice else NUMBER_THEM
-            raise Refused(f"{len(values)} values are at {shown(path)}; {hint}")
+            raise Refused(f"{len(values)} values are at {shown(path)}; name one of them, as in `users[0].name`")
         return values[0]
 
 

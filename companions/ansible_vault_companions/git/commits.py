@@ -78,10 +78,8 @@ class Index:
         return Differences(commit[:10], files)
 
     def changes(self) -> list[Differences]:
-        """The differences from each parent. What is as in the first one is left out."""
-        changes = [self.change(parent) for parent in self.parents]
-        names = {file.name for file in changes[0].files}
-        return [change._replace(files=[file for file in change.files if file.name in names]) for change in changes]
+        """The differences from each parent."""
+        return [self.change(parent) for parent in self.parents]
 
     def former(self, commit: str) -> set[File]:
         """The files, each with a version that a commit in the history had of it."""

@@ -132,6 +132,8 @@ def now_plain(before: Facts, after: Facts) -> list[Keys]:
     """Where an envelope was and new plaintext is, at its keys, above or below. Where items of a list share the keys, an
     envelope has to be gone."""
     new = came(before, after)
+    # An item of a list stands for the list: it may take the place of a mapping.
+    new |= {keys[:-1] for keys in new if keys[-1:] == (ITEM,)}
     above = branches(new)
     return [
         keys

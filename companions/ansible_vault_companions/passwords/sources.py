@@ -78,10 +78,6 @@ class Password:
         """The word that names it to the tool, with its own label or another one."""
         return f"{name}={self.label if label is None else label}@/dev/fd/{self.descriptor}"
 
-    def may_be_missing(self) -> bool:
-        """Whether it is a setting and, if somebody is at the terminal, none that was mistyped, as with Ansible."""
-        return self.is_setting and (not self.is_prompt or self.fault == prompts.NO_TERMINAL)
-
     def require(self) -> None:
         """Raises Refused if it cannot be used: then no other password may encrypt in its place."""
         if self.fault:
@@ -147,7 +143,7 @@ def load(
     named."""
     for password in passwords:
         password.obtain(encrypts)
-    left_out = [password for password in passwords if password.fault and (skips or password.may_be_missing())]
+    left_out = [password for password in passwords if password.fault and (skips or password.is_setting)]
     if skips or len(left_out) < len(passwords):
         for password in left_out:
             password.is_left_out = True
