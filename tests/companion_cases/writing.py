@@ -47,7 +47,7 @@ SYSTEMS = {
 @pytest.mark.parametrize("call, what, why", SYSTEMS.values(), ids=SYSTEMS)
 def test_metadata(place: Place, call: str, what: str, why: str) -> None:
     place.put("a.yml", sealed("old"))
-    changed = f"def {call}(*_):\n    {what}\nos.{call} = {call}"
+    changed = f"def {call}(*_, **_options):\n    {what}\nos.{call} = {call}"
     done = run_changed(place, WITH, changed, ["rekey", *to_new(place), "a.yml"])
     wanted = (1, f"{WITH}: a.yml: {why}\n", "old") if why else (0, "", "new")
     assert (done.returncode, done.stderr, decrypted(wanted[2], place.get("a.yml"))) == (*wanted[:2], TEXT)
