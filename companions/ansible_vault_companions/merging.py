@@ -51,7 +51,7 @@ class Lines(NamedTuple):
 
 def merged_lines(versions: Versions, size: int) -> Lines:
     """The result of git's merge, with markers of this size. The texts are passed in memory, never on disk."""
-    files = [os.memfd_create(side) for side in SIDES]
+    files = [os.memfd_create("version") for _ in versions]
     for file, text in zip(files, versions):
         with open(file, "wb", closefd=False) as writer:
             writer.write(text)
