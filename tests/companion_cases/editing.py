@@ -5,7 +5,7 @@ import re
 
 import pytest
 
-from companion_cases import AWKWARD, CHANGE, CHANGED, EDIT, TEXT, Done, Place, block, decrypted, edit, ended
+from companion_cases import AWKWARD, CHANGE, CHANGED, EDIT, Done, Place, block, decrypted, edit, ended
 from companion_cases import envelope_of, sealed, silent, texts
 
 
@@ -107,12 +107,6 @@ def type_into(place: Place, content: bytes, text: str) -> Done:
     place.put("vars.yml", content)
     place.put("../typed", text.encode())
     return edit(place, 'cp ../typed "$1"', *place.by_file("old"), "vars.yml")
-
-
-def test_tag_that_is_removed(place: Place) -> None:
-    text = f"secret: |\n  {TEXT.decode()}"
-    ended("the edit", type_into(place, block("old"), text), 0, "vars.yml: no longer encrypted: secret")
-    assert place.get("vars.yml") == text.encode()
 
 
 @pytest.mark.parametrize("text", MISREAD)

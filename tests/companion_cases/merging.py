@@ -160,7 +160,7 @@ def test_secrets_of_vaults(tmp_path: Path, monkeypatch: pytest.MonkeyPatch) -> N
             assert (bool(result.why), result.content) == (True, both(contents[1:])), vaults
             counts["refused"] += 1
             continue
-        _, secret, text = tool.decrypt(result.content, SECRETS)
+        _, secret, text = tool.opened(result.content)
         counts["under a new secret"] += ours.password != theirs.password
         assert (result.why, secret.place, text) == ("", wanted.partition("@")[2], changes[changed]), vaults
     assert counts["refused"] > 10 and counts["under a new secret"] == 24, counts

@@ -21,7 +21,7 @@ from ansible_vault_companions.envelopes import conflicts
 from ansible_vault_companions.envelopes.envelope import MAGIC
 from ansible_vault_companions.merging import Merged, Versions
 from ansible_vault_companions.passwords.sources import Password
-from ansible_vault_companions.tool import NotDecrypted, Tool
+from ansible_vault_companions.tool import Decrypted, NotDecrypted, Tool
 from companion_cases import PASSWORDS, decrypted
 from companion_cases.repository import SALTS, by_git, repository
 from lib.needs import needs, needs_pyyaml
@@ -115,9 +115,6 @@ class Merge(NamedTuple):
         return b"%s%s\n# %s\n" % (value.head(), self.known_by(value), value.key.encode())
 
 
-SECRETS = [*map(secret_of, LABELS)]
-
-
 class Model(Tool):
     """Replaces the program by the model of the tests."""
 
@@ -126,12 +123,14 @@ class Model(Tool):
         # The new values, by their envelopes.
         self.made: dict[bytes, Value] = {}
 
-    def opened(self, envelope: bytes) -> tuple[Password, bytes]:
-        for secret in sources.in_order([*SECRETS.values()], label_of(envelope)):
-            text = decrypted(secret.place, envelope)
-            if text is not None:
-                return secret, text
-        raise NotDecrypted("no secret decrypts this vault")
+    def view(self, envelope: bytes, secret: Password) -> bytes:
+        text = decrypted(secret.place, envelope)
+        if text is None:
+            raise NotDecrypted("no secret decrypts this vault")
+        return text
+
+    def opened(self, envelope: bytes) -> Decrypted:
+        return self.decrypt(envelope, [*SECRETS.values()])
 
     def encrypt(self, plaintext: bytes, secret: Password, label: str) -> bytes:
         value = Value("", plaintext, "" if label == "default" else label, secret.place, next(self.salts), 0)
@@ -140,8 +139,7 @@ class Model(Tool):
 
     def merged(self, contents: list[bytes]) -> Merged:
         base, ours, theirs = contents
-        decrypt = functools.partial(self.decrypt, passwords=SECRETS)
-        return merging.merged(self, decrypt, Versions(ours, base, theirs), conflicts.SIZE, None)
+        return merging.merged(self, self.opened, Versions(ours, base, theirs), conflicts.SIZE, None)
 
 
 @st.composite

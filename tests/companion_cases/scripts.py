@@ -34,7 +34,7 @@ def test_how_they_start(place: Place, request: pytest.FixtureRequest, option: st
 
 
 NO_PROGRAM = "this script cannot be run: Exec format error; if it is not a script, run `chmod -x ../data`"
-SPACE = "the password of this script begins or ends with white space, which a password file cannot have"
+SPACE = "the password of this script begins or ends with white space, which a file cannot have"
 # Names and texts of scripts that fail, and why. A client's own messages are shown in one line.
 FAILING = [
     ("data", "no script", NO_PROGRAM),

@@ -4,7 +4,7 @@ import os
 
 import pytest
 
-from companion_cases import EDIT, TEXTCONV, Done, Place, block, ended, sealed, silent, texts
+from companion_cases import EDIT, TEXTCONV, Done, Place, block, sealed, silent
 from companion_cases.terminal import ask
 from lib.needs import needs_pyyaml
 
@@ -24,7 +24,7 @@ VAULT = sealed("dev", b"db:\n  password: 'it''s'\n  list: [1]\n" + block("prod",
 NOT_SHOWN = [
     (FILE, "pw", "no value pw; encrypted here: db_password, app.users[0].pw, \"a.b \\\"c\\\\d\\\"\"[0].x"),
     (FILE, "app.plain", "app.plain is not encrypted"),
-    (block("dev", b"one", "dev", "a") * 2, "a", "2 values are at a; a key is there twice, so rename one"),
+    (block("dev", b"one", "dev", "a") * 2, "a", "2 values are at a; name one of them, as in `users[0].name`"),
     (VAULT, "db", "db is a list, a mapping or an alias"),
     (block("old"), "secret", "vars.yml: no secret decrypts this vault (no label; tried dev@"),
 ]
@@ -128,17 +128,3 @@ def test_refused(place: Place, both: list[str], standard_input: str, words: str,
     session = ask(place, "sh", "-c", f"{EDIT} {' '.join(both)} {words} {standard_input}", answers=[])
     assert (session.returncode, why in session.stderr) == (1, True), session
     assert (place.files(), place.left()) == (before, [])
-
-
-def test_not_lost(place: Place, both: list[str]) -> None:
-    """A text that cannot be put back is in an encrypted copy, and --resume puts it into the value, if it is there."""
-    place.wrap_tool('[ "$1" != encrypt ] || ! mkdir ../once 2> /dev/null || rm vars.yml')
-    words = [*both, "--value", "db_password", "vars.yml"]
-    done = set_to(place, b"typed\xff", *words)
-    ended("the file goes", done, 1, "what you saved is encrypted in ", "run the same command with --resume")
-    place.put("vars.yml", FILE.replace(b"db_password", b"other"))
-    ended("another value", place.run(EDIT, *words, "--resume"), 1, "there is no value db_password")
-    place.put("vars.yml", FILE)
-    silent("it is put back", place.run(EDIT, *words, "--resume"))
-    assert (texts(place.get("vars.yml"), "dev")[0], place.copies()) == (b"typed\xff", [])
-    assert (place.names(), place.left()) == (["vars.yml"], []), "nothing is left"

@@ -121,7 +121,8 @@ def test_outputs_that_fail(place: Place, line: str, redirection: str) -> None:
     """Nor does a message that cannot be written end a run by anything but its status."""
     place.put("a.yml", sealed("old"))
     done = place.shell(f"{{ {line}; echo $? >&2; }} {redirection}")
-    assert done.stderr == f"{line.split()[0]}: standard output cannot be written: {OUTPUTS[redirection]}\n1\n"
+    name = f"{TEXTCONV}: a.yml" if TEXTCONV in line else line.split()[0]
+    assert done.stderr == f"{name}: standard output cannot be written: {OUTPUTS[redirection]}\n1\n"
     assert [place.shell(f"{line} > /dev/full {other}").returncode for other in ("2>&-", "2> /dev/full")] == [1, 1]
 
 
