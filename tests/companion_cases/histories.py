@@ -2,7 +2,7 @@
 
 import pytest
 
-from companion_cases import HOOK, TEXT, Place, block, sealed, silent
+from companion_cases import HOOK, TEXT, Place, block, ended, sealed, silent
 from companion_cases.repository import GONE, IN_PART, WHOLE, add_and_commit, told, under_git, with_hooks
 
 pytestmark = pytest.mark.usefixtures("git")
@@ -70,6 +70,7 @@ REFUSED: dict[str, tuple[Content, Content, str]] = {
     "text between expressions": (PW, b'pw: "{{ x }}:{{ y }}"\n', pw),
     "a statement of Jinja": (PW, b'pw: "{% set x = 1 %}"\n', pw),
     "a key twice": (PW, PW + PLAIN, pw),
+    "a list for its mapping": (DB, b"db: [app, plain]\n", db),
     "while a plain one goes": (DB + PLAIN, DB_PLAIN, db),
     "two values": (DB + PW, DB_PLAIN + PLAIN, IN_PART.format("db.pw, pw").replace("was", "were")),
     "an item of several": (users(PW, PW2), users(PLAIN, PW2), IN_PART.format("users[].pw")),
@@ -114,7 +115,9 @@ def test_changes(place: Place, before: Content, after: Content, why: str) -> Non
 # What two branches do before one merges the other. The file a.yml is a vault, and b.yml has a value.
 MERGES = {
     "a renamed vault and a rotation": ("git mv a.yml c.yml", "cp ../new/* ."),
-    "a plaintext that is meant": ("touch new.yml && git add .", "echo 'pw: x' > b.yml && git commit -qanm meant"),
+    "a plaintext that is meant": (
+        "touch new.yml && git add .", "echo 'b.yml ansible-vault-plain=pw' > .gitattributes && echo 'pw: x' > b.yml"
+    ),
 }
 
 
@@ -130,3 +133,16 @@ def test_merges(place: Place, theirs: str, ours: str) -> None:
     here = f"{ours} && touch other.yml && git add -A && git commit -qm ours && git merge -q --no-edit theirs"
     silent("a merge", place.shell(f"{there} && {here} && {HOOK} --since HEAD~1 && {HOOK} --all"))
     assert place.shell("git rev-parse HEAD^2").returncode == 0, "it is made"
+
+
+def test_encryption_by_the_other_side(place: Place) -> None:
+    """A merge does not keep a plaintext that the other branch has encrypted."""
+    with_hooks(place)
+    for name, encrypted in (("a.yml", VAULT), ("b.yml", PW)):
+        place.put(name, b"pw: x\n")
+        place.put(f"../new/{name}", encrypted)
+    add_and_commit(place)
+    there = "git checkout -qb theirs && cp ../new/* . && git commit -qam theirs && git checkout -q -"
+    here = "echo '# more' | tee -a a.yml >> b.yml && git commit -qam ours && git merge -q --no-edit -X ours theirs"
+    done = place.shell(f"{there} && {here}")
+    ended("the merge", done, 1, "a.yml is not a vault, but was one in ", "b.yml has pw in plaintext, which was ")
