@@ -147,8 +147,8 @@ def test_command_lines(place: Place, ansible_runs: AnsibleRuns, pytestconfig: py
         errors = ""
         if counted := what_counts(case):
             tree = place.path / "other"
-            ansible_runs.begin(counted.words(), tree, place.environment | counted.prepare(tree))
-            status, output, errors = ansible_runs.end()
+            variables = place.environment | counted.prepare(tree)
+            status, output, errors = ansible_runs.run(counted.words(), tree, variables)
             theirs = outcome_of(counted, tree, status, output)
         done = place.run_on(b"", "setsid", "--wait", WITH, *case.words(), **case.prepare(place.tree))
         ours = outcome_of(case, place.tree, done.returncode, done.stdout)

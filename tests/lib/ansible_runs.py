@@ -34,12 +34,10 @@ class AnsibleRuns:
         self.requests.close()
         self.process.wait()
 
-    def begin(self, words: list[str], folder: Path, environment: dict[str, str]) -> None:
+    def run(self, words: list[str], folder: Path, environment: dict[str, str]) -> tuple[int, bytes, str]:
+        """Return the status, standard output and standard error of a run."""
         self.requests.write(json.dumps([words, str(folder), environment]) + "\n")
         self.requests.flush()
-
-    def end(self) -> tuple[int, bytes, str]:
-        """Return the status, standard output and standard error of the run that `begin` started."""
         status, output, errors = json.loads(self.answers.readline())
         return status, output.encode("latin-1"), errors
 
@@ -60,35 +58,31 @@ def use_settings(environment: dict[str, str]) -> None:
         constants.set_constant(name, config.get_config_value(name, variables=vars(constants)))
 
 
-def run(words: list[str], folder: str, environment: dict[str, str], output: int, errors: int) -> int:
-    os.setsid()
-    os.chdir(folder)
-    for target, source in ((0, os.open(os.devnull, os.O_RDONLY)), (1, output), (2, errors)):
-        os.dup2(source, target)
-    sys.stdin, sys.stdout = open(0), open(1, "w")
-    use_settings(environment)
-    ansible = sys.argv[1]
-    sys.argv[:] = [ansible, *words]
+def run_in_child(words: list[str], folder: str, environment: dict[str, str], *streams: int) -> None:
+    status = 250
     try:
-        runpy.run_path(ansible, run_name="__main__")
+        os.setsid()
+        os.chdir(folder)
+        for target, source in enumerate((os.open(os.devnull, os.O_RDONLY), *streams)):
+            os.dup2(source, target)
+        sys.stdin, sys.stdout = open(0), open(1, "w")
+        use_settings(environment)
+        sys.argv[1:] = words
+        runpy.run_path(sys.argv[0], run_name="__main__")
+        status = 0
     except SystemExit as end:
-        return int(end.code or 0)
+        status = int(end.code or 0)
     finally:
         sys.stdout.flush()
         sys.stderr.flush()
-    return 0
+        os._exit(status)
 
 
 def forked(request: list[Any]) -> list[Any]:
     with tempfile.TemporaryFile() as output, tempfile.TemporaryFile() as errors:
         child = os.fork()
         if not child:
-            status = 250
-            try:
-                words, folder, environment = request
-                status = run(words, folder, environment, output.fileno(), errors.fileno())
-            finally:
-                os._exit(status)
+            run_in_child(*request, output.fileno(), errors.fileno())
         status = os.waitstatus_to_exitcode(os.waitpid(child, 0)[1])
         output.seek(0)
         errors.seek(0)
@@ -99,6 +93,8 @@ def main() -> None:
     replies = os.fdopen(os.dup(1), "w")
     # Remove this file's directory, which contains another module named `ansible`.
     sys.path.pop(0)
+    # The tool takes the place of this script.
+    sys.argv.pop(0)
     importlib.import_module("ansible.cli.vault")
     for line in sys.stdin:
         replies.write(json.dumps(forked(json.loads(line))) + "\n")
