@@ -13,7 +13,7 @@ import subprocess
 import time
 from collections.abc import Callable, Iterable
 from pathlib import Path
-from typing import Any, NamedTuple
+from typing import NamedTuple
 
 from lib.limits import SECONDS
 from lib.paths import ROOT
@@ -30,17 +30,13 @@ NOBODY = 65_534
 TEXT = b"db_password: correct horse\n"
 # Passwords by the names of their files.
 PASSWORDS = {name: f"the password {name}".encode() for name in ("old", "new", "dev", "dev2", "prod", "prod2")}
-# The edited text and the editor's command; the process ID of the companion.
+# The edited text and the editor's command.
 CHANGED = TEXT.replace(b"correct", b"wrong")
 CHANGE = 'sed -i s/correct/wrong/ "$1"'
-ABOVE_EDITOR = "$PPID"
 # Matches a whole envelope.
 FOUND = re.compile(rb"(?m)^ *\$ANSIBLE_VAULT;1.*(?:\n *[0-9a-fA-F]+\r?$)+")
-ENCRYPTED = re.compile(r"; what you saved is encrypted in (.+)\n")
-# The first line of such a copy.
+# The first line of a copy of what was saved.
 HEAD = re.compile(rb"\A# ansible-vault-edit [0-9a-f]{64}: what was saved begins below\.\n")
-# Notes what other processes can see of a run of the program, and its limit for core dumps.
-NOTE = "{ tr '\\0' '\\n' < /proc/$$/cmdline; tr '\\0' '\\n' < /proc/$$/environ; } >> ../seen; ulimit -c >> ../cores"
 # The first line of an envelope, with its password and plaintext if they are known; or other content unchanged.
 Described = tuple[bytes, tuple[str, bytes] | None]
 # Names that need care in a shell, as an argument or in a line of text.
@@ -169,23 +165,12 @@ class Place:
         """Run with this standard input. The outputs are bytes."""
         return run(words, data, cwd=self.tree, env=self.environment | variables)
 
-    def start(self, *words: str, **options: Any) -> subprocess.Popen[str]:
-        """Start a program. Its standard streams are empty, unless these options of Popen say something else."""
-        given: dict[str, Any] = dict.fromkeys(("stdin", "stdout", "stderr"), subprocess.DEVNULL)
-        given |= {"env": self.environment, **options}
-        return subprocess.Popen(words, cwd=self.tree, text=True, **given)
-
     def traced(self, options: str, companion: str, *words: str, **variables: str) -> tuple[Done, list[str]]:
         """Run a companion under strace with these options, and return the lines of the trace, too."""
         trace = self.path / "trace"
         tracer = ["strace", "-f", "-o", str(trace), *options.split()]
         done = self.run(*tracer, str(self.tools / companion), *words, **variables)
         return done, trace.read_text(errors="replace").splitlines()
-
-    def give(self, *names: str) -> None:
-        """Give these files to another user if root runs the tests."""
-        for name in names if os.geteuid() == 0 else ():
-            os.chown(self.tree / name, NOBODY, NOBODY)
 
     def as_nobody(self, *words: str) -> Done:
         """Run as a user who owns nothing if root runs the tests, since root may read and write everything."""

@@ -5,10 +5,13 @@ import resource
 
 import pytest
 
-from companion_cases import CHECK, EDIT, MERGE, NOTE, PASSWORDS, ROTATE, TEXT, TEXTCONV, WITH, Place, ended, sealed
+from companion_cases import CHECK, EDIT, MERGE, PASSWORDS, ROTATE, TEXT, TEXTCONV, WITH, Place, ended, sealed
 from companion_cases import versions
 from companion_cases.terminal import ask
 from lib.needs import needs
+
+# Notes what other processes can see of a run of the program, and its limit for core dumps.
+NOTE = "{ tr '\\0' '\\n' < /proc/$$/cmdline; tr '\\0' '\\n' < /proc/$$/environ; } >> ../seen; ulimit -c >> ../cores"
 
 
 def test_words_and_environment(place: Place) -> None:

@@ -1,6 +1,7 @@
 """Signals at each step: nothing is lost or left, and the companion ends by the signal, whatever it waits for."""
 
 import os
+import re
 import signal
 import subprocess
 from collections.abc import Callable
@@ -8,7 +9,7 @@ from pathlib import Path
 
 import pytest
 
-from companion_cases import CHANGE, CHANGED, EDIT, ENCRYPTED, MERGE, ROTATE, TEXT, Companions, Place, block, decrypted
+from companion_cases import CHANGE, CHANGED, EDIT, MERGE, ROTATE, TEXT, Companions, Place, block, decrypted
 from companion_cases import edit, run_changed, sealed, silent, texts, to_new, versions, wait_until
 from lib.limits import SECONDS
 from lib.processes import started
@@ -44,7 +45,8 @@ def check_edit(place: Place, errors: str, wanted: bytes = CHANGED) -> None:
     # The editor may be ended before it notes that it has saved.
     is_unsaved = not kept and not (place.path / "saved").exists()
     assert kept == [wanted] * (not is_replaced) or is_unsaved, ("what was saved is kept", kept)
-    assert ENCRYPTED.findall(errors) == [*map(str, copies)], "the message says where"
+    named = re.findall(r"; what you saved is encrypted in (.+)\n", errors)
+    assert named == [*map(str, copies)], "the message says where"
     check_whole(place)
 
 

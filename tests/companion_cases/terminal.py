@@ -1,4 +1,4 @@
-"""Run a program at a terminal of its own, and answer its questions there; and the same by Ansible's tool."""
+"""Run a program at a terminal of its own, and answer its questions there."""
 
 import fcntl
 import os
@@ -9,7 +9,7 @@ import termios
 from contextlib import suppress
 from typing import Any, NamedTuple
 
-from companion_cases import Done, Place
+from companion_cases import Place
 from lib.limits import SECONDS
 from shells import all_shown
 
@@ -40,12 +40,12 @@ def ask(place: Place, *words: str, answers: list[tuple[str, bytes]], **variables
     """Run a program, wait for each question, and type the answer. The standard streams are not the terminal."""
     controller, terminal = os.openpty()
     options: dict[str, Any] = {
-        **{"stdout": subprocess.PIPE, "stderr": subprocess.PIPE, "pass_fds": [terminal], "start_new_session": True},
-        "env": place.environment | variables,
+        **{"stdin": subprocess.DEVNULL, "stdout": subprocess.PIPE, "stderr": subprocess.PIPE, "text": True},
+        **{"cwd": place.tree, "env": place.environment | variables, "pass_fds": [terminal], "start_new_session": True},
         "preexec_fn": lambda: fcntl.ioctl(terminal, termios.TIOCSCTTY, 0),
     }
     shown = b""
-    with place.start("sh", "-c", LEADER, "sh", *words, **options) as program:
+    with subprocess.Popen(["sh", "-c", LEADER, "sh", *words], **options) as program:
         os.close(terminal)
         try:
             for question, answer in answers:
@@ -70,14 +70,3 @@ def _shown_until(controller: int, question: bytes) -> bytes:
             shown += os.read(controller, 4096)
     assert shown.endswith(question), f"{question!r} is not asked: {shown!r}"
     return shown
-
-
-def theirs(place: Place, ansible: str, *words: str, **variables: str) -> Done:
-    return place.run("setsid", "--wait", ansible, *words, **FOR_ANSIBLE, **variables)
-
-
-def written_by_theirs(place: Place, ansible: str, *words: str) -> str:
-    """Return the output of a run, which must succeed."""
-    done = theirs(place, ansible, *words)
-    assert done.returncode == 0, f"{ansible} {words[0]}: {done.stderr}"
-    return done.stdout
