@@ -29,8 +29,8 @@ def test_how_they_start(place: Place, request: pytest.FixtureRequest, option: st
     assert (done.returncode, done.stdout, done.stderr) == (0, TEXT.decode(), errors)
     assert started == f"{place.path}/{name}{arguments}\n"
     ansible = request.getfixturevalue("ansible_runs")
-    ansible.begin(["view", option, "a.yml"], place.tree, place.environment)
-    assert TEXT in ansible.end()[1] and (place.path / "started").read_text() == 2 * started, "as Ansible's tool"
+    _, output, _ = ansible.run(["view", option, "a.yml"], place.tree, place.environment)
+    assert TEXT in output and (place.path / "started").read_text() == 2 * started, "as Ansible's tool"
 
 
 NO_PROGRAM = "this script cannot be run: Exec format error; if it is not a script, run `chmod -x ../data`"

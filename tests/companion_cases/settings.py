@@ -40,8 +40,7 @@ def test_variables_and_files(
     assert (done.returncode, done.stdout) == (1, "".join(f"{name}\n" for name in OPEN if name in wanted))
     ansible = request.getfixturevalue("ansible_runs")
     for name in OPEN:
-        ansible.begin(["view", f"{name}.yml"], place.tree, place.environment | variables)
-        status, output, _ = ansible.end()
+        status, output, _ = ansible.run(["view", f"{name}.yml"], place.tree, place.environment | variables)
         expected = (True, name) if name in wanted else (False, "")
         assert (status == 0, output.decode().strip()) == expected, "by Ansible's tool"
 
