@@ -4,14 +4,14 @@ manual pages and completions.
 """
 
 import re
-from collections.abc import Callable
+import textwrap
+from collections.abc import Callable, Collection
 from functools import partial
 from pathlib import Path
 
 import completing
-import manual
 from contracts import CRATES, code, declared_in, needed
-from programs import NAMES, PROGRAM
+from programs import NAMES, PROGRAM, Option, commands
 
 ROOT = CRATES.parent
 PAGE = ROOT / "docs" / "verification.md"
@@ -47,6 +47,11 @@ FAULTS = re.compile(r"(?<=The columns are number, exit status and text\.\n\n)(?:
 OF_PARSERS = re.compile(
     r"(?<=^# tools/write_documents writes what follows\.\n).*(?=^# Here it ends\.$)", re.MULTILINE | re.DOTALL
 )
+# The first list of a manual page's section, which contains no other one, without its first and last line.
+OPTIONS = re.compile(r"(^\.Sh OPTIONS\n.*?^\.Bl -tag -width Ds\n)(.*?)(?=^\.El$)", re.MULTILINE | re.DOTALL)
+# The macros of words, by how they begin. A single dash is a value.
+MACROS = {"`": "Ql", "--": "Fl", "-": "Ql", "/": "Pa"}
+LAST = (("--help",), ("--version",))
 
 
 def to_read(file: Path) -> int:
@@ -113,8 +118,60 @@ def completion(script: str, shell: str) -> str:
     return OF_PARSERS.sub(lambda _: text, script)
 
 
+def macro_line(word: str) -> str:
+    """Return the line of a word that has a macro, with the punctuation around it."""
+    opening, name, closing = re.findall(r"^(\(?)(.*?)([).,:]*)$", word)[0]
+    macro = next((MACROS[start] for start in MACROS if name.startswith(start)), "Ar")
+    shown = {"Fl": name[1:], "Ar": name.lower()}.get(macro, name.strip("`"))
+    return " ".join([f".{macro}", *opening, shown, *closing])
+
+
+def paragraph(text: str, values: Collection[str]) -> str:
+    """Return a help text as sentences, with macros for options, paths, quotations and the names of values."""
+    named = rf"`[^`]*`|--[a-z][\w-]*|-|/[\w/-]+|{'|'.join(map(re.escape, values))}"
+    lines = []
+    for sentence in re.split(r"[.;] ", text.rstrip(".")):
+        parts = re.split(rf"((?<!\S)\(?(?:{named})[).,:]*(?!\S))", f"{sentence[0].upper()}{sentence[1:]}.")
+        for number, part in enumerate(parts):
+            plain = textwrap.wrap(part.strip(), 80, break_on_hyphens=False)
+            lines += [macro_line(part)] if number % 2 else [re.sub(r"^(?=[.'])", r"\\&", line) for line in plain]
+    return "".join(f"{line}\n" for line in lines)
+
+
+def spelled(option: Option) -> str:
+    value = f" Ar {option.value.lower()}" if option.value else ""
+    return " , ".join(f"Fl {name[1:]}{value}" for name in option.names) or value.strip()
+
+
+def options_of(program: str) -> list[Option]:
+    """Return the arguments and options of a companion, or of all of the program's commands, the longest of their texts
+    for each."""
+    listed: dict[tuple[str, ...], Option] = {}
+    for command in commands():
+        if command.program == program and (program == PROGRAM or not command.name):
+            for option in [*filter(None, [command.argument]), *command.options]:
+                key = option.names or (option.value,)
+                listed[key] = max(listed.get(key, option), option, key=lambda each: len(each.text))
+    return sorted(listed.values(), key=lambda option: bool(option.names) + (option.names[-1:] in LAST))
+
+
+def with_options(page: str, program: str) -> str:
+    """Return a page with the options of its program. What follows the first paragraph of an entry is the page's."""
+    listed = options_of(program)
+    values = {option.value for option in listed if option.value}
+
+    def entries(section: re.Match[str]) -> str:
+        parts = [part.partition("\n") for part in re.split(r"^\.It ", section[2], flags=re.MULTILINE)[1:]]
+        # The first name is the second word, whatever the value is called.
+        further = {heading.split()[1]: "".join(text.partition(".Pp\n")[1:]) for heading, _, text in parts}
+        items = [(spelled(option), paragraph(option.text, values)) for option in listed]
+        return section[1] + "".join(f".It {name}\n{text}{further.get(name.split()[1], '')}" for name, text in items)
+
+    return OPTIONS.sub(entries, page, count=1)
+
+
 # The function that updates each page and each completion.
 WRITTEN: dict[Path, Callable[[str], str]] = {PAGE: written, REFERENCE: written, LIBRARY: partial(LISTING.sub, listing)}
 WRITTEN[FORMATS] = partial(FAULTS.sub, lambda _: faults())
-WRITTEN |= {ROOT / "man" / f"{name}.1": partial(manual.with_options, program=name) for name in NAMES}
+WRITTEN |= {ROOT / "man" / f"{name}.1": partial(with_options, program=name) for name in NAMES}
 WRITTEN |= {ROOT / f"completions/{PROGRAM}.{shell}": partial(completion, shell=shell) for shell in completing.WRITTEN}

@@ -1,4 +1,4 @@
-"""The environment, of which a run reads nothing."""
+"""The environment, of which a run reads nothing, and the salt of each run."""
 
 from lib.cases import TEXT, Cases, answer_of, by_file, by_id, refusal
 from lib.needs import needs
@@ -36,3 +36,12 @@ def test_calls_that_read_variables(cases: Cases) -> None:
     listed = run(["nm", "--dynamic", "--format=posix", cases.program], check=True).stdout.decode()
     names = {line.split()[0].partition("@")[0] for line in listed.splitlines()}
     assert "open" in names and names & READERS == set()
+
+
+def test_two_runs(cases: Cases) -> None:
+    """Each run really reads a salt of its own, even where Ansible's tool takes one from the environment."""
+    right, variables = by_file(cases.file(b"right\n")), {"ANSIBLE_VAULT_ENCRYPT_SALT": "a salt"}
+    one, other = [cases.done(["encrypt", *right], TEXT, env=variables).stdout for _ in range(2)]
+    assert one != other
+    cases.decrypts(right, one, TEXT)
+    cases.decrypts(right, other, TEXT)
