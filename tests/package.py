@@ -16,6 +16,7 @@ from lib.installed import FILES, NAMES, VERSION, check_program, files_below, pri
 from lib.needs import needs, needs_root
 from lib.package_root import Root, later, stand_in
 from lib.paths import ROOT
+from lib.processes import run_text
 from lib.scripts import searched_first, write_script
 
 PACKAGE_FILES = FILES | {
@@ -82,35 +83,21 @@ def test_made_again(copy: Path, package: Path) -> None:
     """A path with a space, and another date, umask and time zone, give the same bytes; nothing is built again."""
     write_script(copy.parent / "rt", "echo rt is run >&2; exit 1")
     (copy / "man/ansible-vault.1").touch()
-    # An interrupted build left it.
-    write_script(copy / "bin/package/source/docs/stale.md", "")
     environment = searched_first(copy.parent) | {"TZ": "Asia/Tokyo"}
     done = run_make("bin/ansible-vault", "package", at=copy, umask=0o077, env=environment)
     assert done.returncode == 0, done.stderr
     assert (copy / "bin" / package.name).read_bytes() == package.read_bytes()
 
 
-def ran(command: str, copy: Path) -> subprocess.CompletedProcess[str]:
-    """Run a command without the variables of a `make` that runs this test: they may choose the processor."""
-    variables = {name: value for name, value in os.environ.items() if name not in ("MAKEFLAGS", "CPU")}
-    return subprocess.run(command.split(), cwd=copy, env=variables, capture_output=True, text=True)
-
-
-def test_program_of_another_machine(copy: Path, program: str) -> None:
-    """The rules package the existing program, even if it is older than its sources, and build none. A package is for
-    all processors, so none is made from a program for a newer one."""
-    (copy / "bin/processor").unlink()
-    os.utime(copy / "bin/ansible-vault", (0, 0))
-    done = ran("debian/rules override_dh_auto_install", copy)
-    assert done.returncode == 0, done.stderr
-    packed = copy / "debian/ansible-vault/usr/bin/ansible-vault"
-    assert packed.read_bytes() == Path(program).read_bytes()
-    shutil.rmtree(copy / "debian/ansible-vault")
+def test_program_of_another_machine(copy: Path) -> None:
+    """A package is for all processors, so none is made from a program for a newer one."""
     (copy / "bin/processor").write_text("x86-64-v3\n")
     (copy / "bin/ansible-vault").touch()
     wanted = "bin/ansible-vault is built for x86-64-v3, and packages and archives are for all processors: make CPU=\n"
+    # Without the variables of a `make` that runs this test: they may choose the processor.
+    variables = {name: value for name, value in os.environ.items() if name not in ("MAKEFLAGS", "CPU")}
     for command in ("make -s package", "make -s dist", "debian/rules override_dh_auto_install"):
-        done = ran(command, copy)
+        done = run_text(command.split(), cwd=copy, env=variables)
         assert done.returncode != 0 and wanted in done.stderr, (command, done.stderr)
     assert [*copy.glob("bin/*.deb"), *copy.glob("debian/ansible-vault")] == [], "no package is made of it"
 
@@ -125,42 +112,16 @@ THEIRS = {
     "usr/share/zsh/vendor-completions/_ansible-vault": "their completion for zsh\n",
 }
 BOTH_HAVE = [path for path in THEIRS if "ansible-vault" in path]
-# Calls of each script that Debian's policy lists (6.5).
-CALLS = {
-    "preinst": ["install", "upgrade 1 2", "abort-upgrade 2"],
-    "postinst": ["configure 1", "abort-upgrade 2"],
-    "prerm": ["remove", "upgrade 2"],
-    "postrm": ["remove", "disappear other 1", "abort-install", "abort-install 1 2"]
-    + ["purge", "upgrade 2", "failed-upgrade 1 2", "abort-upgrade 1 2"],
-}
-# In place of the tools that they run.
-TOOLS = {
-    "dpkg-divert": 'for path; do :; done; echo "$3 $4 $path"',
-    "py3compile": 'echo "compile $*"',
-    "py3clean": 'echo "clean $*"',
-}
+# Calls of postrm that Debian's policy lists (6.5): those that take the diversions away, and those that keep them.
+TAKING = "remove", "disappear other 1", "abort-install", "abort-install 1 2"
+KEEPING = "purge", "upgrade 2", "failed-upgrade 1 2", "abort-upgrade 1 2"
 
 
-@pytest.mark.parametrize("script, call", [(script, call) for script, calls in CALLS.items() for call in calls])
-def test_maintainer_script(tmp_path: Path, script: str, call: str) -> None:
-    """What is run depends only on the script, except that postrm keeps the diversions in an upgrade."""
-    for tool, text in TOOLS.items():
-        write_script(tmp_path / tool, text)
-    command, environment = ["sh", str(ROOT / "debian" / script), *call.split()], searched_first(tmp_path)
-    done = subprocess.run(command, env=environment, capture_output=True, text=True, check=True)
-    wanted = {
-        "preinst": {f"--add --rename /{path}" for path in BOTH_HAVE},
-        "postinst": {"compile -p ansible-vault /usr/lib/ansible-vault"},
-        "prerm": {"clean -p ansible-vault"},
-        "postrm": set() if re.search("upgrade|purge", call) else {f"--remove --rename /{path}" for path in BOTH_HAVE},
-    }
-    assert {*done.stdout.splitlines()} == wanted[script]
-
-
-def install_theirs(root: Root, folder: Path, version: str, mark: str = "") -> None:
-    """Install Ansible's package, with a mark at the end of each file."""
-    files = {path: content + mark for path, content in THEIRS.items()}
-    run_dpkg(root, "-i", stand_in(folder, "ansible-core", version, files))
+@pytest.mark.parametrize("call", TAKING + KEEPING)
+def test_maintainer_script(tmp_path: Path, call: str) -> None:
+    write_script(tmp_path / "dpkg-divert", 'for path; do :; done; echo "$3 $4 $path"')
+    done = run_text(["sh", str(ROOT / "debian/postrm"), *call.split()], env=searched_first(tmp_path), check=True)
+    assert {*done.stdout.splitlines()} == {f"--remove --rename /{path}" for path in BOTH_HAVE if call in TAKING}
 
 
 def run_dpkg(root: Root, option: str, package: str | Path) -> None:
@@ -186,11 +147,12 @@ def check_theirs(root: Root, mark: str = "") -> None:
 
 
 def test_beside_theirs(package: Path, tmp_path: Path, program: str) -> None:
+    """The package is installed, upgraded and removed beside theirs, which is upgraded meanwhile."""
     needs_root()
-    root = Root(str(tmp_path / "root"), program)
+    root, mark = Root(str(tmp_path / "root"), program), "# later\n"
     for name in ("libc6", "python3", "python3-yaml"):
         run_dpkg(root, "-i", stand_in(tmp_path, name, "99", {}))
-    install_theirs(root, tmp_path, "2.14")
+    run_dpkg(root, "-i", stand_in(tmp_path, "ansible-core", "2.14", THEIRS))
     taken = {"usr/share/doc/ansible-vault/README.md": "taken\n"}
     run_dpkg(root, "-i", stand_in(tmp_path, "in-the-way", "1", taken))
     assert "trying to overwrite" in root.dpkg("-i", str(package)).stderr, "it cannot be unpacked"
@@ -199,14 +161,9 @@ def test_beside_theirs(package: Path, tmp_path: Path, program: str) -> None:
     for version in (package, later(package, tmp_path, VERSION + "+later"), package):
         run_dpkg(root, "-i", version)
         check_both(root)
-    install_theirs(root, tmp_path, "2.15", "# later\n")
-    check_both(root, "# later\n")
-    run_dpkg(root, "-r", "ansible-vault")
-    check_theirs(root, "# later\n")
-    run_dpkg(root, "-i", package)
-    run_dpkg(root, "-P", "ansible-core")
-    install_theirs(root, tmp_path, "2.14")
-    check_both(root)
+    marked = {path: text + mark for path, text in THEIRS.items()}
+    run_dpkg(root, "-i", stand_in(tmp_path, "ansible-core", "2.15", marked))
+    check_both(root, mark)
     run_dpkg(root, "-P", "ansible-vault")
-    check_theirs(root)
+    check_theirs(root, mark)
     assert root.dpkg("-s", "ansible-vault").returncode == 1, "it is unknown to dpkg"
