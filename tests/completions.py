@@ -8,7 +8,6 @@ from pathlib import Path
 import pytest
 
 from lib.needs import needs
-from programs import commands
 from shells import SHELLS, typed_in_bash
 
 FILES = {"one.pass", "one.yml", "two.yml", "with a space.pass", "te@m.pass", "-dash.yml", "folder"}
@@ -19,25 +18,17 @@ OFFERED: dict[str, set[str]] = {
     "ansible-vault encrypt folder/": {"folder/inner.yml"},
     "ansible-vault encrypt ": FILES,
     "ansible-vault encrypt -- -": {"-dash.yml"},
-    "ansible-vault encrypt_string ": set(),
     "ansible-vault view --vault-id dev@one.p": {"dev@one.pass"},
     "ansible-vault view --vault-id dev@te@m.p": {"dev@te@m.pass"},
     "ansible-vault rekey --new-vault-password-file one.p": {"one.pass"},
     "ansible-vault encrypt --output=one.p": {"one.pass"},
-    "ansible-vault encrypt --salt ": set(),
     "ansible-vault encrypt --salt=one.p": set(),
-    "ansible-vault-with ed": {"edit"},
     "ansible-vault-with --vault-id one.pass encr": {"encrypt", "encrypt_string"},
-    "ansible-vault-with --vault-password-file one.pass view on": {"one.pass", "one.yml"},
     "ansible-vault-with -J encrypt one.yml tw": {"two.yml"},
     "ansible-vault-with encrypt_string --sh": {"--show-input"},
-    "ansible-vault-with encrypt_string one ": set(),
     "ansible-vault-with view -- one.yml -": {"-dash.yml"},
     "ansible-vault-rotate ": FILES,
-    "ansible-vault-rotate one.yml two.yml folder/": {"folder/inner.yml"},
-    "ansible-vault-rotate --new-vault-id dev@one.p": {"dev@one.pass"},
     "ansible-vault-check --exclude ": set(),
-    "ansible-vault-check one.yml -- -": {"-dash.yml"},
     "ansible-vault-check --ask-vault-pass tw": {"two.yml"},
 }
 # The aliases through which ansible-vault has the completion of ansible-vault-with, and one that changes nothing. With
@@ -81,20 +72,6 @@ def test_offered(shell: str, folder: Path) -> None:
                 assert offered(shell, line.replace(WITH, "ansible-vault"), folder, alias) == wanted, (alias, line)
 
 
-def test_options(shell: str, folder: Path) -> None:
-    """All spellings are offered, after one dash or after two."""
-    for command in commands():
-        matches = offered(shell, f"{command.line} -", folder) | offered(shell, f"{command.line} --", folder)
-        assert matches - FILES == command.spellings, command.line
-
-
-def test_once_in_zsh(folder: Path) -> None:
-    """An option that cannot be repeated is offered once, and not beside its alternative."""
-    needs("zsh")
-    left = offered("zsh", "ansible-vault encrypt --salt x --vault-id one.pass --", folder)
-    assert {"--salt", "--salt-file", "--vault-id", "--output"} & left == {"--vault-id", "--output"}
-
-
 def test_home(shell: str, folder: Path) -> None:
     """`~` is offered where the shell expands it. Otherwise the directory's path is offered, and in fish, nothing."""
     for start in ("view ", "view --vault-id ", "encrypt --output "):
@@ -105,31 +82,11 @@ def test_home(shell: str, folder: Path) -> None:
         assert matches == (set() if shell == "fish" else {f"{folder}/one.pass"[1:]}), start
 
 
-# Values typed with quotes or backslashes in fish, and the whole value that is offered.
-QUOTED = {
-    '"dev@with': "dev@with a space.pass",
-    "'dev@with a": "dev@with a space.pass",
-    r"dev@with\ a": "dev@with a space.pass",
-    '"with a': "with a space.pass",
-    "dev@fol": "dev@folder",
-}
-
-
-def test_quoted_in_fish(folder: Path) -> None:
-    needs("fish")
-    for value, wanted in QUOTED.items():
-        for option in ("--vault-id ", "--vault-id="):
-            assert offered("fish", f"ansible-vault view {option}{value}", folder) == {wanted}, (option, value)
-
-
 # What is typed before a tab in bash, where an alias stands for ansible-vault-with, and the arguments that it receives.
 TYPED = {
-    "cre": ["create"],
     "-J edit one.y": ["-J", "edit", "one.yml"],
     "view with": ["view", "with a space.pass"],
     "view --vault-id dev@with": ["view", "--vault-id", "dev@with a space.pass"],
-    r"view --vault-id dev@with\ a": ["view", "--vault-id", "dev@with a space.pass"],
-    "rekey --new-vault-id=dev@with": ["rekey", "--new-vault-id=dev@with a space.pass"],
     "view --vault-id dev@~/one.p": ["view", "--vault-id", "dev@HOME/one.pass"],
     "view --vault-id=~/with": ["view", "--vault-id=HOME/with a space.pass"],
 }
