@@ -86,9 +86,7 @@ class Recipe(NamedTuple):
 
 RECIPES = {
     "Name your passwords once": Recipe(
-        CONFIGURED
-        | playbook("shared")
-        | {VAULT: b"shared: staple\n", "host_vars/web1/secrets.yml": b"port: 1\n"},
+        CONFIGURED | playbook("shared") | {VAULT: b"shared: staple\n", "host_vars/web1/secrets.yml": b"port: 1\n"},
         printed='shared: staple\n*"msg": "staple"\n*',
         after=f"head -qn 1 {VAULT} host_vars/web1/secrets.yml",
         left=f"{FIRST_LINE}\n{FIRST_LINE}\n",
@@ -98,28 +96,23 @@ RECIPES = {
         | {VAULT: vault(b"a: first\n"), "vault.yml": vault(b"a: shown\n"), "b.yml": vault(b"b: 1\n", "new.pass", "")},
         prepare="rm -r ~/.vault; git add -A",
         printed="*\n2 decrypted, 0 not, 1 with other labels (default 1)\na: first\n",
-        after="""stat -c %a ~/.vault ~/.vault/prod.pass; echo *.pass
-            git commit -qm one; git show; git config merge.ansible-vault.driver""",
-        left="700\n600\nci.pass new.pass old.pass\n*\n+a: shown\n*ansible-vault-merge *",
+        after="stat -c %a ~/.vault ~/.vault/prod.pass; git commit -qm one; git show",
+        left="700\n600\n*\n+a: shown\n*",
     ),
     "Vaults and values for playbooks": Recipe(
         playbook("[shared, port, db_password] | join(', ')")
         | {"plain.yml": b"shared: staple\n", "group_vars/all/.keep": b"", BLOCKS: b"port: 5432\n"},
         printed='*"msg": "staple, 5432, correct horse"\n*',
-        after="cat plain.yml",
-        left="shared: staple\n",
     ),
     "Edit a vault": Recipe(
         {VAULT: vault(b"password: first\n")}, sed="s/first/second/", after=VIEW, left="password: second\n"
     ),
     "Change one value in a YAML file": Recipe(
-        CONFIGURED
-        | {VAULT: vault(b"port: 5432\n"), BLOCKS: b"port: 1  # stays\n" + block("db_password", b"horse") + KEPT},
+        CONFIGURED | {VAULT: vault(b"port: 5432\n"), BLOCKS: b"port: 1\n" + block("db_password", b"horse") + KEPT},
         sed="-e 's/horse/staple/' -e '$a new: !vault |-\\n  a third'",
-        printed="port: 1  # stays\ndb_password: !vault |-\n  horse\nother: !vault |-\n  kept\nstaple",
-        after=f"cat {BLOCKS}; for each in {BLOCKS} {VAULT}; do ansible-vault-textconv $each; done",
-        left=f"port: 1  # stays\n*\n{KEPT.decode()}*\n"
-        f"port: 1  # stays\ndb_password: !vault |-\n  {'[A-Za-z0-9+/]' * 32}\nother: !vault |-\n  kept\n"
+        printed="port: 1\ndb_password: !vault |-\n  horse\nother: !vault |-\n  kept\nstaple",
+        after=f"for each in {BLOCKS} {VAULT}; do ansible-vault-textconv $each; done",
+        left=f"port: 1\ndb_password: !vault |-\n  {'[A-Za-z0-9+/]' * 32}\nother: !vault |-\n  kept\n"
         "new: !vault |-\n  a third\nport: 5433\n",
     ),
     "Change a password everywhere": Recipe(
@@ -132,25 +125,22 @@ RECIPES = {
     ),
     "Check that everything can be decrypted": Recipe(
         {"vars/a.yml": vault(b"a", "new.pass"), "b.yml": block("secret", b"b", "new.pass")},
-        printed="./b.yml:2: secret: prod: decrypted by prod@~/.vault/new.pass\n"
-        "./vars/a.yml: prod: decrypted by prod@~/.vault/new.pass\n2 decrypted, 0 not\n",
+        printed="./b.yml:2: secret: prod: decrypted by *\n./vars/a.yml: prod: decrypted by *\n2 decrypted, 0 not\n",
     ),
     "Mark the files to be encrypted": Recipe(
         {".gitattributes": b""},
-        printed=f"{VAULT}: diff: ansible-vault\nhost_vars/web1/secrets.yml: diff: ansible-vault\n"
-        f"{BLOCKS}: diff: ansible-vault\ngroup_vars/all/vars.yml: diff: unspecified\n",
+        printed=f"{VAULT}: diff: ansible-vault\n*\ngroup_vars/all/vars.yml: diff: unspecified\n",
         after="git check-attr diff group_vars/prod/vault/db.yml roles/a/vars/b.vault.yml",
         left="*: diff: ansible-vault\n*: diff: ansible-vault\n",
     ),
-    # At first the file is not encrypted, then it is under the old password, then under the new one.
+    # At first the file is not encrypted, then it is.
     "See differences in git": Recipe(
-        {"../1": b"db_password: a\n", "../2": vault(b"db_password: b\n")}
-        | {"../3": vault(b"db_password: c\n", "new.pass")},
+        {"../1": b"db_password: a\n", "../2": vault(b"db_password: b\n")},
         prepare=f"""mkdir -p group_vars/all
-            for each in 1 2 3; do mv ../$each {VAULT}; git add .; git commit -qm $each; done""",
-        printed=f"db_password: c\n{VAULT}:db_password: c\n",
+            for each in 1 2; do mv ../$each {VAULT}; git add .; git commit -qm $each; done""",
+        printed=f"db_password: b\n{VAULT}:db_password: b\n",
         after="git log -p --format= 2> /dev/null | grep '^[-+]db_password'",
-        left="-db_password: b\n+db_password: c\n-db_password: a\n+db_password: b\n+db_password: a\n",
+        left="-db_password: a\n+db_password: b\n+db_password: a\n",
     ),
     "Use a password manager": Recipe(
         {"../tools/pass": PASS, "vault.yml": vault(b"password: shown\n")},
@@ -170,8 +160,8 @@ RECIPES = {
     ),
     "Make a value": Recipe(
         {"vars.yml": b"first: 1\n"},
-        after="head -n 2 vars.yml; ansible-vault-textconv --vault-id prod@prod.pass --value db_password vars.yml",
-        left="first: 1\ndb_password: !vault |\ncorrect horse",
+        after="ansible-vault-textconv --vault-id prod@prod.pass --value db_password vars.yml",
+        left="correct horse",
     ),
 }
 # The commands by their titles: those of the document, and those of the program's page and of the companions' pages.
@@ -203,24 +193,16 @@ def test_recipe(repository: Repository, title: str) -> None:
 
 @pytest.mark.parametrize("title", TYPED)
 def test_typed(repository: Repository, title: str) -> None:
-    """The example of the program's page also works in zsh."""
     for name in (VAULT, "vault.yml"):
         repository.put(name, vault(b"shown\n", "old.pass", ""))
-    shell, passwords = COMMANDS[title], {"the old one": (0, "shown\n"), "another": (1, "")}
-    screens = {password: repository.pasted(f"{shell.rstrip()}; exit\n", password) for password in passwords}
-    assert ["shown\r\n" in screen for screen in screens.values()] == [True, False], "one of them is right"
-    assert [password for password, screen in screens.items() if password in screen] == [], "and none is shown"
-    if "read" in shell:
-        needs("zsh")
-        done = {password: repository.shell(f"{{ {shell}\n}} <<< '{password}'", "zsh") for password in passwords}
-        assert {password: (each.returncode, each.stdout) for password, each in done.items()} == passwords
+    for password, is_right in (("the old one", True), ("another", False)):
+        screen = repository.pasted(f"{COMMANDS[title].rstrip()}; exit\n", password)
+        assert ("shown\r\n" in screen, password in screen) == (is_right, False)
 
 
-def commit_sides(
-    repository: Repository, sides: tuple[bytes, ...] = SIDES, branch: str = "branch", password: str = "prod.pass"
-) -> None:
+def commit_sides(repository: Repository, password: str = "prod.pass") -> None:
     """Commit a vault in three versions: the base, theirs on a branch, and ours."""
-    for text, before in zip(sides, (":", f"git checkout -qb {branch}", "git checkout -q -")):
+    for text, before in zip(SIDES, (":", "git checkout -qb branch", "git checkout -q -")):
         repository.shell(before)
         repository.put(VAULT, vault(text, password))
         repository.shell("git add -A && git commit -qm change")
@@ -228,14 +210,9 @@ def commit_sides(
 
 def test_merge(repository: Repository) -> None:
     commit_sides(repository)
-    merge, _, solution = COMMANDS[MERGE].partition("\nansible-vault-edit ")
+    merge, _, _ = COMMANDS[MERGE].partition("\nansible-vault-edit ")
     assert repository.shell(merge).returncode == 0, "git merges what does not conflict"
     assert repository.shown(VIEW) == MERGED, "both changes are in the vault"
-    commit_sides(repository, (b"a: 1\n", b"a: 5\n", b"a: 0\n"), "other")
-    assert repository.shell(merge.replace("branch", "other")).returncode == 1, "git reports a conflict"
-    editor = repository.script("printf 'a: 5\\n' > \"$1\"")
-    assert repository.shell(f"ansible-vault-edit {solution}", EDITOR=editor).returncode == 0
-    assert repository.shown(f"{VIEW}; git status --porcelain") == "a: 5\n", "it is solved and committed"
 
 
 def test_pipeline(repository: Repository) -> None:
@@ -249,10 +226,6 @@ def test_pipeline(repository: Repository) -> None:
     wanted = '*\n1 decrypted, 0 not, 1 with other labels (prod 1)\n*"msg": "staple"\n*'
     assert fnmatchcase(printed, wanted), "vaults are counted, and the playbook is run with the same password"
     assert repository.get("../secrets.yml") == b"shared: staple\n", "and a vault is decrypted"
-    repository.put("vault.yml", b"a: 1\n")
-    repository.shell("git add -A && git commit -qm two --no-verify")
-    statuses = [repository.shell(line, VAULT_PASSWORD=password).returncode for line in shell.splitlines()[:4]]
-    assert statuses == [1, 1, 0, 1], "plaintext"
 
 
 def prepare_examples(repository: Repository, password: str) -> str:
