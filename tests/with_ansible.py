@@ -11,23 +11,15 @@ from pathlib import Path
 
 import pytest
 
-from lib.ansible import ansible_release
 from lib.cases import Cases, by_file, by_id
 from lib.needs import needs_ansible
 from lib.paths import ROOT
 from lib.processes import run
-from lib.subtests import SubTests
 from model.vaults import seal, yaml_block
 
-SIZES = [0, 1, 15, 16, 17, 1 << 20]
-NAMED = {
-    "umlauts": 'schlüssel: "größe"\n→\n'.encode(),
-    "every byte": bytes(range(256)),
-    "line ends": b"\r\n\n\r",
-    "an end like padding": b"a" * 15 + b"\x01",
-}
-TEXTS = {f"{size} bytes": (b"key: value\n" * (size // 11 + 1))[:size] for size in SIZES} | NAMED
-STRINGS = {"plain": "a secret", "umlauts": "größe →", "lines": "first\nsecond\n", "sixteen": "a" * 16}
+TEXTS = [(b"key: value\n" * (size // 11 + 1))[:size] for size in (0, 1, 15, 16, 17, 1 << 20)]
+TEXTS += ['schlüssel: "größe"\n→\n'.encode(), bytes(range(256)), b"\r\n\n\r", b"a" * 15 + b"\x01"]
+STRINGS = ["a secret", "größe →", "first\nsecond\n", "a" * 16]
 RIGHT, NEW = b"the right password", b"the new one"
 PAGE = ROOT / "docs" / "coming-from-ansible.md"
 # Without the caller's settings for Ansible.
@@ -49,20 +41,20 @@ class Both:
         self.options = by_id(self.password, label) if label else by_file(self.password)
         self.choice = ["--encrypt-vault-id", label] if label else []
 
-    def run(self, command: list[str], **variables: str) -> subprocess.CompletedProcess[bytes]:
+    def run(self, command: list[str]) -> subprocess.CompletedProcess[bytes]:
         """Run one of the tools where it finds no configuration file."""
         folder = self.cases.folder
-        return run(command, cwd=folder, env={**ENVIRONMENT, "HOME": str(folder), **variables})
+        return run(command, cwd=folder, env={**ENVIRONMENT, "HOME": str(folder)})
 
-    def theirs(self, *words: str, **variables: str) -> bytes:
-        done = self.run([self.ansible, *words], **variables)
+    def theirs(self, *words: str) -> bytes:
+        done = self.run([self.ansible, *words])
         assert done.returncode == 0, f"Ansible's {words[0]} fails: {done.stderr.decode()}"
         return done.stdout
 
-    def changed_by_them(self, words: list[str], contents: list[bytes], **variables: str) -> list[bytes]:
+    def changed_by_them(self, words: list[str], contents: list[bytes]) -> list[bytes]:
         """Change all the files in one run of Ansible's tool, and return their contents."""
         paths = [self.cases.file(content) for content in contents]
-        self.theirs(*words, *paths, **variables)
+        self.theirs(*words, *paths)
         return [Path(path).read_bytes() for path in paths]
 
     def sealed(self, text: bytes, salt: bytes) -> bytes:
@@ -74,63 +66,40 @@ def both(cases: Cases, request: pytest.FixtureRequest) -> Both:
     return Both(cases, needs_ansible(), request.param)
 
 
-def test_theirs_to_ours(both: Both, subtests: SubTests) -> None:
+def test_theirs_to_ours(both: Both) -> None:
     """Our program decrypts their vaults, and with their salts, encrypts to the same bytes."""
-    vaults = both.changed_by_them(["encrypt", *both.options, *both.choice], list(TEXTS.values()))
-    for (name, text), vault in zip(TEXTS.items(), vaults, strict=True):
-        with subtests.test(name):
-            salt = salt_of(vault)
-            assert both.sealed(text, salt) == vault, "the tests' own vault"
-            both.cases.decrypts(both.options, vault, text)
-            both.cases.run(["encrypt", *both.options, "--salt-file", both.cases.file(salt)], text, out=vault)
+    vaults = both.changed_by_them(["encrypt", *both.options, *both.choice], TEXTS)
+    for text, vault in zip(TEXTS, vaults, strict=True):
+        salt = salt_of(vault)
+        assert both.sealed(text, salt) == vault, "the tests' own vault"
+        both.cases.decrypts(both.options, vault, text)
+        both.cases.run(["encrypt", *both.options, "--salt-file", both.cases.file(salt)], text, out=vault)
 
 
 def test_ours_to_theirs(both: Both) -> None:
-    vaults = [both.cases.run(["encrypt", *both.options], text, out=None) for text in TEXTS.values()]
-    assert differing(both.changed_by_them(["decrypt", *both.options], vaults)) == []
-
-
-def differing(texts: list[bytes]) -> list[str]:
-    """Return the names of the TEXTS that differ from these."""
-    return [name for name, text in zip(TEXTS, texts, strict=True) if text != TEXTS[name]]
+    """They decrypt what we encrypt and what we rekey, and we read what they rekey."""
+    vaults = [both.cases.run(["encrypt", *both.options], text, out=None) for text in TEXTS]
+    assert both.changed_by_them(["decrypt", *both.options], vaults) == TEXTS
+    new, words = by_id(both.new, "prod"), ["rekey", *both.options, "--new-vault-id", f"prod@{both.new}"]
+    rekeyed = [both.cases.run(words, vault, out=None) for vault in vaults]
+    assert both.changed_by_them(["decrypt", *new], rekeyed) == TEXTS
+    option, value = both.options
+    again = both.changed_by_them(["rekey", *new, option.replace("--", "--new-"), value], rekeyed)
+    for text, vault in zip(TEXTS, again, strict=True):
+        both.cases.run(["view", *both.options], vault, out=text)
 
 
 @pytest.mark.parametrize("name", ["größe", ""], ids=["named", "unnamed"])
-def test_blocks(both: Both, subtests: SubTests, name: str) -> None:
+def test_blocks(both: Both, name: str) -> None:
     """Both make the same blocks, with a name or without one. `workflows.py` has one read by a playbook."""
     named = ["-n", name] if name else []
-    shown = both.theirs("encrypt_string", *both.options, *both.choice, *named * len(STRINGS), *STRINGS.values())
+    shown = both.theirs("encrypt_string", *both.options, *both.choice, *named * len(STRINGS), *STRINGS)
     blocks = re.findall(rb"^\S.*\n(?: .*\n)+", shown.rstrip(b"\n") + b"\n", re.MULTILINE)
-    assert len(blocks) == len(STRINGS), shown
-    for (what, string), block in zip(STRINGS.items(), blocks):
-        with subtests.test(what):
-            salt = salt_of(b"\n".join(line.strip() for line in block.split(b"\n")[1:]))
-            assert yaml_block(both.sealed(string.encode(), salt), name.encode()) == block, "the tests' own block"
-            salted = ["encrypt_string", *both.options, "--salt-file", both.cases.file(salt), *named, string]
-            both.cases.run(salted, out=block)
-
-
-@pytest.mark.parametrize("new_label", ("", "prod"))
-def test_rekeyed(both: Both, subtests: SubTests, new_label: str) -> None:
-    """Rekey here, decrypt and rekey back there, and decrypt here."""
-    new = by_id(both.new, new_label) if new_label else by_file(both.new)
-    words = ["rekey", *both.options, "--new-vault-id", f"{new_label}@{both.new}"]
-    ours = [both.cases.run(words, both.sealed(text, bytes(32)), out=None) for text in TEXTS.values()]
-    assert differing(both.changed_by_them(["decrypt", *new], ours)) == []
-    option, value = both.options
-    theirs = both.changed_by_them(["rekey", *new, option.replace("--", "--new-"), value], ours)
-    for (name, text), vault in zip(TEXTS.items(), theirs, strict=True):
-        with subtests.test(name):
-            both.cases.run(["view", *both.options], vault, out=text)
-
-
-def test_fixed_salt(both: Both) -> None:
-    """Newer versions of Ansible's tool take a salt from the environment; older ones choose their own."""
-    text, salt = TEXTS["17 bytes"], "a salt of the environment"
-    words = ["encrypt", *both.options, *both.choice]
-    [vault] = both.changed_by_them(words, [text], ANSIBLE_VAULT_ENCRYPT_SALT=salt)
-    if salt_of(vault) == salt.encode():
-        both.cases.run(["encrypt", *both.options, "--salt", salt], text, out=vault)
+    for string, block in zip(STRINGS, blocks, strict=True):
+        salt = salt_of(b"\n".join(line.strip() for line in block.split(b"\n")[1:]))
+        assert yaml_block(both.sealed(string.encode(), salt), name.encode()) == block, "the tests' own block"
+        salted = ["encrypt_string", *both.options, "--salt-file", both.cases.file(salt), *named, string]
+        both.cases.run(salted, out=block)
 
 
 # The command for each row of the messages in docs/coming-from-ansible.md.
@@ -150,40 +119,20 @@ VAULT = seal(RIGHT, b"a: 1\n")
 # The files that the commands name.
 FILES = {"right": RIGHT, "wrong": NEW, "empty": b"", "plain": b"a: 1\n", "vault": VAULT, "cut": VAULT[:200]}
 FILES["odd"] = VAULT.partition(b"\n")[0] + b"\nxyz\n"
-# Messages about a vault itself. Later releases of Ansible's tool name its file, and word one of them differently.
-OF_A_VAULT = {"the password is wrong", "the input is not a vault", "the vault is cut off"}
-OF_A_VAULT |= {"the vault is not hexadecimal"}
-SAID_LATER = {"the input is not a vault": "Input is not vault encrypted data..."}
+ROW = re.compile(r"^\| (.+) \| `(.+)` \| (\d) \| `(.+)` \| (\d) \|$", re.MULTILINE)
+# How messages begin. Those of later releases may name the file, and one begins with a capital letter.
+STARTS = r"ERROR! |\[ERROR\]: (?:Failed to view .*: )?", "ERROR! "
 
 
-def message_rows() -> dict[str, list[tuple[str, int]]]:
-    """Return the messages of Ansible's tool and of ours, with their exit statuses, in the order of the page."""
-    rows = re.findall(r"^\| (.+) \| `(.+)` \| (\d) \| `(.+)` \| (\d) \|$", PAGE.read_text(), re.MULTILINE)
-    return {what: [(theirs, int(first)), (ours, int(second))] for what, theirs, first, ours, second in rows}
-
-
-def test_rows_of_messages() -> None:
-    assert sorted(message_rows()) == sorted(REFUSED)
-    assert [said for said in SAID_LATER.values() if f"`{said}`" not in PAGE.read_text()] == []
-
-
-def said_by_ansible(what: str, text: str) -> str:
-    """Return the text of the page as the installed release words it."""
-    if ansible_release() < (2, 19):
-        return f"ERROR! {text}"
-    names_file = ansible_release() >= (2, 22) and what in OF_A_VAULT
-    return f"[ERROR]: {'Failed to view ...: ' if names_file else ''}{SAID_LATER.get(what, text)}"
-
-
-@pytest.mark.parametrize("what", REFUSED)
-@pytest.mark.parametrize("tool", [0, 1], ids=["theirs", "ours"])
-def test_messages(cases: Cases, tool: int, what: str) -> None:
-    both = Both(cases, needs_ansible(), "")
+def test_messages(cases: Cases) -> None:
+    both, rows = Both(cases, needs_ansible(), ""), ROW.findall(PAGE.read_text())
+    assert sorted(row[0] for row in rows) == sorted(REFUSED)
     for name, content in FILES.items():
         (cases.folder / name).write_bytes(content)
-    text, status = message_rows()[what][tool]
-    said = said_by_ansible(what, text) if tool == 0 else f"ERROR! {text}"
-    done = both.run([(both.ansible, cases.program)[tool], *REFUSED[what].split()])
-    pattern = ".*".join(map(re.escape, said.split("...")))
-    is_said = any(re.fullmatch(pattern, line) for line in done.stderr.decode().splitlines())
-    assert (done.returncode, is_said) == (status, True), done.stderr
+    for what, theirs, their_status, ours, our_status in rows:
+        runs = (both.ansible, theirs, their_status), (cases.program, ours, our_status)
+        for start, (tool, said, status) in zip(STARTS, runs):
+            done = both.run([tool, *REFUSED[what].split()])
+            pattern = re.compile(f"(?:{start}){'.*'.join(map(re.escape, said.split('...')))}", re.IGNORECASE)
+            is_said = any(map(pattern.fullmatch, done.stderr.decode().splitlines()))
+            assert (done.returncode, is_said) == (int(status), True), (tool, what, done.stderr)
