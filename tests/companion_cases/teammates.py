@@ -157,7 +157,7 @@ def test_commits(tmp_path: Path, monkeypatch: pytest.MonkeyPatch) -> None:
     @settings(max_examples=EXAMPLES, deadline=None, database=None)
     @given(st.integers(0, 1 << 64).map(Random))
     def commits(random: Random) -> None:
-        head = HEAD | {("a.yml", "m", "two"): random.randrange(9), ("w.yml",): 2}
+        head = HEAD | {("a.yml", "m", "two"): random.choice([1, 4, 9]), ("w.yml",): 2}
         refused(tmp_path, head)
         for _ in range(5):
             subprocess.run(["git", "commit", "-qm", "one", "--allow-empty", "--no-verify"], check=True)
