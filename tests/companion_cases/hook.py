@@ -109,28 +109,9 @@ def test_files(place: Place) -> None:
         ended("an option", place.run(HOOK, *option, "plain.yml"), 2, "FILE cannot be used with an option")
 
 
-def test_bare_repository(place: Place) -> None:
-    """A directory of the repository that looks like a bare one is none, wherever the hook starts."""
-    under_git(place, ATTRIBUTES)
-    add_and_commit(place)
-    place.shell("git init -q --bare inner")
-    place.put("inner/a.vault.yml", TEXT)
-    place.shell("git add -A")
-    for words in ([HOOK], [HOOK, "."]):
-        assert told(place.run(*words, folder="inner")) == ["inner/a.vault.yml is not encrypted"]
-
-
-# Where links in a folder lead, and whether to plaintext of the repository.
-TARGETS = {
-    "../folder/plain.yml": True,
-    "..data/../plain.yml": True,
-    "chain": True,
-    "vault.yml": False,
-    "nowhere.yml": False,
-    "loop": False,
-    "../../plain.yml": False,
-    "/etc/hostname": False,
-}
+# Where links in a folder lead, to plaintext of the repository or not.
+TO_PLAINTEXT = ["../folder/plain.yml", "..data/../plain.yml", "chain"]
+ELSEWHERE = ["vault.yml", "nowhere.yml", "loop", "../../plain.yml", "/etc/hostname"]
 
 
 def test_links(place: Place) -> None:
@@ -140,16 +121,17 @@ def test_links(place: Place) -> None:
         place.put(f"deep/{name}", content)
     for name, target in {"folder": "deep", "deep/loop": "loop", "deep/chain": "../folder/./plain.yml"}.items():
         (place.tree / name).symlink_to(target)
-    for number in range(len(TARGETS)):
+    targets = [*enumerate(TO_PLAINTEXT + ELSEWHERE)]
+    for number, _ in targets:
         place.put(f"deep/{number}.yml", sealed("old"))
     add_and_commit(place)
-    wanted = []
-    for number, (target, is_plain) in enumerate(TARGETS.items()):
+    for number, target in targets:
         (place.tree / f"deep/{number}.yml").unlink()
-        for name, why in ((f"deep/{number}.vault.yml", "is not encrypted"), (f"deep/{number}.yml", WHOLE)):
-            (place.tree / name).symlink_to(target)
-            wanted += [f"{name} is a link to a file that {why}"] if is_plain else []
-    assert staged(place, {}) == wanted
+        for suffix in ("vault.yml", "yml"):
+            (place.tree / f"deep/{number}.{suffix}").symlink_to(target)
+    why = "is a link to a file that"
+    ends = [f"vault.yml {why} is not encrypted", f"yml {why} {WHOLE}"]
+    assert staged(place, {}) == [f"deep/{number}.{end}" for number in range(len(TO_PLAINTEXT)) for end in ends]
 
 
 def test_history(place: Place) -> None:

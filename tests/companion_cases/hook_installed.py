@@ -90,17 +90,11 @@ def test_those_of_others(place: Place) -> None:
     assert place.shell("git config --get-regexp ansible-vault").stdout == f"{DIFF} cat --\n{DRIVER} mine\n"
 
 
-# Secrets that a clone could bring along, or that are of no use, and why they are refused.
-REFUSED = [
-    ("--install", "--vault-password-file=pass", "has to begin with / or ~"),
-    ("--install", "--vault-id=dev@pass", "has to begin with / or ~"),
-    ("--all", "--vault-id=/pass", "only --install takes passwords"),
-]
-
-
-@pytest.mark.parametrize("option, secret, why", REFUSED)
-def test_refused_secrets(place: Place, option: str, secret: str, why: str) -> None:
+def test_refused_secrets(place: Place) -> None:
+    """A clone could bring a secret at a relative path along, and only an installation has a use for secrets."""
     under_git(place, ATTRIBUTES)
-    before = place.get(".git/config")
-    ended("it", place.run(HOOK, option, secret), 2, why)
+    before, why = place.get(".git/config"), "has to begin with / or ~"
+    whys = {"--install --vault-password-file=pass": why, "--install --vault-id=dev@pass": why}
+    for line, why in (whys | {"--all --vault-id=/pass": "only --install takes passwords"}).items():
+        ended(line, place.run(HOOK, *line.split()), 2, why)
     assert place.get(".git/config") == before and ".git/hooks/pre-commit" not in place.names(), "nothing is done"
