@@ -1,8 +1,8 @@
 """Compare the cost of the program and the companions with a stored table: instructions and imports.
 
 None of this is a time, so a slow-down of one percent shows even on a busy machine. A cost above the table's fails. So
-does one far below it, since the table would no longer guard it: `tests/store_counts PROGRAM` stores it again. Another
-compiler, kit, processor or Python gives other counts, which are not compared.
+do instructions far below it, since the table would no longer guard them: `tests/store_counts PROGRAM` stores them
+again. Another compiler, kit, processor or Python gives other counts, which are not compared.
 """
 
 import os
@@ -61,11 +61,11 @@ def test_instructions(cases: Cases, name: str) -> None:
 
 @pytest.mark.parametrize("name", COMPANIONS)
 def test_imports(name: str) -> None:
-    """A short run of a companion is mostly imports."""
+    """A short run of a companion is mostly imports, of which it has no more than the table says."""
     stored = table()
     needs_same("Python", stored["python"], platform.python_version())
     modules = imported_modules(COMPANIONS[name])
-    assert len(modules) == stored["imports"][name], f"{name} imports {', '.join(modules)}"
+    assert len(modules) <= stored["imports"][name], f"{name} imports {', '.join(modules)}"
 
 
 def store(program: str, folder: Path) -> None:
