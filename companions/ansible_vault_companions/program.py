@@ -19,8 +19,6 @@ TYPE_CHECKING = False
 if TYPE_CHECKING:
     from typing import Any, NoReturn
 
-# The columns of a help, and the first one of an option's text. A help fits a screen.
-COLUMNS, TEXTS = 80, 30
 # What bash and zsh read by number within `$'..'`, and a path in which git sees no pattern.
 ESCAPED = re.compile(r"[^ -&(-\[\]-~]")
 SIMPLE_PATH = re.compile(r"[\w./][\w./@+,-]*", re.ASCII)
@@ -152,7 +150,7 @@ class Formatter(argparse.RawDescriptionHelpFormatter):
     """Names the value of an option once, after all spellings, and no options in the usage, since a list follows."""
 
     def __init__(self, prog: str) -> None:
-        super().__init__(prog, max_help_position=TEXTS, width=COLUMNS)
+        super().__init__(prog, max_help_position=30, width=80)
 
     def _format_action_invocation(self, action: argparse.Action) -> str:
         if not action.option_strings or action.nargs == 0:
@@ -169,11 +167,6 @@ class Parser(argparse.ArgumentParser):
 
     def error(self, message: str) -> NoReturn:
         self.exit(2, f"{self.format_usage()}{self.prog}: error: {shown(message)}\n")
-
-    def _get_option_tuples(self, option_string: str) -> list[Any]:
-        """An abbreviation that fits several spellings of one option is not ambiguous."""
-        matches = super()._get_option_tuples(option_string)
-        return matches[:1] if len({id(match[0]) for match in matches}) == 1 else matches
 
 
 def parser(name: str, summary: str, example: str, allow_abbrev: bool = False, usage: str | None = None) -> Parser:

@@ -11,10 +11,10 @@ from contextlib import suppress
 from typing import Callable, Hashable, Iterable, NamedTuple, Sequence, TypeVar
 
 from ansible_vault_companions import processes
-from ansible_vault_companions.envelopes.envelope import label_of, written_label
+from ansible_vault_companions.envelopes.envelope import label_of
 from ansible_vault_companions.passwords import sources
 from ansible_vault_companions.passwords.sources import Password
-from ansible_vault_companions.program import Refused
+from ansible_vault_companions.program import Refused, shown
 
 Item = TypeVar("Item")
 Result = TypeVar("Result")
@@ -44,10 +44,21 @@ class Decrypted(NamedTuple):
         return self.password, label_of(self.envelope) or ""
 
     def require_label(self, where: str = "") -> None:
-        """Refuses a text that its label does not allow to encrypt again with this password."""
-        fault = self.password.label_fault(self.key[1])
-        if fault:
-            raise Refused(where + fault)
+        """Refuses a text that its label does not allow to encrypt again with this password.
+
+        A label is a hint, not a proof: anybody can change it, or copy the envelope, without a password. So if several
+        passwords are given, all are tried, but only one with the envelope's label may encrypt the text again, or the
+        text would get the password that belongs to another label. With one password, no other can be meant."""
+        (password, label), own = self.key, shown(self.password.label)
+        if "@" in label:
+            why = "has an @, so no option can name it; change it in its first line"
+            raise Refused(f"{where}its label {shown(label)} {why}")
+        if label != password.label and not password.serves_any_label:
+            raise Refused(
+                f"{where}its label is {shown(label)}, but {shown(password.given)}, a password with the label {own}, "
+                f"decrypts it; find out who changed the label or copied the text here; then write {own} as the label "
+                f"in its first line, or permit it with {sources.ANY_LABEL} when you change it"
+            )
 
 
 Decrypt = Callable[[bytes], Decrypted]
@@ -93,7 +104,7 @@ class Tool:
                 plaintext = self.view(envelope, password)
                 password.is_certain = True
                 return Decrypted(envelope, password, plaintext)
-        raise NotDecrypted(f"{NOT_DECRYPTED} {sources.tried(written_label(envelope), tried)}")
+        raise NotDecrypted(f"{NOT_DECRYPTED} {sources.tried(label_of(envelope), tried)}")
 
     def encrypt(self, plaintext: bytes, password: Password, label: str) -> bytes:
         """The plaintext, encrypted with a password and labeled with this label."""

@@ -57,7 +57,7 @@ OF_ANOTHER = "its label is prod, but dev@../secrets/prod, a password"
 # Files, and why the edit of one is refused. A secret with another label opens the last two.
 REFUSED = {
     "linked.yml": "it has 2 names (hard links)",
-    "closed.yml": "line 2: secret: no secret decrypts this vault (no label; tried prod@../secrets/dev, dev@",
+    "closed.yml": "line 2: secret: no secret decrypts this vault (label default; tried prod@../secrets/dev, dev@",
     "vault.yml": OF_ANOTHER,
     "values.yml": f"line 2: secret: {OF_ANOTHER}",
 }

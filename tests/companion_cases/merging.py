@@ -66,8 +66,8 @@ FIVE = block("old") + b"a: 1\nb: 1\nc: 1\nd: 1\ne: 1\n"
 BROKEN = [FIVE, FIVE.replace(b"a: 1", b'a: "1').replace(b"e: 1", b'e: 1"'), FIVE.replace(b"c: 1", b'c: "1"')]
 # Versions that are not merged, and why.
 REFUSED: dict[str, Sequence[bytes]] = {
-    "base: no secret decrypts this vault (no label; ": [sealed("dev2"), *OLD[1:]],
-    "theirs: no secret decrypts this vault (no label; ": [*OLD[:2], sealed("dev2", THEIRS)],
+    "base: no secret decrypts this vault (label default; ": [sealed("dev2"), *OLD[1:]],
+    "theirs: no secret decrypts this vault (label default; ": [*OLD[:2], sealed("dev2", THEIRS)],
     "one side is a vault and the other is not": [*OLD[:2], THEIRS],
     "the passwords of the two sides differ; choose": [sealed(name) for name in ("old", "new", "prod2")],
     "git merge-file cannot merge it; it may be binary": [sealed("old", b"\0%d" % number) for number in range(3)],

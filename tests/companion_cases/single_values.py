@@ -26,7 +26,7 @@ NOT_SHOWN = [
     (FILE, "app.plain", "app.plain is not encrypted"),
     (block("dev", b"one", "dev", "a") * 2, "a", "2 values are at a; name one of them, as in `users[0].name`"),
     (VAULT, "db", "db is a list, a mapping or an alias"),
-    (block("old"), "secret", "vars.yml: no secret decrypts this vault (no label; tried dev@"),
+    (block("old"), "secret", "vars.yml: no secret decrypts this vault (label default; tried dev@"),
 ]
 
 

@@ -21,7 +21,7 @@ CONTENTS = {
     "blocks": (BLOCKS, SHOWN, ""),
     "a list": (b"a:\n- " + block("old", b"one", name=""), b"a:\n- !vault |-\n  one\n", ""),
     "two blocks": (OTHER + block("old", b" a\n\n"), OTHER + b"secret: !vault |2+\n   a\n\n", f":2: {NO_SECRET} ("),
-    "another vault": (sealed("dev"), sealed("dev"), f": {NO_SECRET} (no label; tried "),
+    "another vault": (sealed("dev"), sealed("dev"), f": {NO_SECRET} (label default; tried "),
     "a malformed header": (MALFORMED, MALFORMED, ": shown as it is: vault header line is malformed"),
     "a conflict": (SIDES, b"1\n<<<<<<< ours\n2\n=======\n3\n>>>>>>> theirs\n", ""),
     "plaintext": (TEXT, TEXT, NO_VAULT),

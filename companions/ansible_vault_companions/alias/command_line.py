@@ -11,11 +11,6 @@ from ansible_vault_companions.passwords import prompts, sources
 from ansible_vault_companions.passwords.sources import ANY_LABEL, ASKED, Password
 from ansible_vault_companions.program import Refused, shown, write_error
 
-# The module `typing` takes long to import.
-TYPE_CHECKING = False
-if TYPE_CHECKING:
-    from typing import Any
-
 NAME = "ansible-vault-with"
 VIEW, DECRYPT, ENCRYPT, ENCRYPT_STRING, REKEY = "view", "decrypt", "encrypt", "encrypt_string", "rekey"
 CREATE, EDIT = "create", "edit"
@@ -33,10 +28,7 @@ ENCRYPTING, EDITING = (ENCRYPT, ENCRYPT_STRING), (CREATE, EDIT)
 WRITING, SEALING = (DECRYPT, *ENCRYPTING, REKEY), (*ENCRYPTING, REKEY)
 STANDARD_INPUT = "-"
 MATCH, ENCRYPT_ID = "--require-id-match", "--encrypt-vault-id"
-NO_NEW = (
-    "no new password is given: name one with --new-vault-id or --new-vault-password-file, or run this at a terminal "
-    "and type it"
-)
+NO_NEW = "no new password is given: name one with --new-vault-id or --new-vault-password-file, or use a terminal"
 SUMMARY = """\
 Runs a command of ansible-vault with the passwords that Ansible would use.
 Unlike ansible-vault, it reads ansible.cfg, runs password scripts, asks for
@@ -50,21 +42,17 @@ Decrypt two files in place, with a password that is typed:
 Keep using the commands of Ansible's own tool:
   $ alias ansible-vault={NAME}
   $ ansible-vault view --ask-vault-pass -v group_vars/all/vault.yml"""
-FLAG: dict[str, Any] = {"action": "store_true"}
-# The options that are passed on as they are given, with the commands that have them, and their settings.
-PASSED_ON: dict[str, tuple[tuple[str, ...], dict[str, Any]]] = {
-    ENCRYPT_ID: (
-        (*SEALING, *EDITING),
-        {"metavar": "LABEL", "help": "the label of the password to encrypt with, among those that are given"},
-    ),
-    MATCH: ((VIEW, DECRYPT, REKEY), {**FLAG, "help": "try only passwords with the label of the vault"}),
-    ANY_LABEL: ((REKEY, *EDITING), {**FLAG, "help": "let a password encrypt what it decrypts, whatever the label"}),
-    "--output": (WRITING, {"metavar": "PATH", "help": "the file to write, or - for standard output (default: FILE)"}),
-    "--salt": (SEALING, {"metavar": "TEXT", "help": "the salt itself, used once"}),
-    "--salt-file": (SEALING, {"metavar": "PATH", "help": "the file whose first 32 bytes are the salt"}),
-    "--stdin-name": ((ENCRYPT_STRING,), {"metavar": "NAME", "help": "read standard input, a text with this name"}),
-    "--value": (EDITING, {"metavar": "KEY.PATH", "help": "set this value of YAML from standard input"}),
-    "--resume": (EDITING, {**FLAG, "help": "start from the text that the last edit of FILE saved in a copy"}),
+# The options that are passed on as they are: their commands, what follows them, if anything, and their help.
+PASSED_ON = {
+    ENCRYPT_ID: ((*SEALING, *EDITING), "LABEL", "the label of the password to encrypt with, among those given"),
+    MATCH: ((VIEW, DECRYPT, REKEY), "", "try only passwords with the label of the vault"),
+    ANY_LABEL: ((REKEY, *EDITING), "", "let a password encrypt what it decrypts, whatever the label"),
+    "--output": (WRITING, "PATH", "the file to write, or - for standard output (default: FILE)"),
+    "--salt": (SEALING, "TEXT", "the salt itself, used once"),
+    "--salt-file": (SEALING, "PATH", "the file whose first 32 bytes are the salt"),
+    "--stdin-name": ((ENCRYPT_STRING,), "NAME", "read standard input, a text with this name"),
+    "--value": (EDITING, "KEY.PATH", "set this value of YAML from standard input"),
+    "--resume": (EDITING, "", "start from the text that the last edit of FILE saved in a copy"),
 }
 
 
@@ -107,13 +95,15 @@ def _add_options(parser: argparse.ArgumentParser, command: str) -> None:
     program.add_common(parser, NAME)
     sources.add_options(parser)
     parser.add_argument("-v", "--verbose", action="count", help=argparse.SUPPRESS)
-    for option, (commands, settings) in PASSED_ON.items():
-        if command in commands:
-            parser.add_argument(option, **settings)
+    for option, (commands, metavar, text) in PASSED_ON.items():
+        if command in commands and metavar:
+            parser.add_argument(option, metavar=metavar, help=text)
+        elif command in commands:
+            parser.add_argument(option, action="store_true", help=text)
     if command == REKEY:
         sources.add_options(parser, "new-")
     if command == CREATE:
-        parser.add_argument("--skip-tty-check", help="ignored", **FLAG)
+        parser.add_argument("--skip-tty-check", action="store_true", help="ignored")
     if command == ENCRYPT_STRING:
         name = "the name of a STRING, in their order"
         parser.add_argument("-n", "--name", action="append", default=[], help=name)

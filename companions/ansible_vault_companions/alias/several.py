@@ -14,8 +14,6 @@ from ansible_vault_companions.passwords import prompts
 from ansible_vault_companions.program import write_error
 from ansible_vault_companions.tool import Tool
 
-STDIN_NAME, OUTPUT = "--stdin-name", "--output"
-
 
 class Text(NamedTuple):
     """A string to encrypt, with the name of its variable, if any, and its origin."""
@@ -51,8 +49,8 @@ def _values(tool: Tool, call: Call) -> int:
     texts = _texts(call.args)
     values = []
     for number, text in enumerate(texts, 1):
-        named = [f"{STDIN_NAME}={text.name}"] if text.name else []
-        values.append(tool.run([*call.words(STDIN_NAME, OUTPUT), *named], text.content, call.passwords))
+        named = [f"--stdin-name={text.name}"] if text.name else []
+        values.append(tool.run([*call.words("--stdin-name", "--output"), *named], text.content, call.passwords))
         if len(texts) > 1:
             what = f"the variable {program.shown(text.name)}" if text.name else "a string without a name"
             write_error(f"# Value {number} is {what}, from {text.origin}.")

@@ -25,7 +25,6 @@ NO_VAULT = (
 )
 TO_ADD = "; or, to add values without seeing the others, choose a password for the new ones with --encrypt-vault-id"
 TO_ENCRYPT = "; to encrypt it there, choose its password with --encrypt-vault-id"
-WHOLE = "the whole file is a vault; edit it without --value"
 NO_PLACE = "there is no place for {} in this YAML; edit the file without --value"
 # A new key, and one that needs no further quotes.
 KEY = re.compile(r'[^."\[\]\x00-\x1f]+|"(?:[^"\\]|\\.)*"')
@@ -149,7 +148,7 @@ def _of_values(decrypt: Decrypt, target: str, content: bytes, choice: Choice) ->
 def _tagged(data: bytes, path: str, is_chosen: bool) -> Document:
     """The nodes of a file, with the tag before a value, which may be a new one at its end."""
     if data.startswith(MAGIC):
-        raise Refused(WHOLE)
+        raise Refused("the whole file is a vault; edit it without --value")
     if conflicts.is_unmerged(data):
         raise Refused(f"it {conflicts.UNMERGED}")
     file = nodes(data)

@@ -35,10 +35,6 @@ PREFIX = "ansible-vault-"
 # that of the text that the edit began with.
 HEAD = b"# ansible-vault-edit %s: what was saved begins below.\n"
 
-CHANGED = (
-    "its text or its label has changed since the edit that left {}, so --resume would undo that, or give the text to "
-    "other readers; `ansible-vault-textconv` shows the copy: take from it what you need"
-)
 
 
 class PrivateFolder:
@@ -114,7 +110,8 @@ def taken_up(path: str, base: bytes, keys: list[Key], decrypt: Decrypt) -> bytes
     content = reading.named(path)
     text = decrypt(content).text
     if [label for _, label in keys] != [label_of(content)] or not text.startswith(_head(base)):
-        raise Refused(CHANGED.format(shown(path)))
+        why = f"its text or its label has changed since the edit that left {shown(path)}"
+        raise Refused(f"{why}; take what you need from the copy, which `ansible-vault-textconv` shows")
     return text[len(_head(base)) :]
 
 

@@ -87,7 +87,7 @@ class Value(NamedTuple):
     @property
     def is_value(self) -> bool:
         """Whether it is tagged as an envelope, or is one without a tag."""
-        return self.is_tagged or has_digits(self.text)
+        return self.is_tagged or WITH_DIGITS.match(self.text) is not None
 
     @property
     def label(self) -> str | None:
@@ -127,21 +127,10 @@ def quoted(key: str) -> str:
     return '"%s"' % re.sub(r'(["\\])', r"\\\1", key)
 
 
-def has_digits(text: bytes) -> bool:
-    """Whether a text without a tag is meant as an envelope."""
-    return WITH_DIGITS.match(text) is not None
-
-
 def label_of(text: bytes) -> str | None:
     """The label of an envelope; `default` if its first line has none, and None if that line is not a header."""
-    label = written_label(text)
-    return "default" if label == "" else label
-
-
-def written_label(text: bytes) -> str | None:
-    """The label in the first line of an envelope. Empty if there is none; None if that line is not a header."""
     fields = _fields(text)
-    return fields[3].decode() if fields else None
+    return (fields[3].decode() or "default") if fields else None
 
 
 def is_whole(text: bytes) -> bool:

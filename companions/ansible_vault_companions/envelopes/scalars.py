@@ -124,7 +124,7 @@ def _is_envelope(steps: Steps, event: Any) -> bool:
     if text is None:
         return False
     is_tagged = event.tag in TAGS or JSON_KEY in steps[-1:]
-    return is_tagged or text.startswith("$ANSIBLE_VAULT") and envelope.has_digits(_unshadowed(text))
+    return is_tagged or text.startswith("$ANSIBLE_VAULT") and bool(envelope.WITH_DIGITS.match(_unshadowed(text)))
 
 
 def _value(data: bytes, skipped: int, ending: bytes, steps: Steps, event: Any) -> Value:

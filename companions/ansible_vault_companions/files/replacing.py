@@ -13,10 +13,6 @@ from ansible_vault_companions.files import reading
 from ansible_vault_companions.program import Refused
 
 PREFIX, SUFFIX = ".ansible-vault-", ".new"
-# The part of a name that `mkstemp` chooses.
-RANDOM = "[a-z0-9_]{8}"
-# The mode of a file that only its owner may read.
-PRIVATE = 0o600
 # What a directory may give to each new file: its default access control list.
 ACCESS_LIST = "system.posix_acl_access"
 
@@ -44,7 +40,7 @@ def check_replaceable(target: str) -> None:
 
 def is_leftover(name: str) -> bool:
     """Whether a file has the name of a temporary file that was never renamed."""
-    return re.fullmatch(f"{re.escape(PREFIX)}{RANDOM}{re.escape(SUFFIX)}", name) is not None
+    return re.fullmatch(f"{re.escape(PREFIX)}[a-z0-9_]{{8}}{re.escape(SUFFIX)}", name) is not None
 
 
 def _write_beside(target: str, content: bytes, is_private: bool = False) -> str:
@@ -84,7 +80,7 @@ def _copy_metadata(descriptor: int, target: str, is_private: bool) -> None:
             raise Refused(why) from None
     with suppress(OSError):
         os.removexattr(descriptor, ACCESS_LIST)
-    os.fchmod(descriptor, PRIVATE)
+    os.fchmod(descriptor, 0o600)
     if not is_private:
         shutil.copystat(target, f"/dev/fd/{descriptor}")
         os.utime(descriptor)

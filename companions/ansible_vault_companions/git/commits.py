@@ -26,10 +26,7 @@ BATCH = 1000
 RENAMES = ("--find-renames", "-l400")
 # How many links are followed, one after another.
 MOST_LINKS = 40
-SHALLOW = (
-    "this clone is shallow, so earlier commits are missing; run `git fetch --unshallow` first, and let a pipeline "
-    "fetch all of them (fetch-depth: 0, GIT_DEPTH: 0)"
-)
+SHALLOW = "earlier commits are missing: run `git fetch --unshallow`, or set fetch-depth or GIT_DEPTH of a pipeline to 0"
 
 
 class File(NamedTuple):

@@ -8,7 +8,7 @@ from __future__ import annotations
 import re
 from collections import Counter
 from functools import reduce
-from typing import Iterable, NamedTuple
+from typing import Callable, Iterable, NamedTuple
 
 from ansible_vault_companions.envelopes import conflicts, envelope
 from ansible_vault_companions.envelopes.document import Document, mentions, strays
@@ -110,12 +110,9 @@ def _keys(path: Path) -> Keys:
 
 def written(keys: Keys) -> str:
     """A key path as in .gitattributes, with what cannot be written there percent-encoded: `users[].password`."""
-    steps = (key if key is ITEM else UNWRITTEN.sub(_percents, key) for key in keys)
+    escape: Callable[[re.Match[str]], str] = lambda text: "".join(f"%{byte:02X}" for byte in text[0].encode())
+    steps = (key if key is ITEM else UNWRITTEN.sub(escape, key) for key in keys)
     return ".".join(steps).replace(f".{ITEM}", ITEM) or "."
-
-
-def _percents(text: re.Match[str]) -> str:
-    return "".join(f"%{byte:02X}" for byte in text[0].encode())
 
 
 def came(before: Facts, after: Facts) -> set[Keys]:

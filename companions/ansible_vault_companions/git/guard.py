@@ -29,8 +29,6 @@ UNMARK = "  encrypt it, or unmark it with a line at the end of {}"
 RESOLVE = "  resolve the conflict with ansible-vault-edit"
 
 EXEMPT, UNMARKED = f"-{VAULT}", f"!diff !{VAULT}"
-# What a file with this name is, its directory says.
-MAIN = b"main"
 
 
 class Fault(NamedTuple):
@@ -85,11 +83,8 @@ class Guard:
             if fault:
                 yield file, fault
 
-    def _line(self, file: File, attribute: str) -> str:
-        return attributes.line(file.name, attribute, self.index.files)
-
     def _meant(self, file: File, attribute: str = EXEMPT, first: str = "") -> str:
-        return MEANT.format(first, self._line(file, attribute))
+        return MEANT.format(first, attributes.line(file.name, attribute, self.index.files))
 
     def _damage(self, file: File, before: Facts, now: Facts) -> Fault | None:
         name, given = os.fsdecode(file.name), self.attributes[file.name]
@@ -111,7 +106,7 @@ class Guard:
     def _unencrypted(self, file: File, _: Facts, now: Facts) -> Fault | None:
         if not (self.attributes[file.name].is_marked and now.unencrypted):
             return None
-        return Fault(now.unencrypted, UNMARK.format(self._line(file, UNMARKED)))
+        return Fault(now.unencrypted, UNMARK.format(attributes.line(file.name, UNMARKED, self.index.files)))
 
     def _vault(self, file: File, before: Facts, now: Facts) -> Fault | None:
         if now.is_vault or now.is_empty or self.attributes[file.name].is_exempt:
@@ -163,7 +158,8 @@ def _places(name: bytes, whole: bytes, end: bytes) -> Iterator[tuple[bytes, ...]
     stem = os.path.splitext(base)[0]
     yield b"stem", *folders, stem
     yield b"stem", *folders, base
-    if stem != MAIN:
+    # What a file with this name is, its directory says.
+    if stem != b"main":
         yield whole, name
         for number in range(len(folders)):
             yield b"folders", *folders[:number], b"", *folders[number + 1 :], base

@@ -91,23 +91,6 @@ class Password:
                 raise Refused(f"{shown(self.given)}: {prompts.DIFFER}")
             self.is_certain = True
 
-    def label_fault(self, label: str | None) -> str:
-        """Why it may not encrypt again what it decrypts under this label; empty if it may. No label means `default`.
-
-        A label is a hint, not a proof: anybody can change it, or copy the envelope, without a password. So if several
-        passwords are given, all are tried, but only one with the envelope's label may encrypt the text again, or the
-        text would get the password that belongs to another label. With one password, no other can be meant."""
-        label = label or DEFAULT
-        if "@" in label:
-            return f"its label {shown(label)} has an @, so no option can name it; change it in its first line"
-        if self.label == label or self.serves_any_label:
-            return ""
-        return (
-            f"its label is {shown(label)}, but {shown(self.given)}, a password with the label {shown(self.label)}, "
-            f"decrypts it; find out who changed the label or copied the text here; then write {shown(self.label)} as "
-            f"the label in its first line, or permit it with {ANY_LABEL} when you change it"
-        )
-
 
 def of_id(text: str) -> Password:
     label, at, place = text.partition("@")

@@ -5,31 +5,25 @@ from __future__ import annotations
 from dataclasses import dataclass
 
 from ansible_vault_companions.envelopes import conflicts, document
-from ansible_vault_companions.envelopes.document import Document
 from ansible_vault_companions.envelopes.envelope import Value
 from ansible_vault_companions.git import facts
 from ansible_vault_companions.passwords.sources import Password
-from ansible_vault_companions.plaintext.reports import Report, decrypted
+from ansible_vault_companions.plaintext.reports import Report, Work, decrypted
 from ansible_vault_companions.program import Refused, pathspec, shown
-from ansible_vault_companions.tool import Decrypted, Tool, Workers
+from ansible_vault_companions.tool import Decrypted
 
-RESOLVE = (
-    "resolve them with ansible-vault-edit; or set up the merge driver (see `ansible-vault-merge --help`), and run "
-    "`git checkout --merge -- {}`"
-)
+RESOLVE = "resolve with ansible-vault-edit; or set up ansible-vault-merge, and run `git checkout --merge -- {}`"
 
 
 @dataclass
-class Check:
+class Check(Work):
     """Checks files with these passwords."""
 
-    tool: Tool
     passwords: list[Password]
     # Only envelopes with these labels are decrypted; if the list is empty, all are.
     labels: list[str]
     # The paths that git's attributes mark.
     marked: set[str]
-    workers: Workers
 
     def file(self, paths: list[str], report: Report) -> None:
         """Checks the file to which these paths lead. It is marked if one of them is."""
@@ -37,10 +31,11 @@ class Check:
         is_marked = path in self.marked
         file = document.read(document.content(path))
         is_prose = document.is_prose(path) and not (is_marked or file.is_vault)
-        envelopes = [*file.envelopes().values()]
-        for own in self.workers.shared(lambda value: self._value(value.place(path), value, is_prose), envelopes):
-            report.add(own)
-        why = document.fault(file, path) or ("" if is_prose else _cannot_rotate(file))
+        why = document.fault(file, path)
+        try:
+            self.changed(file, lambda value: _named(value, value.place(path)), report, is_prose)
+        except Refused as fault:
+            why = why or str(fault)
         if facts.is_unmerged(file):
             why = f"{conflicts.UNMERGED}; {RESOLVE.format(pathspec(path))}"
         if is_marked and file.data.strip() and not (why or report.faults):
@@ -48,41 +43,31 @@ class Check:
         if why:
             report.faults.append(f"{shown(path)}: {why}")
 
-    def _value(self, where: str, value: Value, is_prose: bool = False) -> Report:
-        """The report on an envelope and any envelopes in its plaintext."""
-        report, label = Report(), value.label
+    def envelope(self, value: Value, where: str, report: Report, is_prose: bool) -> bytes | None:
+        """The envelope itself, so that it is tried to put another one in its place."""
+        same, label = value.text if value.is_whole and not is_prose else None, value.label
         if label is not None and self.labels and label not in self.labels:
             report.others[label] += 1
-            return report
+            return same
         report.labels.add(label)
-        names = [name for name in (value.name, label or "no label") if name]
-        what = ": ".join([where, *map(shown, names)])
-        try:
-            result = decrypted(self.tool, value, self.passwords, is_prose)
-        except Refused as fault:
-            report.faults.append(f"{what}: {fault}")
-            return report
-        if not result:
-            return Report()
-        self._plaintext(where, what, result, report)
-        return report
+        result = decrypted(self.tool, value, self.passwords, is_prose)
+        if result:
+            self._plaintext(where, result, report)
+        else:
+            report.labels.clear()
+        return same
 
-    def _plaintext(self, where: str, what: str, result: Decrypted, report: Report) -> None:
+    def _plaintext(self, where: str, result: Decrypted, report: Report) -> None:
         try:
             result.require_label()
-            report.lines.append(f"{what}: decrypted by {shown(result.password.given)}")
+            report.lines.append(f"{where}: decrypted by {shown(result.password.given)}")
         except Refused as fault:
-            report.faults.append(f"{what}: {fault}")
+            report.faults.append(f"{where}: {fault}")
         if conflicts.is_unmerged(result.text):
-            report.faults.append(f"{what}: its plaintext {conflicts.UNMERGED}")
-        for within in document.read(result.text).envelopes().values():
-            report.add(self._value(f"{where}: in its plaintext, line {max(within.line, 1)}", within))
+            report.faults.append(f"{where}: its plaintext {conflicts.UNMERGED}")
+        place = lambda value: _named(value, f"{where}: in its plaintext, line {max(value.line, 1)}")
+        self.changed(document.read(result.text), place, report)
 
 
-def _cannot_rotate(file: Document) -> str:
-    """Why its envelopes cannot be replaced."""
-    try:
-        file.with_envelopes({number: value.text for number, value in file.envelopes().items() if value.is_whole})
-    except Refused as fault:
-        return str(fault)
-    return ""
+def _named(value: Value, where: str) -> str:
+    return ": ".join([where, *(shown(name) for name in (value.name, value.label or "no label") if name)])

@@ -7,6 +7,7 @@ from dataclasses import dataclass, field
 from typing import Callable, Collection
 
 from ansible_vault_companions import program
+from ansible_vault_companions.envelopes.document import Document
 from ansible_vault_companions.envelopes.envelope import Value
 from ansible_vault_companions.passwords.sources import Password
 from ansible_vault_companions.program import Refused, shown, write_error, write_line
@@ -47,6 +48,39 @@ class Report:
         """The number of envelopes with other labels, in total and for each label, as text."""
         labels = ", ".join(f"{shown(label)} {count}" for label, count in sorted(self.others.items()))
         return f"{sum(self.others.values())} with other labels" + (f" ({labels})" if labels else "")
+
+
+@dataclass
+class Work:
+    """What is done with each envelope of a file, and with those in its plaintext."""
+
+    tool: Tool
+    workers: Workers
+
+    def envelope(self, value: Value, where: str, report: Report, is_prose: bool) -> bytes | None:
+        """The text that takes the place of an envelope; None if it stays."""
+        raise NotImplementedError
+
+    def changed(self, file: Document, place: Callable[[Value], str], report: Report, is_prose: bool = False) -> bytes:
+        """The data with the texts that take the places of envelopes. What fails stays, and is reported."""
+        envelopes = file.envelopes()
+        work = lambda value: self._result(value, place(value), is_prose)
+        new: dict[int, bytes] = {}
+        for number, (text, own) in zip(envelopes, self.workers.shared(work, [*envelopes.values()])):
+            report.add(own)
+            if text is not None:
+                new[number] = text
+        return file.with_envelopes(new) if new else file.data
+
+    def _result(self, value: Value, where: str, is_prose: bool) -> tuple[bytes | None, Report]:
+        report = Report()
+        try:
+            return self.envelope(value, where, report, is_prose), report
+        except Refused as fault:
+            report.faults.append(f"{where}: {fault}")
+            # Changes within it are not written either.
+            report.counts.clear()
+            return None, report
 
 
 class Reports:

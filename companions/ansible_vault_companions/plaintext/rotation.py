@@ -4,16 +4,13 @@ from __future__ import annotations
 
 import os
 from dataclasses import dataclass
-from typing import Callable
 
 from ansible_vault_companions.envelopes import document
-from ansible_vault_companions.envelopes.document import Document
 from ansible_vault_companions.envelopes.envelope import Value
 from ansible_vault_companions.files import replacing
 from ansible_vault_companions.passwords.sources import Password
-from ansible_vault_companions.plaintext.reports import Report, decrypted
+from ansible_vault_companions.plaintext.reports import Report, Work, decrypted
 from ansible_vault_companions.program import Refused, shown
-from ansible_vault_companions.tool import Tool, Workers
 
 # What is counted: envelopes that get a new password, and those that have it already.
 CHANGED, HAD_IT = "changed", "had it"
@@ -22,16 +19,14 @@ DRY = b"$ANSIBLE_VAULT;1.1;AES256\n%s\n" % (b"61" * 16)
 
 
 @dataclass
-class Rotation:
+class Rotation(Work):
     """Rotates files with these passwords."""
 
-    tool: Tool
     old: list[Password]
     new: dict[str, Password]
     # The real paths of the files and directories that the user named.
     places: list[str]
     is_dry: bool
-    workers: Workers
 
     def file(self, paths: list[str], report: Report) -> None:
         """Rotates the file to which these paths lead."""
@@ -41,7 +36,7 @@ class Rotation:
             raise Refused(file.fault)
         is_prose = document.is_prose(path) and not file.is_vault
         try:
-            after = self._rotated(file, lambda value: value.place(path), report, is_prose)
+            after = self.changed(file, lambda value: value.place(path), report, is_prose)
             if after != file.data:
                 self._put(os.path.realpath(path), after, file.data)
         except (Refused, OSError):
@@ -61,30 +56,7 @@ class Rotation:
         else:
             replacing.replace(target, after, before)
 
-    def _rotated(self, file: Document, place: Callable[[Value], str], report: Report, is_prose: bool = False) -> bytes:
-        """The data with rotated envelopes. Those that fail stay unchanged."""
-        envelopes = file.envelopes()
-        rotate = lambda value: self._result(value, place(value), is_prose)
-        new: dict[int, bytes] = {}
-        for number, (text, own) in zip(envelopes, self.workers.shared(rotate, [*envelopes.values()])):
-            report.add(own)
-            if text is not None:
-                new[number] = text
-        return file.with_envelopes(new) if new else file.data
-
-    def _result(self, value: Value, where: str, is_prose: bool) -> tuple[bytes | None, Report]:
-        """The new text of an envelope, or None if it stays unchanged, and its report."""
-        report = Report()
-        try:
-            return self._change(value, where, report, is_prose), report
-        except Refused as fault:
-            report.faults.append(f"{where}: {fault}")
-            # Changes within it are not written either.
-            report.counts[CHANGED] = 0
-            return None, report
-
-    def _change(self, value: Value, where: str, report: Report, is_prose: bool) -> bytes | None:
-        """The new text of an envelope, which is rotated itself and within; None if it stays unchanged."""
+    def envelope(self, value: Value, where: str, report: Report, is_prose: bool) -> bytes | None:
         label = value.label
         if label is None:
             raise Refused("its first line is malformed")
@@ -114,4 +86,4 @@ class Rotation:
         text = document.read(plaintext)
         if text.is_vault:
             raise Refused("its plaintext is itself a vault, which ansible-vault does not encrypt; decrypt it first")
-        return self._rotated(text, lambda value: f"{where}: in its plaintext, line {value.line}", report)
+        return self.changed(text, lambda value: f"{where}: in its plaintext, line {value.line}", report)
