@@ -48,29 +48,22 @@ def file_with(item: str) -> str:
     return found
 
 
-def definitions_of(crate: str, module: str, names: str) -> Path | None:
-    """Return the file of this repository that an import takes its names from, or None. Names under `declared` come from
-    the prover: for constants and traits, return the code; names of cases explain themselves.
-    """
-    folder, parts = CRATES / crate, module.split(".")
-    if parts[0] == "declared":
-        is_code = parts[-1] == "TheConstants" or "Ghosts" in names
-        path = folder.joinpath("src", *(part for part in parts[1:] if part[0].islower())).with_suffix(".rt")
-        return path if is_code and folder.is_dir() else None
-    # An import of a type's cases has the type's name after the module's.
-    paths = [folder.joinpath("specs", *parts[:count]).with_suffix(".antt") for count in range(len(parts), 0, -1)]
-    return next((path for path in paths if path.is_file()), None)
-
-
 def imported(text: str, used: str | None = None) -> Iterator[Path]:
-    """Yield the files whose names a text imports. With `used`, skip imports whose names it does not contain."""
+    """Yield the files of this repository whose names a text imports. With `used`, skip imports whose names it does not
+    contain. Names under `declared` come from the prover: for constants and traits, yield the code; those of cases need
+    no explanation. Names with a hyphen are lemmas, which only proofs need.
+    """
     for crate, module, names, other_name in IMPORT.findall(text):
-        # Names with a hyphen are lemmas, which only proofs need.
-        is_needed = not names or any("-" not in name for name in names.split(","))
-        words = set(re.findall(r"\w+", names or other_name))
-        if is_needed and (used is None or words & set(re.findall(r"\w+", used))):
-            if file := definitions_of(crate, module, names):
-                yield file
+        folder, parts, words = CRATES / crate, module.split("."), set(re.findall(r"\w+", names or other_name))
+        is_lemma = names and all("-" in name for name in names.split(","))
+        if is_lemma or used is not None and not words & set(re.findall(r"\w+", used)):
+            continue
+        # An import of a type's cases has the type's name after the module's.
+        paths = [folder.joinpath("specs", *parts[:count]).with_suffix(".antt") for count in range(len(parts), 0, -1)]
+        if parts[0] == "declared":
+            is_code, modules = parts[-1] == "TheConstants" or "Ghosts" in names, filter(str.islower, parts[1:])
+            paths = [folder.joinpath("src", *modules).with_suffix(".rt")] if is_code else []
+        yield from [path for path in paths if path.is_file()][:1]
 
 
 def named_by(item: str) -> Iterator[Path]:
