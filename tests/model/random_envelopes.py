@@ -1,7 +1,7 @@
 """Random plaintexts and envelopes: intact ones in several layouts, and damaged ones.
 
-The testkit has an envelope for each thing that can be wrong; here, bytes anywhere are. `hostile.py` and `with_strace.py`
-have texts at the limit of lengths, and above it.
+The testkit has an envelope for each thing that can be wrong; here, bytes anywhere are. `hostile.py` has texts at the
+limit of lengths, and `with_strace.py` above it.
 """
 
 from random import Random
