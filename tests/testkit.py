@@ -81,15 +81,8 @@ def test_values(program: str, tmp_path: Path) -> None:
     assert [line.partition(":")[0] for line in different] == NO_VALUES, different
 
 
-# What a command does, and what the testkit says of the vectors of salts.
-COMMANDS = {
-    "cat {file}": {"other plaintext", "accepted"},
-    "exit 1": {"refused"},
-    "kill $$": {"killed by signal 15"},
-}
-
-
-@pytest.mark.parametrize("command", COMMANDS)
-def test_wrong_answers(command: str) -> None:
+@pytest.mark.parametrize("command, said", [("cat {file}", {"other plaintext", "accepted"}), ("exit 1", {"refused"})])
+def test_wrong_answers(command: str, said: set[str]) -> None:
+    """What the testkit says of commands that answer the vectors of salts wrongly."""
     *answers, _ = run("--all", "--kind", "salt", "--", "sh", "-c", command)
-    assert {line.partition(": ")[2].partition(", expected: ")[0] for line in answers} == COMMANDS[command]
+    assert {line.partition(": ")[2].partition(", expected: ")[0] for line in answers} == said
