@@ -8,7 +8,7 @@ import string
 from collections.abc import Mapping
 from typing import NamedTuple
 
-from model.faults import Fault, Refused
+from model.faults import Fault, Refused, refuse_if
 from model.options import DEFAULT_LABEL, NotParsed, Request, SecretFile, is_label, request_of
 from model.vaults import CIPHERTEXT_LIMIT, ENVELOPE_LIMIT, MAGIC, PLAINTEXT_LIMIT
 from model.vaults import apply_keystream, padded, parts, serialized, tag_of, yaml_block
@@ -52,23 +52,17 @@ def read(content: bytes | None, fault: Fault) -> bytes:
 
 
 def password(content: bytes) -> bytes:
-    if len(content) > SECRET_LIMIT:
-        raise Refused(Fault.SECRET_TOO_LONG)
-    if content.startswith(b"#!"):
-        raise Refused(Fault.SECRET_IS_SCRIPT)
-    if content.startswith(MAGIC):
-        raise Refused(Fault.SECRET_IS_VAULT)
+    refuse_if(len(content) > SECRET_LIMIT, Fault.SECRET_TOO_LONG)
+    refuse_if(content.startswith(b"#!"), Fault.SECRET_IS_SCRIPT)
+    refuse_if(content.startswith(MAGIC), Fault.SECRET_IS_VAULT)
     stripped = content.strip(WHITESPACE)
-    if not stripped:
-        raise Refused(Fault.SECRET_EMPTY)
+    refuse_if(not stripped, Fault.SECRET_EMPTY)
     return stripped
 
 
 def chosen(secrets: list[Secret], label: str | None) -> Secret:
-    if not secrets:
-        raise Refused(Fault.NO_ENCRYPT_SECRET)
-    if label is None and len(secrets) > 1:
-        raise Refused(Fault.MANY_ENCRYPT_SECRETS)
+    refuse_if(not secrets, Fault.NO_ENCRYPT_SECRET)
+    refuse_if(label is None and len(secrets) > 1, Fault.MANY_ENCRYPT_SECRETS)
     for secret in secrets:
         if label is None or secret.label == label:
             return secret
@@ -83,45 +77,35 @@ def unhex(digits: bytes) -> bytes | None:
 
 
 def header_label(line: bytes) -> str:
-    if len(line) > HEADER_LIMIT:
-        raise Refused(Fault.HEADER_TOO_LONG)
-    if not line.isascii():
-        raise Refused(Fault.BAD_HEADER)
+    refuse_if(len(line) > HEADER_LIMIT, Fault.HEADER_TOO_LONG)
+    refuse_if(not line.isascii(), Fault.BAD_HEADER)
     fields = [part.strip(WHITESPACE).decode() for part in line.split(b";")]
     label = (fields[3] if len(fields) > 3 else "") or DEFAULT_LABEL
-    if len(fields) < 3 or not is_label(label):
-        raise Refused(Fault.BAD_HEADER)
-    if fields[1] not in ("1.1", "1.2"):
-        raise Refused(Fault.BAD_VERSION)
-    if fields[2] != "AES256":
-        raise Refused(Fault.BAD_CIPHER)
+    refuse_if(len(fields) < 3 or not is_label(label), Fault.BAD_HEADER)
+    refuse_if(fields[1] not in ("1.1", "1.2"), Fault.BAD_VERSION)
+    refuse_if(fields[2] != "AES256", Fault.BAD_CIPHER)
     return label
 
 
 def payload_in(envelope: bytes) -> tuple[str, bytes, bytes, bytes]:
     """Return the label, the salt, the tag and the ciphertext."""
-    if len(envelope) > ENVELOPE_LIMIT:
-        raise Refused(Fault.TOO_LONG)
-    if not envelope.startswith(MAGIC):
-        raise Refused(Fault.NOT_VAULT)
+    refuse_if(len(envelope) > ENVELOPE_LIMIT, Fault.TOO_LONG)
+    refuse_if(not envelope.startswith(MAGIC), Fault.NOT_VAULT)
     line = re.split(rb"[\r\n]", envelope, 1)[0]
     label = header_label(line)
     inner = unhex(envelope[len(line) :].translate(None, b"\r\n"))
     if inner is None:
         raise Refused(Fault.BAD_HEX)
     payload = [part for part in map(unhex, inner.split(b"\n", 2)) if part is not None]
-    if len(payload) < 3 or len(payload[0]) > SALT_READ_LIMIT or len(payload[1]) != TAG_LENGTH:
-        raise Refused(Fault.BAD_PAYLOAD)
+    refuse_if(len(payload) < 3 or len(payload[0]) > SALT_READ_LIMIT or len(payload[1]) != TAG_LENGTH, Fault.BAD_PAYLOAD)
     salt, tag, ciphertext = payload
-    if len(ciphertext) > CIPHERTEXT_LIMIT:
-        raise Refused(Fault.CIPHER_TOO_LONG)
+    refuse_if(len(ciphertext) > CIPHERTEXT_LIMIT, Fault.CIPHER_TOO_LONG)
     return label, salt, tag, ciphertext
 
 
 def unpadded(whole: bytes) -> bytes:
     plaintext = whole[: -whole[-1]] if whole and whole[-1] else whole
-    if not 1 <= len(whole) - len(plaintext) <= 16 or padded(plaintext) != whole:
-        raise Refused(Fault.BAD_PADDING)
+    refuse_if(not 1 <= len(whole) - len(plaintext) <= 16 or padded(plaintext) != whole, Fault.BAD_PADDING)
     return plaintext
 
 
@@ -136,8 +120,7 @@ def decrypted(secrets: list[Secret], required: bool, envelope: bytes) -> bytes:
 
 
 def sealed(secret: Secret, salt: bytes, plaintext: bytes) -> bytes:
-    if plaintext.startswith(MAGIC):
-        raise Refused(Fault.ALREADY_VAULT)
+    refuse_if(plaintext.startswith(MAGIC), Fault.ALREADY_VAULT)
     label = "" if secret.label == DEFAULT_LABEL else secret.label
     return serialized(*parts(secret.password, padded(plaintext), salt), label.encode())
 
@@ -160,14 +143,11 @@ def performed(request: Request, files: Files, stdin: bytes) -> bytes:
     held = [*map(Secret, labels, map(password, contents))]
     secrets, is_encrypting = held[: len(request.secrets)], request.command.startswith("encrypt")
     secret = chosen(secrets, request.choice) if is_encrypting else held[-1] if request.new_secrets else None
-    if request.salt_path is not None and len(salt) < SALT_LENGTH:
-        raise Refused(Fault.SALT_SHORT)
+    refuse_if(request.salt_path is not None and len(salt) < SALT_LENGTH, Fault.SALT_SHORT)
     salt = salt if request.salt_path is None else salt[:SALT_LENGTH]
     text = read(given, Fault.INPUT_NOT_READ)
-    if is_encrypting and len(text) > PLAINTEXT_LIMIT:
-        raise Refused(Fault.TOO_LONG)
-    if request.command == "encrypt_string" and not text:
-        raise Refused(Fault.EMPTY_STRING)
+    refuse_if(is_encrypting and len(text) > PLAINTEXT_LIMIT, Fault.TOO_LONG)
+    refuse_if(request.command == "encrypt_string" and not text, Fault.EMPTY_STRING)
     plaintext = text if is_encrypting else decrypted(secrets, request.label_required, text)
     output = plaintext if secret is None else sealed(secret, salt, plaintext)
     return yaml_block(output, request.name.encode()) if request.command == "encrypt_string" else output

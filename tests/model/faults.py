@@ -56,3 +56,8 @@ class Refused(Exception):
     def __init__(self, fault: Fault) -> None:
         super().__init__(fault.name)
         self.fault = fault
+
+
+def refuse_if(condition: bool, fault: Fault) -> None:
+    if condition:
+        raise Refused(fault)

@@ -2,7 +2,7 @@
 
 from typing import NamedTuple
 
-from model.faults import Fault, Refused
+from model.faults import Fault, Refused, refuse_if
 
 SECRETS, NEW_SECRETS = ("--vault-id", "--vault-password-file"), ("--new-vault-id", "--new-vault-password-file")
 COMMON = {*SECRETS}
@@ -92,10 +92,8 @@ def vault_id(text: str) -> SecretFile:
     label, at, path = text.partition("@")
     if not at:
         label, path = "", text
-    if label and not is_label(label):
-        raise Refused(Fault.BAD_LABEL)
-    if path == "prompt":
-        raise Refused(Fault.PROMPT_SOURCE)
+    refuse_if(label != "" and not is_label(label), Fault.BAD_LABEL)
+    refuse_if(path == "prompt", Fault.PROMPT_SOURCE)
     return SecretFile(label or DEFAULT_LABEL, path)
 
 
@@ -107,26 +105,19 @@ def request_of(words: list[str]) -> Request:
     values, positional = parse(words)
     command, one = words[0], {option: given[0] for option, given in values.items()}.get
     ids, paths, new_ids, new_paths = (values.get(option, []) for option in (*SECRETS, *NEW_SECRETS))
-    if len(ids + paths) > SECRETS_LIMIT:
-        raise Refused(Fault.TOO_MANY_SECRETS)
+    refuse_if(len(ids + paths) > SECRETS_LIMIT, Fault.TOO_MANY_SECRETS)
     secrets, choice = secret_files(ids, paths), one("--encrypt-vault-id")
-    if choice is not None and not is_label(choice):
-        raise Refused(Fault.BAD_LABEL)
-    if command == "rekey" and len(new_ids + new_paths) != 1:
-        raise Refused(Fault.NEED_NEW_SECRET)
+    refuse_if(choice is not None and not is_label(choice), Fault.BAD_LABEL)
+    refuse_if(command == "rekey" and len(new_ids + new_paths) != 1, Fault.NEED_NEW_SECRET)
     new_secrets = secret_files(new_ids, new_paths)
-    if ("--name" if positional is None else "--stdin-name") in values:
-        raise Refused(Fault.NAME_MISMATCH)
+    refuse_if(("--name" if positional is None else "--stdin-name") in values, Fault.NAME_MISMATCH)
     name = one("--name") or one("--stdin-name") or ""
-    if any(character < " " or character == "\x7f" for character in name):
-        raise Refused(Fault.BAD_NAME)
+    refuse_if(any(character < " " or character == "\x7f" for character in name), Fault.BAD_NAME)
     if command in ("encrypt", "decrypt", "rekey") and positional is not None and "--output" not in values:
         raise Refused(Fault.OUTPUT_NEEDED)
     text, path, output = one("--salt"), one("--salt-file"), one("--output")
-    if text is not None and path is not None:
-        raise Refused(Fault.SALT_CHOICE)
-    if text is not None and not 1 <= len(text.encode()) <= SALT_TEXT_LIMIT:
-        raise Refused(Fault.BAD_SALT)
+    refuse_if(text is not None and path is not None, Fault.SALT_CHOICE)
+    refuse_if(text is not None and not 1 <= len(text.encode()) <= SALT_TEXT_LIMIT, Fault.BAD_SALT)
     if text is None and path is None and command in SEALING:
         path = SALT_FILE
     is_required, output = "--require-id-match" in values, None if output == "-" else output
