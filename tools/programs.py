@@ -88,11 +88,11 @@ class Command:
 def command_of_help(name: str, text: str) -> Command:
     """Return a command of the program."""
     options = [
-        Option((short, long) if short else (long,), value, said, "may be repeated" in said)
-        for short, long, value, said in OPTION.findall(text)
+        Option(tuple(filter(None, names)), value, said, "may be repeated" in said)
+        for *names, value, said in OPTION.findall(text)
     ]
-    arguments = [Option((), value, said, False) for value, said in ARGUMENT.findall(text)]
-    return Command(PROGRAM, name, text.partition("\n")[0], options, next(iter(arguments), None))
+    argument = next((Option((), value, said, False) for value, said in ARGUMENT.findall(text)), None)
+    return Command(PROGRAM, name, text.partition("\n")[0], options, argument)
 
 
 def option_of(parser: argparse.ArgumentParser, action: argparse.Action) -> Option:

@@ -24,10 +24,6 @@ class Sample(NamedTuple):
     stdin: bytes
     output: bytes
 
-    @property
-    def command(self) -> str:
-        return self.words[0]
-
 
 def sample_of(cases: Cases, command: str, text: bytes = TEXT) -> Sample:
     """Return a run of the command on this plaintext."""
