@@ -117,7 +117,7 @@ class Team:
         for name, *keys in self.random.sample(paths, len(paths)):
             places, plain = [name], self.random.choice(PLAIN)
             if way == "above":
-                keys, plain = keys[:1], "{}"
+                keys, plain = keys[:1], self.random.choice(["{}", "[{}]"])
             if way != "value":
                 self.remove(name, *keys)
             if way == "elsewhere":
