@@ -22,9 +22,9 @@ def of_program(program: str) -> list[Command]:
     return [command for command in commands() if command.program == program]
 
 
-def bash_table(name: str, rows: Iterable[tuple[str, Iterable[str]]]) -> str:
+def bash_table(about: str, name: str, rows: Iterable[tuple[str, Iterable[str]]]) -> str:
     """Return a function of bash that prints the words that belong to its argument."""
-    lines = [f"_ansible_vault_{name}() {{", "    case $1 in"]
+    lines = [f"# {about}", f"_ansible_vault_{name}() {{", "    case $1 in"]
     for pattern, words in rows:
         text = f"{pattern}) echo {' '.join(words)} ;;"
         parts = textwrap.wrap(text, 110, subsequent_indent="    ", break_on_hyphens=False, break_long_words=False)
@@ -37,16 +37,13 @@ def bash() -> str:
     options = [(f'"{each.line}"', (name for option in each.options for name in option.names)) for each in commands()]
     kinds = {name: option.kind for command in commands() for option in command.options for name in option.names}
     values = [(" | ".join(name for name in kinds if kinds[name] == kind), [kind]) for kind in ("id", "file", "text")]
-    return "\n".join(
-        [
-            "# The commands of a program.",
-            bash_table("commands", listed),
-            "# The options of a program, or of one of its commands.",
-            bash_table("options", options),
-            "# What the value of an option is: a file, perhaps after a label, or any text.",
-            bash_table("kind", values),
-        ]
-    )
+    about_values = "What the value of an option is: a file, perhaps after a label, or any text."
+    tables = [
+        bash_table("The commands of a program.", "commands", listed),
+        bash_table("The options of a program, or of one of its commands.", "options", options),
+        bash_table(about_values, "kind", values),
+    ]
+    return "\n".join(tables)
 
 
 def fish_option(option: Option) -> str:
@@ -97,28 +94,25 @@ def zsh_command(command: Command) -> list[str]:
     return specifications
 
 
-def zsh_table(name: str, array: str, rows: dict[str, list[str]]) -> list[str]:
-    """Return a function of zsh that puts the words that belong to its argument into an array."""
-    lines = [f"_ansible_vault_{name}() {{", "    case $1 in"]
+def zsh_table(about: str, name: str, rows: dict[str, list[str]]) -> str:
+    """Return a function of zsh that puts the words that belong to its argument into the array of its name."""
+    lines = [f"# {about}", f"_ansible_vault_{name}() {{", "    case $1 in"]
     for pattern, words in rows.items():
-        lines += [f"        '{pattern}') {array}=(", *(f"            {word}" for word in words), "        ) ;;"]
-    return [*lines, "    esac", "}"]
+        lines += [f"        '{pattern}') {name}=(", *(f"            {word}" for word in words), "        ) ;;"]
+    return "\n".join([*lines, "    esac", "}\n"])
 
 
 def zsh() -> str:
-    listed = {
-        program: [shlex.quote(f"{command.name}:{command.text}") for command in of_program(program)[1:]]
-        for program in NAMES
-        if of_program(program)[1:]
-    }
-    lines = [
-        "# The commands of a program, and what they do.",
-        *zsh_table("listed", "listed", listed),
-        "",
-        "# The options and arguments of a program, or of one of its commands.",
-        *zsh_table("specifications", "specifications", {each.line: zsh_command(each) for each in commands()}),
-    ]
-    return "".join(f"{line}\n" for line in lines)
+    inner = {program: of_program(program)[1:] for program in NAMES if of_program(program)[1:]}
+    listed = {program: [shlex.quote(f"{each.name}:{each.text}") for each in inner[program]] for program in inner}
+    specifications = {each.line: zsh_command(each) for each in commands()}
+    about_specifications = "The options and arguments of a program, or of one of its commands."
+    return "\n".join(
+        [
+            zsh_table("The commands of a program, and what they do.", "listed", listed),
+            zsh_table(about_specifications, "specifications", specifications),
+        ]
+    )
 
 
 WRITTEN = {"bash": bash, "fish": fish, "zsh": zsh}
