@@ -48,8 +48,6 @@ ROWS = [
     Row(f"encrypt {ALL}", "", NEW),
     Row("encrypt foo.yml --vault-id dev@~/tree/a_password_file"),
     Row(f"view {ALL}", "old", OLD),
-    # No release takes an abbreviation of two spellings.
-    Row("view --vault-pass ppold foo.yml", "old", since=(9, 9)),
     Row("edit --vault-id vault2@prompt foo.yml", "old", [("Vault password (vault2): ", "old")]),
     Row(f"edit --vault-password-file ppold {ALL}", "old"),
     Row(f"rekey {ALL}", "old", OLD + NEW),
