@@ -108,7 +108,7 @@ def test_chosen_label(
 NEVER = "<> ../never"
 REFUSED = [
     (NEVER, "--encrypt-vault-id prod --value app.users vars.yml", "app.users is a list, a mapping or an alias"),
-    (NEVER, "--value a relabelled.yml", "its label is prod, but dev@"),
+    ("< /dev/null", "--value a relabelled.yml", "its label is prod, but dev@"),
     (NEVER, "--value port vars.yml", "port is not encrypted; to encrypt it there, choose its password with"),
     ("< /dev/tty", "--value db_password vars.yml", "use a pipe or a file"),
     ("< vault.yml", "--value db_password vars.yml", "what you gave is a vault"),
@@ -125,6 +125,7 @@ def test_refused(place: Place, both: list[str], standard_input: str, words: str,
     place.put("relabelled.yml", block("dev", b"one", "prod", "a"))
     place.put("../long", bytes((1 << 24) + 1))
     before = place.files()
-    session = ask(place, "sh", "-c", f"{EDIT} {' '.join(both)} {words} {standard_input}", answers=[])
+    line = f"{EDIT} {' '.join(both)} {words} {standard_input}"
+    session = ask(place, "sh", "-c", line, answers=[("", b"\x04")])
     assert (session.returncode, why in session.stderr) == (1, True), session
     assert (place.files(), place.left()) == (before, [])
