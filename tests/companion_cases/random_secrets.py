@@ -95,14 +95,14 @@ def random_case(random: Random, secrets: Path) -> Case:
 
     labels = ["", *(f"{label}@" for label in LABELS)]
     command, ids, paths = random.choice(COMMANDS), some([0, 0, 1, 1, 2], 0.2, labels), some([0, 0, 0, 1], 0.2, [""])
-    to_encrypt = random.choice(["", "", *LABELS]) if command[0].startswith("encrypt") else ""
+    to_encrypt = random.choice([""] * 6 + LABELS) if command[0].startswith("encrypt") else ""
     identities, password_files = some([0, 1, 2, 2, 3], 0.2, labels), some([0, 0, 1], 0.2, [""])
     named = [each for each in (*identities, *password_files, *ids, *paths) if is_usable(each)]
     # Most vaults can be decrypted.
     secret = random.choice(named * 9 + [f"dev@/{name}" for name in PASSWORDS])
     label = random.choice([label_of(secret), *LABELS])
     vault = sealed(secret.rpartition("/")[2], TEXT, "" if label == DEFAULT else label)
-    encrypt, match = random.choice(["", "", *LABELS]), random.choice(["", "", "", "True", "False"])
+    encrypt, match = random.choice([""] * 6 + LABELS), random.choice(["", "", "", "True", "False"])
     by_variables = random.random() < 0.5
     return Case(command, ids, paths, to_encrypt, by_variables, identities, password_files, encrypt, match, vault)
 
