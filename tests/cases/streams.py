@@ -1,12 +1,28 @@
-"""Streams in other states: a pipe that loses its reader, and a full device. `closed_streams.py` has closed ones, and
-`faults.py` reads and writes that transfer few bytes. `with_strace.py` shows that a run does not ask what a stream is.
+"""Streams in other states: a pipe that gives few bytes or loses its reader, and a full device.
+
+`closed_streams.py` has closed ones. `with_strace.py` shows that a run does not ask what a stream is.
 """
+
+import os
 
 from lib.cases import Cases, answer_of
 from lib.needs import needs
 from lib.processes import run
 from lib.samples import each_command, sample_of
 from model.faults import Fault
+
+
+@each_command
+def test_short_reads(cases: Cases, command: str) -> None:
+    """Each read gets a packet of a few bytes."""
+    sample, (reader, writer) = sample_of(cases, command), os.pipe2(os.O_DIRECT)
+    step = len(sample.stdin) // 8 + 1
+    for start in range(0, len(sample.stdin), step):
+        os.write(writer, sample.stdin[start : start + step])
+    os.close(writer)
+    done = cases.done(sample.words, reader)
+    os.close(reader)
+    assert answer_of(done) == (0, sample.output, b"")
 
 
 @each_command
