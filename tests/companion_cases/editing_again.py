@@ -62,7 +62,7 @@ def test_resumed(place: Place) -> None:
     name = "-rf it's.yml"
     place.put(name, block("old"), 0o640)
     words = [*place.by_file("old"), "--", name]
-    ended("a mistake", edit(place, f"echo '{TYPO}' >> \"$1\"", *words), 1, "run the same command with --resume")
+    ended("a mistake", edit(place, f"echo '{TYPO}' >> \"$1\"", *words), 1, "--resume reopens it")
     ended("not mended", edit(place, 'echo "# x" >> "$1"', "--resume", *words), 1, "it cannot be read as YAML")
     assert sorted(place.kept()) == [TYPED, TYPED + b"# x\n"]
     done = edit(place, f'cp "$1" ../seen; {MEND}', "--resume", *words)

@@ -56,7 +56,7 @@ PASSING: dict[str, tuple[Content, Content]] = {
 }
 pw, db, elsewhere = (IN_PART.format(key) for key in ("pw", "db.pw", "db.pw of a.yml"))
 DAMAGED, CUT_VALUE, UNMERGED = "is a damaged vault", "has a damaged value in line {}", "has git's conflict markers"
-NOT_YAML = "had encrypted values, but cannot be checked any more: line 1: it cannot be read as YAML: "
+NOT_YAML = "had encrypted values, but can no longer be checked: line 1: it cannot be read as YAML: "
 # The same of commits that are to be refused, with the reason, and with the file if that is not a.yml.
 REFUSED: dict[str, tuple[Content, Content, str]] = {
     "a vault of another format": (AES, TEXT, WHOLE),

@@ -7,7 +7,7 @@ import pytest
 
 from companion_cases import CHANGE, CHANGED, EDIT, HEAD, Place, block, decrypted, edit, ended, run_changed, sealed
 
-STAYS, CHANGED_MEANWHILE = {"all.yml": sealed("old")}, "another program changed it meanwhile"
+STAYS, CHANGED_MEANWHILE = {"all.yml": sealed("old")}, "another program changed it in the meantime"
 # Changes of the companion: an unexpected exception, a tool that cannot encrypt, and a tree on a full disk.
 BROKEN = """
 from ansible_vault_companions.editing.drafts import Vault

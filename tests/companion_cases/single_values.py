@@ -85,6 +85,7 @@ NEW = [
     (FILE, '"n.w: x"', b'\n"n.w: x"' + TO_PROD),
     (b"# a\n---  # b", "new", b"# a\n---  # b\nnew" + TO_PROD),
     (None, "db pw", b'"db pw"' + TO_PROD),
+    (None, "No", b'"No"' + TO_PROD),
 ]
 
 

@@ -105,7 +105,7 @@ def test_changed_meanwhile(place: Place, subtests: SubTests) -> None:
         (place.tree / "new.yml").unlink(missing_ok=True)
         place.put("a.yml", sealed("old", CHANGED + LINES))
         with subtests.test(" ".join(words[:2])):
-            ended("it is refused", place.run(*words), 1, f"{words[-1]}: another program changed it meanwhile")
+            ended("it is refused", place.run(*words), 1, f"{words[-1]}: another program changed it in the meantime")
             theirs = dict.fromkeys(["a.yml", "new.yml"], b"other\n")
             assert place.files() == theirs, "their change stays, and nothing is left"
 

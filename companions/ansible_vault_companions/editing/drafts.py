@@ -26,9 +26,9 @@ NO_VAULT = (
 TO_ADD = "; or, to add values without seeing the others, choose a password for the new ones with --encrypt-vault-id"
 TO_ENCRYPT = "; to encrypt it there, choose its password with --encrypt-vault-id"
 NO_PLACE = "there is no place for {} in this YAML; edit the file without --value"
-# A new key, and one that needs no further quotes.
+# A new key, and one that YAML reads as this string without further quotes.
 KEY = re.compile(r'[^."\[\]\x00-\x1f]+|"(?:[^"\\]|\\.)*"')
-SIMPLE_KEY = re.compile(r'[A-Za-z_][A-Za-z0-9_-]*|".*"')
+SIMPLE_KEY = re.compile(r'(?!(?i:y|yes|n|no|on|off|true|false|null)\Z)[A-Za-z_][A-Za-z0-9_-]*|".*"')
 
 
 @dataclass

@@ -27,7 +27,7 @@ A_VAULT = "what you gave is a vault, which ansible-vault does not encrypt again;
 TOO_LONG = "standard input has more bytes than a vault can hold; split it"
 NOTHING_GIVEN = "standard input is empty"
 NO_FILE = "the editor left no file"
-RESCUED = "{}; what you saved is encrypted in {}\nTo go on with it, run the same command with --resume."
+RESCUED = "{}; what you saved is encrypted in {}\n--resume reopens it, unless the file has changed."
 # With these, a command is more than the name of a program and its arguments.
 SHELL_WORDS = frozenset("=;&|()<>{}`\n")
 PREFIX = "ansible-vault-"

@@ -26,7 +26,7 @@ NO_PLACE = "its values cannot be written where they are; write each as `NAME: !v
 NEW_TAG = "line {}: it has a tag that the file did not have, other than `!vault`, so what follows stays in plaintext"
 NO_TEXT = "is a list, a mapping or a key, not a string; put quotes around a text"
 NOTHING = 'is missing after `!vault`; write `""` for an empty one'
-LIKE_A_VAULT = "begins like a vault ($ANSIBLE_VAULT), but is none, so ansible-vault does not encrypt it"
+LIKE_A_VAULT = "begins like a vault ($ANSIBLE_VAULT), but is not one, so ansible-vault does not encrypt it"
 
 
 class YamlFile:

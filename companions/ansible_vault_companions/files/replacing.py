@@ -25,7 +25,7 @@ def replace(path: str, content: bytes, before: bytes | None, is_private: bool = 
     beside = _write_beside(target, content, is_private)
     try:
         if reading.read(target) != before:
-            raise Refused("another program changed it meanwhile")
+            raise Refused("another program changed it in the meantime")
         os.replace(beside, target)
     except BaseException:
         os.unlink(beside)
@@ -70,7 +70,7 @@ def _copy_metadata(descriptor: int, target: str, is_private: bool) -> None:
     """Copies owner, mode and extended attributes such as ACLs; to a private file, the owner alone."""
     old, new = os.stat(target), os.fstat(descriptor)
     if old.st_nlink > 1:
-        raise Refused(f"it has {old.st_nlink} names (hard links); replace the others by symbolic links first")
+        raise Refused(f"it has {old.st_nlink} names (hard links); replace the others with symbolic links first")
     if (old.st_uid, old.st_gid) != (new.st_uid, new.st_gid):
         try:
             os.fchown(descriptor, old.st_uid, old.st_gid)

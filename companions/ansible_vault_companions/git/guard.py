@@ -21,7 +21,7 @@ from ansible_vault_companions.program import pathspec, shown, write_error
 
 SUCCESSOR = "is not encrypted, and {}, which is gone, was a vault{}"
 NOW_PLAIN = "has {} in plaintext, which {} encrypted{}"
-NOT_YAML = "had encrypted values, but cannot be checked any more: {}"
+NOT_YAML = "had encrypted values, but can no longer be checked: {}"
 STALE = "is encrypted again, but .gitattributes allows plaintext in it: remove `{}` there, or narrow its pattern"
 # What to do.
 MEANT = "  {}if that is intended, commit with --no-verify, or add to {}"

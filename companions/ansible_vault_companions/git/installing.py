@@ -19,7 +19,7 @@ SETTINGS = {
     "diff.ansible-vault.textconv": ("ansible-vault-textconv", ""),
     "merge.ansible-vault.driver": ("ansible-vault-merge", f" %O %A %B %L %P{OR_ELSE}"),
 }
-NO_PASSWORDS = "git diff and git merge are not set up; they need passwords: --install --vault-id dev@~/.vault/dev.pass"
+NO_PASSWORDS = "git diff and git merge are set up only with passwords: --install --vault-id dev@~/.vault/dev.pass"
 MARKS = """\
 git diff and git merge recognize vaults by .gitattributes; for the whole team, add lines to it, such as
   vault.yml diff=ansible-vault merge=ansible-vault"""
