@@ -1,23 +1,21 @@
-"""Compare the cost of the program and the companions with a stored table: instructions and imports.
+"""Compare the instructions of the program with a stored table.
 
-None of this is a time, so a slow-down of one percent shows even on a busy machine. A cost above the table's fails. So
-do instructions far below it, since the table would no longer guard them: `tests/store_counts PROGRAM` stores them
-again. Another compiler, kit, processor or Python gives other counts, which are not compared.
+They are no times, so a slow-down of one percent shows even on a busy machine. Fewer than in the table fail, too, since
+it would no longer guard them: `tests/store_counts PROGRAM` stores them again. Another compiler, kit or processor gives
+other counts, which are not compared.
 """
 
 import os
-import platform
 import tomllib
 from concurrent.futures import ThreadPoolExecutor
 from pathlib import Path
-from typing import Any
 
 import pytest
 
 from lib.cases import Cases
-from lib.counts import Done, built_by, count_instructions, imported_modules, parts_of
+from lib.counts import Done, built_by, count_instructions, parts_of
 from lib.needs import OF_ANOTHER_BUILD, needs
-from lib.paths import COMPANIONS, ROOT
+from lib.paths import ROOT
 from lib.samples import COMMANDS, sample_of
 
 pytestmark = pytest.mark.valgrind
@@ -41,43 +39,20 @@ def counted(cases: Cases, name: str) -> Parts:
     return parts_of(functions)
 
 
-def table() -> dict[str, Any]:
-    return tomllib.loads(TABLE.read_text())
-
-
-def needs_same(what: str, stored: str, found: str) -> None:
-    if stored != found:
-        pytest.skip(f"{OF_ANOTHER_BUILD}: tests/counts.toml is of {what} {stored}, and this is {found}")
-
-
 @pytest.mark.parametrize("name", RUNS)
 def test_instructions(cases: Cases, name: str) -> None:
     needs("valgrind")
-    stored = table()
-    needs_same("a program by", stored["built_by"], built_by(cases.program))
+    stored = tomllib.loads(TABLE.read_text())
+    if stored["built_by"] != built_by(cases.program):
+        pytest.skip(f"{OF_ANOTHER_BUILD}: tests/counts.toml is of a program by {stored['built_by']}")
     near = pytest.approx(stored["instructions"][name], rel=TOLERANCE, abs=SLACK)
     assert counted(cases, name) == near, "what is less is to be stored by tests/store_counts"
-
-
-@pytest.mark.parametrize("name", COMPANIONS)
-def test_imports(name: str) -> None:
-    """A short run of a companion is mostly imports, of which it has no more than the table says."""
-    stored = table()
-    needs_same("Python", stored["python"], platform.python_version())
-    modules = imported_modules(COMPANIONS[name])
-    assert len(modules) <= stored["imports"][name], f"{name} imports {', '.join(modules)}"
 
 
 def store(program: str, folder: Path) -> None:
     """Store the counts of this program in the table."""
     cases = Cases(program, folder)
-    lines = [
-        "# What tests/counted.py compares: written by tests/store_counts.",
-        f'built_by = "{built_by(program)}"',
-        f'python = "{platform.python_version()}"',
-        "\n# How many modules a companion imports until it prints its help.\n[imports]",
-        *(f"{name} = {len(imported_modules(path))}" for name, path in COMPANIONS.items()),
-    ]
+    lines = ["# What tests/counted.py compares: written by tests/store_counts.", f'built_by = "{built_by(program)}"']
     with ThreadPoolExecutor(len(os.sched_getaffinity(0))) as pool:
         for name, counts in zip(RUNS, pool.map(lambda name: counted(cases, name), RUNS)):
             lines += [f'\n[instructions."{name}"]', *(f'"{part}" = {count}' for part, count in counts.items())]

@@ -4,7 +4,6 @@
 
 import os
 import re
-import runpy
 import shutil
 import sys
 from dataclasses import replace
@@ -12,14 +11,11 @@ from pathlib import Path
 
 import pytest
 
-from companion_cases import Done, ended, silent
 from conftest import FLOORS, LEAST
-from lib.cases import Cases
 from lib.paths import ROOT
 from lib.processes import run_text
 from lib.scripts import write_script
 from model.compared import differences
-from model.faults import Fault
 from model.random_requests import Case
 from model.vaults import seal
 
@@ -33,10 +29,6 @@ DIFFERING = {
     '"$PROGRAM" "$@" && cat new': ANSWERED,
     '"$PROGRAM" "$@" && echo a warning >&2': ANSWERED,
 }
-# Scripts that give no answer of this fault, each with one thing wrong.
-FAULT = Fault.NOT_VAULT
-RIGHT = f"echo '{FAULT.line.decode().strip()}' >&2; exit {FAULT.status}"
-WRONG = f"({RIGHT}); exit 9", f"echo output; {RIGHT}", f"echo >&2; {RIGHT}"
 
 
 def test_differences(program: str, tmp_path: Path, monkeypatch: pytest.MonkeyPatch) -> None:
@@ -44,38 +36,6 @@ def test_differences(program: str, tmp_path: Path, monkeypatch: pytest.MonkeyPat
     for text, case in DIFFERING.items():
         assert differences(case, [program]) == [], text
         assert differences(case, [write_script(tmp_path / "differing", text)]) != [], text
-
-
-def test_each_part_of_an_answer(tmp_path: Path) -> None:
-    """The status, the output and the message are compared, those of companions too."""
-    Cases(write_script(tmp_path / "program", RIGHT), tmp_path).run(["view"], b"", FAULT.status, b"", FAULT.line)
-    for text in WRONG:
-        with pytest.raises(AssertionError):
-            Cases(write_script(tmp_path / "program", text), tmp_path).run(["view"], b"", FAULT.status, b"", FAULT.line)
-    ended("both", Done([], 0, "one", "two"), 0, "one", "two")
-    with pytest.raises(AssertionError):
-        ended("one of two", Done([], 0, "one", "two"), 0, "one", "three")
-    for other in (Done([], 1, "", ""), Done([], 0, "x", ""), Done([], 0, "", "x")):
-        with pytest.raises(AssertionError):
-            silent("one of three", other)
-
-
-# How pytest ends, and what becomes of what is planted.
-PLANTED = {
-    "a test fails": (1, "FAILED tests/a.py::test_b - why\n", "caught"),
-    "a fixture fails": (1, "ERROR tests/a.py::test_b - why\n", "caught"),
-    "no test fails": (0, "\n1 passed, 0 failed, 1 skipped\n", "survived"),
-    "all tests are skipped": (0, "\n0 passed, 0 failed, 1 skipped\n", "skipped"),
-    "a test takes too long": (1, "FAILED tests/a.py::test_b - Failed: Timeout >9.0s\n", "not run"),
-    "all take too long": (124, "\n2 passed, 0 failed\n", "survived"),
-    "a file cannot be imported": (1, "ERROR tests/a.py - why\n", "not run"),
-}
-
-
-@pytest.mark.parametrize("status, printed, outcome", PLANTED.values(), ids=PLANTED)
-def test_planted_faults(status: int, printed: str, outcome: str) -> None:
-    tool = runpy.run_path(str(ROOT / "tools" / "plant_faults"))
-    assert tool["outcome_of"](status, printed)[0] == outcome
 
 
 # Tests, how each ends, and how with --require-all.

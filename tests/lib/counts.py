@@ -1,12 +1,10 @@
-"""Count what a run costs, in figures that do not depend on what else the machine does: instructions by function, and
-modules that Python imports.
+"""Count the instructions of a run by function, which do not depend on what else the machine does.
 
-Valgrind's callgrind counts the instructions. Standard input and output are files, since the size of a read from a pipe
+Valgrind's callgrind counts them. Standard input and output are files, since the size of a read from a pipe
 varies. The C library picks its copying functions by processor, so the ones for the newest processors are disabled.
 """
 
 import re
-import sys
 import tempfile
 from collections import Counter
 from collections.abc import Callable
@@ -88,11 +86,3 @@ def parts_of(functions: Counter[str]) -> dict[str, int]:
     for name, count in functions.items():
         parts[next((part for part, start in PARTS.items() if name.startswith(start)), REST)] += count
     return {**parts, TOTAL: functions.total()}
-
-
-def imported_modules(script: Path) -> list[str]:
-    """Return the modules that Python imports when a companion prints its help."""
-    command = [sys.executable, "-ISB", "-X", "importtime", str(script), "--help"]
-    done = processes.run_text(command, env={})
-    lines = [line for line in done.stderr.splitlines() if line.startswith("import time:")]
-    return [line.rpartition("|")[2].strip() for line in lines[1:]]
