@@ -1,6 +1,5 @@
 """Ask the shells themselves what they offer: commands, options, and files where a file is expected. As
-tools/write_documents makes their lists from the programs' parsers, a few lines show all. None offers a `~` that nobody
-would expand.
+tools/write_documents makes their lists from the programs' parsers, a few lines show all.
 """
 
 from pathlib import Path
@@ -70,16 +69,7 @@ def test_offered(shell: str, folder: Path) -> None:
         if line.startswith(f"{WITH} "):
             for alias in [SHORT, LONG, *([IN_ZSH] if shell == "zsh" else [])]:
                 assert offered(shell, line.replace(WITH, "ansible-vault"), folder, alias) == wanted, (alias, line)
-
-
-def test_home(shell: str, folder: Path) -> None:
-    """`~` is offered where the shell expands it. Otherwise the directory's path is offered, and in fish, nothing."""
-    for start in ("view ", "view --vault-id ", "encrypt --output "):
-        assert offered(shell, f"ansible-vault {start}~/one.p", folder / "folder") == {"~/one.pass"}, start
-    for start in ("encrypt --output=", "view --vault-id=", "view --vault-id=dev@", "view --vault-id dev@"):
-        paths = offered(shell, f"ansible-vault {start}~/one.p", folder / "folder")
-        matches = {each.partition("/")[2] for each in paths}
-        assert matches == (set() if shell == "fish" else {f"{folder}/one.pass"[1:]}), start
+    assert "--resume" in offered(shell, "ansible-vault-edit --", folder)
 
 
 # What is typed before a tab in bash, where an alias stands for ansible-vault-with, and the arguments that it receives.

@@ -11,7 +11,8 @@ from pathlib import Path
 import pytest
 
 from ansible_vault_companions import OLDEST
-from ansible_vault_companions.files import reading
+from ansible_vault_companions.editing import editor
+from ansible_vault_companions.files import reading, replacing
 from contracts import CRATES, code, declared_in
 from documents import FORMATS, PAGE as VERIFICATION, REFERENCE, WRITTEN, definition_files
 from lib.links import dead_links
@@ -138,6 +139,14 @@ def test_limits() -> None:
     assert {int(each) for each in re.findall(r"\d+", numbers)} - {1} == {limits[constant] for constant in LIMITS}
     assert f"at most {limits['SECRET_COUNT_LIMIT']} passwords" in table
     assert (reading.LONGEST_PLAINTEXT, reading.LIMIT) == (limits["PLAINTEXT_LIMIT"], limits["ENVELOPE_LIMIT"])
+    assert {int(each.replace(",", "")) for each in re.findall(r"\d+,\d{3},\d{3}", TEXT)} <= {*limits.values()}
+
+
+def test_files_of_companions() -> None:
+    """docs/workflows.md says where to look for them after a crash."""
+    names = {f"{replacing.PREFIX}*{replacing.SUFFIX}", f"{editor.PREFIX}*", "~/.local/state/ansible-vault/"}
+    end = (ROOT / "docs" / "workflows.md").read_text().partition("## Clean up after a crash")[2]
+    assert names <= {*re.findall("`([^`]+)`", end)}
 
 
 def test_bytes() -> None:

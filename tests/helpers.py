@@ -1,12 +1,9 @@
-"""What the tests' own helpers must notice, so that a test that relies on one can fail; and how pytest ends under
-`conftest.py` and `pytest.ini`.
-"""
+"""How pytest ends under `conftest.py` and `pytest.ini`."""
 
 import os
 import re
 import shutil
 import sys
-from dataclasses import replace
 from pathlib import Path
 
 import pytest
@@ -14,29 +11,6 @@ import pytest
 from conftest import FLOORS, LEAST
 from lib.paths import ROOT
 from lib.processes import run_text
-from lib.scripts import write_script
-from model.compared import differences
-from model.random_requests import Case
-from model.vaults import seal
-
-# Requests that are refused and answered, with scripts that differ from the program in one thing.
-REFUSED = Case(["decrypt", "--vault-password-file", "right", "--output", "new"], {"right": b"right\n"}, b"no vault\n")
-ANSWERED = replace(REFUSED, stdin=seal(b"right", b"text"))
-DIFFERING = {
-    '"$PROGRAM" "$@"; status=$?; touch other; exit $status': REFUSED,
-    '"$PROGRAM" "$@"; exit 3': REFUSED,
-    '"$PROGRAM" "$@" && chmod 644 new': ANSWERED,
-    '"$PROGRAM" "$@" && cat new': ANSWERED,
-    '"$PROGRAM" "$@" && echo a warning >&2': ANSWERED,
-}
-
-
-def test_differences(program: str, tmp_path: Path, monkeypatch: pytest.MonkeyPatch) -> None:
-    monkeypatch.setenv("PROGRAM", program)
-    for text, case in DIFFERING.items():
-        assert differences(case, [program]) == [], text
-        assert differences(case, [write_script(tmp_path / "differing", text)]) != [], text
-
 
 # Tests, how each ends, and how with --require-all.
 SAMPLE = """\

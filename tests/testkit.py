@@ -2,6 +2,7 @@
 
 import os
 import re
+import shutil
 import subprocess
 import sys
 from collections import Counter
@@ -34,8 +35,9 @@ def run(*words: str) -> list[str]:
 
 def test_made(tmp_path: Path) -> None:
     pytest.importorskip("cryptography")
-    subprocess.run([sys.executable, "-B", str(TESTKIT / "make"), str(tmp_path)], check=True)
-    made = {path.name: path.read_bytes() for path in tmp_path.iterdir()}
+    shutil.copytree(TESTKIT, tmp_path / "testkit", ignore=shutil.ignore_patterns("vectors"))
+    subprocess.run([sys.executable, "-B", "testkit/make"], cwd=tmp_path, check=True)
+    made = {path.name: path.read_bytes() for path in (tmp_path / "testkit" / "vectors").iterdir()}
     assert made.keys() == VECTORS.keys()
     assert [name for name in made if made[name] != VECTORS[name]] == []
 
@@ -45,6 +47,13 @@ def test_answers(program: str) -> None:
     wanted = [f"{len(ENVELOPES)} as expected, 0 not"]
     assert run("--strict", "--", program, "view", "--vault-password-file", "{password}", "{file}") == wanted
     assert run("--strict", "--", "sh", "-c", DECRYPT, program, "{password}", "{file}") == wanted
+
+
+def test_output_before_a_refusal(program: str) -> None:
+    """Strictly, a refusal prints nothing."""
+    command = 'printf x; exec "$0" view --vault-password-file "$1" "$2"'
+    *different, _ = run("--strict", "--kind", "tag", "--", "sh", "-c", command, program, "{password}", "{file}")
+    assert len(different) == sum(name.startswith("tag-") for name in ENVELOPES)
 
 
 def test_labels(program: str) -> None:

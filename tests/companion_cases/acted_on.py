@@ -196,7 +196,7 @@ ROWS = {
     "a failure": Row(OLD_VAULT, EDITED, r"\n(--\w+) reopens", rf"env EDITOR=true {EDITED} \1", [CHANGED], "", FAIL),
     "a copy": Row(left_copy, EDITED, "; (.*) reopens it", rf"{EDITED} \1", [CHANGED]),
     "a change": Row(has_changed, f"{EDITED} --resume", "that left (.*); .* `(.*)` shows", rf"\2 {OLD} \1", [b"x"]),
-    "no settings": Row(OLD_VAULT, f"{HOOK} --install", "need passwords: (.*)", rf"{HOOK} \1"),
+    "no settings": Row(OLD_VAULT, f"{HOOK} --install", "only with passwords: (.*)", rf"{HOOK} \1"),
     "another hook": Row(has_hook, f"./A_FILE/{HOOK} --install", "add this line to it: (.*)", paste_into_hook),
     "no commit": Row(lambda case: case.shell(ORIGIN, "."), f"{HOOK} --since origin/more", "run `(.*)`", in_shell),
     "a shallow clone": Row(lambda case: case.shell(SHALLOW, "."), f"{HOOK} --all", "run `(.*?)`, or", in_shell),

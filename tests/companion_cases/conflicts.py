@@ -10,7 +10,7 @@ pytestmark = pytest.mark.usefixtures("git")
 
 TAKE_THEIRS = "sed -i '/^<<<<<<</,/^=======/d; /^>>>>>>>/d' \"$1\""
 STILL = "it still has git's conflict markers"
-LINES = b"1\n2\n3\n4\n5\n"
+LINES = b"1\n2\n=======\n4\n5\n"
 SIDES = [LINES, b"x: ours\n" + LINES + b"y: ours\n", b"x: theirs\n" + LINES]
 
 
@@ -30,7 +30,7 @@ def test_vaults(place: Place, style: str, end: bytes) -> None:
     words = [*place.by_file("old"), "a.yml"]
     ended("no choice", edit(place, 'cp "$1" ../seen', *words), 1, STILL)
     seen = place.get("../seen")
-    assert seen.startswith(b"<<<<<<< ") and seen.count(b"x: ours\n") == seen.count(b"x: theirs\n") == 1
+    assert seen.startswith(b"<<<<<<<< ") and seen.count(b"x: ours\n") == seen.count(b"x: theirs\n") == 1
     assert (seen.endswith(b"\n" + LINES + b"y: ours\n"), place.get("a.yml")) == (True, before)
     ended("markers", edit(place, 'sed -i "s/x: ours/x: both/" "$1"', *words), 1, STILL)
     assert (len(place.kept()), place.get("a.yml")) == (1, before)
@@ -39,6 +39,13 @@ def test_vaults(place: Place, style: str, end: bytes) -> None:
         place.put("a.yml", before)
         ended(editor, edit(place, editor, *words), 0)
         assert decrypted("old", place.get("a.yml").replace(b"\r", b"")) == text
+
+
+def test_merged_texts(place: Place) -> None:
+    """Two vaults whose texts git can merge become one, even if the editor changes nothing."""
+    merge(place, [sealed("old", text) for text in (LINES, b"x: ours\n" + LINES, LINES + b"y: theirs\n")])
+    ended("no change", edit(place, "true", *place.by_file("old"), "a.yml"), 0)
+    assert decrypted("old", place.get("a.yml")) == b"x: ours\n" + LINES + b"y: theirs\n"
 
 
 def test_other_passwords(place: Place) -> None:

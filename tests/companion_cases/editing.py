@@ -98,7 +98,7 @@ MISREAD = {
     "b: !vault\n": "line 1: b is missing after `!vault`",
     "b: !vault [a]\n": "line 1: b is a list, a mapping or a key, not a string",
     "b: !vault |-\n  x\ny\n": "line 4: it cannot be read as YAML: could not find expected ':'",
-    "b: !vault $ANSIBLE_VAULT_TOKEN x\n": "line 1: b begins like a vault ($ANSIBLE_VAULT), but is none",
+    "b: !vault $ANSIBLE_VAULT_TOKEN x\n": "line 1: b begins like a vault ($ANSIBLE_VAULT), but is not one",
 }
 
 

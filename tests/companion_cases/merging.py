@@ -112,6 +112,9 @@ def test_chosen_secret(place: Place) -> None:
     place.put("a.yml", vaults[1])
     silent("prod", place.run(MERGE, "--encrypt-vault-id", "prod", *words))
     assert decrypted("prod", place.get("a.yml")) == BOTH
+    one_label = [sealed(name, text, "prod") for name, text in zip(("prod", "prod", "dev"), (BASE, OURS, THEIRS))]
+    done = place.run(MERGE, "--any-label", *secrets, *versions(place, "c.yml", *one_label))
+    ended("another's password", done, 1, "the passwords of the two sides differ")
     same = [block(name, b"new", "prod", name="a") for name in ("prod", "prod2")]
     words = [*secrets, *versions(place, "b.yml", b"", *same)]
     ended("two passwords of a value", place.run(MERGE, *words), 1, "b.yml: 1 conflict")

@@ -46,7 +46,8 @@ def test_by_label(place: Place) -> None:
         assert around[0] == around[1], "all around the digits stays"
         found = [texts(after, password).index(TEXT) for password in ("prod2", "dev", "old")]
         assert found == [0, 1, 2], "one is rotated, and the others stay"
-    ended("again", place.run(*rotate), 1, summary(0, 4, 2, " (dev 2)", 2))
+    again = place.run(*rotate[:-1], *place.by_id("prod", "prod2"), ".")
+    ended("again", again, 1, summary(0, 4, 2, " (dev 2)", 2))
     assert place.files() == before, "all stays"
 
 

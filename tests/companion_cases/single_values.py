@@ -32,8 +32,10 @@ NOT_SHOWN = [
 
 @pytest.fixture
 def both(place: Place) -> list[str]:
-    """Write a file with values of two secrets, and return the options for both."""
+    """Write a file with values of two secrets, and return the options for both. A value keeps its label, whatever the
+    settings say."""
     needs_pyyaml()
+    place.environment["ANSIBLE_VAULT_ENCRYPT_IDENTITY"] = "prod"
     place.put("vars.yml", FILE, 0o640)
     return [*place.by_id("dev", "dev"), *place.by_id("prod", "prod")]
 

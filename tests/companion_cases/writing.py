@@ -61,8 +61,10 @@ def test_access_control_lists(place: Place) -> None:
     if made.returncode != 0:
         pytest.skip("the file system has no access control lists")
     before = place.run("getfacl", "-c", "a.yml").stdout
+    os.utime(place.tree / "a.yml", (0, 0))
     ended("a rotation", place.run(ROTATE, *to_new(place), "."), 0, summary(1))
     assert place.run("getfacl", "-c", "a.yml").stdout == before, "the ACL stays"
+    assert (place.tree / "a.yml").stat().st_mtime > 0, "but not its time"
     silent("decrypted", place.run(WITH, "decrypt", *place.by_file("new"), "a.yml"))
     after = place.run("getfacl", "-c", "a.yml").stdout.split()
     assert after == ["user::rw-", "group::---", "other::---"], "plaintext has none"
