@@ -33,8 +33,7 @@ def test_random_requests(
         case = make(f"{seed}-{number}")
         if lines := differences(case, [program]):
             found += [f"{seed}-{number}: {shlex.join(case.words)[:400]}", *lines]
-        if made == 0:
-            assert differences(case, ["false"]) and differences(case, ["true"]), "two programs that are wrong"
+        assert made or differences(case, ["false"]), "a wrong program is noticed"
         made += 1
     record_property("random requests", (made, len(numbers)))
     assert found == []

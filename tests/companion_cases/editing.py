@@ -5,7 +5,7 @@ import re
 
 import pytest
 
-from companion_cases import AWKWARD, CHANGE, CHANGED, EDIT, Done, Place, block, decrypted, edit, ended
+from companion_cases import AWKWARD, CHANGE, CHANGED, EDIT, TEXT, Done, Place, block, decrypted, edit, ended
 from companion_cases import envelope_of, sealed, silent, texts
 
 
@@ -82,7 +82,7 @@ def test_labels(place: Place) -> None:
 
 
 def test_editors(place: Place) -> None:
-    """$VISUAL is a shell command, as in other programs, and precedes $EDITOR. A link stays one."""
+    """$VISUAL is a shell command, and precedes $EDITOR. A link stays one. Even if nothing changes, all is encrypted."""
     script = place.script('printf "%s|" "$1" "$2" > ../words; sed -i s/correct/wrong/ "$3"', "an editor")
     place.put("shared/all.yml", sealed("old"))
     (place.tree / "link.yml").symlink_to("shared/all.yml")
@@ -90,10 +90,12 @@ def test_editors(place: Place) -> None:
     assert (place.path / "words").read_text() == "--wait|two words|"
     link, text = os.readlink(place.tree / "link.yml"), decrypted("old", place.get("shared/all.yml"))
     assert (link, text) == ("shared/all.yml", CHANGED)
+    place.put("vars.yml", block("old") + b"b: !vault x\n")
+    silent("it", edit(place, "true", *place.by_file("old"), "vars.yml"))
+    assert texts(place.get("vars.yml"), "old") == [TEXT, b"x"]
 
 
-# What is refused if it is typed, because it may be misread or would not be encrypted, and why. `yaml_values` has what
-# is encrypted.
+# What is refused if it is typed, and why. `yaml_values` has what is encrypted.
 MISREAD = {
     "b: !vault\n": "line 1: b is missing after `!vault`",
     "b: !vault [a]\n": "line 1: b is a list, a mapping or a key, not a string",
@@ -132,9 +134,8 @@ def test_closed(place: Place, text: bytes) -> None:
 
 
 THREE = "dev:one prod:two dev:three"
-# The items of a list, each with the label of its secret; what stands there afterwards; an option that chooses a label
-# for new values; and the labels of the items. There are none if it is refused, since an item of dev might have come
-# from one of prod, or a new one from another secret than the chosen one.
+# The items of a list, each with its secret; what stands there afterwards; an option that chooses a label for new
+# values; and the labels of the items, or none if it is unclear which secret an item gets.
 LISTS = [
     (THREE, "neu eins two three", "--encrypt-vault-id=prod", ""),
     (THREE, "two three new", "", ""),
@@ -143,6 +144,7 @@ LISTS = [
     (THREE, "three two one", "", "dev prod dev"),
     (THREE, "one two new three", "--encrypt-vault-id=prod", "dev prod prod dev"),
     ("dev:one", "neu eins", "--encrypt-vault-id=prod", ""),
+    ("prod:one prod2:two", "two!", "", ""),
     ("dev:same prod:same", "changed same", "", "dev prod"),
 ]
 
@@ -151,9 +153,10 @@ LISTS = [
 def test_lists(place: Place, items: str, typed: str, option: str, labels: str) -> None:
     """Texts and places identify items of a list. If they do not tell which secret an item gets, it is refused."""
     known = [item.split(":") for item in items.split()]
-    content = b"l:\n- " + b"- ".join(block(label, text.encode(), label, "") for label, text in known)
+    content = b"l:\n- " + b"- ".join(block(name, text.encode(), name.rstrip("2"), "") for name, text in known)
     place.put("vars.yml", content)
-    words = [*place.by_id("dev", "dev"), *place.by_id("prod", "prod"), *option.split(), "vars.yml"]
+    secrets = [word for name in ("dev", "prod", "prod2") for word in place.by_id(name.rstrip("2"), name)]
+    words = [*secrets, *option.split(), "vars.yml"]
     lines = "".join(f"- !vault {item}\\n" for item in typed.split())
     done = edit(place, f"printf 'l:\\n{lines}' > \"$1\"", *words)
     after = place.get("vars.yml")

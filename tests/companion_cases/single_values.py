@@ -32,8 +32,7 @@ NOT_SHOWN = [
 
 @pytest.fixture
 def both(place: Place) -> list[str]:
-    """Write a file with values of two secrets, and return the options for both. A value keeps its label, whatever the
-    settings say."""
+    """Write a file with values of two secrets, whose labels stay whatever the settings say; return both options."""
     needs_pyyaml()
     place.environment["ANSIBLE_VAULT_ENCRYPT_IDENTITY"] = "prod"
     place.put("vars.yml", FILE, 0o640)
