@@ -24,7 +24,7 @@ VAULT = sealed("dev", b"db:\n  password: 'it''s'\n  list: [1]\n" + block("prod",
 NOT_SHOWN = [
     (FILE, "pw", "no value pw; encrypted here: db_password, app.users[0].pw, \"a.b \\\"c\\\\d\\\"\"[0].x"),
     (FILE, "app.plain", "app.plain is not encrypted"),
-    (block("dev", b"one", "dev", "a") * 2, "a", "2 values are at a; name one of them, as in `users[0].name`"),
+    (block("dev", b"one", "dev", "a") * 2, "a", "2 values are at a; number the items of lists, as in "),
     (VAULT, "db", "db is a list, a mapping or an alias"),
     (block("old"), "secret", "vars.yml: no secret decrypts this vault (label default; tried dev@"),
 ]

@@ -157,7 +157,8 @@ class Document:
             listed = f"; encrypted here: {', '.join(names)}" if 0 < len(names) <= MOST_LISTED else ""
             raise Refused(f"there is no value {shown(path)}{listed}")
         if len(values) > 1:
-            raise Refused(f"{len(values)} values are at {shown(path)}; name one of them, as in `users[0].name`")
+            what = "number the items of lists, as in `users[0].name`, or rename a key that is there twice"
+            raise Refused(f"{len(values)} values are at {shown(path)}; {what}")
         return values[0]
 
 
