@@ -74,7 +74,7 @@ complete -c ansible-vault-edit -l value -x -d 'set this value from standard inpu
 complete -c ansible-vault-edit -l resume -d 'go on with what the last edit could not put into FILE'
 complete -c ansible-vault-hook -s h -l help -d 'print help'
 complete -c ansible-vault-hook -s V -l version -d 'print version'
-complete -c ansible-vault-hook -l all -d 'check the current commit and all former vaults'
+complete -c ansible-vault-hook -l all -d 'check the current commit and its former vaults'
 complete -c ansible-vault-hook -l since -x -d 'check each later commit, and all of them at once'
 complete -c ansible-vault-hook -l install -d 'set up hooks'
 complete -c ansible-vault-hook -l uninstall -d 'undo what --install has set up'
