@@ -50,7 +50,6 @@ def test_answers(program: str) -> None:
 
 
 def test_output_before_a_refusal(program: str) -> None:
-    """Strictly, a refusal prints nothing."""
     command = 'printf x; exec "$0" view --vault-password-file "$1" "$2"'
     *different, _ = run("--strict", "--kind", "tag", "--", "sh", "-c", command, program, "{password}", "{file}")
     assert len(different) == sum(name.startswith("tag-") for name in ENVELOPES)
@@ -90,8 +89,11 @@ def test_values(program: str, tmp_path: Path) -> None:
     assert [line.partition(":")[0] for line in different] == NO_VALUES, different
 
 
-@pytest.mark.parametrize("command, said", [("cat {file}", {"other plaintext", "accepted"}), ("exit 1", {"refused"})])
-def test_wrong_answers(command: str, said: set[str]) -> None:
-    """What the testkit says of commands that answer the vectors of salts wrongly."""
+# Commands that answer the vectors of salts wrongly, and what the testkit says of them.
+WRONG = {"cat {file}": {"other plaintext", "accepted"}, "exit 1": {"refused"}, "kill -9 $$": {"killed by signal 9"}}
+
+
+@pytest.mark.parametrize("command", WRONG)
+def test_wrong_answers(command: str) -> None:
     *answers, _ = run("--all", "--kind", "salt", "--", "sh", "-c", command)
-    assert {line.partition(": ")[2].partition(", expected: ")[0] for line in answers} == said
+    assert {line.partition(": ")[2].partition(", expected: ")[0] for line in answers} == WRONG[command]

@@ -93,6 +93,8 @@ def test_editors(place: Place) -> None:
     place.put("vars.yml", block("old") + b"b: !vault x\n")
     silent("it", edit(place, "true", *place.by_file("old"), "vars.yml"))
     assert texts(place.get("vars.yml"), "old") == [TEXT, b"x"]
+    silent("a new name", edit(place, 'sed -i s/^secret/other/ "$1"', *place.by_file("old"), "vars.yml"))
+    assert place.get("vars.yml").startswith(block("old", name="other")), "its envelope stays"
 
 
 # What is refused if it is typed, and why. `yaml_values` has what is encrypted.

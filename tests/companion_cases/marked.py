@@ -46,9 +46,8 @@ def test_some_labels(place: Place) -> None:
     dev = [CHECK, *place.by_id("dev", "dev"), "--label"]
     done = place.run(*dev, "dev", ".")
     ended("one label", done, 0, "\n2 decrypted, 0 not, 4 with other labels (default 2, prod 2)\n")
-    done = place.run(*dev, "prdo", "--label", "prod", "b.yml")
-    whys = ["b.yml: prod: no secret decrypts this vault (label prod; tried ", "no vault or value has the label prdo\n"]
-    ended("a label that nothing has", done, 1, *(f"{CHECK}: {why}" for why in whys))
+    done = place.run(*dev, "prdo", "a.yml")
+    ended("a label that nothing has", done, 1, f"{CHECK}: no vault or value has the label prdo\n")
     place.put("d.yml", b"$ANSIBLE_VAULT;1.1\n")
     done = place.run(*dev, "dev", ".")
     ended("one without a header", done, 1, "./d.yml: no label: vault header line is malformed", "2 decrypted, 1 not")

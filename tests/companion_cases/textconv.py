@@ -39,7 +39,6 @@ def test_shown(place: Place, content: bytes, wanted: bytes, told: str) -> None:
 
 
 def test_missing_password(place: Place) -> None:
-    """It is named and skipped, so git goes on."""
     place.put("a.yml", sealed("old"))
     done = place.run(TEXTCONV, *place.by_file("missing"), *place.by_file("old"), "a.yml")
     ended("the text", done, 0, TEXT.decode(), "missing: No such file or directory; it is ignored")

@@ -1,4 +1,2 @@
-"""Timeouts. No result depends on them, so the tests also run on a slow machine."""
-
-# Seconds after which a run is considered to hang.
+# Seconds after which a run is considered to hang. No result depends on them, so slow machines run the tests, too.
 SECONDS = 300
