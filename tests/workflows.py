@@ -217,13 +217,13 @@ def test_merge(repository: Repository) -> None:
 
 def test_pipeline(repository: Repository) -> None:
     needs("ansible-playbook")
-    vaults = {VAULT: vault(b"shared: staple\n", "ci.pass", "ci"), "prod.vault.yml": vault(b"a: 1\n")}
+    vaults = {VAULT: vault(b"shared: staple\n", "ci.pass"), "dev.vault.yml": vault(b"a: 1\n", label="dev")}
     for name, content in (vaults | playbook("shared")).items():
         repository.put(name, content)
     repository.shell("git add -A && git commit -qm one && git update-ref refs/remotes/origin/main HEAD")
     shell, password = COMMANDS[PIPELINE], PASSWORDS["ci.pass"].decode()
     printed = repository.shown(f"set -e\n{shell}", VAULT_PASSWORD=password)
-    wanted = '*\n1 decrypted, 0 not, 1 with other labels (prod 1)\n*"msg": "staple"\n*'
+    wanted = '*\n1 decrypted, 0 not, 1 with other labels (dev 1)\n*"msg": "staple"\n*'
     assert fnmatchcase(printed, wanted), "vaults are counted, and the playbook is run with the same password"
     assert repository.get("../secrets.yml") == b"shared: staple\n", "and a vault is decrypted"
 
