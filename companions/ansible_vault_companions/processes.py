@@ -24,8 +24,6 @@ if TYPE_CHECKING:
 NOT_NOTED = ("KILL", "STOP", "CHLD", "CONT", "URG", "WINCH", "TSTP", "TTIN", "TTOU", "SEGV", "BUS", "FPE", "ILL")
 # All others, including real-time signals.
 ENDING: list[int] = sorted(_signal.valid_signals() - {getattr(_signal, f"SIG{name}") for name in NOT_NOTED})
-# Signals that a terminal sends to all its foreground processes.
-KEYBOARD_SIGNALS = (_signal.SIGINT, _signal.SIGQUIT)
 
 
 class Stopped(Exception):
@@ -57,7 +55,7 @@ def listen() -> None:
 
 def _note(number: int, _frame: object) -> None:
     # Only the first signal counts, so that nothing interrupts the restoring of the terminal.
-    if state.noted is not None or state.leaves_keys and number in KEYBOARD_SIGNALS:
+    if state.noted is not None or state.leaves_keys and number in (_signal.SIGINT, _signal.SIGQUIT):
         return
     state.noted = number
     _send(number, state.programs)

@@ -19,9 +19,6 @@ from ansible_vault_companions.passwords import prompts
 from ansible_vault_companions.program import Refused
 from ansible_vault_companions.tool import Decrypt, Key, Tool, at_once
 
-# The indentation of an envelope relative to its key, as Ansible's tool writes it.
-INDENTATION = 10
-
 NO_PLACE = "its values cannot be written where they are; write each as `NAME: !vault |`"
 NEW_TAG = "line {}: it has a tag that the file did not have, other than `!vault`, so what follows stays in plaintext"
 NO_TEXT = "is a list, a mapping or a key, not a string; put quotes around a text"
@@ -134,7 +131,8 @@ def closed_block(data: bytes, value: Value, envelope: bytes, old: Value | None) 
     value is none. What follows in the line of the header stays."""
     if old and LITERAL not in (value.style, old.style):
         return None
-    margin = b" " * (column(data, value.begin) + INDENTATION)
+    # Ansible's tool indents by ten.
+    margin = b" " * (column(data, value.begin) + 10)
     lines = indented(envelope.rstrip(b"\n"), margin, value.ending)
     header = HEADER.match(data, value.begin) if value.style == LITERAL else None
     # Empty lines above a typed text go with it: Ansible reads no envelope below one.

@@ -5,7 +5,7 @@ from __future__ import annotations
 import errno
 import os
 import re
-import shutil
+import stat
 import tempfile
 from contextlib import suppress
 
@@ -13,8 +13,6 @@ from ansible_vault_companions.files import reading
 from ansible_vault_companions.program import Refused
 
 PREFIX, SUFFIX = ".ansible-vault-", ".new"
-# What a directory may give to each new file: its default access control list.
-ACCESS_LIST = "system.posix_acl_access"
 
 
 def replace(path: str, content: bytes, before: bytes | None, is_private: bool = False) -> None:
@@ -78,12 +76,22 @@ def _copy_metadata(descriptor: int, target: str, is_private: bool) -> None:
             owner = f"{old.st_uid}:{old.st_gid}"
             why = f"its owner {owner} cannot be kept: {fault.strerror}; run this as that user, or as root"
             raise Refused(why) from None
+    # A directory may give this access control list to each new file.
     with suppress(OSError):
-        os.removexattr(descriptor, ACCESS_LIST)
-    os.fchmod(descriptor, 0o600)
-    if not is_private:
-        shutil.copystat(target, f"/dev/fd/{descriptor}")
-        os.utime(descriptor)
+        os.removexattr(descriptor, "system.posix_acl_access")
+    os.fchmod(descriptor, 0o600 if is_private else stat.S_IMODE(old.st_mode))
+    for name in [] if is_private else _attributes(target):
+        os.setxattr(descriptor, name, os.getxattr(target, name))
+
+
+def _attributes(path: str) -> list[str]:
+    """The names of the extended attributes, except those of security modules, which the system sets."""
+    try:
+        return [name for name in os.listxattr(path) if not name.startswith("security.")]
+    except OSError as fault:
+        if fault.errno == errno.ENOTSUP:
+            return []
+        raise
 
 
 def _sync(folder: str) -> None:

@@ -11,7 +11,6 @@ import shlex
 from ansible_vault_companions.git.repository import git, line, top
 from ansible_vault_companions.program import Refused, shown, word
 
-HOOKS = ("pre-commit", "pre-merge-commit")
 # If the driver does not start, git's own merge leaves a conflict; otherwise git would keep ours without a word.
 OR_ELSE = ' || { s=$?; [ "$s" -lt 2 ] || [ "$s" -gt 127 ] || git merge-file -q %A %O %B; exit 1; }'
 # The git settings, each with the companion that it runs and the arguments after the passwords.
@@ -29,7 +28,7 @@ def hooks() -> list[str]:
     """The paths of this repository's hooks. Changes to its top, where a relative core.hooksPath starts."""
     os.chdir(top())
     folder = os.path.abspath(os.fsdecode(git("rev-parse", "--git-path", "hooks").removesuffix(b"\n")))
-    return [os.path.join(folder, name) for name in HOOKS]
+    return [os.path.join(folder, name) for name in ("pre-commit", "pre-merge-commit")]
 
 
 def install_hook(hook: str, program: str) -> str:

@@ -17,8 +17,6 @@ NAME = "ansible.cfg"
 SECTION = "defaults"
 # Bytes read at most: the file may be a stranger's, and of any length.
 LONGEST = 1 << 20
-HOME = "~/.ansible.cfg"
-SYSTEM = "/etc/ansible/ansible.cfg"
 # In a path of the settings, this means the current directory.
 CURRENT = "{{CWD}}"
 # For each setting, the environment variable and the key in the file.
@@ -90,7 +88,7 @@ class Settings:
         path = os.path.join(expanded(named), NAME) if os.path.isdir(expanded(named)) else expanded(named)
         if _is_readable(path) and self._counts(named):
             return path
-        places = [os.path.expanduser(HOME), SYSTEM]
+        places = [os.path.expanduser("~/.ansible.cfg"), "/etc/ansible/ansible.cfg"]
         if not self.beside_options and os.path.exists(NAME):
             if os.stat(".").st_mode & stat.S_IWOTH:
                 self.warn(f"{shown(os.path.abspath(NAME))} is ignored, since its directory is world-writable")
