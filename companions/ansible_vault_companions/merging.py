@@ -235,7 +235,8 @@ class Vaults:
         self.theirs = _of_side("theirs", decrypt, versions.theirs)
         text, self.base_keys = self._base(decrypt, versions.base)
         texts = Versions(self.ours.text, text, self.theirs.text)
-        self.merge = merged_lines(texts, conflicts.unused_size(texts))
+        self.marker_size = conflicts.unused_size(texts)
+        self.merge = merged_lines(texts, self.marker_size)
 
     def key(self, chosen: Key | None) -> Key:
         key = common_key({self.ours.key}, self.base_keys, {self.theirs.key}) or chosen
@@ -280,10 +281,10 @@ class Conflict(Vaults):
         self.plaintext = self.merge.text
 
     def is_as_it_was(self, text: bytes) -> bool:
-        return text == self.plaintext and conflicts.is_unmerged(text)
+        return text == self.plaintext and self.merge.conflicts > 0
 
     def encrypted(self, tool: Tool, text: bytes) -> bytes:
-        if conflicts.is_unmerged(text):
+        if any(len(match[1]) == self.marker_size for match in conflicts.MARKER.finditer(text)):
             raise Refused(conflicts.STILL)
         return self.sealed(tool, text, self.keys[0])
 

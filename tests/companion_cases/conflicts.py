@@ -32,7 +32,7 @@ def test_vaults(place: Place, style: str, end: bytes) -> None:
     seen = place.get("../seen")
     assert seen.startswith(b"<<<<<<<< ") and seen.count(b"x: ours\n") == seen.count(b"x: theirs\n") == 1
     assert (seen.endswith(b"\n" + LINES + b"y: ours\n"), place.get("a.yml")) == (True, before)
-    ended("markers", edit(place, 'sed -i "s/x: ours/x: both/" "$1"', *words), 1, STILL)
+    ended("a marker", edit(place, "sed -i '/^<<<<<<<< /d; /^>>>>>>>> /d' \"$1\"", *words), 1, STILL)
     assert (len(place.kept()), place.get("a.yml")) == (1, before)
     texts = {TAKE_THEIRS: b"x: theirs\n" + LINES + b"y: ours\n", f"printf '{SIDES[1].decode()}' > \"$1\"": SIDES[1]}
     for editor, text in texts.items():
