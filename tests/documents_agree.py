@@ -121,7 +121,7 @@ def test_messages_and_statuses() -> None:
     assert [(status, end) for status, end in ends if end not in texts[str(status)]] == []
 
 
-# The constants in the table of limits.
+# The constants in the table of limits, in its order.
 LIMITS = """\
     PLAINTEXT_LIMIT CIPHERTEXT_LIMIT ENVELOPE_LIMIT HEADER_LIMIT SALT_LIMIT SEALING_SALT_LENGTH SALT_TEXT_LIMIT
     LABEL_LIMIT PASSWORD_FILE_LIMIT
@@ -136,7 +136,7 @@ def test_limits() -> None:
             limits[name] = eval(expression, {}, limits)
     table = FORMATS.read_text().partition("\n## Limits\n")[2].partition("\n## ")[0].replace(",", "")
     numbers = "".join(re.findall(r"^\| .+ (\| [\d].* \|)$", table, re.MULTILINE))
-    assert {int(each) for each in re.findall(r"\d+", numbers)} - {1} == {limits[constant] for constant in LIMITS}
+    assert [int(each) for each in re.findall(r"\d+", numbers) if each != "1"] == [limits[each] for each in LIMITS]
     assert f"at most {limits['SECRET_COUNT_LIMIT']} passwords" in table
     assert (reading.LONGEST_PLAINTEXT, reading.LIMIT) == (limits["PLAINTEXT_LIMIT"], limits["ENVELOPE_LIMIT"])
     assert {int(each.replace(",", "")) for each in re.findall(r"\d+,\d{3},\d{3}", TEXT)} <= {*limits.values()}
@@ -171,10 +171,11 @@ def test_options() -> None:
     """Every option in a document belongs to one of the programs or to another known one, and to the companion or the
     command of ansible-vault-with that a document gives it to. The model has those of the program."""
     named = set(re.findall(r"(?<![\w\\-])--[a-z][\w-]+", re.sub(r"\bFl -", " --", TEXT)))
-    assert named - set().union(*SPELLINGS.values()) - {*OTHER_OPTIONS} == set()
+    assert len(named) > 40 and named - set().union(*SPELLINGS.values()) - {*OTHER_OPTIONS} == set()
     of_program = {name: SPELLINGS[f"{PROGRAM} {name}"] - {"-n", "-h", "--help"} for name in OPTIONS}
     assert of_program == {name: options | COMMON for name, options in OPTIONS.items()}
     lines = re.findall(r"\b(ansible-vault-\w+)((?: +[^\s`|;&'\"<>()]+)*)", re.sub(r" (?:\\e|\\)\n +", " ", TEXT))
+    assert sum(name in COMPANIONS and "-" in words for name, words in lines) > 30
     for name, words in ((name, words.split()) for name, words in lines if name in COMPANIONS):
         command = next((word for word in words if f"{name} {word}" in SPELLINGS), "")
         options = {word.partition("=")[0] for word in words if re.match(r"--?[A-Za-z]", word)}
