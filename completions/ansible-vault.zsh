@@ -111,10 +111,10 @@ _ansible_vault_specifications() {
             '*--vault-id=[the source of a password]:[LABEL@]SOURCE:_ansible_vault_id'
             '*'{--vault-password-file=,--vault-pass-file=}'[the source of a password]:SOURCE:_ansible_vault_files'
             '*'{-J,--ask-vault-password,--ask-vault-pass}'[ask at the terminal for a password]'
-            '--any-label[let a password encrypt what it decrypts, whatever the label]'
+            '--any-label[accept a password whose label differs from the vault'\''s]'
             '--encrypt-vault-id=[the label of the password for new vaults and values]:LABEL: '
             '(--resume --value)--value=[set this value from standard input, without an editor]:KEY.PATH: '
-            '(--resume --value)--resume[go on with what the last edit could not put into FILE]'
+            '(--resume --value)--resume[reopen what the last edit could not put into FILE]'
             '*:file:_ansible_vault_files'
         ) ;;
         'ansible-vault-hook') specifications=(
@@ -134,7 +134,7 @@ _ansible_vault_specifications() {
             '*--vault-id=[the source of a password]:[LABEL@]SOURCE:_ansible_vault_id'
             '*'{--vault-password-file=,--vault-pass-file=}'[the source of a password]:SOURCE:_ansible_vault_files'
             '*'{-J,--ask-vault-password,--ask-vault-pass}'[ask at the terminal for a password]'
-            '--any-label[let a password encrypt what it decrypts, whatever the label]'
+            '--any-label[accept a password whose label differs from the vault'\''s]'
             '--encrypt-vault-id=[the label of the password to use if the sides have different ones]:LABEL: '
             '*:file:_ansible_vault_files'
         ) ;;
@@ -146,7 +146,7 @@ _ansible_vault_specifications() {
             '*'{-J,--ask-vault-password,--ask-vault-pass}'[ask at the terminal for a password]'
             '*--new-vault-id=[the source of a new password]:[LABEL@]SOURCE:_ansible_vault_id'
             '*--new-vault-password-file=[the source of a new password]:SOURCE:_ansible_vault_files'
-            '--any-label[let a password encrypt what it decrypts, whatever the label]'
+            '--any-label[accept a password whose label differs from the vault'\''s]'
             '--dry-run[write nothing, and report what would be done]'
             '*--exclude=[skip files whose name or path matches PATTERN]:PATTERN: '
             '*:file:_ansible_vault_files'
@@ -206,7 +206,7 @@ _ansible_vault_specifications() {
             '*'{-J,--ask-vault-password,--ask-vault-pass}'[ask at the terminal for a password]'
             '--encrypt-vault-id=[the label of the password to encrypt with, among those given]:LABEL: '
             '--require-id-match[try only passwords with the label of the vault]'
-            '--any-label[let a password encrypt what it decrypts, whatever the label]'
+            '--any-label[accept a password whose label differs from the vault'\''s]'
             '--output=[the file to write, or - for standard output (default: FILE)]:PATH:_ansible_vault_files'
             '(--salt --salt-file)--salt=[the salt itself, used once]:TEXT: '
             '(--salt --salt-file)--salt-file=[the file whose first 32 bytes are the salt]:PATH:_ansible_vault_files'
@@ -237,9 +237,9 @@ _ansible_vault_specifications() {
             '*'{--vault-password-file=,--vault-pass-file=}'[the source of a password]:SOURCE:_ansible_vault_files'
             '*'{-J,--ask-vault-password,--ask-vault-pass}'[ask at the terminal for a password]'
             '--encrypt-vault-id=[the label of the password to encrypt with, among those given]:LABEL: '
-            '--any-label[let a password encrypt what it decrypts, whatever the label]'
+            '--any-label[accept a password whose label differs from the vault'\''s]'
             '(--resume --value)--value=[set this value of YAML from standard input]:KEY.PATH: '
-            '(--resume --value)--resume[start from the text that the last edit of FILE saved in a copy]'
+            '(--resume --value)--resume[reopen what the last edit could not put into FILE]'
             '--skip-tty-check[ignored]'
             '*:file:_ansible_vault_files'
         ) ;;
@@ -250,9 +250,9 @@ _ansible_vault_specifications() {
             '*'{--vault-password-file=,--vault-pass-file=}'[the source of a password]:SOURCE:_ansible_vault_files'
             '*'{-J,--ask-vault-password,--ask-vault-pass}'[ask at the terminal for a password]'
             '--encrypt-vault-id=[the label of the password to encrypt with, among those given]:LABEL: '
-            '--any-label[let a password encrypt what it decrypts, whatever the label]'
+            '--any-label[accept a password whose label differs from the vault'\''s]'
             '(--resume --value)--value=[set this value of YAML from standard input]:KEY.PATH: '
-            '(--resume --value)--resume[start from the text that the last edit of FILE saved in a copy]'
+            '(--resume --value)--resume[reopen what the last edit could not put into FILE]'
             '*:file:_ansible_vault_files'
         ) ;;
     esac

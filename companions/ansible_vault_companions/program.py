@@ -175,7 +175,7 @@ def parser(name: str, summary: str, example: str, allow_abbrev: bool = False, us
         name,
         usage,
         summary,
-        f"{example}\n\n`man {name}` says more. Companions are tested, not proved.",
+        f"{example}\n\nSee `man {name}` for more. Companions are tested, not proved.",
         formatter_class=Formatter,
         add_help=False,
         allow_abbrev=allow_abbrev,

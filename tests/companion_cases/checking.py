@@ -113,7 +113,7 @@ def test_help(name: str) -> None:
     """It fits a screen."""
     text = run_text([str(COMPANIONS[name]), "--help"]).stdout
     lines = text.splitlines()
-    assert "\n  $ " in text and lines[-1] == f"`man {name}` says more. Companions are tested, not proved."
+    assert "\n  $ " in text and lines[-1] == f"See `man {name}` for more. Companions are tested, not proved."
     assert max(map(len, lines)) <= 80 and (len(lines) <= 34 or name == WITH) and "None" not in map(str.strip, lines)
 
 

@@ -46,13 +46,13 @@ Keep using the commands of Ansible's own tool:
 PASSED_ON = {
     ENCRYPT_ID: ((*SEALING, *EDITING), "LABEL", "the label of the password to encrypt with, among those given"),
     MATCH: ((VIEW, DECRYPT, REKEY), "", "try only passwords with the label of the vault"),
-    ANY_LABEL: ((REKEY, *EDITING), "", "let a password encrypt what it decrypts, whatever the label"),
+    ANY_LABEL: ((REKEY, *EDITING), "", sources.ANY_LABEL_HELP),
     "--output": (WRITING, "PATH", "the file to write, or - for standard output (default: FILE)"),
     "--salt": (SEALING, "TEXT", "the salt itself, used once"),
     "--salt-file": (SEALING, "PATH", "the file whose first 32 bytes are the salt"),
     "--stdin-name": ((ENCRYPT_STRING,), "NAME", "read standard input, a text with this name"),
     "--value": (EDITING, "KEY.PATH", "set this value of YAML from standard input"),
-    "--resume": (EDITING, "", "start from the text that the last edit of FILE saved in a copy"),
+    "--resume": (EDITING, "", "reopen what the last edit could not put into FILE"),
 }
 
 

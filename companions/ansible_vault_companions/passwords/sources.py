@@ -23,7 +23,7 @@ ASKED = f"{DEFAULT}@{ASK}"
 BY_PATH = ["--vault-password-file", "--vault-pass-file"]
 # A script gets the label if its name, without the suffix, ends with this.
 CLIENT = "-client"
-ANY_LABEL = "--any-label"
+ANY_LABEL, ANY_LABEL_HELP = "--any-label", "accept a password whose label differs from the vault's"
 NONE = (
     "no password is given: name one with --vault-id or --vault-password-file, in ANSIBLE_VAULT_PASSWORD_FILE or "
     "in ansible.cfg, or type one with --ask-vault-password"
@@ -208,9 +208,7 @@ def add_options(parser: argparse.ArgumentParser, new: str = "", before: str = ""
 
 
 def add_any_label(parser: argparse.ArgumentParser) -> None:
-    parser.add_argument(
-        ANY_LABEL, action="store_true", help="let a password encrypt what it decrypts, whatever the label"
-    )
+    parser.add_argument(ANY_LABEL, action="store_true", help=ANY_LABEL_HELP)
 
 
 def from_options(
