@@ -32,7 +32,7 @@ _ansible_vault_listed() {
             'decrypt:decrypt vaults in place'
             'view:print the plaintext of vaults'
             'rekey:re-encrypt vaults with a new password, in place'
-            'encrypt_string:encrypt texts as values for YAML'
+            'encrypt_string:encrypt strings as values for YAML'
             'create:edit a new vault'
             'edit:edit vaults'
         ) ;;
@@ -120,8 +120,8 @@ _ansible_vault_specifications() {
         'ansible-vault-hook') specifications=(
             '(- *)'{-h,--help}'[print help]'
             '(- *)'{-V,--version}'[print version]'
-            '(--all --install --since --uninstall)--all[check the current commit and its former vaults]'
-            '(--all --install --since --uninstall)--since=[check each later commit, and all of them at once]:COMMIT: '
+            '(--all --install --since --uninstall)--all[check the current commit, and every earlier vault]'
+            '(--all --install --since --uninstall)--since=[check each later commit, and their combined change]:COMMIT: '
             '(--all --install --since --uninstall)--install[set up hooks]'
             '(--all --install --since --uninstall)--uninstall[undo what --install has set up]'
             '*--vault-id=[for --install: a labelled password file]:[LABEL@]FILE:_ansible_vault_id'
@@ -174,8 +174,8 @@ _ansible_vault_specifications() {
             '*'{--vault-password-file=,--vault-pass-file=}'[the source of a password]:SOURCE:_ansible_vault_files'
             '*'{-J,--ask-vault-password,--ask-vault-pass}'[ask at the terminal for a password]'
             '--encrypt-vault-id=[the label of the password to encrypt with, among those given]:LABEL: '
-            '--output=[the file to write, or - for standard output (default: FILE)]:PATH:_ansible_vault_files'
-            '(--salt --salt-file)--salt=[the salt itself, used once]:TEXT: '
+            '--output=[the file to write, or - for standard output]:PATH:_ansible_vault_files'
+            '(--salt --salt-file)--salt=[the salt]:TEXT: '
             '(--salt --salt-file)--salt-file=[the file whose first 32 bytes are the salt]:PATH:_ansible_vault_files'
             '*:file:_ansible_vault_files'
         ) ;;
@@ -186,7 +186,7 @@ _ansible_vault_specifications() {
             '*'{--vault-password-file=,--vault-pass-file=}'[the source of a password]:SOURCE:_ansible_vault_files'
             '*'{-J,--ask-vault-password,--ask-vault-pass}'[ask at the terminal for a password]'
             '--require-id-match[try only passwords with the label of the vault]'
-            '--output=[the file to write, or - for standard output (default: FILE)]:PATH:_ansible_vault_files'
+            '--output=[the file to write, or - for standard output]:PATH:_ansible_vault_files'
             '*:file:_ansible_vault_files'
         ) ;;
         'ansible-vault-with view') specifications=(
@@ -207,8 +207,8 @@ _ansible_vault_specifications() {
             '--encrypt-vault-id=[the label of the password to encrypt with, among those given]:LABEL: '
             '--require-id-match[try only passwords with the label of the vault]'
             '--any-label[accept a password whose label differs from the vault'\''s]'
-            '--output=[the file to write, or - for standard output (default: FILE)]:PATH:_ansible_vault_files'
-            '(--salt --salt-file)--salt=[the salt itself, used once]:TEXT: '
+            '--output=[the file to write, or - for standard output]:PATH:_ansible_vault_files'
+            '(--salt --salt-file)--salt=[the salt]:TEXT: '
             '(--salt --salt-file)--salt-file=[the file whose first 32 bytes are the salt]:PATH:_ansible_vault_files'
             '*--new-vault-id=[the source of a new password]:[LABEL@]SOURCE:_ansible_vault_id'
             '*--new-vault-password-file=[the source of a new password]:SOURCE:_ansible_vault_files'
@@ -221,13 +221,13 @@ _ansible_vault_specifications() {
             '*'{--vault-password-file=,--vault-pass-file=}'[the source of a password]:SOURCE:_ansible_vault_files'
             '*'{-J,--ask-vault-password,--ask-vault-pass}'[ask at the terminal for a password]'
             '--encrypt-vault-id=[the label of the password to encrypt with, among those given]:LABEL: '
-            '--output=[the file to write, or - for standard output (default: FILE)]:PATH:_ansible_vault_files'
-            '(--salt --salt-file)--salt=[the salt itself, used once]:TEXT: '
+            '--output=[the file to write, or - for standard output]:PATH:_ansible_vault_files'
+            '(--salt --salt-file)--salt=[the salt]:TEXT: '
             '(--salt --salt-file)--salt-file=[the file whose first 32 bytes are the salt]:PATH:_ansible_vault_files'
-            '--stdin-name=[read standard input, a text with this name]:NAME: '
-            '*'{-n,--name=}'[the name of a STRING, in their order]:NAME: '
-            '(--prompt -p)'{-p,--prompt}'[ask for one more text, and for its name]'
-            '--show-input[show that text while it is typed]'
+            '--stdin-name=[encrypt standard input, under this name]:NAME: '
+            '*'{-n,--name=}'[the name of the first STRING without one]:NAME: '
+            '(--prompt -p)'{-p,--prompt}'[ask for one more string, and for its name]'
+            '--show-input[show that string while it is typed]'
             '*:text: '
         ) ;;
         'ansible-vault-with create') specifications=(
@@ -241,7 +241,7 @@ _ansible_vault_specifications() {
             '(--resume --value)--value=[set this value of YAML from standard input]:KEY.PATH: '
             '(--resume --value)--resume[reopen what the last edit could not put into FILE]'
             '--skip-tty-check[ignored]'
-            '*:file:_ansible_vault_files'
+            '1:file:_ansible_vault_files'
         ) ;;
         'ansible-vault-with edit') specifications=(
             '(- *)'{-h,--help}'[print help]'

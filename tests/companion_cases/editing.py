@@ -127,11 +127,11 @@ CLOSED = {b"\xff": "it is not UTF-8", b"$ANSIBLE_VAULT;1.1;AES256\n": "its plain
 @pytest.mark.parametrize("text", CLOSED)
 def test_closed(place: Place, text: bytes) -> None:
     """A text that YAML cannot show stays encrypted, and a message says so."""
-    closed = block("old", text, name="a")
-    done = type_into(place, closed + block("old", b"b", name="b"), closed.decode() + "# why\n\nb: !vault |-\n\n  B\n")
+    closed, typed = block("old", text, name="a"), "# why\n\nb: !vault |- # note\n\n  B\n"
+    done = type_into(place, closed + block("old", b"b", name="b"), closed.decode() + typed)
     ended("a change", done, 0, f"vars.yml: line 2: a stays encrypted: {CLOSED[text]}\n")
     after = place.get("vars.yml")
-    assert after.startswith(closed + b"# why\n\nb: !vault |\n          $ANSIBLE_VAULT"), "without an empty line"
+    assert after.startswith(closed + b"# why\n\nb: !vault | # note\n          $ANSIBLE_VAULT"), "without an empty line"
     assert texts(after, "old") == [text, b"\nB"]
 
 

@@ -45,6 +45,13 @@ def test_leftovers(place: Place) -> None:
     assert staged(place, others) == [f"{name} was left behind by a companion, and may be plaintext"]
 
 
+def test_length(place: Place) -> None:
+    """A vault counts as one, however long it is."""
+    under_git(place, "")
+    committed(place, "a.yml", b"$ANSIBLE_VAULT;1.1;AES256\n" + b"0" * 17_000_000)
+    assert staged(place, {"a.yml": TEXT}) == [f"a.yml {WHOLE}"]
+
+
 LINES = block("old").splitlines(keepends=True)
 NO_YAML = "cannot be checked: line 2: it cannot be read as YAML: found a tab character that violates indentation"
 # What a marked file has, and why it may not. `grammar` has other headers.

@@ -19,7 +19,7 @@ COMMANDS = {
     DECRYPT: "decrypt vaults in place",
     VIEW: "print the plaintext of vaults",
     REKEY: "re-encrypt vaults with a new password, in place",
-    ENCRYPT_STRING: "encrypt texts as values for YAML",
+    ENCRYPT_STRING: "encrypt strings as values for YAML",
     CREATE: "edit a new vault",
     EDIT: "edit vaults",
 }
@@ -33,8 +33,8 @@ SUMMARY = """\
 Runs a command of ansible-vault with the passwords that Ansible would use.
 Unlike ansible-vault, it reads ansible.cfg, runs password scripts, asks for
 passwords, and changes files in place. Options for passwords may also follow
-COMMAND. --help after COMMAND prints the help for that command. If you give no
-password, you are asked for one at the terminal."""
+COMMAND. --help after COMMAND prints the help for that command. If no password
+is named, it asks for one at the terminal."""
 EXAMPLE = f"""\
 Decrypt two files in place, with a password that is typed:
   $ {NAME} --vault-id prod@prompt decrypt a.yml b.yml
@@ -47,12 +47,18 @@ PASSED_ON = {
     ENCRYPT_ID: ((*SEALING, *EDITING), "LABEL", "the label of the password to encrypt with, among those given"),
     MATCH: ((VIEW, DECRYPT, REKEY), "", "try only passwords with the label of the vault"),
     ANY_LABEL: ((REKEY, *EDITING), "", sources.ANY_LABEL_HELP),
-    "--output": (WRITING, "PATH", "the file to write, or - for standard output (default: FILE)"),
-    "--salt": (SEALING, "TEXT", "the salt itself, used once"),
+    "--output": (WRITING, "PATH", "the file to write, or - for standard output"),
+    "--salt": (SEALING, "TEXT", "the salt; never use one twice"),
     "--salt-file": (SEALING, "PATH", "the file whose first 32 bytes are the salt"),
-    "--stdin-name": ((ENCRYPT_STRING,), "NAME", "read standard input, a text with this name"),
+    "--stdin-name": ((ENCRYPT_STRING,), "NAME", "encrypt standard input, under this name"),
     "--value": (EDITING, "KEY.PATH", "set this value of YAML from standard input"),
     "--resume": (EDITING, "", "reopen what the last edit could not put into FILE"),
+}
+# What follows some commands: how many words, what they are, and their help.
+ARGUMENTS = {
+    CREATE: (1, "FILE", "the new vault"),
+    EDIT: ("+", "FILE", "vaults, YAML files or new vaults"),
+    ENCRYPT_STRING: ("*", "STRING", "the strings, or - for standard input"),
 }
 
 
@@ -80,8 +86,6 @@ def parsed(words: list[str]) -> Namespace:
     args.vault_id = [*args.before_vault_id, *args.vault_id]
     args.vault_password_file = [*args.before_vault_password_file, *args.vault_password_file]
     count = len(args.arguments)
-    if args.command == CREATE and count > 1:
-        parser.error("create takes one FILE")
     if len(args.new_vault_id) + len(args.new_vault_password_file) > 1:
         parser.error("rekey takes one new password")
     if args.command == ENCRYPT_STRING:
@@ -105,13 +109,12 @@ def _add_options(parser: argparse.ArgumentParser, command: str) -> None:
     if command == CREATE:
         parser.add_argument("--skip-tty-check", action="store_true", help="ignored")
     if command == ENCRYPT_STRING:
-        name = "the name of a STRING, in their order"
+        name = "the name of the first STRING without one; may be repeated"
         parser.add_argument("-n", "--name", action="append", default=[], help=name)
-        parser.add_argument("-p", "--prompt", action="store_true", help="ask for one more text, and for its name")
-        parser.add_argument("--show-input", action="store_true", help="show that text while it is typed")
-    what, texts = ("STRING", "texts") if command == ENCRYPT_STRING else ("FILE", "files")
-    text = f"the {texts}, or - for standard input"
-    parser.add_argument("arguments", metavar=what, nargs="+" if command in EDITING else "*", help=text)
+        parser.add_argument("-p", "--prompt", action="store_true", help="ask for one more string, and for its name")
+        parser.add_argument("--show-input", action="store_true", help="show that string while it is typed")
+    count, what, text = ARGUMENTS.get(command, ("*", "FILE", "the files, or - for standard input"))
+    parser.add_argument("arguments", metavar=what, nargs=count, help=text)
 
 
 def passed_on(args: Namespace, without: Iterable[str] = ()) -> list[str]:

@@ -9,7 +9,6 @@ from __future__ import annotations
 import hashlib
 import os
 import shutil
-import stat
 import tempfile
 from contextlib import suppress
 
@@ -34,7 +33,6 @@ PREFIX = "ansible-vault-"
 # Precedes the text of a copy, so that no text begins like a vault, which ansible-vault would not encrypt. The digest is
 # that of the text that the edit began with.
 HEAD = b"# ansible-vault-edit %s: what was saved begins below.\n"
-
 
 
 class PrivateFolder:
@@ -85,7 +83,7 @@ def copies_folder() -> str:
         raise Refused(f"{shown(path)} is in a git repository")
     with suppress(FileNotFoundError):
         about = os.lstat(path)
-        if not stat.S_ISDIR(about.st_mode) or about.st_uid != os.geteuid() or about.st_mode & 0o077:
+        if about.st_uid != os.geteuid() or about.st_mode & 0o077:
             raise Refused(f"{shown(path)} is not a directory that only you can open")
     return path
 

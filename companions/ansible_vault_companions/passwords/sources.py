@@ -195,13 +195,10 @@ def add_options(parser: argparse.ArgumentParser, new: str = "", before: str = ""
     if not new:
         parser.set_defaults(new_vault_id=[], new_vault_password_file=[], any_label=False)
     ids, paths = (f"{before}{new}{name}".replace("-", "_") for name in ("vault-id", "vault-password-file"))
-    text = f"the source of a {'new ' * bool(new)}password"
-    many = f"{text}; may be repeated"
-    parser.add_argument(
-        f"--{new}vault-id", dest=ids, action="append", default=[], metavar="[LABEL@]SOURCE", help=many
-    )
-    names, about = ([f"--{new}vault-password-file"], text) if new else (BY_PATH, many)
-    parser.add_argument(*names, dest=paths, action="append", default=[], metavar="SOURCE", help=about)
+    text = "the source of a new password" if new else "the source of a password; may be repeated"
+    parser.add_argument(f"--{new}vault-id", dest=ids, action="append", default=[], metavar="[LABEL@]SOURCE", help=text)
+    names = [f"--{new}vault-password-file"] if new else BY_PATH
+    parser.add_argument(*names, dest=paths, action="append", default=[], metavar="SOURCE", help=text)
     if not new:
         asks = "ask at the terminal for a password"
         parser.add_argument(*ASKING, dest=ids, action="append_const", const=ASKED, help=asks)
