@@ -124,7 +124,7 @@ _ansible_vault_specifications() {
             '(--all --install --since --uninstall)--since=[check each later commit, and their combined change]:COMMIT: '
             '(--all --install --since --uninstall)--install[set up hooks]'
             '(--all --install --since --uninstall)--uninstall[undo what --install has set up]'
-            '*--vault-id=[for --install: a labelled password file]:[LABEL@]FILE:_ansible_vault_id'
+            '*--vault-id=[for --install: a labeled password file]:[LABEL@]FILE:_ansible_vault_id'
             '*--vault-password-file=[for --install: a password file]:FILE:_ansible_vault_files'
             '*:file:_ansible_vault_files'
         ) ;;
@@ -225,7 +225,7 @@ _ansible_vault_specifications() {
             '(--salt --salt-file)--salt=[the salt]:TEXT: '
             '(--salt --salt-file)--salt-file=[the file whose first 32 bytes are the salt]:PATH:_ansible_vault_files'
             '--stdin-name=[encrypt standard input, under this name]:NAME: '
-            '*'{-n,--name=}'[the name of the first STRING without one]:NAME: '
+            '*'{-n,--name=}'[the name of the next STRING]:NAME: '
             '(--prompt -p)'{-p,--prompt}'[ask for one more string, and for its name]'
             '--show-input[show that string while it is typed]'
             '*:text: '

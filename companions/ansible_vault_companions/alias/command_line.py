@@ -109,7 +109,7 @@ def _add_options(parser: argparse.ArgumentParser, command: str) -> None:
     if command == CREATE:
         parser.add_argument("--skip-tty-check", action="store_true", help="ignored")
     if command == ENCRYPT_STRING:
-        name = "the name of the first STRING without one; may be repeated"
+        name = "the name of the next STRING; may be repeated"
         parser.add_argument("-n", "--name", action="append", default=[], help=name)
         parser.add_argument("-p", "--prompt", action="store_true", help="ask for one more string, and for its name")
         parser.add_argument("--show-input", action="store_true", help="show that string while it is typed")

@@ -180,7 +180,7 @@ def _is_utf_8(text: bytes) -> bool:
 
 
 def _check_tags(before: Document, after: Document) -> None:
-    """Refuses a new tag, which may be a misspelt one, unless the user confirms it at the terminal."""
+    """Refuses a new tag, which may be a misspelled one, unless the user confirms it at the terminal."""
     known = {value.tag for value in before.values} | {"", *TAGS}
     for value in after.values:
         if value.tag not in known:
