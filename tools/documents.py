@@ -87,7 +87,7 @@ def written(page: str) -> str:
     left = map(printed, EXPLAINED)
     page = BLOCK.sub(lambda block: f"{block[1]}{next(left)}{block[3]}", page)
     page = re.sub(r"\d+(?= lines of code)", str(sum(printed(pattern).count("\n") for pattern in TRUSTED)), page)
-    page = re.sub(r"\d+(?= lines to read)", str(sum(map(to_read, needed()[0]))), page)
+    page = re.sub(r"[\d,]+(?= lines to read)", f"{sum(map(to_read, needed()[0])):,}", page)
     return PLACE.sub(place, page)
 
 
