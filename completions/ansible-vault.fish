@@ -129,7 +129,7 @@ complete -c ansible-vault-with -n '__fish_seen_subcommand_from encrypt_string' -
 complete -c ansible-vault-with -n '__fish_seen_subcommand_from encrypt_string' -s n -l name -x -d 'the name of the next STRING'
 complete -c ansible-vault-with -n '__fish_seen_subcommand_from encrypt_string' -s p -l prompt -d 'ask for one more string, and for its name'
 complete -c ansible-vault-with -n '__fish_seen_subcommand_from encrypt_string' -l show-input -d 'show that string while it is typed'
-complete -c ansible-vault-with -n '__fish_seen_subcommand_from create edit' -l value -x -d 'set this value of YAML from standard input'
+complete -c ansible-vault-with -n '__fish_seen_subcommand_from create edit' -l value -x -d 'set this YAML value from standard input'
 complete -c ansible-vault-with -n '__fish_seen_subcommand_from create edit' -l resume -d 'reopen what the last edit could not put into FILE'
 complete -c ansible-vault-with -n '__fish_seen_subcommand_from create' -l skip-tty-check -d ignored
 # Here it ends.

@@ -238,7 +238,7 @@ _ansible_vault_specifications() {
             '*'{-J,--ask-vault-password,--ask-vault-pass}'[ask at the terminal for a password]'
             '--encrypt-vault-id=[the label of the password to encrypt with, among those given]:LABEL: '
             '--any-label[accept a password whose label differs from the vault'\''s]'
-            '(--resume --value)--value=[set this value of YAML from standard input]:KEY.PATH: '
+            '(--resume --value)--value=[set this YAML value from standard input]:KEY.PATH: '
             '(--resume --value)--resume[reopen what the last edit could not put into FILE]'
             '--skip-tty-check[ignored]'
             '1:file:_ansible_vault_files'
@@ -251,7 +251,7 @@ _ansible_vault_specifications() {
             '*'{-J,--ask-vault-password,--ask-vault-pass}'[ask at the terminal for a password]'
             '--encrypt-vault-id=[the label of the password to encrypt with, among those given]:LABEL: '
             '--any-label[accept a password whose label differs from the vault'\''s]'
-            '(--resume --value)--value=[set this value of YAML from standard input]:KEY.PATH: '
+            '(--resume --value)--value=[set this YAML value from standard input]:KEY.PATH: '
             '(--resume --value)--resume[reopen what the last edit could not put into FILE]'
             '*:file:_ansible_vault_files'
         ) ;;

@@ -33,8 +33,8 @@ SUMMARY = """\
 Runs a command of ansible-vault with the passwords that Ansible would use.
 Unlike ansible-vault, it reads ansible.cfg, runs password scripts, asks for
 passwords, and changes files in place. Options for passwords may also follow
-COMMAND. --help after COMMAND prints the help for that command. If no password
-is named, it asks for one at the terminal."""
+COMMAND. --help after COMMAND prints the help for that command. If neither you
+nor the settings name a password, you are asked for one at the terminal."""
 EXAMPLE = f"""\
 Decrypt two files in place, with a password that is typed:
   $ {NAME} --vault-id prod@prompt decrypt a.yml b.yml
@@ -51,7 +51,7 @@ PASSED_ON = {
     "--salt": (SEALING, "TEXT", "the salt; never use one twice"),
     "--salt-file": (SEALING, "PATH", "the file whose first 32 bytes are the salt"),
     "--stdin-name": ((ENCRYPT_STRING,), "NAME", "encrypt standard input, under this name"),
-    "--value": (EDITING, "KEY.PATH", "set this value of YAML from standard input"),
+    "--value": (EDITING, "KEY.PATH", "set this YAML value from standard input"),
     "--resume": (EDITING, "", "reopen what the last edit could not put into FILE"),
 }
 # What follows some commands: how many words, what they are, and their help.
