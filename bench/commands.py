@@ -56,7 +56,7 @@ TABLE = {
     "view, 1 KiB": "`view`, 1 KiB",
     "view, 1 MiB": "`view`, 1 MiB",
     "view, 16 MiB": "`view`, 16 MiB",
-    "view, 1 KiB, by the alias": "`view FILE`, 1 KiB, by the alias",
+    "view, 1 KiB, via the alias": "`view FILE`, 1 KiB, via the alias",
     "view, 1 KiB, the tenth password fits": "`view`, 1 KiB, nine wrong passwords and the right one",
 }
 TIMES = {CLOCK: "the clock", PROCESSOR: "processor time"}
@@ -136,7 +136,7 @@ class Rows:
         }
         if self.ansible is not None:
             tasks[THEIRS] = Task([self.ansible, "decrypt", *self.alone, "--output", "-", path], b"", accepts)
-        return Row("view, 1 KiB, by the alias", 1 << 10, tasks)
+        return Row("view, 1 KiB, via the alias", 1 << 10, tasks)
 
     def chosen(self, sizes: dict[str, int], start: str) -> Iterator[Row]:
         """Yield the rows whose names begin with `start`. The others are not prepared."""
