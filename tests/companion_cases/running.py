@@ -142,7 +142,6 @@ def test_several_strings(place: Place) -> None:
     assert (done.returncode, done.stdout, done.stderr.splitlines()) == (0, "", notes), "names"
     assert (place.mode("blocks.yml"), texts(place.get("blocks.yml"), "dev")) == ("0o600", [b"a word", b"another"])
     assert "word" not in (place.path / "seen").read_text(), "strings are no arguments of the tool"
-    silent("a single one needs no note", place.shell(f"{WITH} {STRINGS} one --name x --output blocks.yml"))
 
 
 def test_create(place: Place) -> None:
