@@ -75,7 +75,7 @@ complete -c ansible-vault-edit -l resume -d 'reopen what the last edit could not
 complete -c ansible-vault-hook -s h -l help -d 'print help'
 complete -c ansible-vault-hook -s V -l version -d 'print version'
 complete -c ansible-vault-hook -l all -d 'check the current commit, and every earlier vault'
-complete -c ansible-vault-hook -l since -x -d 'check each later commit, and their combined change'
+complete -c ansible-vault-hook -l since -x -d 'check all later commits, and their combined change'
 complete -c ansible-vault-hook -l install -d 'set up hooks'
 complete -c ansible-vault-hook -l uninstall -d 'undo what --install has set up'
 complete -c ansible-vault-hook -l vault-id -x -a '(__ansible_vault_ids)' -d 'for --install: a labeled password file'

@@ -121,7 +121,7 @@ _ansible_vault_specifications() {
             '(- *)'{-h,--help}'[print help]'
             '(- *)'{-V,--version}'[print version]'
             '(--all --install --since --uninstall)--all[check the current commit, and every earlier vault]'
-            '(--all --install --since --uninstall)--since=[check each later commit, and their combined change]:COMMIT: '
+            '(--all --install --since --uninstall)--since=[check all later commits, and their combined change]:COMMIT: '
             '(--all --install --since --uninstall)--install[set up hooks]'
             '(--all --install --since --uninstall)--uninstall[undo what --install has set up]'
             '*--vault-id=[for --install: a labeled password file]:[LABEL@]FILE:_ansible_vault_id'

@@ -59,7 +59,7 @@ ROWS = [
     Row(f"encrypt_string {DEV} 'first' --name one --stdin-name two <<< ' second '"),
     Row(f"encrypt_string {DEV} --stdin-name 'db_password' --output new.yml <<< letmein", since=(2, 14)),
     Row(f"encrypt_string {DEV} -p 'second' --name two --output new.yml", "", HIDDEN, (2, 14)),
-    Row(f"encrypt_string {DEV} --prompt --show-input --output new.yml", "", SHOWN, (2, 14)),
+    Row(f"encrypt_string {DEV} --prompt --show-input 'second' --output new.yml", "", SHOWN, (2, 14)),
 ]
 
 
@@ -90,7 +90,6 @@ def test_lines(cases: Companions, row: Row) -> None:
     needs("bash")
     ours, session = outcome(cases.place(), row, WITH, row.line)
     assert ours[0] is True, f"status ({session.stderr} {session.shown})"
-    assert ("# Value 1" in session.stderr) == ("# Value 2" in session.stderr), "a single string needs no note"
     ansible = needs_ansible()
     if ansible_release() >= row.since:
         # Since 2.19, Ansible's tool creates a file only at a terminal, or with this option.
