@@ -55,7 +55,7 @@ PASSED_ON = {
     "--resume": (EDITING, "", "reopen what the last edit could not put into FILE"),
 }
 # What follows some commands: how many words, what they are, and their help.
-ARGUMENTS = {
+ARGUMENTS: dict[str, tuple[int | str, str, str]] = {
     CREATE: (1, "FILE", "the new vault"),
     EDIT: ("+", "FILE", "vaults, YAML files or new vaults"),
     ENCRYPT_STRING: ("*", "STRING", "the strings, or - for standard input"),
