@@ -13,6 +13,6 @@ pytestmark = [pytest.mark.planted, pytest.mark.timeout(3600)]
 def test_some(program: str, request: pytest.FixtureRequest) -> None:
     """They run beside the proofs of newcomer.py, which leave processors idle."""
     seed = request.config.getoption("--seed")
-    words = [f"--program={program}", "--faults=4", "--mutants=12", f"--seed={seed}", "--jobs=3"]
+    words = [f"--program={program}", "--faults=4", "--mutants=12", "--limit=150", f"--seed={seed}", "--jobs=3"]
     done = run_text([f"{ROOT}/tools/plant_faults", *words], stderr=subprocess.STDOUT, timeout=None)
     assert done.returncode == 0, done.stdout

@@ -40,7 +40,7 @@ FAILING = [
     ("data", "no script", NO_PROGRAM),
     ("script", "#!/bin/sh\nkill -9 $$", "signal 9 ended this script"),
     ("script", "#!/bin/sh\nprintf ' word'", SPACE),
-    ("keys-client", "#!/bin/sh\nprintf '\\033[2J' >&2; exit 9", "this script ended with status 9: '\\x1b[2J'"),
+    ("keys-client", "#!/bin/sh\nprintf 'no\\n\\033[2J' >&2; exit 9", "this script ended with status 9: 'no \\x1b[2J'"),
 ]
 
 
