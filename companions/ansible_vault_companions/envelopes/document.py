@@ -164,9 +164,7 @@ class Document:
 
 def mentions(data: bytes) -> bool:
     """Whether the data may have an envelope. It may be a piece of a file."""
-    if any(word in data for word in WORDS):
-        return True
-    return (b"\\" in data or b"%" in data) and BINARY not in data and ESCAPES.search(data) is not None
+    return any(word in data for word in WORDS) or BINARY not in data and ESCAPES.search(data) is not None
 
 
 def read(data: bytes, every: bool = False) -> Document:
