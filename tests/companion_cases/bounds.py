@@ -5,7 +5,7 @@ import sys
 
 import pytest
 
-from companion_cases import CHECK, ROTATE, TEXTCONV, Place, block, to_new
+from companion_cases import CHECK, ROTATE, TEXTCONV, WITH, Place, block, ended, to_new
 
 SECONDS, KILOBYTES = 8, 100_000
 BLOCK, COMMENT = block("old"), b"".join(b"# " + line for line in block("old").splitlines(keepends=True))
@@ -52,3 +52,5 @@ def test_sparse_gigabyte(place: Place) -> None:
     os.truncate(place.tree / "image", 1 << 30)
     assert used(place, CHECK, *place.by_file("old"), ".") == 0
     assert used(place, TEXTCONV, *place.by_file("old"), "image") == 0
+    too_long = "image: it has more than 100,671,488 bytes, more than any vault\n"
+    ended("decrypt", place.run(WITH, "decrypt", *place.by_file("old"), "image"), 1, too_long)

@@ -101,6 +101,7 @@ def test_editors(place: Place) -> None:
 MISREAD = {
     "b: !vault\n": "line 1: b is missing after `!vault`",
     "b: !vault [a]\n": "line 1: b is a list, a mapping or a key, not a string",
+    "b: 'x\n": "line 2: it cannot be read as YAML: found unexpected end of stream",
     "b: !vault |-\n  x\ny\n": "line 4: it cannot be read as YAML: could not find expected ':'",
     "b: !vault $ANSIBLE_VAULT_TOKEN x\n": "line 1: b begins like a vault ($ANSIBLE_VAULT), but is not one",
 }

@@ -102,7 +102,7 @@ def random_case(random: Random, secrets: Path) -> Case:
     secret = random.choice(named * 9 + [f"dev@/{name}" for name in PASSWORDS])
     label = random.choice([label_of(secret), *LABELS])
     vault = sealed(secret.rpartition("/")[2], TEXT, "" if label == DEFAULT else label)
-    encrypt, match = random.choice([""] * 6 + LABELS), random.choice(["", "", "", "True", "False"])
+    encrypt, match = random.choice([""] * 6 + LABELS), random.choice(["", "", "", "True", "False", '""'])
     by_variables = random.random() < 0.5
     return Case(command, ids, paths, to_encrypt, by_variables, identities, password_files, encrypt, match, vault)
 

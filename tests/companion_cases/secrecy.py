@@ -1,6 +1,7 @@
 """No secret is in the arguments and the environment of programs, or on disks, and no program but the tool gets one."""
 
 import re
+import sys
 import resource
 
 import pytest
@@ -94,6 +95,8 @@ def test_which_tool(place: Place) -> None:
     """Another program with the name of the tool gets no password."""
     place.put("a.yml", sealed("old"))
     (place.tools / "ansible-vault").unlink()
+    words = [sys.executable, "-IB", str(place.tools / CHECK), *place.by_file("old"), "."]
+    ended("none", place.run(*words, PATH="/nowhere"), 1, "there is no ansible-vault beside this program or on PATH")
     theirs = '[ "$1" = --version ] && echo "ansible-vault [core 2.14.18]"; echo run >> ../runs'
     place.script(theirs, "tools/ansible-vault")
     done = place.run(CHECK, *place.by_file("old"), ".")

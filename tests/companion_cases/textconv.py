@@ -15,6 +15,7 @@ OTHER, MALFORMED = block("dev", label="x"), b"$ANSIBLE_VAULT;1.1\n"
 NO_SECRET = "shown as it is: no secret decrypts this vault"
 NO_VAULT = ": shown as it is: it is not a vault and has no encrypted value\n"
 SIDES = b"<<<<<<< a\n%s=======\n%s>>>>>>> b\n" % (sealed("old", b"1\n2\n"), sealed("new", b"1\n3\n"))
+SIDES_SHOWN = b"<<<<<<< a\n1\n2\n=======\n1\n3\n>>>>>>> b\n"
 # The content of a file, what is printed, and the beginning of the message after the file's name, if there is one.
 CONTENTS = {
     "a vault": (sealed("old", b"\x00\xff", "prod"), b"\x00\xff", ""),
@@ -24,6 +25,7 @@ CONTENTS = {
     "another vault": (sealed("dev"), sealed("dev"), f": {NO_SECRET} (label default; tried "),
     "a malformed header": (MALFORMED, MALFORMED, ": shown as it is: vault header line is malformed"),
     "a conflict": (SIDES, b"1\n<<<<<<< ours\n2\n=======\n3\n>>>>>>> theirs\n", ""),
+    "a conflict that does not end": (SIDES + b"<<<<<<< a\n", SIDES_SHOWN + b"<<<<<<< a\n", ""),
     "plaintext": (TEXT, TEXT, NO_VAULT),
     "nothing": (b"", b"", NO_VAULT),
 }
