@@ -192,7 +192,10 @@ ROWS = {
     "no text": Row(block("old"), EDITED, "!vault`; write `(.*)` for", type_it, [TEXT, b""], "", TYPE.format("")),
     "a new vault": Row(str, BY_BOTH, "is new; .* with (.*)", rf"{BY_BOTH} \1 dev", [b"x\n"], "", 'echo x > "$1"'),
     "a whole vault": Row(OLD_VAULT, f"{EDITED} --value=x", "edit it without (--value)", EDITED),
-    "no copy": Row(OLD_VAULT, f"{EDITED} --resume", "edit it without (--resume)", EDITED),
+    "no copy": Row(
+        lambda case: (left_copy(case._replace(name=f"inner/{case.name}")), case.put(OLD_VAULT)),
+        *(f"{EDITED} --resume", "edit it without (--resume)", EDITED),
+    ),
     "a failure": Row(OLD_VAULT, EDITED, r"\n(--\w+) reopens", rf"env EDITOR=true {EDITED} \1", [CHANGED], "", FAIL),
     "a copy": Row(left_copy, EDITED, "; (.*) reopens it", rf"{EDITED} \1", [CHANGED]),
     "a change": Row(has_changed, f"{EDITED} --resume", "that left (.*); .* `(.*)` shows", rf"\2 {OLD} \1", [b"x"]),

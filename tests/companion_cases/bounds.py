@@ -48,9 +48,11 @@ def test_files(place: Place, content: bytes) -> None:
 
 def test_sparse_gigabyte(place: Place) -> None:
     """It is read in pieces, and only as far as a vault may be long."""
-    place.put("image", b"")
-    os.truncate(place.tree / "image", 1 << 30)
-    assert used(place, CHECK, *place.by_file("old"), ".") == 0
+    for name, start, status in (("image", b"", 0), ("a.yml", BLOCK, 1)):
+        place.put(name, start)
+        os.truncate(place.tree / name, 1 << 30)
+        assert used(place, CHECK, *place.by_file("old"), name) == status, "it fails if there is an envelope"
     assert used(place, TEXTCONV, *place.by_file("old"), "image") == 0
     too_long = "image: it has more than 100,671,488 bytes, more than any vault\n"
     ended("decrypt", place.run(WITH, "decrypt", *place.by_file("old"), "image"), 1, too_long)
+    assert place.shell(f"{TEXTCONV} --vault-id {place.secret('old')} image | wc -c").stdout == f"{1 << 30}\n"

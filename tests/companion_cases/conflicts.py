@@ -39,6 +39,7 @@ def test_vaults(place: Place, style: str, end: bytes) -> None:
         place.put("a.yml", before)
         ended(editor, edit(place, editor, *words), 0)
         assert decrypted("old", place.get("a.yml").replace(b"\r", b"")) == text
+    assert place.get("a.yml") == vaults[1], "the vault of a side is kept"
 
 
 def test_merged_texts(place: Place) -> None:

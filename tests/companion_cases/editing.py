@@ -40,7 +40,10 @@ UNCHANGED = "nothing was changed; if the editor returned at once, give it an opt
 LEFT_NONE = ".yml: the editor left no file; nothing was changed\n"
 
 
-@pytest.mark.parametrize("editor, status, why", [("true", 0, UNCHANGED), ('rm -r "${1%/*}"', 1, LEFT_NONE)])
+STAYS = [("true", 0, UNCHANGED), ("exit 3", 1, "status 3); nothing was changed\n"), ('rm -r "${1%/*}"', 1, LEFT_NONE)]
+
+
+@pytest.mark.parametrize("editor, status, why", STAYS)
 def test_what_stays(place: Place, editor: str, status: int, why: str) -> None:
     """If an edit fails or changes nothing, the vault is not even written, no new one is made, and nothing is left."""
     place.put("all.yml", vault := sealed("old"))
@@ -56,7 +59,7 @@ BOTH = "--vault-id prod@../secrets/dev --vault-id dev@../secrets/prod"
 OF_ANOTHER = "its label is prod, but dev@../secrets/prod, a password"
 # Files, and why the edit of one is refused. A secret with another label opens the last two.
 REFUSED = {
-    "linked.yml": "it has 2 names (hard links)",
+    "odd.yml": "its label a@b has an @, so no option can name it",
     "closed.yml": "line 2: secret: no secret decrypts this vault (label default; tried prod@../secrets/dev, dev@",
     "vault.yml": OF_ANOTHER,
     "values.yml": f"line 2: secret: {OF_ANOTHER}",
@@ -65,8 +68,7 @@ REFUSED = {
 
 def test_labels(place: Place) -> None:
     """A refused edit does not start the editor. If another label is permitted, that label and its secret stay."""
-    place.put("linked.yml", sealed("dev", label="prod"))
-    os.link(place.tree / "linked.yml", place.path / "second name")
+    place.put("odd.yml", sealed("dev", label="a@b"))
     place.put("closed.yml", block("old"))
     place.put("vault.yml", sealed("prod", label="prod"))
     place.put("values.yml", block("prod", label="prod"))
@@ -84,12 +86,12 @@ def test_labels(place: Place) -> None:
 def test_editors(place: Place) -> None:
     """$VISUAL is a shell command, and precedes $EDITOR. A link stays one. Even if nothing changes, all is encrypted."""
     script = place.script('printf "%s|" "$1" "$2" > ../words; sed -i s/correct/wrong/ "$3"', "an editor")
-    place.put("shared/all.yml", sealed("old"))
+    place.put("shared/all.yml", sealed("old").replace(b"\n", b"\r\n"))
     (place.tree / "link.yml").symlink_to("shared/all.yml")
-    silent("it", edit(place, "false", *place.by_file("old"), "link.yml", VISUAL=f"'{script}' --wait \"two words\""))
+    silent("it", edit(place, "false", *place.by_file("old"), "link.yml", VISUAL=f"X=1 '{script}' --wait 'two words'"))
     assert (place.path / "words").read_text() == "--wait|two words|"
-    link, text = os.readlink(place.tree / "link.yml"), decrypted("old", place.get("shared/all.yml"))
-    assert (link, text) == ("shared/all.yml", CHANGED)
+    link, after = os.readlink(place.tree / "link.yml"), place.get("shared/all.yml")
+    assert (link, decrypted("old", after), after[25:27]) == ("shared/all.yml", CHANGED, b"\r\n"), "and line ends stay"
     place.put("vars.yml", block("old") + b"b: !vault x\n")
     silent("it", edit(place, "true", *place.by_file("old"), "vars.yml"))
     assert texts(place.get("vars.yml"), "old") == [TEXT, b"x"]
@@ -111,7 +113,7 @@ def type_into(place: Place, content: bytes, text: str) -> Done:
     """Edit a file with this content, so that it becomes the text."""
     place.put("vars.yml", content)
     place.put("../typed", text.encode())
-    return edit(place, 'cp ../typed "$1"', *place.by_file("old"), "vars.yml")
+    return edit(place, 'cp ../typed "$1"', *place.by_file("old"), "new.yml", "vars.yml")
 
 
 @pytest.mark.parametrize("text", MISREAD)
@@ -149,6 +151,7 @@ LISTS = [
     ("dev:one", "neu eins", "--encrypt-vault-id=prod", ""),
     ("prod:one prod2:two", "two!", "", ""),
     ("dev:same prod:same", "changed same", "", "dev prod"),
+    ("dev:same prod:same", "x y same same", "--encrypt-vault-id=dev", ""),
 ]
 
 

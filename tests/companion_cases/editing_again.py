@@ -21,7 +21,7 @@ NO, YES = b"no\n", b"yes\n"
 # What the editor does when it opens again, what is typed at each question, the status, and a part of the message.
 ENDS = {
     "mended": (MEND, [YES], 0, ""),
-    "no, later": (":", [YES, YES, NO], 1, NO_YAML),
+    "no answer, later": (":", [YES, YES, b"\x04"], 1, NO_YAML),
     "an interrupt": (":", [b"\x03"], 130, NO_YAML),
     "the editor fails": ("exit 3", [YES], 1, "status 3"),
 }
@@ -64,6 +64,7 @@ def test_resumed(place: Place) -> None:
     words = [*place.by_file("old"), "--", name]
     ended("a mistake", edit(place, f"echo '{TYPO}' >> \"$1\"", *words), 1, "--resume reopens it")
     ended("not mended", edit(place, 'echo "# x" >> "$1"', "--resume", *words), 1, "it cannot be read as YAML")
+    ended("taken back", edit(place, 'sed -i "3,$ d" "$1"', "--resume", *words), 0, "nothing was changed")
     assert sorted(place.kept()) == [TYPED, TYPED + b"# x\n"]
     done = edit(place, f'cp "$1" ../seen; {MEND}', "--resume", *words)
     assert (done.returncode, done.stderr.count("an earlier edit is encrypted in")) == (0, 1), done.stderr

@@ -52,7 +52,7 @@ PASSING: dict[str, tuple[Content, Content]] = {
     "a template": ({"a.j2": PW}, {"a.j2": b"{% if x %}\n" + PW2 + b"{% endif %}\n"}),
     "a test of the header": (X, {"a.py": b'HEADER = "$ANSIBLE_VAULT;1.1;AES256"\n'}),
     "a document with a cut example": (X, {"a.md": b"```\n" + PW[:200] + b"\n```\n"}),
-    "damage, as allowed": (X, {"a.txt": CONFLICT % (PW, CUT), ".gitattributes": b"*.txt -ansible-vault"}),
+    "meant damage": (X, {"a.txt": CONFLICT % (PW, CUT), ".gitattributes": b"*.txt -ansible-vault diff=ansible-vault"}),
 }
 pw, db, elsewhere = (IN_PART.format(key) for key in ("pw", "db.pw", "db.pw of a.yml"))
 DAMAGED, CUT_VALUE, UNMERGED = "is a damaged vault", "has a damaged value in line {}", "has git's conflict markers"

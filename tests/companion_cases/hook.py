@@ -6,6 +6,7 @@ from companion_cases import HOOK, TEXT, WITH, Place, block, ended, run_changed, 
 from companion_cases.repository import GONE, WHOLE, add_and_commit, committed, fork, staged, told, under_git, with_hooks
 from lib.needs import needs
 from lib.paths import ROOT
+from model.vaults import serialized
 
 pytestmark = pytest.mark.usefixtures("git")
 
@@ -50,6 +51,7 @@ def test_length(place: Place) -> None:
     under_git(place, "")
     committed(place, "a.yml", b"$ANSIBLE_VAULT;1.1;AES256\n" + b"0" * 17_000_000)
     assert staged(place, {"a.yml": TEXT}) == [f"a.yml {WHOLE}"]
+    assert staged(place, {"a.yml": serialized(TEXT, bytes(32), bytes(5_000_000))}) == []
 
 
 LINES = block("old").splitlines(keepends=True)
@@ -106,7 +108,7 @@ def test_files(place: Place) -> None:
         place.put(name, TEXT)
     add_and_commit(place)
     place.put("c.vault.yml", TEXT)
-    place.shell("git add c.vault.yml")
+    place.shell(f"git add c.vault.yml && git update-index --add --cacheinfo 160000,{'1' * 40},submodule")
     lines = [f"{name} is not encrypted" for name in ("c.vault.yml", *names)]
     assert told(place.run(HOOK, *names, "plain.yml")) == lines, "files, and what is staged"
     assert told(place.run(HOOK, ".", "../plain.yml", folder="inner")) == [lines[0], lines[2]], "a folder"
@@ -169,7 +171,8 @@ def test_history(place: Place) -> None:
     assert told(place.run(HOOK, "--since", leak)) == [in_last], "nor what came before"
     silent("nothing since", place.run(HOOK, "--since", "HEAD"))
     wanted = ["deep/a.vault.yml is not encrypted", f"b.yml {WHOLE.replace('HEAD', 'an earlier commit')}"]
-    assert told(place.run(HOOK, "--all", folder="deep")) == wanted
+    done = place.run(HOOK, "--all", folder="deep")
+    assert told(done) == wanted and "deep/.gitattributes: /a.vault.yml !diff" in done.stderr, "the nearest one"
     place.shell("git reset -q --hard && git sparse-checkout set other")
     assert told(place.run(HOOK, "--all")) == wanted
     assert "deep" not in place.names()

@@ -61,6 +61,13 @@ def test_stops(place: Place, what: str) -> None:
     assert ([str(path) for path in place.copies()], place.files()) == ([name] if how == SEALED else [], stays)
 
 
+def test_what_cannot_be_removed(place: Place) -> None:
+    place.put("all.yml", sealed("old"))
+    words, change = [*place.by_file("old"), "all.yml"], "import shutil; shutil.rmtree = lambda *_, **_options: None"
+    done = run_changed(place, EDIT, change, words, EDITOR=place.script(CHANGE, "editor"))
+    ended("the edit", done, 1, f"plaintext is left in {place.left()[0]}; remove it yourself\n")
+
+
 OF_DEV = block("dev", b"one", "dev", "a")
 NO_YAML = "printf '%s\\n' 'c: !vault \"more' >> \"$1\""
 # A file, a second secret, more options, and how the text is kept: with several passwords, none may read all of it.

@@ -17,16 +17,18 @@ def test_marked_files(place: Place) -> None:
     for name in ("one/a.yml", "one/b.vault.yml", "one/secrets/deep/vars.yml", "two/a.vault.yml", "outside.vault.yml"):
         place.put(name, TEXT)
     place.put("one/.gitattributes", ATTRIBUTES.encode())
-    place.put("one/secrets/ok", sealed("old"))
+    place.put("one/secrets/ok", sealed("old", MERGE))
     place.put("one/d.yml", MERGE + block("old"))
     (place.tree / "one/link.vault.yml").symlink_to("a.yml")
     done = place.run(CHECK, *place.by_file("old"), "one", "two", "outside.vault.yml")
     wanted = [f"one/{name}: is not encrypted" for name in ("b.vault.yml", "link.vault.yml", "secrets/deep/vars.yml")]
-    wanted.append("one/d.yml: has git's conflict markers")
+    wanted += [f"one/{what} has git's conflict markers" for what in ("d.yml:", "secrets/ok: default: its plaintext")]
     assert sorted(line.partition(";")[0] for line in done.stderr.splitlines()) == sorted(
         f"{CHECK}: {each}" for each in wanted
     )
-    ended("the check", done, 1, "2 decrypted, 4 not\n")
+    ended("the check", done, 1, "2 decrypted, 5 not\n")
+    (place.tree / "link.yml").symlink_to("one/b.vault.yml")
+    ended("a link to one", place.run(CHECK, *place.by_file("old"), "link.yml"), 1, "link.yml: is not encrypted\n")
 
 
 def test_broken_repository(place: Place) -> None:
@@ -46,6 +48,8 @@ def test_some_labels(place: Place) -> None:
     dev = [CHECK, *place.by_id("dev", "dev"), "--label"]
     done = place.run(*dev, "dev", ".")
     ended("one label", done, 0, "\n2 decrypted, 0 not, 4 with other labels (default 2, prod 2)\n")
+    done = place.run(CHECK, *place.by_id("dev", "old"), "c.yml", ANSIBLE_VAULT_ID_MATCH="False")
+    ended("labels must match", done, 1, "(label default; tried none: no password has its label)", "0 decrypted, 3 not")
     done = place.run(*dev, "prdo", "a.yml")
     ended("a label that nothing has", done, 1, f"{CHECK}: no vault or value has the label prdo\n")
     place.put("d.yml", b"$ANSIBLE_VAULT;1.1\n")

@@ -20,7 +20,8 @@ WHOLE = "not merged, so both sides are whole in the file: "
 
 def both(sides: Sequence[bytes], size: int = 7) -> bytes:
     """Return a conflict of two texts."""
-    return b"%s ours\n%s%s\n%s%s theirs\n" % (b"<" * size, sides[0], b"=" * size, sides[1], b">" * size)
+    texts = [side.rstrip() for side in sides]
+    return b"%s ours\n%s\n%s\n%s\n%s theirs\n" % (b"<" * size, texts[0], b"=" * size, texts[1], b">" * size)
 
 
 def values(a: bytes, b: bytes) -> bytes:
@@ -68,7 +69,7 @@ BROKEN = [FIVE, FIVE.replace(b"a: 1", b'a: "1').replace(b"e: 1", b'e: 1"'), FIVE
 REFUSED: dict[str, Sequence[bytes]] = {
     "base: no secret decrypts this vault (label default; ": [sealed("dev2"), *OLD[1:]],
     "theirs: no secret decrypts this vault (label default; ": [*OLD[:2], sealed("dev2", THEIRS)],
-    "one side is a vault and the other is not": [*OLD[:2], THEIRS],
+    "one side is a vault and the other is not": [OLD[0], OLD[1].rstrip(), THEIRS.rstrip()],
     "the passwords of the two sides differ; choose": [sealed(name) for name in ("old", "new", "prod2")],
     "git merge-file cannot merge it; it may be binary": [sealed("old", b"\0%d" % number) for number in range(3)],
     # The secret of another label decrypts a side.
@@ -101,6 +102,9 @@ def test_what_fails(place: Place) -> None:
         done = place.run(MERGE, *(words[2:-1] if tool == ":" else words[:-1]), "9", words[-1])
         ended(tool, done, 1 if why else -9, why)
         assert place.files() == {"a.yml": both(OLD[1:], 9)}, tool
+    place.wrap_tool('case " $* " in *" merge-file "*) kill -9 $$;; esac', "git")
+    ended("git is killed", place.run(MERGE, *words[:2], *versions(place, "a.yml", *FILES["values.yml"])), 1, WHOLE)
+    assert place.files() == {"a.yml": both(FILES["values.yml"][1:])}
 
 
 def test_chosen_secret(place: Place) -> None:

@@ -70,6 +70,7 @@ class Case(NamedTuple):
             "vault_password_file": "".join(self.password_files),
             "vault_encrypt_identity": self.encrypt,
             "vault_id_match": self.match,
+            "ask_vault_pass": "False",
         }
         given = {name: value for name, value in values.items() if value}
         if self.by_variables:

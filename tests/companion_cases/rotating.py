@@ -28,16 +28,17 @@ def test_by_label(place: Place) -> None:
     a, b, stray = (f"in its plaintext, line {line}: " for line in lines)
     place.put("all.yml", sealed("prod", INNER, "prod"))
     place.put("done.yml", sealed("prod2", INNER, "prod"))
+    place.put("other.yml", sealed("dev", INNER, "dev"))
     prod, dev = place.by_id("prod", "prod"), place.by_id("dev", "dev")
     why = "no secret decrypts this vault (label prod; "
     done = place.run(CHECK, *prod, *dev, "all.yml")
     wanted = [f"{what}decrypted by {prod[1]}" for what in ("", f"{a}a: prod: ")]
     wanted += [f"{b}b: dev: decrypted by {dev[1]}", f"{stray}stray: prod: {why}"]
     ended("the check", done, 1, *(f"all.yml: prod: {each}" for each in wanted), "\n3 decrypted, 1 not\n")
-    rotate = [ROTATE, *prod, *place.by_id("prod", "prod2", "new-"), "."]
+    rotate = [ROTATE, *prod, *dev, *place.by_id("prod", "prod2", "new-"), "."]
     names = ["all.yml", "done.yml"]
     reported = ["./all.yml: 2 rotated\n", "./done.yml: rotated\n", *(f"./{name}: {stray}{why}" for name in names)]
-    ended("both", place.run(*rotate), 1, *reported, summary(3, 1, 2, " (dev 2)", 2))
+    ended("both", place.run(*rotate), 1, *reported, summary(4, 1, 4, " (dev 4)", 3))
     before = place.files()
     for name in names:
         after = decrypted("prod2", before[name]) or b""
@@ -46,8 +47,9 @@ def test_by_label(place: Place) -> None:
         assert around[0] == around[1], "all around the digits stays"
         found = [texts(after, password).index(TEXT) for password in ("prod2", "dev", "old")]
         assert found == [0, 1, 2], "one is rotated, and the others stay"
+    assert texts(decrypted("dev", before["other.yml"]) or b"", "prod2")[0] == TEXT, "and in a vault that is not rotated"
     again = place.run(*rotate[:-1], *place.by_id("prod", "prod2"), ".")
-    ended("again", again, 1, summary(0, 4, 2, " (dev 2)", 2))
+    ended("again", again, 1, summary(0, 5, 4, " (dev 4)", 3))
     assert place.files() == before, "all stays"
 
 
@@ -61,14 +63,14 @@ def test_what_cannot_be_rotated(place: Place) -> None:
         os.chown(place.tree / name, NOBODY, NOBODY)
     (place.tree / "closed.yml").chmod(0)
     (place.tree / "folder").chmod(0)
+    (place.tree / "link.yml").symlink_to("all.yml/below")
     # The block within it is encrypted. Encrypting the vault itself fails.
-    fails = '{ echo "ERROR! out of memory" >&2; exit 4; }'
-    place.wrap_tool(f'[ "$1" != encrypt ] || mkdir "$TMPDIR/one" 2> /dev/null || {fails}')
+    place.wrap_tool('[ "$1" != encrypt ] || mkdir "$TMPDIR/one" 2> /dev/null || kill -9 $$')
     done = place.as_nobody(ROTATE, *to_new(place), ".")
     (place.tree / "folder").chmod(0o755)
-    whys = ["all.yml: out of memory", "twice.yml: its plaintext is itself a vault"]
-    whys += ["closed.yml: Permission denied", "folder: Permission denied"]
-    ended("they are not sealed", done, 1, *(f"./{why}" for why in whys), summary(0, failed=4))
+    whys = ["all.yml: signal 9 ended ansible-vault; run this again", "twice.yml: its plaintext is itself a vault"]
+    whys += ["closed.yml: Permission denied", "folder: Permission denied", "link.yml: Not a directory"]
+    ended("they are not sealed", done, 1, *(f"./{why}" for why in whys), summary(0, failed=5))
     assert place.files() == before, "they stay"
 
 
@@ -111,7 +113,9 @@ def test_documents(place: Place) -> None:
     assert (done.returncode, done.stderr, done.stdout.splitlines()[-1]) == (0, "", summary(5, 1, 1, " (prod 1)"))
     assert {name: place.get(name) for name in stay} == stay, "examples stay"
     place.put("vars.yml", block("dev"))
-    ended("a link to no document", place.run(ROTATE, *to_new(place), "link.md"), 1, summary(0, failed=1))
+    place.put("vault.md", sealed("dev"))
+    for words in ([ROTATE, *to_new(place)], [CHECK, *place.by_file("old")]):
+        ended("no document", place.run(*words, "link.md", "vault.md"), 1, "link.md:2: ", "vault.md: ")
 
 
 def test_what_would_be_read_otherwise(place: Place) -> None:

@@ -59,9 +59,11 @@ def test_not_shown(place: Place, both: list[str], content: bytes, path: str, why
 
 def test_shown(place: Place, both: list[str]) -> None:
     """Other values need not be decrypted, but a vault around it has to be. In git's commit message, it would stay."""
-    check_values(place, both[:2], {"db_password": b"correct horse"})
+    check_values(place, both[2:], {"app.users[].pw": ANY_BYTES})
     done = place.shell(f"{TEXTCONV} {' '.join(both)} --value db_password vars.yml 7>> COMMIT_EDITMSG")
     assert (done.returncode, done.stdout) == (1, "")
+    silent("the same text", set_to(place, b"correct horse", *both, "--value", "db_password", "vars.yml"))
+    assert place.get("vars.yml") == FILE, "it keeps its envelope"
     place.put("vars.yml", VAULT)
     check_values(place, both, {"db.password": b"it's", "db.list[0]": b"1", "x": b"inner"})
 

@@ -17,7 +17,7 @@ from hypothesis import given, settings
 from hypothesis import strategies as st
 
 from ansible_vault_companions.envelopes import conflicts, document, envelope
-from ansible_vault_companions.envelopes.envelope import LOOSE, STRAY, TAGS, Path
+from ansible_vault_companions.envelopes.envelope import LINE_END, LOOSE, STRAY, TAGS, Path
 from companion_cases import BODY, CHECK, ROTATE, Place, block, ended, lines_of, sealed, summary, to_new
 from lib.needs import needs_pyyaml
 
@@ -93,6 +93,7 @@ def test_forms(place: Place) -> None:
         assert {name for name, line in lines.items() if line} == left.keys(), (words[0], lines)
         assert [name for name, why in left.items() if why not in lines[name]] == [], (words[0], lines)
     assert {name for name, content in place.files().items() if content != before[name]} == FORMS.keys() - left.keys()
+    assert b"\n" not in place.get("a vault with CR LF").replace(b"\r\n", b"")
     for name in left:
         (place.tree / name).unlink()
     to_be = summary(0, rotated).replace("rotated", "to be rotated", 1)
@@ -275,6 +276,7 @@ def test_random_yaml(monkeypatch: pytest.MonkeyPatch, pytestconfig: pytest.Confi
         new = {number: NEW for number, value in enumerate(read.values) if random.random() < 0.5}
         after = read.with_envelopes(new)
         assert around(after) == around(data), (data, after)
+        assert {*LINE_END.findall(after)} <= {*LINE_END.findall(data)}, (data, after)
         replaced = [(path, new[n].decode().strip() if n in new else text) for n, (path, text) in enumerate(texts)]
         assert [(value.path, value.text.strip()) for value in composed(after) or []] == replaced, (data, after)
         counts.update(values=len(wanted), replaced=len(new))
