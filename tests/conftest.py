@@ -79,7 +79,7 @@ def pytest_sessionstart(session: pytest.Session) -> None:
 
 def pytest_collection_modifyitems(items: list[pytest.Item]) -> None:
     """Run first what takes longest."""
-    items.sort(key=lambda item: item.path.name not in ("newcomer.py", "planting.py"))
+    items.sort(key=lambda item: item.path.name not in ("newcomer.py", "gate.py"))
 
 
 def missing_tool(raised: pytest.ExceptionInfo[BaseException] | None) -> str | None:

@@ -18,10 +18,9 @@ import pytest
 
 from fault_injection import OUTPUT, OWNER_ONLY, STREAM, TARGETS, Left, Scenario, scenario_of
 from lib.cases import OLD, TEXT, Cases, by_file
-from lib.limits import SECONDS
 from lib.needs import needs
 from lib.preloaded import build_library, run_with
-from lib.processes import started
+from lib.processes import SECONDS, started
 from lib.system_calls import Call, own_calls, tracing
 from model.faults import Fault
 

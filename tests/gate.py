@@ -1,4 +1,6 @@
-"""The tools of the gate: a failure of the prover or of an installation reaches the exit status and the counts."""
+"""The tools of the gate: a failure of the prover or of an installation reaches the exit status and the counts, and the
+tests catch planted faults.
+"""
 
 import shutil
 from pathlib import Path
@@ -48,3 +50,12 @@ def test_missing_packages(program: str, tmp_path: Path) -> None:
     write_script(tmp_path / "dpkg-query", REMOVED)
     done = run_make(program, "test", "PYTEST=true", "PARTIAL=no", env=searched_first(tmp_path))
     assert (done.returncode, done.stdout) == (2, "") and " zsh " in done.stderr.splitlines()[0]
+
+
+@pytest.mark.planted
+@pytest.mark.timeout(3600)
+def test_planted(program: str, request: pytest.FixtureRequest) -> None:
+    """This runs beside the proofs of newcomer.py, which leave processors idle."""
+    words = [f"--program={program}", "--faults=4", "--mutants=12", f"--seed={request.config.getoption('--seed')}"]
+    done = run_text([f"{ROOT}/tools/plant_faults", *words, "--limit=150", "--jobs=3"], timeout=None)
+    assert done.returncode == 0, done.stdout + done.stderr

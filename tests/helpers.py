@@ -6,41 +6,35 @@ import shutil
 import sys
 from pathlib import Path
 
-import pytest
-
 from conftest import FLOORS, LEAST
 from lib.paths import ROOT
 from lib.processes import run_text
 
-# Tests, how each ends, and how with --require-all.
+# Tests, and how each ends with --require-all.
 SAMPLE = """\
 import os, pytest, subprocess, threading
 from lib.needs import TAKES_ROOT
-def test_passed_passed(tmp_path): pass
-def test_failed_failed(tmp_path): one = threading.Thread(target=lambda: 1 / 0); one.start(); one.join()
-def test_skipped_failed(): pytest.skip("why")
-def test_skipped_failed_without_tool(): subprocess.run(["no-such-tool"])
-def test_failed_failed_without_file(): open("no-such-file")
-def test_skipped_skipped(): os.geteuid = lambda: 1; pytest.skip(TAKES_ROOT)
+def test_passed(tmp_path): pass
+def test_failed(tmp_path): one = threading.Thread(target=lambda: 1 / 0); one.start(); one.join()
+def test_failed_skipped(): pytest.skip("why")
+def test_failed_without_tool(): subprocess.run(["no-such-tool"])
+def test_failed_without_file(): open("no-such-file")
+def test_skipped(): os.geteuid = lambda: 1; pytest.skip(TAKES_ROOT)
 """
-# With --floors, each that is not reached is a failure, unless a test was skipped that need not be.
-ENDS = [
-    (0, ["-v"], "1 passed, 2 failed, 3 skipped"),
-    (1, ["--require-all", "--floors"], f"1 passed, {4 + len(FLOORS | LEAST)} failed, 1 skipped"),
-]
+# With --floors, each that is not reached is a failure.
+COUNTS = f"1 passed, {4 + len(FLOORS | LEAST)} failed, 1 skipped"
 
 
-@pytest.mark.parametrize("place, options, counts", ENDS)
-def test_outcomes(program: str, tmp_path: Path, place: int, options: list[str], counts: str) -> None:
+def test_outcomes(program: str, tmp_path: Path) -> None:
     """Run pytest on a file of tests, in a copy of ours."""
     shutil.copytree(ROOT / "tests", tmp_path / "tests")
     shutil.copy(ROOT / "pytest.ini", tmp_path)
     (tmp_path / "tests" / "sample.py").write_text(SAMPLE)
     ours = {name: value for name, value in os.environ.items() if not name.startswith(("PYTEST_", "REQUIRE_ALL"))}
-    words = [f"--program={program}", "--verbose", *options, "tests/sample.py"]
+    words = [f"--program={program}", "--verbose", "--require-all", "--floors", "tests/sample.py"]
     command = [sys.executable, "-B", "-m", "pytest", *words]
     done = run_text(command, cwd=tmp_path, env=ours | {"TMPDIR": str(tmp_path)})
-    ends = re.findall(r"^tests/sample\.py::test_(\w+?)_(\w+?)(?:_without\w+)? ([A-Z]+)", done.stdout, re.MULTILINE)
-    assert [end[place].upper() for end in ends] == [end[2] for end in ends], done.stdout
-    assert (done.returncode, f"\n{counts}\n" in done.stdout) == (1, True), done.stdout
+    ends = re.findall(r"^tests/sample\.py::test_([a-z]+)\w* ([A-Z]+)", done.stdout, re.MULTILINE)
+    assert [wanted.upper() for wanted, _ in ends] == [end for _, end in ends], done.stdout
+    assert (done.returncode, len(ends), f"\n{COUNTS}\n" in done.stdout) == (1, 6, True), done.stdout
     assert Path(re.findall(r"^kept in (.*)$", done.stdout, re.MULTILINE)[0]).is_dir(), "a folder is kept"

@@ -15,9 +15,8 @@ from collections.abc import Callable, Iterable
 from pathlib import Path
 from typing import NamedTuple
 
-from lib.limits import SECONDS
 from lib.paths import ROOT
-from lib.processes import run, run_text
+from lib.processes import SECONDS, run, run_text
 from model.vaults import apply_keystream, seal, tag_of, yaml_block
 
 COMPANIONS = ROOT / "companions"

@@ -125,6 +125,12 @@ def left_copy(case: Case) -> None:
     case.edit_by("true")
 
 
+def left_another(case: Case) -> None:
+    """Leave the copy of another file of this name."""
+    left_copy(case._replace(name=f"inner/{case.name}"))
+    case.put(OLD_VAULT)
+
+
 def has_changed(case: Case) -> None:
     left_copy(case)
     case.put(sealed("old", b"x"))
@@ -179,8 +185,6 @@ ROWS = {
     "one side": Row(merged(*VAULTS[:2], THEIRS), EDITED, "take one with `(.*?)` or", in_shell, [OURS]),
     "labels": Row(merged(*LABELLED), BY_BOTH, "one with (.*)", rf"{BY_BOTH} \1 prod", [THEIRS], "", TAKE_THEIRS),
     "no password": Row(OLD_VAULT, CHECK, "name one with (.*?) or", rf"{CHECK} \1 ~/secrets/old"),
-    "no password file": Row(OLD_VAULT, CHECK, "or (--.*?), in", rf"{CHECK} \1 ~/secrets/old"),
-    "no variable": Row(OLD_VAULT, CHECK, ", in (.*?) or", rf"env \1=~/secrets/old {CHECK}"),
     "another": Row(sealed("dev", TEXT, "a"), CHECKED, "with (--.*) LABEL@", rf"{CHECKED} \1 a@~/secrets/dev"),
     "any label": Row(OF_PROD, BY_BOTH, "permit it with (.*?) when", rf"{BY_BOTH} \1"),
     "no new one": Row(OLD_VAULT, f"{ROTATE} {OLD}", "one with (.*?) or", rf"{ROTATE} {OLD} \1 ~/secrets/new"),
@@ -192,10 +196,7 @@ ROWS = {
     "no text": Row(block("old"), EDITED, "!vault`; write `(.*)` for", type_it, [TEXT, b""], "", TYPE.format("")),
     "a new vault": Row(str, BY_BOTH, "is new; .* with (.*)", rf"{BY_BOTH} \1 dev", [b"x\n"], "", 'echo x > "$1"'),
     "a whole vault": Row(OLD_VAULT, f"{EDITED} --value=x", "edit it without (--value)", EDITED),
-    "no copy": Row(
-        lambda case: (left_copy(case._replace(name=f"inner/{case.name}")), case.put(OLD_VAULT)),
-        *(f"{EDITED} --resume", "edit it without (--resume)", EDITED),
-    ),
+    "no copy": Row(left_another, f"{EDITED} --resume", "edit it without (--resume)", EDITED),
     "a failure": Row(OLD_VAULT, EDITED, r"\n(--\w+) reopens", rf"env EDITOR=true {EDITED} \1", [CHANGED], "", FAIL),
     "a copy": Row(left_copy, EDITED, "; (.*) reopens it", rf"{EDITED} \1", [CHANGED]),
     "a change": Row(has_changed, f"{EDITED} --resume", "that left (.*); .* `(.*)` shows", rf"\2 {OLD} \1", [b"x"]),

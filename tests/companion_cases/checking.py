@@ -53,7 +53,6 @@ INVALID = [
     (HOOK, "--all --install"),
     (MERGE, OLD),
     (ROTATE, f"{OLD} ."),
-    (ROTATE, f"{NEW} ."),
     (ROTATE, f"{OLD} {NEW} --new-vault-password-file ../secrets/dev ."),
     (TEXTCONV, "--vault-password-file a.yml"),
 ]

@@ -38,8 +38,6 @@ def test_where_the_plaintext_lies(place: Place, folder: str) -> None:
 
 UNCHANGED = "nothing was changed; if the editor returned at once, give it an option to wait"
 LEFT_NONE = ".yml: the editor left no file; nothing was changed\n"
-
-
 STAYS = [("true", 0, UNCHANGED), ("exit 3", 1, "status 3); nothing was changed\n"), ('rm -r "${1%/*}"', 1, LEFT_NONE)]
 
 

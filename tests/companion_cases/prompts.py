@@ -3,7 +3,6 @@
 import pytest
 
 from companion_cases import EDIT, FOUND, PASSWORDS, ROTATE, TEXT, WITH, Place, block, decrypted, described, sealed
-from companion_cases import texts
 from companion_cases.terminal import FOR_ANSIBLE, READY, SHELL, Session, ask
 from lib.needs import needs_ansible
 
@@ -86,13 +85,6 @@ def test_what_only_encrypts(place: Place, what: str, is_mistyped: bool) -> None:
         assert place.get("a.yml") == before, "nothing is changed"
     else:
         assert (session.returncode, header, found and found[0]) == (0, wanted, "prod"), session
-
-
-def test_string(place: Place) -> None:
-    """A single string needs no note about its name."""
-    answers = [("Variable name (enter for no name): ", b"\n"), ("String to encrypt (hidden): ", b"x\n")]
-    session = ask(place, WITH, "encrypt_string", "-p", *place.by_file("old"), answers=answers)
-    assert (session.returncode, session.stderr, texts(session.stdout.encode(), "old")) == (0, "", [b"x"])
 
 
 @pytest.mark.parametrize("words, key, status", (([EDIT], b"\x03", 130), ([WITH, "view"], b"\x1c", 131)))

@@ -132,8 +132,8 @@ def test_missing_secrets_to_encrypt_with(place: Place, line: str, listed: str, l
         assert (header.decode(), found and found[0]) == (f"$ANSIBLE_VAULT;1.2;AES256;{label}", there), done
     else:
         why = "no other password encrypts in its place" if label or "{}" in line else "--encrypt-vault-id"
-        found = done.returncode, why in done.stderr.decode(), place.files(), label and place.left()
-        assert found == (1, True, before, label and []), done
+        assert (done.returncode, why in done.stderr.decode(), place.files()) == (1, True, before), done
+        assert not label or place.left() == [], "no editor was opened"
 
 
 def test_world_writable_folders(place: Place) -> None:

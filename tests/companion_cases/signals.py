@@ -11,8 +11,7 @@ import pytest
 
 from companion_cases import CHANGE, CHANGED, EDIT, MERGE, ROTATE, TEXT, Companions, Place, block, decrypted
 from companion_cases import edit, run_changed, sealed, silent, texts, to_new, versions, wait_until
-from lib.limits import SECONDS
-from lib.processes import started
+from lib.processes import SECONDS, started
 from lib.subtests import SubTests
 
 RUNS = (EDIT, ROTATE, MERGE)

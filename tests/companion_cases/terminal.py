@@ -10,7 +10,7 @@ from contextlib import suppress
 from typing import Any, NamedTuple
 
 from companion_cases import Place
-from lib.limits import SECONDS
+from lib.processes import SECONDS
 from shells import all_shown
 
 # Precedes the words of a program that reads the terminal.

@@ -11,8 +11,7 @@ import shutil
 import tempfile
 from collections.abc import Iterator, Mapping
 
-from lib.limits import SECONDS
-from lib.processes import run_text, started
+from lib.processes import SECONDS, run_text, started
 
 HERE = pathlib.Path(__file__).resolve().parent
 COMPLETIONS = HERE.parent.parent / "completions"
