@@ -50,6 +50,7 @@ INVALID = [
     (CHECK, f"{OLD} --{HOSTILE} a.yml"),
     (EDIT, f"{OLD} --new-vault-id x@y a.yml"),
     (EDIT, f"{OLD} --vault-i x a.yml"),
+    (EDIT, f"{OLD} --value x a.yml b.yml"),
     (HOOK, "--all --install"),
     (MERGE, OLD),
     (ROTATE, f"{OLD} ."),

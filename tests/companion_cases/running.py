@@ -113,9 +113,9 @@ def test_those_that_fail(place: Place) -> None:
     """Files that fail stay as they are, and the others are still processed. The status is the highest."""
     prepare(place)
     before = place.files()
-    memory = 'echo "ERROR! out of memory" >&2; exit 4'
+    memory = r'printf "ERROR! out of \\033memory\n" >&2; exit 4'
     place.wrap_tool(f'case "$*" in rekey*) mkdir ../once 2> /dev/null && {{ {memory}; }} ;; esac')
-    whys = {"plain.yml": "out of memory", "new.yml": "no secret decrypts this vault"}
+    whys = {"plain.yml": r"out of \x1bmemory", "new.yml": "no secret decrypts this vault"}
     whys["missing.yml"] = "No such file or directory"
     done = place.run(WITH, "rekey", *place.by_file("old"), *place.by_file("dev", "new-"), *whys, "a.yml")
     messages = [f"{WITH}: {name}: {why}" for name, why in whys.items()]
