@@ -1,6 +1,4 @@
-"""The tools of the gate: a failure of the prover or of an installation reaches the exit status and the counts, and the
-tests catch planted faults.
-"""
+"""The tools of the gate: failures reach the exit status and the counts, and the tests catch planted faults."""
 
 import shutil
 from pathlib import Path

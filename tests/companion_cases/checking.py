@@ -52,7 +52,7 @@ INVALID = [
     (EDIT, f"{OLD} --vault-i x a.yml"),
     (EDIT, f"{OLD} --value x a.yml b.yml"),
     (HOOK, "--all --install"),
-    (MERGE, OLD),
+    (MERGE, ""),
     (ROTATE, f"{OLD} ."),
     (ROTATE, f"{OLD} {NEW} --new-vault-password-file ../secrets/dev ."),
     (TEXTCONV, "--vault-password-file a.yml"),
@@ -68,7 +68,7 @@ def check_printable(text: str) -> None:
 @pytest.mark.parametrize("name, line", INVALID)
 def test_invalid_command_lines(place: Place, name: str, line: str) -> None:
     place.put("a.yml", sealed("old"))
-    done = place.run(name, *line.split(" "))
+    done = place.run(name, *filter(None, line.split(" ")))
     ended("it is refused", done, 2, f"usage: {name}")
     check_printable(done.stderr)
 

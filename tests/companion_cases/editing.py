@@ -83,13 +83,16 @@ def test_labels(place: Place) -> None:
 
 def test_editors(place: Place) -> None:
     """$VISUAL is a shell command, and precedes $EDITOR. A link stays one. Even if nothing changes, all is encrypted."""
-    script = place.script('printf "%s|" "$1" "$2" > ../words; sed -i s/correct/wrong/ "$3"', "an editor")
+    script = place.script('echo shown; printf "%s|" "$1" "$2" > ../words; sed -i s/correct/wrong/ "$3"', "an editor")
     place.put("shared/all.yml", sealed("old").replace(b"\n", b"\r\n"))
     (place.tree / "link.yml").symlink_to("shared/all.yml")
-    silent("it", edit(place, "false", *place.by_file("old"), "link.yml", VISUAL=f"X=1 '{script}' --wait 'two words'"))
+    done = edit(place, "false", *place.by_file("old"), "link.yml", VISUAL=f"X=1 '{script}' --wait 'two words'")
+    assert (done.returncode, done.stdout, done.stderr) == (0, "shown\n", ""), "it has the standard streams"
+    place.script('echo vi >> "$1"', "tools/vi")
+    silent("the default", place.run(EDIT, *place.by_file("old"), "link.yml"))
     assert (place.path / "words").read_text() == "--wait|two words|"
     link, after = os.readlink(place.tree / "link.yml"), place.get("shared/all.yml")
-    assert (link, decrypted("old", after), after[25:27]) == ("shared/all.yml", CHANGED, b"\r\n"), "and line ends stay"
+    assert (link, decrypted("old", after), after[25:27]) == ("shared/all.yml", CHANGED + b"vi\n", b"\r\n")
     place.put("vars.yml", block("old") + b"b: !vault x\n")
     silent("it", edit(place, "true", *place.by_file("old"), "vars.yml"))
     assert texts(place.get("vars.yml"), "old") == [TEXT, b"x"]

@@ -110,6 +110,7 @@ def test_files(place: Place) -> None:
     place.put("c.vault.yml", TEXT)
     place.shell(f"git add c.vault.yml && git update-index --add --cacheinfo 160000,{'1' * 40},submodule")
     lines = [f"{name} is not encrypted" for name in ("c.vault.yml", *names)]
+    assert told(place.run(HOOK)) == lines[:1], "what is staged"
     assert told(place.run(HOOK, *names, "plain.yml")) == lines, "files, and what is staged"
     assert told(place.run(HOOK, ".", "../plain.yml", folder="inner")) == [lines[0], lines[2]], "a folder"
     for words in (["nowhere.yml"], ["plain.yml", "*.vault.yml"], ["/etc/hostname"]):
