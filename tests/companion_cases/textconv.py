@@ -11,7 +11,7 @@ from lib.needs import needs
 AROUND = "# größe\r\n".encode()
 BLOCKS = AROUND + block("old", b"one") + block("new", b"two\nthree", name="x") + b"# end"
 SHOWN = AROUND + b"secret: !vault |-\n  one\nx: !vault |-\n  two\n  three\n# end"
-OTHER, MALFORMED = block("dev", label="x"), b"$ANSIBLE_VAULT;1.1\n"
+OTHER, MALFORMED = block("dev", label="x"), b"$ANSIBLE_VAULT 1.1\n"
 NO_SECRET = "shown as it is: no secret decrypts this vault"
 NO_VAULT = ": shown as it is: it is not a vault and has no encrypted value\n"
 SIDES = b"<<<<<<< a\n%s=======\n%s>>>>>>> b\n" % (sealed("old", b"1\n2\n"), sealed("new", b"1\n3\n"))

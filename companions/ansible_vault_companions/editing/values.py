@@ -134,7 +134,7 @@ def closed_block(data: bytes, value: Value, envelope: bytes, old: Value | None) 
     # Ansible's tool indents by ten.
     margin = b" " * (column(data, value.begin) + 10)
     lines = indented(envelope.rstrip(b"\n"), margin, value.ending)
-    header = HEADER.match(data, value.begin) if value.style == LITERAL else None
+    header = HEADER.match(data, value.begin)
     # Empty lines above a typed text go with it: Ansible reads no envelope below one.
     end = header.end() if header else value.end
     following = LINE_END.search(data, end)
