@@ -1,6 +1,4 @@
-"""Run the program under Valgrind's memcheck, with random requests: its answers are the model's, and memcheck reports
-nothing.
-"""
+"""Run the program under memcheck, with random requests: its answers are the model's, and memcheck reports nothing."""
 
 import itertools
 import shlex

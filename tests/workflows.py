@@ -1,6 +1,4 @@
-"""Run the shell commands of docs/workflows.md and the EXAMPLES of the manual pages as they are. `companion_cases` tests
-the rest of the companions.
-"""
+"""Run the shell commands of docs/workflows.md and the EXAMPLES of the manual pages as they are."""
 
 import re
 from fnmatch import fnmatchcase

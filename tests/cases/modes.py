@@ -1,6 +1,4 @@
-"""The mode of the output: a new file, an existing one, links, devices. `closed_streams.py` writes to pipes by name, and
-`faults.py` has modes that cannot be changed.
-"""
+"""The mode of the output: a new file, an existing one, links, devices. `faults.py` has modes that cannot be changed."""
 
 import os
 import stat

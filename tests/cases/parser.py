@@ -1,6 +1,4 @@
-"""Command lines: help, the version, and invalid ones. Only the parser's messages contain words of the command line; all
-others are fixed lines.
-"""
+"""Command lines: help, the version, and invalid ones. Only messages of the parser contain words of the command line."""
 
 import itertools
 import os

@@ -1,6 +1,5 @@
 """Messages are acted on: what one says to run, to write or to leave out is taken out of it, and then the fault is gone.
-Each is for a file with an awkward name, and acted on at the top of the repository or below.
-"""
+Each is for a file with an awkward name, and acted on at the top of the repository or below."""
 
 import re
 import shlex
@@ -125,12 +124,6 @@ def left_copy(case: Case) -> None:
     case.edit_by("true")
 
 
-def left_another(case: Case) -> None:
-    """Leave the copy of another file of this name."""
-    left_copy(case._replace(name=f"inner/{case.name}"))
-    case.put(OLD_VAULT)
-
-
 def has_changed(case: Case) -> None:
     left_copy(case)
     case.put(sealed("old", b"x"))
@@ -196,7 +189,7 @@ ROWS = {
     "no text": Row(block("old"), EDITED, "!vault`; write `(.*)` for", type_it, [TEXT, b""], "", TYPE.format("")),
     "a new vault": Row(str, BY_BOTH, "is new; .* with (.*)", rf"{BY_BOTH} \1 dev", [b"x\n"], "", 'echo x > "$1"'),
     "a whole vault": Row(OLD_VAULT, f"{EDITED} --value=x", "edit it without (--value)", EDITED),
-    "no copy": Row(left_another, f"{EDITED} --resume", "edit it without (--resume)", EDITED),
+    "no copy": Row(OLD_VAULT, f"{EDITED} --resume", "edit it without (--resume)", EDITED),
     "a failure": Row(OLD_VAULT, EDITED, r"\n(--\w+) reopens", rf"env EDITOR=true {EDITED} \1", [CHANGED], "", FAIL),
     "a copy": Row(left_copy, EDITED, "; (.*) reopens it", rf"{EDITED} \1", [CHANGED]),
     "a change": Row(has_changed, f"{EDITED} --resume", "that left (.*); .* `(.*)` shows", rf"\2 {OLD} \1", [b"x"]),

@@ -1,6 +1,4 @@
-"""The command lines of the Ansible Vault guide, run by Ansible's tool and by the alias for ansible-vault-with.
-`random_secrets` compares what settings and options do to a single file.
-"""
+"""The command lines of the Ansible Vault guide, run by Ansible's tool and by the alias for ansible-vault-with."""
 
 import re
 from typing import NamedTuple

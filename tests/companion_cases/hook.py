@@ -14,8 +14,7 @@ ATTRIBUTES = "*.vault.yml diff=ansible-vault\nsecrets/** ansible-vault\n"
 
 
 def test_what_is_staged(place: Place) -> None:
-    """The content and the attributes that are staged count, not the files in the directory. Neither the current
-    directory nor settings of git matter."""
+    """What is staged counts, not the files in the directory, whatever the current directory and settings of git are."""
     with_hooks(place, ATTRIBUTES)
     place.shell("mkdir inner && git config diff.relative true && git config diff.renames copies")
     place.put("secrets/a.yml", TEXT)

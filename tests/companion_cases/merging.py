@@ -1,6 +1,4 @@
-"""ansible-vault-merge as git runs it: two branches change a vault, or values of YAML that are vaults. What cannot be
-merged is a conflict of whole envelopes in the file. All merges of vaults under a few secrets, in one process.
-"""
+"""ansible-vault-merge as git runs it. What cannot be merged is a conflict of whole envelopes in the file."""
 
 import itertools
 from collections import Counter

@@ -2,9 +2,9 @@
 
 import shutil
 
-from companion_cases import CHANGE, CHANGED, CHECK, MERGE, ROTATE, TEXT, TEXTCONV, WITH, Place, block, edit, ended
+from companion_cases import CHANGE, CHANGED, CHECK, MERGE, ROTATE, TEXTCONV, WITH, Place, block, edit, ended
 from companion_cases import sealed, silent, to_new, versions
-from lib.needs import needs, needs_pyyaml
+from lib.needs import needs
 
 
 def test_without_pyyaml(place: Place) -> None:
@@ -30,16 +30,3 @@ def test_without_pyyaml(place: Place) -> None:
     done = place.run(TEXTCONV, *old, "vars.yml")
     assert (done.returncode, done.stdout, place.files()) == (0, content.decode(), before)
     assert done.stderr.startswith(f"{TEXTCONV}: vars.yml: shown as it is: PyYAML, ") and package in done.stderr
-
-
-def test_where_pyyaml_is(place: Place) -> None:
-    """PyYAML is never looked for in the current directory, nor below PYTHONPATH."""
-    needs_pyyaml()
-    for name in ("yaml", "sitecustomize", "usercustomize"):
-        place.put(f"{name}.py", b"open('../imported', 'w')\n")
-        place.put(f"{name}/__init__.py", b"open('../imported', 'w')\n")
-    place.put("own.pth", b"import yaml\n")
-    place.put("vars.yml", block("old"))
-    done = place.run(TEXTCONV, *place.by_file("old"), "vars.yml", PYTHONPATH=str(place.tree))
-    assert (done.stdout, done.stderr) == (f"secret: !vault |\n  {TEXT.decode()}", ""), "it is found"
-    assert not (place.path / "imported").exists(), "nothing of the current folder is imported"

@@ -128,9 +128,8 @@ def test_what_would_be_read_otherwise(place: Place) -> None:
 
 
 def test_copies(place: Place) -> None:
-    """An envelope is decrypted and encrypted once, however often it is there, and a copy stays a copy. Equal texts in
-    different envelopes get different ones, so that nobody can see that they are equal. A new secret with a label that
-    nothing has may be a mistake, so the status is 1."""
+    """An envelope is decrypted and encrypted once, however often it is there. Equal texts in different envelopes get
+    different ones, so that nobody can see that they are equal. A label that nothing has makes the status 1."""
     place.put("a.yml", sealed("old", block("old", b"one")))
     place.put("b.yml", place.get("a.yml"))
     place.put("c.yml", block("old", b"one") + block("old", b"one", name="b"))

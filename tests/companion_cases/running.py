@@ -93,8 +93,7 @@ def test_refused(place: Place, line: str, status: int, part: str) -> None:
 
 
 def test_in_place(place: Place) -> None:
-    """Several files are replaced, even with awkward names, and the file of a link. Only its owner may read what is
-    decrypted."""
+    """Several files and the file of a link are replaced. Only the owner may read what is decrypted."""
     contents = {name: name.encode() for name in [*AWKWARD, "folder/a.yml"]}
     for name, text in contents.items():
         place.put(name, text, 0o640)

@@ -95,10 +95,24 @@ def test_which_tool(place: Place) -> None:
     """Another program with the name of the tool gets no password."""
     place.put("a.yml", sealed("old"))
     (place.tools / "ansible-vault").unlink()
-    words = [sys.executable, "-IB", str(place.tools / CHECK), *place.by_file("old"), "."]
-    ended("none", place.run(*words, PATH="/nowhere"), 1, "there is no ansible-vault beside this program or on PATH")
     theirs = '[ "$1" = --version ] && echo "ansible-vault [core 2.14.18]"; echo run >> ../runs'
     place.script(theirs, "tools/ansible-vault")
     done = place.run(CHECK, *place.by_file("old"), ".")
     ended("Ansible's tool", done, 1, "is not the ansible-vault that the companions need")
     assert (place.path / "runs").read_text() == "run\n", "is asked its version alone"
+
+
+NO_TOOLS = ["mkdir {}", "echo > {}", "ln -s nowhere {}", "ln -s ansible-vault {}", f"ln -s ../tools/{CHECK} {{}}", ":"]
+
+
+@pytest.mark.parametrize("make", NO_TOOLS)
+def test_on_the_path(place: Place, make: str) -> None:
+    """What cannot be the tool is passed over, beside a companion and on PATH."""
+    place.put("a.yml", sealed("old"))
+    lines = ["rm ../tools/ansible-vault", "mkdir ../first ../last", make.format("../first/ansible-vault")]
+    place.shell("\n".join([*lines, make.format("../tools/ansible-vault")]))
+    words = [sys.executable, "-IB", str(place.tools / CHECK), *place.by_file("old"), "."]
+    path = f"{place.path}/first:{place.tools}:{place.path}/last"
+    ended("none", place.run(*words, PATH=path), 1, "there is no ansible-vault beside this program or on PATH")
+    (place.path / "last/ansible-vault").symlink_to(place.program)
+    ended("the tool", place.run(*words, PATH=path), 0, "1 decrypted")

@@ -1,8 +1,14 @@
 """Secrets that Ansible's settings name, compared with Ansible's own tool."""
 
+import re
+import shutil
+from itertools import compress, product
+
 import pytest
 
+from ansible_vault_companions.passwords.settings import Settings
 from companion_cases import CHECK, EDIT, ROTATE, TEXT, WITH, Place, described, ended, sealed
+from lib.needs import needs, needs_root
 from lib.subtests import SubTests
 
 OPEN = ("old", "dev", "prod")
@@ -10,16 +16,13 @@ LIST = "[defaults]\nvault_identity_list = {}\n"
 FILE = "[defaults]\nvault_password_file = {}\n"
 BOTH = "[defaults]\nvault_identity_list = dev@../secrets/dev\nvault_password_file = ../secrets/old\n"
 NAMED = {"CONFIG": "{}/far/away/my.cfg"}
-HERE, AT_HOME = {"tree/ansible.cfg": FILE.format("../secrets/old")}, {".ansible.cfg": FILE.format("secrets/dev")}
 # Variables, files below the tree's parent directory, and the passwords that are found. `random_secrets` covers more.
 SETTINGS: dict[str, tuple[dict[str, str], dict[str, str], set[str]]] = {
     "an empty variable": ({"VAULT_IDENTITY_LIST": ""}, {"tree/ansible.cfg": BOTH}, {"old"}),
     "quotes": ({}, {"tree/ansible.cfg": LIST.format("'dev@../secrets/dev',\n  \"../secrets/old\"")}, {"dev", "old"}),
     "a folder that is named": ({"CONFIG": "~/far"}, {"far/ansible.cfg": FILE.format("../secrets/dev")}, {"dev"}),
     "a variable beside it": (NAMED | {"VAULT_PASSWORD_FILE": "../secrets/old"}, {"far/away/my.cfg": ""}, {"old"}),
-    "a missing one": (NAMED, HERE, {"old"}),
-    "three files": (NAMED, HERE | AT_HOME | {"far/away/my.cfg": FILE.format("../../secrets/prod")}, {"prod"}),
-    "two files": ({}, HERE | AT_HOME, {"old"}),
+    "a missing one": (NAMED, {"tree/ansible.cfg": FILE.format("../secrets/old")}, {"old"}),
     "the current folder": (NAMED, {"far/away/my.cfg": FILE.format("{{CWD}}/../secrets/old")}, {"old"}),
     "a comment": ({}, {"tree/ansible.cfg": FILE.format("../secrets/dev ; not old") + "# it = x\nat = %Y\n"}, {"dev"}),
     "a list of another folder": ({}, {".ansible.cfg": LIST.format("../secrets/dev")}, {"dev"}),
@@ -145,3 +148,34 @@ def test_world_writable_folders(place: Place) -> None:
     warning = f"{CHECK}: {place.tree}/ansible.cfg is ignored, since its directory is world-writable\n"
     ended("the next one counts", place.run(CHECK, "."), 1, warning, f"tried {place.secret('dev')}")
     ended("what is named counts", place.run(CHECK, ".", ANSIBLE_CONFIG="ansible.cfg"), 0)
+
+
+# The files of settings in Ansible's order, and the password that each names.
+PLACES = {"my.cfg": "dev", "tree/ansible.cfg": "old", ".ansible.cfg": "new", "etc/ansible/ansible.cfg": "prod"}
+
+
+def test_places(place: Place) -> None:
+    """The first of the files that are there counts, and no other. No other process sees this /etc."""
+    needs("unshare")
+    needs_root()
+    shutil.copytree("/etc", place.path / "etc", symlinks=True)
+    here = ["unshare", "--mount", "sh", "-c", 'mount --bind ../etc /etc && exec "$@"', "sh", str(place.tools / CHECK)]
+    for password in PLACES.values():
+        place.put(f"{password}.yml", sealed(password))
+    for chosen in product((False, True), repeat=len(PLACES)):
+        there = dict(compress(PLACES.items(), chosen))
+        for path, password in PLACES.items():
+            place.put(f"../{path}", FILE.format(place.secret(password)).encode() if path in there else b"")
+            if path not in there:
+                (place.path / path).unlink()
+        done = place.run(*here, ".", **({"ANSIBLE_CONFIG": "../my.cfg"} if chosen[0] else {}))
+        assert re.findall(r"(\w+)\.yml: default: decrypted", done.stdout) == [*there.values()][:1], (there, done)
+
+
+def test_values_for_true(monkeypatch: pytest.MonkeyPatch) -> None:
+    """Ansible reads these as true, in any case, and no others."""
+    values = dict.fromkeys("y yes on 1 true t".split(), True) | dict.fromkeys("n no off 0 false f 2 tr".split(), False)
+    for value, is_true in values.items():
+        for spelling in (value, value.upper(), value.title(), f"'{value}'"):
+            monkeypatch.setenv("ANSIBLE_ASK_VAULT_PASS", spelling)
+            assert Settings(False).asks() == is_true, spelling

@@ -40,12 +40,6 @@ def test_shown(place: Place, content: bytes, wanted: bytes, told: str) -> None:
     assert done.stderr.decode().startswith(f"{TEXTCONV}: -a.yml{told}" if told else "")
 
 
-def test_missing_password(place: Place) -> None:
-    place.put("a.yml", sealed("old"))
-    done = place.run(TEXTCONV, *place.by_file("missing"), *place.by_file("old"), "a.yml")
-    ended("the text", done, 0, TEXT.decode(), "missing: No such file or directory; it is ignored")
-
-
 def test_messages(place: Place) -> None:
     """git shows the differences, and no name of a file cuts off those of other files. Below a message it keeps them in
     a file, wherever the worktree is, so there they contain no plaintext."""
