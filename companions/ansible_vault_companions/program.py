@@ -72,7 +72,7 @@ def write_line(text: str) -> None:
 def write_error(text: str) -> None:
     """Prints a message on standard error, in one write. Its only control characters are the ends of its lines."""
     lines = "".join(sign if sign.isprintable() or sign == "\n" else ascii(sign)[1:-1] for sign in text)
-    print(f"{lines}\n", end="", file=sys.stderr, flush=True)
+    print(f"{lines}\n", end="", file=sys.stderr)
 
 
 def reason(fault: Exception) -> str:
