@@ -5,12 +5,13 @@ import sys
 
 import pytest
 
-from companion_cases import CHECK, ROTATE, TEXTCONV, WITH, Place, block, ended, to_new
+from companion_cases import CHECK, HOOK, ROTATE, TEXTCONV, WITH, Place, block, ended, to_new
 
 SECONDS, KILOBYTES = 8, 100_000
 BLOCK, COMMENT = block("old"), b"".join(b"# " + line for line in block("old").splitlines(keepends=True))
 # The content of a file with an envelope in YAML that is not deep, and whose other lines are plain.
 FILES = {
+    "alias": BLOCK + b"a: &a x\n" + b"".join(b"%c: &%c [%s]\n" % (n, n, b"*%c," % (n - 1) * 9) for n in range(98, 112)),
     "brackets": BLOCK + b"[" * 180_000,
     "400,000 lines of text": b"x\n" * 400_000 + COMMENT,
     "400,000 items in one line": BLOCK + b"x: [%s]\n" % b", ".join([b"1"] * 400_000),
@@ -40,6 +41,8 @@ def used(place: Place, *words: str) -> int:
 def test_files(place: Place, content: bytes) -> None:
     """Its envelope is found, however it is nested and however long it is. The check says if it cannot be parsed."""
     place.put("a.yml", content)
+    place.shell("git init -q && git add a.yml")
+    assert used(place, HOOK) in (0, 1)
     assert used(place, CHECK, *place.by_file("old"), ".") in (0, 1)
     assert used(place, TEXTCONV, *place.by_file("old"), "a.yml") == 0
     assert used(place, ROTATE, *to_new(place), ".") == 0

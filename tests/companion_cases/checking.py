@@ -96,8 +96,7 @@ RUNS = [
 @pytest.mark.parametrize("content, why", REFUSED, ids=[why for _, why in REFUSED])
 @pytest.mark.parametrize("name, option, line", RUNS)
 def test_refused_secrets(place: Place, name: str, option: str, line: str, content: bytes | None, why: str) -> None:
-    """All stays, and the name of the secret is shown in one line. A password that is too long is not truncated: it
-    would decrypt the vault."""
+    """All stays, and the secret is named in one line. A password that is too long is not cut: it could decrypt."""
     place.put("a.yml", vault := seal(LONG[:-1], TEXT))
     if content is not None:
         place.put(f"../{HOSTILE}", content, EXECUTABLE if content.startswith(b"#!") else 0o644)

@@ -43,8 +43,7 @@ def test_installed(place: Place, file: str) -> None:
 
 
 def test_drivers(place: Place) -> None:
-    """With secrets, git diff and git merge work, and the companions expand `~`, whichever shell git runs. After
-    --uninstall, everything is as before."""
+    """With secrets, git diff and git merge work, whichever shell git runs. --uninstall undoes everything."""
     under_git(place, ATTRIBUTES)
     (place.secrets / "d@%Oev").symlink_to(place.secret("dev"))
     secrets = ["--vault-id", "dev@~/secrets/d@%Oev", "--vault-password-file", "~/secrets/old"]

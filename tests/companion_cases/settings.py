@@ -65,8 +65,7 @@ STRANGE: dict[str, tuple[dict[str, str], dict[str, str], list[str]]] = {
 def test_what_is_not_trusted(
     place: Place, subtests: SubTests, files: dict[str, str], variables: dict[str, str], ignored: list[str]
 ) -> None:
-    """Beside options, no companion runs a script of the current directory or encrypts with a secret that the directory
-    names. Without options, each uses the directory's settings."""
+    """Beside options, no companion runs a script that the current directory names, or encrypts with its secret."""
     # As a shell sets it.
     place.environment |= {"PWD": str(place.tree), "EDITOR": place.script('echo more >> "$1"', "editor"), **variables}
     for name, content in files.items():

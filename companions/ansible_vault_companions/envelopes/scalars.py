@@ -88,10 +88,15 @@ class _Shadow(io.RawIOBase):
         return codecs.charmap_decode(piece, "strict", SHADOW)[0]  # type: ignore[arg-type]
 
 
+class _BytesOfCharacters(dict[int, bytes]):
+    def __missing__(self, code: int) -> bytes:
+        self[code] = bytes([code - 0xE000]) if 0xE000 <= code <= 0xE0FF else chr(code).encode(errors="replace")
+        return self[code]
+
+
 def _unshadowed(text: str) -> bytes:
-    if text.isascii():
-        return text.encode()
-    return b"".join(bytes([ord(c) - 0xE000]) if "\ue000" <= c <= "\ue0ff" else c.encode(errors="replace") for c in text)
+    characters: Any = _BytesOfCharacters()
+    return text.encode() if text.isascii() else codecs.charmap_encode(text, "strict", characters)[0]
 
 
 def _nodes(yaml: Any, text: _Shadow) -> Iterator[tuple[Steps, bool, Any]]:
