@@ -64,8 +64,7 @@ def test_resumed(place: Place) -> None:
     words = [*place.by_file("old"), "--", name]
     ended("a mistake", edit(place, f"echo '{TYPO}' >> \"$1\"", *words), 1, "--resume reopens it")
     place.put(f"../{name}", block("old"))
-    other = edit(place, "touch ../started", "--resume", *words[:-1], f"../{name}")
-    ended("another file of this name", other, 1, "edit it without --resume")
+    ended("another", edit(place, "false", "--resume", *words[:-1], f"../{name}"), 1, "edit it without --resume")
     ended("not mended", edit(place, 'echo "# x" >> "$1"', "--resume", *words), 1, "it cannot be read as YAML")
     ended("taken back", edit(place, 'sed -i "3,$ d" "$1"', "--resume", *words), 0, "nothing was changed")
     assert sorted(place.kept()) == [TYPED, TYPED + b"# x\n"]

@@ -26,6 +26,7 @@ NOT_SHOWN = [
     (FILE, "app.plain", "app.plain is not encrypted"),
     (block("dev", b"one", "dev", "a") * 2, "a", "2 values are at a; number the items of lists, as in "),
     (VAULT, "db", "db is a list, a mapping or an alias"),
+    (block("dev") + b"b: 'x\n", "secret", "it cannot be read as YAML: found unexpected end of stream"),
     (block("old"), "secret", "vars.yml: no secret decrypts this vault (label default; tried dev@"),
 ]
 
