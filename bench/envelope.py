@@ -1,8 +1,7 @@
 #!/usr/bin/env -S python3 -B
 """Time reading and writing envelopes, in MB of their text per second: envelope.py [--quick]
 
-Reading is compared with python3's `bytes.fromhex`, applied twice to the same body. All are measured in one run, and the
-best time of each counts.
+The best time of each counts.
 """
 
 import os
@@ -35,12 +34,6 @@ def envelope(width: int, length: int) -> bytes:
     return HEADER + b"".join(digits[i : i + width] + b"\n" for i in range(0, len(digits), width))
 
 
-def python_twice(text: bytes) -> list[bytes]:
-    """Decode both levels of hexadecimal, and nothing else of the format."""
-    inner = bytes.fromhex(text[len(HEADER) :].decode()).split(b"\n")
-    return [bytes.fromhex(part.decode()) for part in inner]
-
-
 def read(file: IO[bytes], length: int) -> None:
     file.seek(0)
     os.lseek(file.fileno(), 0, os.SEEK_SET)
@@ -54,11 +47,6 @@ def write() -> None:
     subprocess.run([BENCHMARK, "write", str(CIPHER_LENGTH), str(REPEATS)], stdout=subprocess.DEVNULL, check=True)
 
 
-def repeated_python(text: bytes) -> None:
-    for _ in range(REPEATS):
-        python_twice(text)
-
-
 def rate(work: Callable[[], None], size: int) -> float:
     """Return how many MB of text are processed per second."""
     start = time.perf_counter()
@@ -69,7 +57,7 @@ def rate(work: Callable[[], None], size: int) -> float:
 def main() -> None:
     runs = 1 if options(__doc__).parse_args().quick else RUNS
     check_length()
-    print(f"{'text of an envelope':36} {'MB/s':>6} {'python3':>8} {'ratio':>6}")
+    print(f"{'text of an envelope':36} {'MB/s':>6}")
     rows = [("read, lines of 80 digits", 80, CIPHER_LENGTH), ("read, 6 MiB in lines of 2 digits", 2, CIPHER_LENGTH)]
     for name, width, length in rows:
         text = envelope(width, length)
@@ -77,8 +65,7 @@ def main() -> None:
             file.write(text)
             file.flush()
             ours = max(rate(lambda: read(file, length), len(text)) for _ in range(runs))
-            theirs = max(rate(lambda: repeated_python(text), len(text)) for _ in range(2))
-        print(f"{name:36} {ours:6.0f} {theirs:8.0f} {ours / theirs:6.2f}")
+        print(f"{name:36} {ours:6.0f}")
     written = max(rate(write, len(envelope(80, CIPHER_LENGTH))) for _ in range(runs))
     print(f"{'write, lines of 80 digits':36} {written:6.0f}")
     print(f"targets: {READING_TARGET} MB/s of reading, {WRITING_TARGET} MB/s of writing")
