@@ -1,6 +1,5 @@
 """Ask the shells themselves what they offer: commands, options, and files where a file is expected. As
-tools/write_documents makes their lists from the programs' parsers, a few lines show all.
-"""
+tools/write_documents makes their lists from the programs' parsers, a few lines show all."""
 
 from pathlib import Path
 

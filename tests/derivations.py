@@ -1,6 +1,5 @@
 """Count the blocks of PBKDF2 that a run computes, by its SHA-256 compressions under Valgrind: three for the secret that
-matches, one for each other secret that it tries, and three for each envelope that it writes.
-"""
+matches, one for each other secret that it tries, and three for each envelope that it writes."""
 
 import pytest
 

@@ -1,6 +1,5 @@
 """The documents agree with the code: the calls, clauses, definitions and tests that docs/verification*.md name, what
-tools/write_documents writes, messages, limits, options, paths, links and figures.
-"""
+tools/write_documents writes, messages, limits, options, paths, links and figures."""
 
 import re
 from collections.abc import Iterator

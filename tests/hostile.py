@@ -1,6 +1,5 @@
 """Run the built program under limits of address space: a run ends with its whole output, or with `out of memory` and no
-output. 20 MiB are enough for the longest plaintext.
-"""
+output. 20 MiB are enough for the longest plaintext."""
 
 import pytest
 

@@ -1,6 +1,5 @@
 """The rules of the Makefile: what each goal builds, and when that is built again. They run in a folder of their own,
-with stand-ins for the sources and for the prover.
-"""
+with stand-ins for the sources and for the prover."""
 
 import re
 import shutil

@@ -1,6 +1,5 @@
 """Build the Debian package, twice with the same bytes, and install, upgrade and remove it in a root of its own, beside
-a stand-in for Ansible's package.
-"""
+a stand-in for Ansible's package."""
 
 import os
 import re

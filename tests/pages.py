@@ -1,6 +1,5 @@
 """The manual pages agree with the code of the companions, apart from options, which tools/write_documents writes.
-`groff` shows the pages without a warning, and tools/lint also has mandoc check them.
-"""
+`groff` shows the pages without a warning, and tools/lint also has mandoc check them."""
 
 import re
 from operator import attrgetter

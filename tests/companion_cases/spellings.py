@@ -263,8 +263,8 @@ def test_random_yaml(monkeypatch: pytest.MonkeyPatch, pytestconfig: pytest.Confi
         random = Random(f"{pytestconfig.getoption('--seed')} {number}")
         monkeypatch.setattr(yaml, "CSafeLoader", LOADERS[number % 2], raising=False)
         data = Generator(random).data()
-        cut = random.randrange(len(data) + 1)
-        document.read(random.randbytes(9).join([data[:cut], data[cut:]]), every=random.random() < 0.5)
+        for value in document.read(data[: random.randrange(999)] + random.randbytes(9) + data, number % 3 == 0).values:
+            assert 0 <= value.begin <= value.start <= value.end or value.style == STRAY, (number, value)
         wanted = composed(data)
         if wanted is None:
             continue

@@ -1,6 +1,5 @@
 """Runs in which something fails: of each command to a new file, to an old one and to standard output, each in a
-directory of its own, which must contain only its output afterwards.
-"""
+directory of its own, which must contain only its output afterwards."""
 
 import os
 import stat

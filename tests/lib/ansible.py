@@ -1,6 +1,5 @@
 """Find Ansible's own tool: the path in the environment variable ANSIBLE_VAULT, or the first tool on PATH whose version
-says that it is Ansible's.
-"""
+says that it is Ansible's."""
 
 import functools
 import os

@@ -1,6 +1,5 @@
 """Vaults for the tests, made without any code of the program: PBKDF2 and HMAC come from the standard
-library, counter mode from the `openssl` command.
-"""
+library, counter mode from the `openssl` command."""
 
 import functools
 import hashlib
