@@ -18,7 +18,7 @@ from ansible_vault_companions.envelopes import conflicts
 from ansible_vault_companions.envelopes.document import Change, changed, replaced
 from ansible_vault_companions.envelopes.envelope import LITERAL, LOOSE, MAGIC, STRAY, Value
 from ansible_vault_companions.git import repository
-from ansible_vault_companions.program import Refused, shown
+from ansible_vault_companions.program import Refused, escape
 from ansible_vault_companions.tool import Decrypt, Decrypted, Key, NotDecrypted, Tool, at_once
 
 # The names of the sides in git's conflict markers.
@@ -242,7 +242,7 @@ class Vaults:
         key = common_key({self.ours.key}, self.base_keys, {self.theirs.key}) or chosen
         if key:
             return key
-        ours, theirs = (shown(vault.key[1]) for vault in (self.ours, self.theirs))
+        ours, theirs = (escape(vault.key[1]) for vault in (self.ours, self.theirs))
         labels = f"labels differ: {ours} in ours, {theirs} in theirs"
         what = "passwords of the two sides differ" if ours == theirs else labels
         raise Refused(f"the {what}; choose one with --encrypt-vault-id")
@@ -305,9 +305,9 @@ def unmerged(path: str, data: bytes) -> Versions | None:
         return None
     ours, theirs = sides[conflicts.OURS], sides[conflicts.THEIRS]
     target = os.path.realpath(path)
-    folder = repository.repository_of(os.path.dirname(target))
+    folder = repository.find_repository(os.path.dirname(target))
     names = [f":{stage}:{os.path.relpath(target, folder)}" for stage in (1, 2, 3)]
-    base, *stages = (repository.answer("cat-file", "blob", name, folder=folder) if folder else b"" for name in names)
+    base, *stages = (repository.try_git("cat-file", "blob", name, folder=folder) if folder else b"" for name in names)
     # Ends of lines may differ from those in the file.
     is_same = [stage.split() for stage in stages] == [ours.split(), theirs.split()]
     return Versions(ours, base if is_same else b"", theirs)

@@ -148,14 +148,14 @@ def _run(words: list[str], data: bytes | None, **options: Any) -> CompletedProce
     return CompletedProcess(words, program.returncode, output, errors)
 
 
-def beside(companion: str, name: str) -> str | None:
+def find_beside(companion: str, name: str) -> str | None:
     """The path of another program beside a companion, or beside a file that a link to the companion leads to."""
     path = os.path.abspath(companion)
     folders = [os.path.dirname(path)]
     while os.path.islink(path):
         path = os.path.normpath(os.path.join(os.path.dirname(path), os.readlink(path)))
         folders.append(os.path.dirname(path))
-    return program(folders, name, companion)
+    return find_program(folders, name, companion)
 
 
 def take_over(path: str, words: list[str], kept: Iterable[int]) -> NoReturn:
@@ -168,7 +168,7 @@ def take_over(path: str, words: list[str], kept: Iterable[int]) -> NoReturn:
     os.execv(path, [path, *words])
 
 
-def program(folders: list[str], name: str, companion: str) -> str | None:
+def find_program(folders: list[str], name: str, companion: str) -> str | None:
     """The first program of this name that is not the companion itself, to which a link may have given the name."""
     paths = (os.path.join(folder, name) for folder in folders if folder)
     fitting = (path for path in paths if os.path.isfile(path) and os.access(path, os.X_OK))

@@ -19,9 +19,8 @@ TYPE_CHECKING = False
 if TYPE_CHECKING:
     from typing import Any, NoReturn
 
-# What bash and zsh read by number within `$'..'`, and a path in which git sees no pattern.
+# What bash and zsh read by number within `$'..'`.
 ESCAPED = re.compile(r"[^ -&(-\[\]-~]")
-SIMPLE_PATH = re.compile(r"[\w./][\w./@+,-]*", re.ASCII)
 
 
 class Refused(Exception):
@@ -32,25 +31,18 @@ class Refused(Exception):
         self.status = status
 
 
-def shown(name: str) -> str:
+def escape(name: str) -> str:
     """A file name in printable form: line ends and terminal control characters are escaped."""
     return name if name.isprintable() else ascii(name)
 
 
-def word(text: str) -> str:
+def quote_word(text: str) -> str:
     """A path as a word of a shell command in a message. No program takes it for an option."""
     path = f"./{text}" if text.startswith("-") else text
     if path.isprintable():
         return shlex.quote(path)
     escaped = ESCAPED.sub(lambda byte: f"\\{ord(byte[0]):03o}", os.fsencode(path).decode("latin-1"))
     return f"$'{escaped}'"
-
-
-def pathspec(path: str, is_below_top: bool = False) -> str:
-    """A word by which git means this file alone, from the current directory or from any of its repository."""
-    if SIMPLE_PATH.fullmatch(path):
-        return f":/{path}" if is_below_top else path
-    return word(f":({'top,' * is_below_top}literal){path}")
 
 
 def write(data: bytes) -> None:
@@ -82,7 +74,7 @@ def reason(fault: Exception) -> str:
 
 def refusal(path: str, fault: Exception) -> str:
     """The path of a refused file, with the reason."""
-    return f"{shown(path)}: {reason(fault)}"
+    return f"{escape(path)}: {reason(fault)}"
 
 
 def attempt(companion: str, path: str, work: Callable[[], None]) -> int:
@@ -112,9 +104,9 @@ def run(name: str, main: Callable[[list[str]], int]) -> None:
         status = 1
     except (Refused, OSError) as fault:
         status = fault.status if isinstance(fault, Refused) else 1
-        where = f"{shown(fault.filename)}: " if isinstance(fault, OSError) and isinstance(fault.filename, str) else ""
+        where = f"{escape(fault.filename)}: " if isinstance(fault, OSError) and isinstance(fault.filename, str) else ""
         with suppress(OSError):
-            write_error(f"{name}: {where}{shown(reason(fault))}")
+            write_error(f"{name}: {where}{escape(reason(fault))}")
     processes.end_by_signal()
     for stream in (sys.stdout, sys.stderr):
         try:
@@ -166,10 +158,10 @@ class Parser(argparse.ArgumentParser):
     """A parser whose message is one write, with the words of the command line in printable form."""
 
     def error(self, message: str) -> NoReturn:
-        self.exit(2, f"{self.format_usage()}{self.prog}: error: {shown(message)}\n")
+        self.exit(2, f"{self.format_usage()}{self.prog}: error: {escape(message)}\n")
 
 
-def parser(name: str, summary: str, example: str, allow_abbrev: bool = False, usage: str | None = None) -> Parser:
+def make_parser(name: str, summary: str, example: str, allow_abbrev: bool = False, usage: str | None = None) -> Parser:
     """A parser that exits with status 2 if the command line is invalid."""
     made = Parser(
         name,

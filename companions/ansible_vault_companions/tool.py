@@ -14,7 +14,7 @@ from ansible_vault_companions import processes
 from ansible_vault_companions.envelopes.envelope import label_of
 from ansible_vault_companions.passwords import sources
 from ansible_vault_companions.passwords.sources import Password
-from ansible_vault_companions.program import Refused, shown
+from ansible_vault_companions.program import Refused, escape
 
 Item = TypeVar("Item")
 Result = TypeVar("Result")
@@ -49,13 +49,13 @@ class Decrypted(NamedTuple):
         A label is a hint, not a proof: anybody can change it, or copy the envelope, without a password. So if several
         passwords are given, all are tried, but only one with the envelope's label may encrypt the text again, or the
         text would get the password that belongs to another label. With one password, no other can be meant."""
-        (password, label), own = self.key, shown(self.password.label)
+        (password, label), own = self.key, escape(self.password.label)
         if "@" in label:
             why = "has an @, so no option can name it; change it in its first line"
-            raise Refused(f"{where}its label {shown(label)} {why}")
+            raise Refused(f"{where}its label {escape(label)} {why}")
         if label != password.label and not password.serves_any_label:
             raise Refused(
-                f"{where}its label is {shown(label)}, but {shown(password.given)}, a password with the label {own}, "
+                f"{where}its label is {escape(label)}, but {escape(password.given)}, a password with the label {own}, "
                 f"decrypts it; find out who changed the label or copied the text here; then write {own} as the label "
                 f"in its first line, or permit it with {sources.ANY_LABEL} when you change it"
             )
@@ -69,7 +69,7 @@ class Tool:
     may occur more than once, so results are remembered, including refusals."""
 
     def __init__(self, companion: str) -> None:
-        path = processes.beside(companion, NAME) or processes.program(os.get_exec_path(), NAME, companion)
+        path = processes.find_beside(companion, NAME) or processes.find_program(os.get_exec_path(), NAME, companion)
         if path is None:
             raise Refused(f"there is no {NAME} beside this program or on PATH; install it")
         self.path = path

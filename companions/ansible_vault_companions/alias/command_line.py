@@ -9,7 +9,7 @@ from argparse import Namespace
 from ansible_vault_companions import program
 from ansible_vault_companions.passwords import prompts, sources
 from ansible_vault_companions.passwords.sources import ANY_LABEL, ASKED, Password
-from ansible_vault_companions.program import Refused, shown, write_error
+from ansible_vault_companions.program import Refused, escape, write_error
 
 NAME = "ansible-vault-with"
 VIEW, DECRYPT, ENCRYPT, ENCRYPT_STRING, REKEY = "view", "decrypt", "encrypt", "encrypt_string", "rekey"
@@ -64,7 +64,7 @@ ARGUMENTS: dict[str, tuple[int | str, str, str]] = {
 
 def command_line(words: Collection[str] = tuple(COMMANDS)) -> program.Parser:
     """The parser, with the options of the commands that are among the words."""
-    parser = program.parser(NAME, SUMMARY, EXAMPLE, allow_abbrev=True)
+    parser = program.make_parser(NAME, SUMMARY, EXAMPLE, allow_abbrev=True)
     sources.add_options(parser, before="before_")
     parser.add_argument("-v", "--verbose", action="count", help=argparse.SUPPRESS)
     commands = parser.add_subparsers(dest="command", metavar="COMMAND", title="commands")
@@ -170,7 +170,7 @@ class Call:
         if not self.label:
             return [_typed(True, NO_NEW)]
         if not fitting:
-            raise Refused(f"no new password has the label that was chosen for encryption, {shown(self.label)}")
+            raise Refused(f"no new password has the label that was chosen for encryption, {escape(self.label)}")
         fitting[0].require()
         fitting[0].confirm()
         return fitting[:1]

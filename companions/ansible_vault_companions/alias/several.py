@@ -52,7 +52,7 @@ def _values(tool: Tool, call: Call) -> int:
         named = [f"--stdin-name={text.name}"] if text.name else []
         values.append(tool.run([*call.words("--stdin-name", "--output"), *named], text.content, call.passwords))
         if len(texts) > 1:
-            what = f"the variable {program.shown(text.name)}" if text.name else "a string without a name"
+            what = f"the variable {program.escape(text.name)}" if text.name else "a string without a name"
             write_error(f"# Value {number} is {what}, from {text.origin}.")
     path = call.args.output
     if path is None or path == STANDARD_INPUT:

@@ -15,8 +15,9 @@ from ansible_vault_companions.envelopes import conflicts, document
 from ansible_vault_companions.envelopes.document import NO_TEXT, NOT_ENCRYPTED, Change, Document, changed
 from ansible_vault_companions.envelopes.envelope import ALIAS, MAGIC, NO_SCALAR, Path, Value, quoted
 from ansible_vault_companions.files import reading
+from ansible_vault_companions.git.repository import make_pathspec
 from ansible_vault_companions.passwords.sources import Password
-from ansible_vault_companions.program import Refused, pathspec, shown
+from ansible_vault_companions.program import Refused, escape
 from ansible_vault_companions.tool import Decrypt, Key, Tool
 
 NO_VAULT = (
@@ -63,7 +64,7 @@ class SingleValue:
         # The old text, if the password that opens it is to encrypt the new one.
         self.before: bytes | None = None
         if is_chosen:
-            key = choice.key(shown(path), shown(path))
+            key = choice.key(escape(path), escape(path))
         else:
             decrypted = decrypt(self.value.readable())
             # If the password has another label than the value, the new text may be for other readers.
@@ -83,7 +84,7 @@ class SingleValue:
         try:
             return written(self.text, {number: envelope}, block)
         except Refused:
-            raise Refused(NO_PLACE.format(shown(self.path))) from None
+            raise Refused(NO_PLACE.format(escape(self.path))) from None
 
 
 # A text to change, and how the file becomes what was saved. Its `keys` may read a copy, if there is a single one.
@@ -124,7 +125,7 @@ def _of_conflict(
     if all(are_vaults):
         return merging.Conflict(decrypt, target, content, sides, key)
     if any(are_vaults):
-        raise Refused(merging.ONE_SIDE.format(pathspec(target)))
+        raise Refused(merging.ONE_SIDE.format(make_pathspec(target)))
     # Where git has merged the digits of values, only whole ones are between the markers of the merged text.
     is_merged = sides.ours and sides.theirs
     merged = merging.merged(tool, decrypt, sides, conflicts.SIZE, key).content if is_merged else content
@@ -161,14 +162,14 @@ def _tagged(data: bytes, path: str, is_chosen: bool) -> Document:
         if value.is_tagged and value.is_envelope:
             return file
         if not is_chosen:
-            raise Refused(NOT_ENCRYPTED.format(shown(path)) + TO_ENCRYPT)
+            raise Refused(NOT_ENCRYPTED.format(escape(path)) + TO_ENCRYPT)
         if value.style in (NO_SCALAR, ALIAS):
-            raise Refused(NO_TEXT.format(shown(path)))
+            raise Refused(NO_TEXT.format(escape(path)))
         text = b"" if value.is_tagged else b"!vault " if value.end > value.begin else b' !vault ""'
         tag = Change(value.begin, value.begin, text)
     after = document.read(changed(data, [tag]), every=True)
     if after.fault or _others(after, path) != _others(file, path):
-        raise Refused(NO_PLACE.format(shown(path)))
+        raise Refused(NO_PLACE.format(escape(path)))
     return after
 
 

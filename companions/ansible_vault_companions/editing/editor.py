@@ -16,9 +16,9 @@ from ansible_vault_companions import processes, program
 from ansible_vault_companions.editing.drafts import Draft, SingleValue
 from ansible_vault_companions.envelopes.envelope import MAGIC, label_of
 from ansible_vault_companions.files import reading, replacing
-from ansible_vault_companions.git.repository import repository_of
+from ansible_vault_companions.git.repository import find_repository
 from ansible_vault_companions.passwords import prompts
-from ansible_vault_companions.program import Refused, shown
+from ansible_vault_companions.program import Refused, escape
 from ansible_vault_companions.tool import Decrypt, Key, Tool
 
 NAME = "ansible-vault-edit"
@@ -69,7 +69,7 @@ class PrivateFolder:
 def _made() -> str:
     """A new directory. What a repository contains, or a relative path leads to, may belong to a stranger."""
     for place in (os.environ.get("XDG_RUNTIME_DIR"), "/dev/shm", os.environ.get("TMPDIR"), "/tmp"):
-        if place and os.path.isabs(place) and not repository_of(os.path.realpath(place)):
+        if place and os.path.isabs(place) and not find_repository(os.path.realpath(place)):
             with suppress(OSError):
                 return tempfile.mkdtemp(prefix=PREFIX, dir=place)
     raise Refused("no private directory can be made for the plaintext; set TMPDIR to a directory outside of git")
@@ -79,12 +79,12 @@ def copies_folder() -> str:
     """The directory of copies, which may be missing. Refuses one that somebody else may have filled."""
     state = os.environ.get("XDG_STATE_HOME", "")
     path = os.path.join(state if os.path.isabs(state) else os.path.expanduser("~/.local/state"), "ansible-vault")
-    if not os.path.isabs(path) or repository_of(os.path.realpath(path)):
-        raise Refused(f"{shown(path)} is in a git repository")
+    if not os.path.isabs(path) or find_repository(os.path.realpath(path)):
+        raise Refused(f"{escape(path)} is in a git repository")
     with suppress(FileNotFoundError):
         about = os.lstat(path)
         if about.st_uid != os.geteuid() or about.st_mode & 0o077:
-            raise Refused(f"{shown(path)} is not a directory that only you can open")
+            raise Refused(f"{escape(path)} is not a directory that only you can open")
     return path
 
 
@@ -108,7 +108,7 @@ def taken_up(path: str, base: bytes, keys: list[Key], decrypt: Decrypt) -> bytes
     content = reading.named(path)
     text = decrypt(content).text
     if [label for _, label in keys] != [label_of(content)] or not text.startswith(_head(base)):
-        why = f"its text or its label has changed since the edit that left {shown(path)}"
+        why = f"its text or its label has changed since the edit that left {escape(path)}"
         raise Refused(f"{why}; take what you need from the copy, which `ansible-vault-textconv` shows")
     return text[len(_head(base)) :]
 
@@ -172,7 +172,7 @@ class Edit:
     def _opens_again(self, why: Refused) -> bool:
         """Whether the user, asked at the terminal, wants to correct the saved text."""
         try:
-            return prompts.agrees(f"{shown(self.path)}: {why}. Open the editor again?")
+            return prompts.agrees(f"{escape(self.path)}: {why}. Open the editor again?")
         # A signal arrived, or the terminal is gone.
         except (processes.Stopped, Refused, OSError):
             return False
@@ -185,7 +185,7 @@ class Edit:
             copy = save_copy(self.tool, key, self.draft.target, self.draft.plaintext, text)
         except Exception:
             return self.folder.keep(why, self.name, text)
-        return Refused(RESCUED.format(why, shown(copy)))
+        return Refused(RESCUED.format(why, escape(copy)))
 
 
 def by_signal() -> str:

@@ -13,7 +13,7 @@ from typing import Callable, Iterable, Iterator, NamedTuple
 from ansible_vault_companions.envelopes.envelope import Path, Value
 from ansible_vault_companions.passwords import prompts
 from ansible_vault_companions.passwords.sources import Password
-from ansible_vault_companions.program import Refused, shown
+from ansible_vault_companions.program import Refused, escape
 from ansible_vault_companions.tool import Decrypted, Key
 
 UNCLEAR = "{} may be a new value or a changed one, and the password depends on which; save one change at a time"
@@ -66,7 +66,7 @@ class Choice(NamedTuple):
 
 
 def name_of(value: Value) -> str:
-    return shown(value.name) if value.name else "this value"
+    return escape(value.name) if value.name else "this value"
 
 
 def place_of(value: Value) -> str:

@@ -18,7 +18,7 @@ from ansible_vault_companions import processes
 from ansible_vault_companions.envelopes.envelope import LITERAL, LOOSE, MAGIC, STRAY, WHOLE, WITH_DIGITS, Value
 from ansible_vault_companions.envelopes.scalars import BINARY, NotYaml, scalars
 from ansible_vault_companions.files.reading import opened, parts, whole
-from ansible_vault_companions.program import Refused, shown
+from ansible_vault_companions.program import Refused, escape
 
 # A file with an envelope has one of these words, or spells it with escapes, which take no more than OVERLAP bytes.
 WORDS = (b"ANSIBLE_VAULT", b"!vault", b"__ansible_vault", b"%TAG")
@@ -153,12 +153,12 @@ class Document:
         """The only one of the values at a typed path."""
         values = self.values_at(path)
         if not values:
-            names = [shown(value.typed_path) for value in self.values if value.is_envelope]
+            names = [escape(value.typed_path) for value in self.values if value.is_envelope]
             listed = f"; encrypted here: {', '.join(names)}" if 0 < len(names) <= MOST_LISTED else ""
-            raise Refused(f"there is no value {shown(path)}{listed}")
+            raise Refused(f"there is no value {escape(path)}{listed}")
         if len(values) > 1:
             what = "number the items of lists, as in `users[0].name`, or rename a key that is there twice"
-            raise Refused(f"{len(values)} values are at {shown(path)}; {what}")
+            raise Refused(f"{len(values)} values are at {escape(path)}; {what}")
         return values[0]
 
 

@@ -6,7 +6,7 @@ import binascii
 import re
 from typing import NamedTuple, Union
 
-from ansible_vault_companions.program import Refused, shown
+from ansible_vault_companions.program import Refused, escape
 
 MAGIC = b"$ANSIBLE_VAULT"
 LINE_END = re.compile(rb"\r\n?|\n")
@@ -105,7 +105,7 @@ class Value(NamedTuple):
 
     def place(self, path: str) -> str:
         """The path, with the line number if it is not the whole file, for a message."""
-        return f"{shown(path)}:{self.line}" if self.line else shown(path)
+        return f"{escape(path)}:{self.line}" if self.line else escape(path)
 
     def readable(self) -> bytes:
         """What ansible-vault reads."""

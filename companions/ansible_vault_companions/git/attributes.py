@@ -6,8 +6,8 @@ import os
 import re
 from typing import Container, Iterable, NamedTuple
 
-from ansible_vault_companions.git.repository import by_repository, git
-from ansible_vault_companions.program import shown
+from ansible_vault_companions.git.repository import group_by_repository, run_git
+from ansible_vault_companions.program import escape
 
 # The first attribute marks a file if it has this value, the second if it is set. Unset, the second exempts a file. The
 # third exempts the values at these key paths.
@@ -25,48 +25,50 @@ class Attributes(NamedTuple):
     plain_values: set[str]
 
 
-def of(names: Iterable[bytes], index: str | None = None, folder: str | None = None) -> dict[bytes, Attributes]:
+def read_attributes(
+    names: Iterable[bytes], index: str | None = None, folder: str | None = None
+) -> dict[bytes, Attributes]:
     """The attributes of each file, from the index or, if a directory is given, from its files."""
     options = [] if folder else ["--cached"]
     data = b"".join(name + b"\0" for name in names)
-    fields = git("check-attr", *options, "-z", "--stdin", *ATTRIBUTES, data=data, index=index, folder=folder)
+    fields = run_git("check-attr", *options, "-z", "--stdin", *ATTRIBUTES, data=data, index=index, folder=folder)
     values: dict[bytes, list[bytes]] = {}
     triples = iter(fields.split(b"\0")[:-1])
     for name, _, value in zip(triples, triples, triples):
         values.setdefault(name, []).append(value)
-    return {name: _attributes(*given) for name, given in values.items()}
+    return {name: _make_attributes(*given) for name, given in values.items()}
 
 
-def _attributes(diff: bytes, vault: bytes, plain: bytes) -> Attributes:
+def _make_attributes(diff: bytes, vault: bytes, plain: bytes) -> Attributes:
     is_exempt = vault == b"unset"
     is_marked = not is_exempt and (diff == NAME or vault == b"set")
     has_values = plain not in (b"unspecified", b"set", b"unset")
     return Attributes(is_marked, is_exempt, {*os.fsdecode(plain).split(",")} if has_values else set())
 
 
-def marked(paths: list[str]) -> set[str]:
+def find_marked(paths: list[str]) -> set[str]:
     """Those that are marked in the repository that they are in, if any. A link counts by its own name, too."""
     links = [path for path in paths if os.path.islink(path)]
     return {
         names[name]
-        for repositories in (by_repository(paths), by_repository(links, follows=False))
+        for repositories in (group_by_repository(paths), group_by_repository(links, follows=False))
         for folder, names in repositories.items()
-        for name, attributes in of(names, folder=folder).items()
+        for name, attributes in read_attributes(names, folder=folder).items()
         if attributes.is_marked
     }
 
 
-def line(name: bytes, attribute: str, names: Container[bytes]) -> str:
+def make_line(name: bytes, attribute: str, names: Container[bytes]) -> str:
     """The line that gives an attribute to this file alone, behind the path of its .gitattributes. Of those with these
     names, git prefers the nearest one."""
     *folders, _ = name.split(b"/")
     while folders and b"/".join([*folders, FILE]) not in names:
         folders.pop()
     above = b"".join(folder + b"/" for folder in folders)
-    return f"{shown(os.fsdecode(above + FILE))}: {pattern(name[len(above):])} {attribute}"
+    return f"{escape(os.fsdecode(above + FILE))}: {_make_pattern(name[len(above):])} {attribute}"
 
 
-def pattern(name: bytes) -> str:
+def _make_pattern(name: bytes) -> str:
     """A pattern for .gitattributes that matches only this file. In quotes, git reads escapes as C does."""
     if PLAIN.fullmatch(name):
         return f"/{name.decode()}"

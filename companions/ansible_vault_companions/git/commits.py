@@ -12,8 +12,8 @@ from typing import Iterator, NamedTuple
 from ansible_vault_companions.envelopes.envelope import MAGIC
 from ansible_vault_companions.envelopes.scalars import LONGEST
 from ansible_vault_companions.files.reading import LIMIT
-from ansible_vault_companions.git.repository import command, environment, git, line
-from ansible_vault_companions.program import Refused, pathspec, shown
+from ansible_vault_companions.git.repository import build_command, build_environment, make_pathspec, read_line, run_git
+from ansible_vault_companions.program import Refused, escape
 
 # The modes of regular files and of links, as opposed to submodules.
 FILE_MODES, LINK_MODE = ("100644", "100755"), "120000"
@@ -51,12 +51,12 @@ class Index:
 
     def __init__(self, parents: list[str], path: str | None = None) -> None:
         # The parent of a first commit is the empty tree.
-        self.parents = parents or [git("hash-object", "-t", "tree", "--stdin").decode().strip()]
+        self.parents = parents or [run_git("hash-object", "-t", "tree", "--stdin").decode().strip()]
         self.path = path
 
     def at(self, paths: list[str]) -> list[File]:
         """The files and links at or below these paths. git refuses a path without any."""
-        entries = git("ls-files", "-s", "-z", "--full-name", "--error-unmatch", "--", *paths, index=self.path)
+        entries = run_git("ls-files", "-s", "-z", "--full-name", "--error-unmatch", "--", *paths, index=self.path)
         halves = (entry.partition(b"\t") for entry in entries.split(b"\0")[:-1])
         words = ((about.decode().split(), name) for about, _, name in halves)
         return [File(name, blob, is_link=mode == LINK_MODE) for (mode, blob, _), name in words if mode in MODES]
@@ -70,7 +70,7 @@ class Index:
         words = ("diff-index", "--cached", *RENAMES, commit)
         files = [
             File(name, blob if mode in MODES else "", before if old_mode in FILE_MODES else "", mode == LINK_MODE)
-            for name, old_mode, mode, before, blob in _differences(*words, index=self.path)
+            for name, old_mode, mode, before, blob in _list_differences(*words, index=self.path)
         ]
         return Differences(commit[:10], files)
 
@@ -80,11 +80,11 @@ class Index:
 
     def former(self, commit: str) -> set[File]:
         """The files, each with a version that a commit in the history had of it."""
-        commits = git("rev-list", commit).splitlines(keepends=True)
+        commits = run_git("rev-list", commit).splitlines(keepends=True)
         words = ("diff-tree", "--stdin", "-r", "-m", "--root", "--no-commit-id", "--no-renames")
         files: set[File] = set()
         for first in range(0, len(commits), BATCH):
-            for name, _, mode, _, blob in _differences(*words, data=b"".join(commits[first : first + BATCH])):
+            for name, _, mode, _, blob in _list_differences(*words, data=b"".join(commits[first : first + BATCH])):
                 if name in self.files and mode in FILE_MODES and blob != self.files[name].blob:
                     files.add(self.files[name]._replace(before=blob))
         return files
@@ -110,9 +110,9 @@ class Index:
 Difference = tuple[bytes, str, str, str, str]
 
 
-def _differences(*words: str, data: bytes = b"", index: str | None = None) -> Iterator[Difference]:
+def _list_differences(*words: str, data: bytes = b"", index: str | None = None) -> Iterator[Difference]:
     """The entries of git's raw output."""
-    fields = iter(git(*words, "--raw", "-z", "--no-abbrev", data=data, index=index).split(b"\0")[:-1])
+    fields = iter(run_git(*words, "--raw", "-z", "--no-abbrev", data=data, index=index).split(b"\0")[:-1])
     for about in fields:
         old_mode, mode, old_blob, blob, status = about.decode().removeprefix(":").split()
         name = next(fields)
@@ -120,41 +120,41 @@ def _differences(*words: str, data: bytes = b"", index: str | None = None) -> It
             name = next(fields)
         if status == "U":
             path = os.fsdecode(name)
-            to_add = f"`git add -- {pathspec(path, is_below_top=True)}`"
-            raise Refused(f"{shown(path)} is unmerged; resolve the conflict, and run {to_add}")
+            to_add = f"`git add -- {make_pathspec(path, is_below_top=True)}`"
+            raise Refused(f"{escape(path)} is unmerged; resolve the conflict, and run {to_add}")
         yield name, old_mode, mode, old_blob, blob
 
 
-def staged() -> Index:
+def read_staged() -> Index:
     """What is staged. The next commit will have HEAD as a parent, and what is being merged."""
     names = {name.removeprefix(MERGED) for name in os.environ if name.startswith(MERGED)}
     try:
-        with open(line("rev-parse", "--git-path", "MERGE_HEAD"), encoding="ascii") as file:
+        with open(read_line("rev-parse", "--git-path", "MERGE_HEAD"), encoding="ascii") as file:
             names.update(file.read().split())
     except FileNotFoundError:
         pass
-    return Index(["HEAD", *sorted(names)] if line("rev-parse", "--verify", "HEAD") else [])
+    return Index(["HEAD", *sorted(names)] if read_line("rev-parse", "--verify", "HEAD") else [])
 
 
-def commit_of(name: str) -> str:
+def find_commit(name: str) -> str:
     """The ID of the commit with this name. Raises Refused if there is none, or if the clone lacks earlier ones."""
-    if line("rev-parse", "--is-shallow-repository") == "true":
+    if read_line("rev-parse", "--is-shallow-repository") == "true":
         raise Refused(SHALLOW)
-    commit = line("rev-parse", "--verify", "--end-of-options", f"{name}^{{commit}}")
+    commit = read_line("rev-parse", "--verify", "--end-of-options", f"{name}^{{commit}}")
     if not commit:
-        raise Refused(f"{shown(name)} is not a commit in this clone; if others have it, run `git fetch`")
+        raise Refused(f"{escape(name)} is not a commit in this clone; if others have it, run `git fetch`")
     return commit
 
 
 @contextmanager
-def index_of(commit: str) -> Iterator[Index]:
+def open_index(commit: str) -> Iterator[Index]:
     """A context with a temporary index that contains the files of a commit."""
     # If none is named, `tempfile` might choose another directory, even the current one.
     above = os.path.abspath(os.environ.get("TMPDIR") or "/tmp")
     with tempfile.TemporaryDirectory(prefix="ansible-vault-", dir=above) as folder:
         path = os.path.join(folder, "index")
-        git("read-tree", commit, index=path)
-        yield Index(git("rev-list", "--parents", "--max-count=1", commit).decode().split()[1:], path)
+        run_git("read-tree", commit, index=path)
+        yield Index(run_git("rev-list", "--parents", "--max-count=1", commit).decode().split()[1:], path)
 
 
 class Blobs:
@@ -162,7 +162,8 @@ class Blobs:
 
     def __enter__(self) -> Blobs:
         pipes = {"stdin": subprocess.PIPE, "stdout": subprocess.PIPE, "stderr": subprocess.DEVNULL}
-        self.git = subprocess.Popen(command(("cat-file", "--batch")), env=environment(), **pipes)  # type: ignore
+        words = build_command(("cat-file", "--batch"))
+        self.git = subprocess.Popen(words, env=build_environment(), **pipes)  # type: ignore
         return self
 
     def __exit__(self, *_: object) -> None:

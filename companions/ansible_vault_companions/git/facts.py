@@ -50,23 +50,23 @@ class Facts(NamedTuple):
     plain: Texts = {}
 
 
-def facts(data: bytes, needs_plain: bool = False) -> Facts:
+def find_facts(data: bytes, needs_plain: bool = False) -> Facts:
     """Reads a content that may have an envelope, or the plaintexts of any."""
     if not data.strip():
         return Facts(is_empty=True, unencrypted="")
     if data.startswith(MAGIC):
-        return Facts(is_vault=True, damage=damage(Document(data)), unencrypted="")
+        return Facts(is_vault=True, damage=find_damage(Document(data)), unencrypted="")
     if not (needs_plain or mentions(data)):
         return Facts()
-    document, leaves = _document(data)
-    made = Facts(False, False, document.fault, damage(document), unencrypted(document), {}, {})
+    document, leaves = _read_leaves(data)
+    made = Facts(False, False, document.fault, find_damage(document), find_unencrypted(document), {}, {})
     for path, is_encrypted, text in leaves:
         texts = made.encrypted if is_encrypted else made.plain
         texts.setdefault(_keys(path), Counter())[text] += 1
     return made
 
 
-def _document(data: bytes) -> tuple[Document, list[Leaf]]:
+def _read_leaves(data: bytes) -> tuple[Document, list[Leaf]]:
     """The envelopes, and the texts at each path that leads to them, from one look at the nodes."""
     document, leaves = Document(data), list[Leaf]()
     # For each anchor its path, and the number of its first text.
@@ -108,30 +108,30 @@ def _keys(path: Path) -> Keys:
     return tuple(keys)
 
 
-def written(keys: Keys) -> str:
+def write_keys(keys: Keys) -> str:
     """A key path as in .gitattributes, with what cannot be written there percent-encoded: `users[].password`."""
     escape: Callable[[re.Match[str]], str] = lambda text: "".join(f"%{byte:02X}" for byte in text[0].encode())
     steps = (key if key is ITEM else UNWRITTEN.sub(escape, key) for key in keys)
     return ".".join(steps).replace(f".{ITEM}", ITEM) or "."
 
 
-def came(before: Facts, after: Facts) -> set[Keys]:
+def find_new_plaintext(before: Facts, after: Facts) -> set[Keys]:
     """Where there is new plaintext."""
     return {keys for keys, texts in after.plain.items() if texts - before.plain.get(keys, NONE)}
 
 
-def branches(paths: Iterable[Keys]) -> set[Keys]:
+def list_branches(paths: Iterable[Keys]) -> set[Keys]:
     """These and those above them."""
     return {keys[:length] for keys in paths for length in range(len(keys) + 1)}
 
 
-def now_plain(before: Facts, after: Facts) -> list[Keys]:
+def find_now_plain(before: Facts, after: Facts) -> list[Keys]:
     """Where an envelope was and new plaintext is, at its keys, above or below. Where items of a list share the keys, an
     envelope has to be gone."""
-    new = came(before, after)
+    new = find_new_plaintext(before, after)
     # An item of a list stands for the list: it may take the place of a mapping.
     new |= {keys[:-1] for keys in new if keys[-1:] == (ITEM,)}
-    above = branches(new)
+    above = list_branches(new)
     return [
         keys
         for keys, texts in before.encrypted.items()
@@ -145,7 +145,7 @@ def is_unmerged(document: Document) -> bool:
     return conflicts.is_unmerged(document.data) and bool(document.values or MAGIC + b";" in document.data)
 
 
-def damage(document: Document) -> str:
+def find_damage(document: Document) -> str:
     """What is wrong with the envelopes of a file; empty if nothing is."""
     if is_unmerged(document):
         return conflicts.UNMERGED
@@ -156,7 +156,7 @@ def damage(document: Document) -> str:
     return f"has a damaged value in line {line}" if line else ""
 
 
-def unencrypted(document: Document) -> str:
+def find_unencrypted(document: Document) -> str:
     """Why a marked file that is not empty is refused; empty if it is not."""
     values = [value for value in document.values if value.style not in (STRAY, LOOSE)]
     if not document.is_vault:
@@ -167,4 +167,4 @@ def unencrypted(document: Document) -> str:
         line = next((value.line for value in values if not value.is_envelope), 0)
         if line:
             return f"has plaintext with the tag `!vault` in line {line}"
-    return damage(document)
+    return find_damage(document)

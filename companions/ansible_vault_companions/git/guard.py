@@ -15,9 +15,9 @@ from ansible_vault_companions.files import replacing
 from ansible_vault_companions.git import attributes, commits, facts
 from ansible_vault_companions.git.attributes import PLAIN_VALUES, VAULT
 from ansible_vault_companions.git.commits import Blobs, Differences, File, Index
-from ansible_vault_companions.git.facts import NONE, Facts, Keys, written
-from ansible_vault_companions.git.repository import git, line
-from ansible_vault_companions.program import pathspec, shown, write_error
+from ansible_vault_companions.git.facts import NONE, Facts, Keys, write_keys
+from ansible_vault_companions.git.repository import make_pathspec, read_line, run_git
+from ansible_vault_companions.program import escape, write_error
 
 SUCCESSOR = "is not encrypted, and {}, which is gone, was a vault{}"
 NOW_PLAIN = "has {} in plaintext, which {} encrypted{}"
@@ -45,14 +45,14 @@ class Guard:
         self.index = index
         self.blobs = blobs
         self.since = f" in {change.since}" if change.since else ""
-        self.attributes = attributes.of([file.name for file in change.files], index.path)
+        self.attributes = attributes.read_attributes([file.name for file in change.files], index.path)
         self.before = {file: self._facts(file.before, is_old=True) for file in change.files}
         has_values = any(before.encrypted for before in self.before.values())
         self.now = {file: self._facts(file.blob, has_values) for file in change.files}
 
     def _facts(self, blob: str, needs_plain: bool = False, is_old: bool = False) -> Facts:
         content = self.blobs.read(blob, is_old) if blob else b""
-        return Facts(fault=TOO_LONG) if content is None else facts.facts(content, needs_plain)
+        return Facts(fault=TOO_LONG) if content is None else facts.find_facts(content, needs_plain)
 
     @cached_property
     def removed(self) -> dict[Keys, bytes]:
@@ -83,66 +83,66 @@ class Guard:
             if fault:
                 yield file, fault
 
-    def _meant(self, file: File, attribute: str = EXEMPT, first: str = "") -> str:
-        return MEANT.format(first, attributes.line(file.name, attribute, self.index.files))
+    def _advise(self, file: File, attribute: str = EXEMPT, first: str = "") -> str:
+        return MEANT.format(first, attributes.make_line(file.name, attribute, self.index.files))
 
     def _damage(self, file: File, before: Facts, now: Facts) -> Fault | None:
         name, given = os.fsdecode(file.name), self.attributes[file.name]
         if given.is_exempt or name.lower().endswith(PROSE) and not given.is_marked:
             return None
         if replacing.is_leftover(os.path.basename(name)):
-            to_do = f"  look at its content, and remove it with `git rm -f -- {pathspec(name, is_below_top=True)}`"
+            to_do = f"  look at its content, and remove it with `git rm -f -- {make_pathspec(name, is_below_top=True)}`"
             return Fault("was left behind by a companion, and may be plaintext", to_do)
         if now.damage == conflicts.UNMERGED:
             return Fault(now.damage, RESOLVE)
         if now.damage:
-            command = f"git checkout HEAD -- {pathspec(name, is_below_top=True)}"
+            command = f"git checkout HEAD -- {make_pathspec(name, is_below_top=True)}"
             first = f"restore it, for example with `{command}` if it is whole there; "
-            return Fault(now.damage, self._meant(file, first=first))
+            return Fault(now.damage, self._advise(file, first=first))
         if before.encrypted and now.fault and name.lower().endswith(YAML):
-            return Fault(NOT_YAML.format(now.fault), self._meant(file, first="repair it; "))
+            return Fault(NOT_YAML.format(now.fault), self._advise(file, first="repair it; "))
         return None
 
     def _unencrypted(self, file: File, _: Facts, now: Facts) -> Fault | None:
         if not (self.attributes[file.name].is_marked and now.unencrypted):
             return None
-        return Fault(now.unencrypted, UNMARK.format(attributes.line(file.name, UNMARKED, self.index.files)))
+        return Fault(now.unencrypted, UNMARK.format(attributes.make_line(file.name, UNMARKED, self.index.files)))
 
     def _vault(self, file: File, before: Facts, now: Facts) -> Fault | None:
         if now.is_vault or now.is_empty or self.attributes[file.name].is_exempt:
             return None
         if before.is_vault:
-            return Fault(f"is not a vault, but was one{self.since}", self._meant(file))
+            return Fault(f"is not a vault, but was one{self.since}", self._advise(file))
         places = () if file.before else _places(file.name, b"of", b"in")
         vault = next((self.vaults[place] for place in places if place in self.vaults), None)
         if vault is None:
             return None
-        return Fault(SUCCESSOR.format(shown(os.fsdecode(vault)), self.since), self._meant(file))
+        return Fault(SUCCESSOR.format(escape(os.fsdecode(vault)), self.since), self._advise(file))
 
     def _values(self, file: File, before: Facts, now: Facts) -> Fault | None:
         allowed = self.attributes[file.name].plain_values
-        sources = {keys: f" of {shown(os.fsdecode(self.removed[keys]))}" for keys in self._from_elsewhere(file, now)}
-        sources.update(dict.fromkeys(facts.now_plain(before, now), ""))
-        refused = sorted((keys for keys in sources if written(keys) not in allowed), key=written)
+        sources = {keys: f" of {escape(os.fsdecode(self.removed[keys]))}" for keys in self._from_elsewhere(file, now)}
+        sources.update(dict.fromkeys(facts.find_now_plain(before, now), ""))
+        refused = sorted((keys for keys in sources if write_keys(keys) not in allowed), key=write_keys)
         if not refused:
             return None
-        names = ", ".join(written(keys) + sources[keys] for keys in refused)
-        values = ",".join(sorted({*map(written, sources), *allowed}))
+        names = ", ".join(write_keys(keys) + sources[keys] for keys in refused)
+        values = ",".join(sorted({*map(write_keys, sources), *allowed}))
         why = NOW_PLAIN.format(names, "was" if len(refused) == 1 else "were", self.since)
-        return Fault(why, self._meant(file, f"{PLAIN_VALUES}={values}"))
+        return Fault(why, self._advise(file, f"{PLAIN_VALUES}={values}"))
 
     def _from_elsewhere(self, file: File, now: Facts) -> set[Keys]:
         """The keys of removed values at or below which there is new plaintext."""
-        if not self.removed or self.removed.keys().isdisjoint(facts.branches(now.plain)):
+        if not self.removed or self.removed.keys().isdisjoint(facts.list_branches(now.plain)):
             return set()
-        came = facts.came(self._facts(file.before, needs_plain=True), now)
-        return facts.branches(came) & self.removed.keys()
+        came = facts.find_new_plaintext(self._facts(file.before, needs_plain=True), now)
+        return facts.list_branches(came) & self.removed.keys()
 
     def _stale(self, file: File, _: Facts, now: Facts) -> Fault | None:
         given = self.attributes[file.name]
         if now.is_vault and not now.damage and (given.is_exempt or given.plain_values):
             return Fault(STALE.format(EXEMPT if given.is_exempt else PLAIN_VALUES))
-        names = given.plain_values & {written(keys) for keys in now.encrypted.keys() - now.plain.keys()}
+        names = given.plain_values & {write_keys(keys) for keys in now.encrypted.keys() - now.plain.keys()}
         return Fault(STALE.format(",".join(sorted(names)))) if names else None
 
 
@@ -186,33 +186,33 @@ class Review:
                     continue
                 self.reported.add((file.name, file.blob))
                 why = f"is a link to a file that {fault.why}" if file.is_link else fault.why
-                write_error(f"{self.program}: {where}{shown(os.fsdecode(file.name))} {why}")
+                write_error(f"{self.program}: {where}{escape(os.fsdecode(file.name))} {why}")
                 if fault.hint:
                     write_error(fault.hint)
 
 
 def review_staged(review: Review, paths: list[str]) -> None:
     """Reviews the staged changes, and the files at or below these paths even if they did not change."""
-    index = commits.staged()
+    index = commits.read_staged()
     named = Differences("", index.at(paths) if paths else [])
     review.look_at(index, [*index.changes(), named])
 
 
 def review_since(review: Review, name: str) -> None:
     """Reviews each commit after this one, and what all of them change since the merge bases."""
-    first, last = commits.commit_of(name), commits.commit_of("HEAD")
-    for commit in git("rev-list", "--reverse", "--topo-order", f"{first}..{last}").decode().split():
-        with commits.index_of(commit) as index:
+    first, last = commits.find_commit(name), commits.find_commit("HEAD")
+    for commit in run_git("rev-list", "--reverse", "--topo-order", f"{first}..{last}").decode().split():
+        with commits.open_index(commit) as index:
             review.look_at(index, index.changes(), f"{commit[:10]}: ")
-    with commits.index_of(last) as index:
-        bases = line("merge-base", "--all", first, last).split()
+    with commits.open_index(last) as index:
+        bases = read_line("merge-base", "--all", first, last).split()
         review.look_at(index, [index.change(base) for base in bases], f"{last[:10]}: ")
 
 
 def review_all(review: Review) -> None:
     """Reviews all files, the changes of the last commit, and every file that was a vault in an earlier commit."""
-    commit = commits.commit_of("HEAD")
-    with commits.index_of(commit) as index:
+    commit = commits.find_commit("HEAD")
+    with commits.open_index(commit) as index:
         former = index.former(commit)
         vaults = {file.before for file in former if review.blobs.read(file.before, is_old=True) == MAGIC}
         were_vaults = Differences("an earlier commit", sorted(file for file in former if file.before in vaults))

@@ -8,8 +8,8 @@ from __future__ import annotations
 import os
 import shlex
 
-from ansible_vault_companions.git.repository import git, line, top
-from ansible_vault_companions.program import Refused, shown, word
+from ansible_vault_companions.git.repository import find_top, read_line, run_git
+from ansible_vault_companions.program import Refused, escape, quote_word
 
 # If the driver does not start, git's own merge leaves a conflict; otherwise git would keep ours without a word.
 OR_ELSE = ' || { s=$?; [ "$s" -lt 2 ] || [ "$s" -gt 127 ] || git merge-file -q %A %O %B; exit 1; }'
@@ -24,10 +24,10 @@ git diff and git merge recognize vaults by .gitattributes; for the whole team, a
   vault.yml diff=ansible-vault merge=ansible-vault"""
 
 
-def hooks() -> list[str]:
+def list_hooks() -> list[str]:
     """The paths of this repository's hooks. Changes to its top, where a relative core.hooksPath starts."""
-    os.chdir(top())
-    folder = os.path.abspath(os.fsdecode(git("rev-parse", "--git-path", "hooks").removesuffix(b"\n")))
+    os.chdir(find_top())
+    folder = os.path.abspath(os.fsdecode(run_git("rev-parse", "--git-path", "hooks").removesuffix(b"\n")))
     return [os.path.join(folder, name) for name in ("pre-commit", "pre-merge-commit")]
 
 
@@ -36,7 +36,7 @@ def install_hook(hook: str, program: str) -> str:
     if _is_ours(hook, program):
         os.unlink(hook)
     elif os.path.lexists(hook):
-        raise Refused(f"exists already; add this line to it: {word(program)} || exit 1")
+        raise Refused(f"exists already; add this line to it: {quote_word(program)} || exit 1")
     os.symlink(program, hook)
     return "installed"
 
@@ -52,7 +52,7 @@ def _is_ours(hook: str, program: str) -> bool:
     return os.path.islink(hook) and os.path.basename(os.readlink(hook)) == os.path.basename(program)
 
 
-def wanted(setting: str, program: str, passwords: list[str]) -> str:
+def make_setting(setting: str, program: str, passwords: list[str]) -> str:
     """The command for a setting, with the companion's whole path: PATH may be another one where git runs."""
     name, rest = SETTINGS[setting]
     beside = os.path.join(os.path.dirname(program), name)
@@ -63,16 +63,16 @@ def wanted(setting: str, program: str, passwords: list[str]) -> str:
 
 
 def install_setting(setting: str, value: str) -> str:
-    old = line("config", "--get", setting)
+    old = read_line("config", "--get", setting)
     if old and SETTINGS[setting][0] not in old:
-        raise Refused(f"is already `{shown(old)}`; to change it, unset it with git config and run this again")
-    git("config", "--local", "--replace-all", setting, value)
-    return f"is already {shown(value)}" if old == value else f"set to {shown(value)}"
+        raise Refused(f"is already `{escape(old)}`; to change it, unset it with git config and run this again")
+    run_git("config", "--local", "--replace-all", setting, value)
+    return f"is already {escape(value)}" if old == value else f"set to {escape(value)}"
 
 
 def uninstall_setting(setting: str) -> str:
-    value = line("config", "--local", "--get", setting)
+    value = read_line("config", "--local", "--get", setting)
     if value and SETTINGS[setting][0] in value:
-        git("config", "--local", "--unset-all", setting)
+        run_git("config", "--local", "--unset-all", setting)
         return "removed"
-    return f"left alone, since --install did not set it: {shown(value)}" if value else "not set"
+    return f"left alone, since --install did not set it: {escape(value)}" if value else "not set"

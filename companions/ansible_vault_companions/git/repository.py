@@ -3,12 +3,13 @@
 from __future__ import annotations
 
 import os
+import re
 import subprocess
 from functools import lru_cache
 from typing import Any
 
 from ansible_vault_companions import processes
-from ansible_vault_companions.program import Refused
+from ansible_vault_companions.program import Refused, quote_word
 
 # A stranger's repository has its own settings, hooks and attributes, which name programs. git would start the program
 # in core.fsmonitor to read an index, the hook post-index-change to write one, and a transport (and so core.sshCommand
@@ -20,17 +21,19 @@ OFF = ("core.fsmonitor=false", "submodule.recurse=false", "core.sparseCheckout=f
 NO_HOOKS = f"core.hooksPath={os.devnull}"
 # These commands run no hook, and need the real setting to say where the hooks are.
 OF_HOOKS = ("rev-parse", "config")
+# A path in which git sees no pattern.
+SIMPLE_PATH = re.compile(r"[\w./][\w./@+,-]*", re.ASCII)
 NO_TRANSPORT = {"GIT_NO_LAZY_FETCH": "1", "GIT_ALLOW_PROTOCOL": "none"}
 
 
-def command(words: tuple[str, ...]) -> list[str]:
+def build_command(words: tuple[str, ...]) -> list[str]:
     """The words of a git command that starts no program that a repository names."""
     settings = OFF if words[0] in OF_HOOKS else (*OFF, NO_HOOKS)
     options = [word for setting in settings for word in ("-c", setting)]
     return ["git", "--no-pager", "--literal-pathspecs", *options, *words]
 
 
-def environment(index: str | None = None) -> dict[str, str]:
+def build_environment(index: str | None = None) -> dict[str, str]:
     return {**os.environ, **NO_TRANSPORT, **({"GIT_INDEX_FILE": index} if index else {})}
 
 
@@ -39,12 +42,12 @@ def run(
 ) -> subprocess.CompletedProcess[bytes]:
     """Runs a git command to its end, whatever its status."""
     try:
-        return processes.run(command(words), data, env=environment(index), **options)
+        return processes.run(build_command(words), data, env=build_environment(index), **options)
     except FileNotFoundError:
         raise Refused("git is not installed; install it") from None
 
 
-def git(*words: str, data: bytes = b"", index: str | None = None, folder: str | None = None) -> bytes:
+def run_git(*words: str, data: bytes = b"", index: str | None = None, folder: str | None = None) -> bytes:
     """The output of a git command. If it fails, so does this, with git's own message. Warnings are left out."""
     done = run(*words, data=data, index=index, cwd=folder)
     if done.returncode != 0:
@@ -52,21 +55,21 @@ def git(*words: str, data: bytes = b"", index: str | None = None, folder: str | 
     return done.stdout
 
 
-def answer(*words: str, folder: str | None = None) -> bytes:
+def try_git(*words: str, folder: str | None = None) -> bytes:
     """The output of a git command, or nothing if it fails."""
     try:
-        return git(*words, folder=folder)
+        return run_git(*words, folder=folder)
     except Refused:
         return b""
 
 
-def line(*words: str) -> str:
+def read_line(*words: str) -> str:
     """The one line that a git command prints, or nothing if it fails."""
-    return os.fsdecode(answer(*words).removesuffix(b"\n"))
+    return os.fsdecode(try_git(*words).removesuffix(b"\n"))
 
 
 @lru_cache(maxsize=None)
-def repository_of(folder: str) -> str | None:
+def find_repository(folder: str) -> str | None:
     """The top directory of the repository that contains this directory, if any."""
     while not os.path.lexists(os.path.join(folder, ".git")):
         above = os.path.dirname(folder)
@@ -76,23 +79,30 @@ def repository_of(folder: str) -> str | None:
     return folder
 
 
-def top() -> str:
+def find_top() -> str:
     """The top directory of the current repository. Only git's variables may name one without `.git`."""
-    folder = line("rev-parse", "--show-toplevel") if "GIT_DIR" in os.environ else repository_of(os.getcwd())
+    folder = read_line("rev-parse", "--show-toplevel") if "GIT_DIR" in os.environ else find_repository(os.getcwd())
     if not folder:
         raise Refused("the current directory is not in a git repository")
     return folder
 
 
-def by_repository(paths: list[str], follows: bool = True) -> dict[str, dict[bytes, str]]:
+def group_by_repository(paths: list[str], follows: bool = True) -> dict[str, dict[bytes, str]]:
     """The paths in each repository, by their names there: for a link, the name of the file that it points to, or its
     own. Files outside of repositories are left out."""
     repositories: dict[str, dict[bytes, str]] = {}
     for path in paths:
         folder, own = os.path.split(path)
         target = os.path.realpath(path) if follows else os.path.join(os.path.realpath(folder), own)
-        repository = repository_of(os.path.dirname(target))
+        repository = find_repository(os.path.dirname(target))
         if repository:
             name = os.fsencode(os.path.relpath(target, repository))
             repositories.setdefault(repository, {})[name] = path
     return repositories
+
+
+def make_pathspec(path: str, is_below_top: bool = False) -> str:
+    """A word by which git means this file alone, from the current directory or from any of its repository."""
+    if SIMPLE_PATH.fullmatch(path):
+        return f":/{path}" if is_below_top else path
+    return quote_word(f":({'top,' * is_below_top}literal){path}")

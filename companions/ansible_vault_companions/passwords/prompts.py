@@ -10,7 +10,7 @@ from io import FileIO
 
 from ansible_vault_companions import processes
 from ansible_vault_companions.passwords.settings import ASK, PROMPT
-from ansible_vault_companions.program import Refused, shown
+from ansible_vault_companions.program import Refused, escape
 
 NO_TERMINAL = "there is no terminal to ask for the password; name a password file"
 DIFFER = "the two passwords differ; try again"
@@ -27,7 +27,7 @@ TO_ENCRYPT = {
 def password(kind: str, label: str, encrypts: bool) -> bytes:
     """The password that the user types: once to decrypt, twice to encrypt."""
     questions = (TO_ENCRYPT if encrypts else TO_DECRYPT)[kind]
-    typed = [_answer(question.format(shown(label))) for question in questions]
+    typed = [_answer(question.format(escape(label))) for question in questions]
     if len(set(typed)) > 1:
         raise Refused(DIFFER)
     return typed[0]
@@ -35,7 +35,7 @@ def password(kind: str, label: str, encrypts: bool) -> bytes:
 
 def is_confirmed(kind: str, label: str, content: bytes) -> bool:
     """Whether the user types a password again."""
-    return _answer(TO_ENCRYPT[kind][-1].format(shown(label))) == content
+    return _answer(TO_ENCRYPT[kind][-1].format(escape(label))) == content
 
 
 def string(is_hidden: bool) -> bytes:
@@ -54,7 +54,7 @@ def line(question: str) -> bytes:
 
 def choice(question: str, answers: list[str]) -> str:
     """One of these answers. Asks until the user types one of them."""
-    listed = ", ".join(map(shown, answers))
+    listed = ", ".join(map(escape, answers))
     while (typed := line(f"{question} ({listed}): ").decode(errors="replace").strip()) not in answers:
         pass
     return typed

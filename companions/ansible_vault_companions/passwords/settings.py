@@ -11,7 +11,7 @@ import os
 import stat
 from collections.abc import Callable
 
-from ansible_vault_companions.program import Refused, reason, shown
+from ansible_vault_companions.program import Refused, escape, reason
 
 NAME = "ansible.cfg"
 SECTION = "defaults"
@@ -79,7 +79,7 @@ class Settings:
         start = place if place.startswith(("$", CURRENT)) else os.path.join(folder, os.path.expanduser(place))
         counts = not self.beside_options or place in (PROMPT, ASK) or os.path.isabs(start)
         if not counts:
-            self.warn(f"{shown(place)}: {RELATIVE}")
+            self.warn(f"{escape(place)}: {RELATIVE}")
         return counts
 
     def _configuration(self) -> str | None:
@@ -91,7 +91,7 @@ class Settings:
         places = [os.path.expanduser("~/.ansible.cfg"), "/etc/ansible/ansible.cfg"]
         if not self.beside_options and os.path.exists(NAME):
             if os.stat(".").st_mode & stat.S_IWOTH:
-                self.warn(f"{shown(os.path.abspath(NAME))} is ignored, since its directory is world-writable")
+                self.warn(f"{escape(os.path.abspath(NAME))} is ignored, since its directory is world-writable")
             else:
                 places.insert(0, NAME)
         return next((place for place in places if _is_readable(place)), None)
@@ -110,9 +110,9 @@ def _section(path: str) -> dict[str, str]:
             raise Refused(f"it has a NUL byte or more than {LONGEST:,} characters")
         parser.read_string(text)
     except UnicodeError:
-        raise Refused(f"{shown(path)}: it is not UTF-8") from None
+        raise Refused(f"{escape(path)}: it is not UTF-8") from None
     except (Refused, OSError, configparser.Error) as fault:
-        raise Refused(f"{shown(path)}: {' '.join(reason(fault).split())}") from None
+        raise Refused(f"{escape(path)}: {' '.join(reason(fault).split())}") from None
     return dict(parser[SECTION]) if SECTION in parser else {}
 
 

@@ -10,7 +10,7 @@ from collections.abc import Callable, Iterable
 from ansible_vault_companions import processes
 from ansible_vault_companions.passwords import prompts
 from ansible_vault_companions.passwords.settings import ASK, PROMPT, Settings, expanded
-from ansible_vault_companions.program import Refused, reason, shown, word, write_error
+from ansible_vault_companions.program import Refused, escape, quote_word, reason, write_error
 
 # The maximum length of a password file, in bytes.
 LIMIT = 4096
@@ -82,13 +82,13 @@ class Password:
         """Raises Refused if it cannot be used: then no other password may encrypt in its place."""
         if self.fault:
             why = f"{self.fault}, and no other password encrypts in its place" if self.is_left_out else self.fault
-            raise Refused(f"{shown(self.given)}: {why}")
+            raise Refused(f"{escape(self.given)}: {why}")
 
     def confirm(self) -> None:
         """Asks again for a password that was typed once and has decrypted nothing: it may be mistyped."""
         if self.is_prompt and not self.is_certain and not self.is_left_out:
             if not prompts.is_confirmed(self.place, self.label, self.content):
-                raise Refused(f"{shown(self.given)}: {prompts.DIFFER}")
+                raise Refused(f"{escape(self.given)}: {prompts.DIFFER}")
             self.is_certain = True
 
 
@@ -130,7 +130,7 @@ def load(
     if skips or len(left_out) < len(passwords):
         for password in left_out:
             password.is_left_out = True
-            write_error(f"{companion}: {shown(password.given)}: {password.fault}; it is ignored")
+            write_error(f"{companion}: {escape(password.given)}: {password.fault}; it is ignored")
     for password in passwords:
         if not password.is_left_out:
             password.require()
@@ -147,8 +147,8 @@ def in_order(passwords: Iterable[Password], label: str | None) -> list[Password]
 
 def tried(label: str | None, passwords: list[Password]) -> str:
     """For a message: which passwords were tried on an envelope that none decrypts, and what to do."""
-    names = ", ".join(shown(password.given) for password in passwords) or "none: no password has its label"
-    has = f"label {shown(label)}" if label else "no label"
+    names = ", ".join(escape(password.given) for password in passwords) or "none: no password has its label"
+    has = f"label {escape(label)}" if label else "no label"
     return f"({has}; tried {names}): name its password with --vault-id LABEL@SOURCE"
 
 
@@ -176,13 +176,13 @@ def _printed(path: str, label: str) -> bytes:
     try:
         done = processes.run(words, **streams)
     except OSError as fault:
-        to_do = f"if it is not a script, run `chmod -x {word(path)}`"
+        to_do = f"if it is not a script, run `chmod -x {quote_word(path)}`"
         raise Refused(f"this script cannot be run: {reason(fault)}; {to_do}") from None
     status = done.returncode
     if status:
         message = " ".join((done.stderr or b"").decode(errors="replace").split())
         why = f"this script ended with status {status}" if status > 0 else f"signal {-status} ended this script"
-        raise Refused(f"{why}: {shown(message)}" if message else why)
+        raise Refused(f"{why}: {escape(message)}" if message else why)
     password = done.stdout.strip(b"\r\n")
     if password != password.strip():
         raise Refused("the password of this script begins or ends with white space, which a file cannot have")

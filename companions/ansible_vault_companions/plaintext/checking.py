@@ -7,9 +7,10 @@ from dataclasses import dataclass
 from ansible_vault_companions.envelopes import conflicts, document
 from ansible_vault_companions.envelopes.envelope import Value
 from ansible_vault_companions.git import facts
+from ansible_vault_companions.git.repository import make_pathspec
 from ansible_vault_companions.passwords.sources import Password
 from ansible_vault_companions.plaintext.reports import Report, Work, decrypted
-from ansible_vault_companions.program import Refused, pathspec, shown
+from ansible_vault_companions.program import Refused, escape
 from ansible_vault_companions.tool import Decrypted
 
 RESOLVE = "resolve with ansible-vault-edit; or set up ansible-vault-merge, and run `git checkout --merge -- {}`"
@@ -37,11 +38,11 @@ class Check(Work):
         except Refused as fault:
             why = why or str(fault)
         if facts.is_unmerged(file):
-            why = f"{conflicts.UNMERGED}; {RESOLVE.format(pathspec(path))}"
+            why = f"{conflicts.UNMERGED}; {RESOLVE.format(make_pathspec(path))}"
         if is_marked and file.data.strip() and not (why or report.faults):
-            why = facts.unencrypted(file)
+            why = facts.find_unencrypted(file)
         if why:
-            report.faults.append(f"{shown(path)}: {why}")
+            report.faults.append(f"{escape(path)}: {why}")
 
     def envelope(self, value: Value, where: str, report: Report, is_prose: bool) -> bytes | None:
         """The envelope itself, so that it is tried to put another one in its place."""
@@ -60,7 +61,7 @@ class Check(Work):
     def _plaintext(self, where: str, result: Decrypted, report: Report) -> None:
         try:
             result.require_label()
-            report.lines.append(f"{where}: decrypted by {shown(result.password.given)}")
+            report.lines.append(f"{where}: decrypted by {escape(result.password.given)}")
         except Refused as fault:
             report.faults.append(f"{where}: {fault}")
         if conflicts.is_unmerged(result.text):
@@ -70,4 +71,4 @@ class Check(Work):
 
 
 def _named(value: Value, where: str) -> str:
-    return ": ".join([where, *(shown(name) for name in (value.name, value.label or "no label") if name)])
+    return ": ".join([where, *(escape(name) for name in (value.name, value.label or "no label") if name)])

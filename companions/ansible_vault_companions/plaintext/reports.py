@@ -10,7 +10,7 @@ from ansible_vault_companions import program
 from ansible_vault_companions.envelopes.document import Document
 from ansible_vault_companions.envelopes.envelope import Value
 from ansible_vault_companions.passwords.sources import Password
-from ansible_vault_companions.program import Refused, shown, write_error, write_line
+from ansible_vault_companions.program import Refused, escape, write_error, write_line
 from ansible_vault_companions.tool import Decrypted, NotDecrypted, Tool, Workers
 
 
@@ -46,7 +46,7 @@ class Report:
 
     def counted_others(self) -> str:
         """The number of envelopes with other labels, in total and for each label, as text."""
-        labels = ", ".join(f"{shown(label)} {count}" for label, count in sorted(self.others.items()))
+        labels = ", ".join(f"{escape(label)} {count}" for label, count in sorted(self.others.items()))
         return f"{sum(self.others.values())} with other labels" + (f" ({labels})" if labels else "")
 
 
@@ -106,7 +106,7 @@ class Reports:
         """Whether no envelope has one of these labels. Names each of these."""
         missing = sorted(set(labels) - self.total.labels)
         for label in missing:
-            self.tell(f"no vault or value has the label {shown(label)}")
+            self.tell(f"no vault or value has the label {escape(label)}")
         return bool(missing)
 
 

@@ -10,7 +10,7 @@ from ansible_vault_companions.envelopes.envelope import Value
 from ansible_vault_companions.files import replacing
 from ansible_vault_companions.passwords.sources import Password
 from ansible_vault_companions.plaintext.reports import Report, Work, decrypted
-from ansible_vault_companions.program import Refused, shown
+from ansible_vault_companions.program import Refused, escape
 
 # What is counted: envelopes that get a new password, and those that have it already.
 CHANGED, HAD_IT = "changed", "had it"
@@ -44,13 +44,13 @@ class Rotation(Work):
             raise
         count = report.counts[CHANGED]
         if count:
-            target = f" ({shown(os.path.realpath(path))})" if os.path.islink(path) else ""
+            target = f" ({escape(os.path.realpath(path))})" if os.path.islink(path) else ""
             what = f"{count} " if count > 1 else ""
-            report.lines.append(f"{shown(path)}{target}: {what}{'would be ' if self.is_dry else ''}rotated")
+            report.lines.append(f"{escape(path)}{target}: {what}{'would be ' if self.is_dry else ''}rotated")
 
     def _put(self, target: str, after: bytes, before: bytes) -> None:
         if not any(target == place or target.startswith(os.path.join(place, "")) for place in self.places):
-            raise Refused(f"it points to {shown(target)}, outside the paths you named; name that file to rotate it")
+            raise Refused(f"it points to {escape(target)}, outside the paths you named; name that file to rotate it")
         if self.is_dry:
             replacing.check_replaceable(target)
         else:
