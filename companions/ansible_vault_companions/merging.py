@@ -15,7 +15,7 @@ from collections import Counter, defaultdict
 from typing import AbstractSet, Hashable, NamedTuple, Optional, Union
 
 from ansible_vault_companions.envelopes import conflicts
-from ansible_vault_companions.envelopes.document import Change, changed, replaced
+from ansible_vault_companions.envelopes.document import Change, apply_changes, replace_envelope
 from ansible_vault_companions.envelopes.envelope import LITERAL, LOOSE, MAGIC, STRAY, Value
 from ansible_vault_companions.git import repository
 from ansible_vault_companions.program import Refused, escape
@@ -89,7 +89,7 @@ class Values:
     """Three versions of a file, with tokens in place of their envelopes."""
 
     def __init__(self, decrypt: Decrypt, versions: Versions, chosen: Key | None) -> None:
-        self.documents = {side: conflicts.read(data) for side, data in zip(SIDES, versions)}
+        self.documents = {side: conflicts.read_sides(data) for side, data in zip(SIDES, versions)}
         self.values = {side: [*filter(_has_token, self.documents[side].values)] for side in SIDES}
         self.opened = self._open(decrypt)
         # The key of the result for the values with each label, unless each keeps its own.
@@ -105,10 +105,10 @@ class Values:
     def merged(self, tool: Tool, size: int) -> Merged:
         """The merged file. A conflict has markers of this size."""
         shadows = Versions(*map(self._shadow, SIDES))
-        inner = conflicts.unused_size(shadows)
+        inner = conflicts.find_unused_size(shadows)
         text, count = merged_lines(shadows, inner)
         content, envelopes = self._restored(tool, text, inner, size)
-        result = conflicts.read(content)
+        result = conflicts.read_sides(content)
         if not count and result.fault and not any(self.documents[side].fault for side in (OURS, THEIRS)):
             raise Refused(NOT_YAML.format(result.fault))
         if Counter(value.text.strip() for value in result.values if _has_token(value)) != Counter(envelopes):
@@ -143,7 +143,7 @@ class Values:
 
     def _shadow(self, side: str) -> bytes:
         data = self.documents[side].data
-        return changed(data, [self._token(side, data, value) for value in self.values[side]])
+        return apply_changes(data, [self._token(side, data, value) for value in self.values[side]])
 
     def _token(self, side: str, data: bytes, value: Value) -> Change:
         begin = value.start if value.style == STRAY else value.begin
@@ -168,10 +168,10 @@ class Values:
             meaning, head, example = self.examples[number]
             envelopes.append(self._envelope(tool, meaning, side, used[side or OURS, meaning]))
             used.update((each, meaning) for each in ([side] if side else SIDES))
-            return self.written.get((envelopes[-1], number)) or head + replaced(example, envelopes[-1]).text
+            return self.written.get((envelopes[-1], number)) or head + replace_envelope(example, envelopes[-1]).text
 
         lines: list[bytes] = []
-        for sign, line in conflicts.signed_lines(text, inner):
+        for sign, line in conflicts.sign_lines(text, inner):
             side = OF_SIGN.get(sign, "")
             if sign == conflicts.END:
                 lines.append(line[:1] * size + line[inner:])
@@ -222,7 +222,7 @@ def merged(tool: Tool, decrypt: Decrypt, versions: Versions, size: int, chosen: 
         before = b"" if base.startswith(MAGIC) else base
         return Values(decrypt, versions._replace(base=before), chosen).merged(tool, size)
     except Refused as fault:
-        return Merged(conflicts.both(ours, theirs, size), NOT_MERGED.format(fault))
+        return Merged(conflicts.join_sides(ours, theirs, size), NOT_MERGED.format(fault))
 
 
 class Vaults:
@@ -235,7 +235,7 @@ class Vaults:
         self.theirs = _of_side("theirs", decrypt, versions.theirs)
         text, self.base_keys = self._base(decrypt, versions.base)
         texts = Versions(self.ours.text, text, self.theirs.text)
-        self.marker_size = conflicts.unused_size(texts)
+        self.marker_size = conflicts.find_unused_size(texts)
         self.merge = merged_lines(texts, self.marker_size)
 
     def key(self, chosen: Key | None) -> Key:
@@ -254,12 +254,12 @@ class Vaults:
 
     def _base(self, decrypt: Decrypt, data: bytes) -> tuple[bytes, Keys]:
         """The text of the base, and its keys. In a crossed history it is a merge of bases, and may be a conflict."""
-        sides = conflicts.sides(data)
+        sides = conflicts.split_sides(data)
         if sides:
             ours, our_keys = self._base(decrypt, sides[conflicts.OURS])
             theirs, their_keys = self._base(decrypt, sides[conflicts.THEIRS])
             texts = Versions(ours, b"", theirs)
-            return merged_lines(texts, conflicts.unused_size(texts)).text, our_keys | their_keys
+            return merged_lines(texts, conflicts.find_unused_size(texts)).text, our_keys | their_keys
         if not data.startswith(MAGIC):
             return data, set()
         try:
@@ -300,7 +300,7 @@ def _of_side(side: str, decrypt: Decrypt, vault: bytes) -> Decrypted:
 
 def unmerged(path: str, data: bytes) -> Versions | None:
     """The sides of a file with a conflict, and their base if the index has this conflict; None if there is none."""
-    sides = conflicts.sides(data)
+    sides = conflicts.split_sides(data)
     if not sides:
         return None
     ours, theirs = sides[conflicts.OURS], sides[conflicts.THEIRS]

@@ -120,11 +120,11 @@ PIECES += [b"$ANSIBLE_VAULT;1.1;AES256 # # # " + b"61" * 20 + b"\n", b"  - ", b"
 SMALL, TIMES = 1 << 15, 8
 START = b"x: !vault |\n  $ANSIBLE_VAULT;1.1;AES256\n  61\n"
 WORKS: dict[str, Callable[[bytes], object]] = {
-    "the envelopes": lambda data: document.read(START + data),
-    "every node": lambda data: document.read(START + data, every=True),
-    "a file that is no YAML": lambda data: document.read(b"[$ANSIBLE_VAULT;1.1;AES256" + data),
+    "the envelopes": lambda data: document.read_document(START + data),
+    "every node": lambda data: document.read_document(START + data, every=True),
+    "a file that is no YAML": lambda data: document.read_document(b"[$ANSIBLE_VAULT;1.1;AES256" + data),
     "a whole vault": lambda data: envelope.is_whole(b"$ANSIBLE_VAULT;1.1;AES256\n" + data),
-    "conflict markers": lambda data: (conflicts.is_unmerged(data), conflicts.sides(b"<<<<<<<\n" + data)),
+    "conflict markers": lambda data: (conflicts.is_unmerged(data), conflicts.split_sides(b"<<<<<<<\n" + data)),
 }
 
 
@@ -253,7 +253,8 @@ def walked(node: yaml.Node, path: Path, seen: set[int]) -> Iterator[Composed]:
 
 def around(data: bytes) -> list[bytes]:
     """What is before, between and behind the envelopes."""
-    places = [0, *(place for value in document.read(data).values for place in (value.start, value.end)), len(data)]
+    values = document.read_document(data).values
+    places = [0, *(place for value in values for place in (value.start, value.end)), len(data)]
     return [data[begin:end] for begin, end in zip(places[::2], places[1::2])]
 
 
@@ -263,12 +264,13 @@ def test_random_yaml(monkeypatch: pytest.MonkeyPatch, pytestconfig: pytest.Confi
         random = Random(f"{pytestconfig.getoption('--seed')} {number}")
         monkeypatch.setattr(yaml, "CSafeLoader", LOADERS[number % 2], raising=False)
         data = Generator(random).data()
-        for value in document.read(data[: random.randrange(999)] + random.randbytes(9) + data, number % 3 == 0).values:
+        damaged = data[: random.randrange(999)] + random.randbytes(9) + data
+        for value in document.read_document(damaged, number % 3 == 0).values:
             assert 0 <= value.begin <= value.start <= value.end or value.style == STRAY, (number, value)
         wanted = composed(data)
         if wanted is None:
             continue
-        read = document.read(data)
+        read = document.read_document(data)
         values = [value for value in read.values if value.style not in (STRAY, LOOSE)]
         texts = [(value.path, value.text.decode().strip()) for value in values]
         assert texts == [(value.path, value.text.strip()) for value in wanted], data

@@ -13,7 +13,7 @@ import yaml
 
 from ansible_vault_companions.editing.matching import Choice
 from ansible_vault_companions.editing.values import YamlFile, nodes
-from ansible_vault_companions.envelopes.document import Change, changed, column
+from ansible_vault_companions.envelopes.document import Change, apply_changes, find_column
 from ansible_vault_companions.envelopes.envelope import LINE_END, Path
 from ansible_vault_companions.passwords.sources import Password
 from ansible_vault_companions.program import Refused
@@ -102,9 +102,9 @@ def check_changed(file: YamlFile, generator: random.Random) -> bool:
     if not shown:
         return False
     value, typed = generator.choice(shown), generator.choice(TYPED)
-    lines = typed.format(" " * (column(text, value.begin) + 2)).removesuffix("\n").encode()
+    lines = typed.format(" " * (find_column(text, value.begin) + 2)).removesuffix("\n").encode()
     ending = LINE_END.search(text)
-    edited = changed(text, [Change(value.begin, value.end, lines.replace(b"\n", ending[0] if ending else b"\n"))])
+    edited = apply_changes(text, [Change(value.begin, value.end, lines.replace(b"\n", ending[0] if ending else b"\n"))])
     read = tagged(edited)
     if read is None:
         return False

@@ -33,7 +33,7 @@ def handle(companion: str, call: Call) -> int:
     def work(path: str) -> None:
         """If a text that is shown does not end with a newline, the next one still begins on a new line."""
         nonlocal end
-        before = reading.named(path)
+        before = reading.read_existing(path)
         after = tool.run(call.words(), before, [*call.passwords, *call.new])
         if call.args.command == VIEW:
             program.write(end + after)
@@ -71,7 +71,7 @@ def _texts(args: Namespace) -> list[Text]:
             name = args.name[0]
         texts.append(Text(prompts.string(is_hidden=not args.show_input), name, "the prompt"))
     if STANDARD_INPUT in args.arguments or args.stdin_name is not None:
-        texts.append(Text(reading.input_of(0), args.stdin_name, "standard input"))
+        texts.append(Text(reading.read_input(0), args.stdin_name, "standard input"))
     strings = [os.fsencode(text) for text in args.arguments if text != STANDARD_INPUT]
     names = [*args.name, *[None] * len(strings)]
     return [*texts, *(Text(string, name, "the command line") for string, name in zip(strings, names))]

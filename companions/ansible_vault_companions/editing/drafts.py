@@ -12,8 +12,8 @@ from ansible_vault_companions import merging, processes
 from ansible_vault_companions.editing.matching import Choice, place_of
 from ansible_vault_companions.editing.values import YamlFile, closed_block, nodes, written
 from ansible_vault_companions.envelopes import conflicts, document
-from ansible_vault_companions.envelopes.document import NO_TEXT, NOT_ENCRYPTED, Change, Document, changed
-from ansible_vault_companions.envelopes.envelope import ALIAS, MAGIC, NO_SCALAR, Path, Value, quoted
+from ansible_vault_companions.envelopes.document import NO_TEXT, NOT_ENCRYPTED, Change, Document, apply_changes
+from ansible_vault_companions.envelopes.envelope import ALIAS, MAGIC, NO_SCALAR, Path, Value, quote_key
 from ansible_vault_companions.files import reading
 from ansible_vault_companions.git.repository import make_pathspec
 from ansible_vault_companions.passwords.sources import Password
@@ -106,7 +106,7 @@ def load(
     choice = Choice(passwords, chosen or usual)
     if content is None:
         return Vault(target, None, [choice.key("the new vault", "the vault")])
-    if conflicts.sides(content):
+    if conflicts.split_sides(content):
         return _of_conflict(tool, decrypt, target, content, choice, chosen)
     if not content.startswith(MAGIC):
         return _of_values(decrypt, target, content, choice)
@@ -135,7 +135,7 @@ def _of_conflict(
 
 
 def _of_values(decrypt: Decrypt, target: str, content: bytes, choice: Choice) -> YamlFile:
-    draft = YamlFile(target, content, decrypt, choice) if document.mentions(content) else None
+    draft = YamlFile(target, content, decrypt, choice) if document.may_have_envelope(content) else None
     if not draft or not draft.tagged:
         raise Refused(NO_VAULT)
     for old in draft.opened.values():
@@ -154,7 +154,7 @@ def _tagged(data: bytes, path: str, is_chosen: bool) -> Document:
         raise Refused(f"it {conflicts.UNMERGED}")
     file = nodes(data)
     if is_chosen and KEY.fullmatch(path) and not file.values_at(path):
-        key = path if SIMPLE_KEY.fullmatch(path) else quoted(path)
+        key = path if SIMPLE_KEY.fullmatch(path) else quote_key(path)
         end = b"" if data.endswith(b"\n") or not data else b"\n"
         tag = Change(len(data), len(data), b'%s%s: !vault ""\n' % (end, key.encode(errors="surrogateescape")))
     else:
@@ -167,7 +167,7 @@ def _tagged(data: bytes, path: str, is_chosen: bool) -> Document:
             raise Refused(NO_TEXT.format(escape(path)))
         text = b"" if value.is_tagged else b"!vault " if value.end > value.begin else b' !vault ""'
         tag = Change(value.begin, value.begin, text)
-    after = document.read(changed(data, [tag]), every=True)
+    after = document.read_document(apply_changes(data, [tag]), every=True)
     if after.fault or _others(after, path) != _others(file, path):
         raise Refused(NO_PLACE.format(escape(path)))
     return after

@@ -105,7 +105,7 @@ def save_copy(tool: Tool, key: Key, target: str, base: bytes, text: bytes) -> st
 
 def taken_up(path: str, base: bytes, keys: list[Key], decrypt: Decrypt) -> bytes:
     """The text of a copy. The file may be under new passwords by now, but what it says, and for whom, is as before."""
-    content = reading.named(path)
+    content = reading.read_existing(path)
     text = decrypt(content).text
     if [label for _, label in keys] != [label_of(content)] or not text.startswith(_head(base)):
         why = f"its text or its label has changed since the edit that left {escape(path)}"
@@ -221,7 +221,7 @@ def set_value(tool: Tool, draft: SingleValue) -> None:
 def _standard_input() -> bytes:
     if os.isatty(0):
         raise Refused("--value reads standard input, which is a terminal; use a pipe or a file")
-    text = reading.input_of(0)
+    text = reading.read_input(0)
     faults = {TOO_LONG: len(text) > reading.LONGEST_PLAINTEXT, NOTHING_GIVEN: not text, A_VAULT: text.startswith(MAGIC)}
     for fault, holds in faults.items():
         if holds:

@@ -11,8 +11,8 @@ from typing import Callable
 from ansible_vault_companions.editing import matching
 from ansible_vault_companions.editing.matching import Choice, Opened, place_of
 from ansible_vault_companions.envelopes import conflicts
-from ansible_vault_companions.envelopes.document import HEADER, NOT_UTF_8, Change, Document, changed, column
-from ansible_vault_companions.envelopes.document import in_plaintext, indented, quotes
+from ansible_vault_companions.envelopes.document import HEADER, NOT_UTF_8, Change, Document, apply_changes, find_column
+from ansible_vault_companions.envelopes.document import indent, put_in_quotes, put_plaintext
 from ansible_vault_companions.envelopes.envelope import ALIAS, LINE_END, LITERAL, MAGIC, NO_SCALAR, PLAIN, TAGS, Path
 from ansible_vault_companions.envelopes.envelope import Value
 from ansible_vault_companions.passwords import prompts
@@ -85,7 +85,7 @@ class YamlFile:
 
 def nodes(data: bytes) -> Document:
     """All nodes of a YAML text, or of the sides of one with a conflict."""
-    text = conflicts.read(data, every=True)
+    text = conflicts.read_sides(data, every=True)
     if text.fault:
         raise Refused(text.fault)
     return text
@@ -99,8 +99,9 @@ def written(
     wanted = [(value.path, contents.get(number, value.text)) for number, value in enumerate(text.values)]
     blocks = {number: changes for number in contents if (changes := block(number, text.values[number]))}
     while True:
-        others = [quotes(text.values[number], contents[number].decode()) for number in contents.keys() - blocks.keys()]
-        after = changed(text.data, [*others, *(change for changes in blocks.values() for change in changes)])
+        quoted = contents.keys() - blocks.keys()
+        others = [put_in_quotes(text.values[number], contents[number].decode()) for number in quoted]
+        after = apply_changes(text.data, [*others, *(change for changes in blocks.values() for change in changes)])
         reading = _reading(after)
         if reading == wanted:
             return after
@@ -116,14 +117,14 @@ def written(
 
 def _reading(data: bytes) -> list[tuple[Path, bytes]]:
     """What a text says; empty if it is not YAML."""
-    text = conflicts.read(data, every=True)
+    text = conflicts.read_sides(data, every=True)
     return [] if text.fault else [(value.path, value.text) for value in text.values]
 
 
 def _shown(data: bytes, value: Value, text: bytes) -> list[Change] | None:
     """The changes that show a plaintext as a block, if its envelope is one and the last line tells where it ends."""
     has_end = text.strip() and text.rstrip() == text.removesuffix(b"\n")
-    return in_plaintext(data, value, text) if value.style == LITERAL and has_end else None
+    return put_plaintext(data, value, text) if value.style == LITERAL and has_end else None
 
 
 def closed_block(data: bytes, value: Value, envelope: bytes, old: Value | None) -> list[Change] | None:
@@ -132,8 +133,8 @@ def closed_block(data: bytes, value: Value, envelope: bytes, old: Value | None) 
     if old and LITERAL not in (value.style, old.style):
         return None
     # Ansible's tool indents by ten.
-    margin = b" " * (column(data, value.begin) + 10)
-    lines = indented(envelope.rstrip(b"\n"), margin, value.ending)
+    margin = b" " * (find_column(data, value.begin) + 10)
+    lines = indent(envelope.rstrip(b"\n"), margin, value.ending)
     header = HEADER.match(data, value.begin)
     # Empty lines above a typed text go with it: Ansible reads no envelope below one.
     end = header.end() if header else value.end

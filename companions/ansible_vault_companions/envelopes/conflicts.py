@@ -28,12 +28,12 @@ def is_unmerged(text: bytes) -> bool:
     return any(sign * SIZE in text for sign in signs) and any(match[2] in signs for match in MARKER.finditer(text))
 
 
-def unused_size(texts: Iterable[bytes]) -> int:
+def find_unused_size(texts: Iterable[bytes]) -> int:
     """A size of markers that no line of these texts has."""
     return max([SIZE, *(len(match[1]) + 1 for text in texts for match in MARKER.finditer(text))])
 
 
-def signed_lines(text: bytes, size: int) -> list[tuple[bytes, bytes]]:
+def sign_lines(text: bytes, size: int) -> list[tuple[bytes, bytes]]:
     """Each line, with the sign of its side before it: none outside of conflicts, and END for a marker itself."""
     side, lines = b"", []
     for line in LINES.findall(text):
@@ -46,12 +46,12 @@ def signed_lines(text: bytes, size: int) -> list[tuple[bytes, bytes]]:
     return lines
 
 
-def sides(text: bytes, is_masked: bool = False) -> dict[bytes, bytes]:
+def split_sides(text: bytes, is_masked: bool = False) -> dict[bytes, bytes]:
     """The text of each side, by the character of its first marker; empty if there is no whole conflict. The first
     marker has the size. If they are masked, the bytes of other lines become newlines, so that all places stay."""
     if OURS * SIZE not in text:
         return {}
-    lines = signed_lines(text, next((len(match[1]) for match in MARKER.finditer(text) if match[2] == OURS), 0))
+    lines = sign_lines(text, next((len(match[1]) for match in MARKER.finditer(text) if match[2] == OURS), 0))
     markers = [line[:1] for sign, line in lines if sign == END]
     if not {OURS, THEIRS, END} <= {*markers} or markers[-1] != END:
         return {}
@@ -62,7 +62,7 @@ def sides(text: bytes, is_masked: bool = False) -> dict[bytes, bytes]:
     }
 
 
-def both(ours: bytes, theirs: bytes, size: int = SIZE) -> bytes:
+def join_sides(ours: bytes, theirs: bytes, size: int = SIZE) -> bytes:
     """A conflict of two whole files."""
     end = b"\r\n" if b"\r\n" in ours else b"\n"
     texts = [text if not text or text.endswith(b"\n") else text + end for text in (ours, theirs)]
@@ -70,16 +70,16 @@ def both(ours: bytes, theirs: bytes, size: int = SIZE) -> bytes:
     return markers[0] + texts[0] + markers[1] + texts[1] + markers[2]
 
 
-def read(data: bytes, every: bool = False) -> Document:
+def read_sides(data: bytes, every: bool = False) -> Document:
     """The envelopes of a file, or every node, on all sides. If one of its sides is no YAML, nor is the file."""
-    texts = sides(data, is_masked=True).values()
+    texts = split_sides(data, is_masked=True).values()
     if not texts:
-        return document.read(data, every)
+        return document.read_document(data, every)
     line_ends = [end.start() for end in re.finditer(b"\n", data)]
     values: dict[tuple[int, int], Value] = {}
-    for side in (document.read(text, every) for text in texts):
+    for side in (document.read_document(text, every) for text in texts):
         if side.fault:
-            return document.read(data, every)
+            return document.read_document(data, every)
         for value in side.values:
             # A line of several sides may be part of a longer text on one of them.
             place = (value.end, value.start if every else 0)

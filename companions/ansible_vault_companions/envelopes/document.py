@@ -16,8 +16,8 @@ from typing import Iterable, Iterator, NamedTuple
 
 from ansible_vault_companions import processes
 from ansible_vault_companions.envelopes.envelope import LITERAL, LOOSE, MAGIC, STRAY, WHOLE, WITH_DIGITS, Value
-from ansible_vault_companions.envelopes.scalars import BINARY, NotYaml, scalars
-from ansible_vault_companions.files.reading import opened, parts, whole
+from ansible_vault_companions.envelopes.scalars import BINARY, NotYaml, read_scalars
+from ansible_vault_companions.files.reading import open_regular, read_parts, read_whole
 from ansible_vault_companions.program import Refused, escape
 
 # A file with an envelope has one of these words, or spells it with escapes, which take no more than OVERLAP bytes.
@@ -55,7 +55,7 @@ class Change(NamedTuple):
     text: bytes
 
 
-def changed(data: bytes, changes: Iterable[Change]) -> bytes:
+def apply_changes(data: bytes, changes: Iterable[Change]) -> bytes:
     pieces, place = [], 0
     for change in sorted(changes):
         pieces += [data[place : change.start], change.text]
@@ -63,36 +63,36 @@ def changed(data: bytes, changes: Iterable[Change]) -> bytes:
     return b"".join([*pieces, data[place:]])
 
 
-def indented(text: bytes, margin: bytes, end: bytes) -> bytes:
+def indent(text: bytes, margin: bytes, end: bytes) -> bytes:
     """The text with this line ending, and with a margin before each line that is not empty."""
     return end.join(margin + line if line else b"" for line in text.split(b"\n"))
 
 
-def replaced(value: Value, envelope: bytes) -> Change:
+def replace_envelope(value: Value, envelope: bytes) -> Change:
     """Puts another envelope in its place, in the same layout: a block stays one, and others get double quotes."""
     if value.style == WHOLE:
         return Change(value.start, value.end, envelope.replace(b"\n", value.ending))
     if value.style in (LITERAL, STRAY):
-        return Change(value.start, value.end, indented(envelope.rstrip(b"\n"), value.margin, value.ending))
+        return Change(value.start, value.end, indent(envelope.rstrip(b"\n"), value.margin, value.ending))
     return Change(value.start, value.end, b'"%s"' % envelope.replace(b"\n", b"\\n"))
 
 
-def in_plaintext(data: bytes, value: Value, text: bytes) -> list[Change]:
+def put_plaintext(data: bytes, value: Value, text: bytes) -> list[Change]:
     """Puts plaintext in its place: a block becomes a literal if it can, and any other value gets double quotes."""
     if value.style == WHOLE:
         return [Change(value.start, value.end, text)]
     if value.style == STRAY:
-        return [Change(value.start, value.end, indented(text.removesuffix(b"\n"), value.margin, value.ending))]
+        return [Change(value.start, value.end, indent(text.removesuffix(b"\n"), value.margin, value.ending))]
     try:
         characters = text.decode()
     except UnicodeDecodeError:
         raise Refused(NOT_UTF_8) from None
     if value.style == LITERAL and not UNSHOWN.search(characters):
         return _literal(data, value, text)
-    return [quotes(value, characters)]
+    return [put_in_quotes(value, characters)]
 
 
-def quotes(value: Value, text: str) -> Change:
+def put_in_quotes(value: Value, text: str) -> Change:
     """Puts a text in double quotes in its place."""
     escaped = UNSHOWN.sub(lambda match: f"\\U{ord(match[0]):08x}", json.dumps(text, ensure_ascii=False))
     return Change(value.begin, value.end, escaped.encode())
@@ -104,14 +104,14 @@ def _literal(data: bytes, value: Value, text: bytes) -> list[Change]:
     assert header
     indicator = b"2" if BEGINS_WITH_BLANK.match(text) else b""
     chomping = b"-" if not text.endswith(b"\n") else b"+" if text == b"\n" or text.endswith(b"\n\n") else b""
-    margin = b" " * (column(data, value.begin) + 2)
+    margin = b" " * (find_column(data, value.begin) + 2)
     # A text that is empty has no line.
     start = value.start if text else value.start - len(value.ending)
-    lines = indented(text.removesuffix(b"\n"), margin, value.ending)
+    lines = indent(text.removesuffix(b"\n"), margin, value.ending)
     return [Change(value.begin, header.end(), b"|" + indicator + chomping), Change(start, value.end, lines)]
 
 
-def column(data: bytes, place: int) -> int:
+def find_column(data: bytes, place: int) -> int:
     """The column of the key or dash to which a value belongs."""
     dashes = DASHES.match(data, data.rfind(b"\n", 0, place) + 1)
     assert dashes
@@ -137,9 +137,9 @@ class Document:
 
     def with_envelopes(self, new: dict[int, bytes]) -> bytes:
         """The data with other envelopes, by the numbers of their values. It is read again: only these may differ."""
-        after = changed(self.data, [replaced(self.values[number], text) for number, text in new.items()])
+        after = apply_changes(self.data, [replace_envelope(self.values[number], text) for number, text in new.items()])
         wanted = [(value.path, new.get(number, value.text).strip()) for number, value in enumerate(self.values)]
-        if not self.is_vault and [(value.path, value.text.strip()) for value in read(after).values] != wanted:
+        if not self.is_vault and [(value.path, value.text.strip()) for value in read_document(after).values] != wanted:
             raise Refused(NO_PLACE)
         return after
 
@@ -162,30 +162,30 @@ class Document:
         return values[0]
 
 
-def mentions(data: bytes) -> bool:
+def may_have_envelope(data: bytes) -> bool:
     """Whether the data may have an envelope. It may be a piece of a file."""
     return any(word in data for word in WORDS) or BINARY not in data and ESCAPES.search(data) is not None
 
 
-def read(data: bytes, every: bool = False) -> Document:
+def read_document(data: bytes, every: bool = False) -> Document:
     """The envelopes of a file or of a plaintext, or every node of one that is not a vault."""
     if data.startswith(MAGIC):
         ending = b"\r\n" if b"\r\n" in data else b"\n"
         return Document(data, [Value((), WHOLE, 0, 0, 0, len(data), b"", ending, data)])
     document = Document(data)
-    if not (every or mentions(data)):
+    if not (every or may_have_envelope(data)):
         return document
     try:
-        document.values = list(scalars(data, every))
+        document.values = list(read_scalars(data, every))
     except NotYaml as fault:
         document.fault = str(fault)
     if not every and BINARY not in data:
-        document.values += strays(data, document.values)
+        document.values += find_strays(data, document.values)
         document.values.sort(key=lambda value: value.start)
     return document
 
 
-def strays(data: bytes, values: list[Value]) -> Iterator[Value]:
+def find_strays(data: bytes, values: list[Value]) -> Iterator[Value]:
     """The envelopes outside of these values, and those within the text of one that is no envelope, but has the tag."""
     starts, are_envelopes = [value.start for value in values], [value.is_envelope for value in values]
     number, place, line_start = 1, 0, 0
@@ -214,20 +214,20 @@ def is_prose(path: str) -> bool:
     return os.path.realpath(path).lower().endswith(PROSE)
 
 
-def fault(document: Document, path: str) -> str:
+def find_fault(document: Document, path: str) -> str:
     """Why a file with an envelope that is YAML, by its name or by that of its target, cannot be read; else empty."""
     is_yaml = any(name.lower().endswith(YAML) for name in (path, os.path.realpath(path)))
     return document.fault if is_yaml and (document.values or BINARY in document.data) else ""
 
 
-def content(path: str) -> bytes:
+def read_content(path: str) -> bytes:
     """The content of a file with envelopes; of any other, only a part, which is not blank unless the whole is. It is
     searched in pieces, since it may be long, and no further than a vault reaches. A signal ends the search."""
     text = before = b""
-    with opened(path) as file:
-        for piece in parts(file):
+    with open_regular(path) as file:
+        for piece in read_parts(file):
             processes.check()
-            if mentions(before[-OVERLAP:] + piece):
-                return whole(file, path)
+            if may_have_envelope(before[-OVERLAP:] + piece):
+                return read_whole(file, path)
             text, before = text if text.strip() else piece, piece
     return text

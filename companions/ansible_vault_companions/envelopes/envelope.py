@@ -70,7 +70,7 @@ class Value(NamedTuple):
     def typed_path(self) -> str:
         """The path as users type it: keys with dots between them, and the numbers of list items, as in `users[0].name`.
         A key with a dot, a bracket or a double quote is in double quotes."""
-        steps = (f"[{step}]" if isinstance(step, int) else f".{_typed_key(step)}" for step in self.path)
+        steps = (f"[{step}]" if isinstance(step, int) else f".{_type_key(step)}" for step in self.path)
         return "".join(steps).removeprefix(".")
 
     @property
@@ -118,24 +118,24 @@ class Value(NamedTuple):
         return self.text
 
 
-def _typed_key(key: str) -> str:
-    return key if UNQUOTED.fullmatch(key) else quoted(key)
+def _type_key(key: str) -> str:
+    return key if UNQUOTED.fullmatch(key) else quote_key(key)
 
 
-def quoted(key: str) -> str:
+def quote_key(key: str) -> str:
     """A key in double quotes, in which a backslash precedes a double quote or a backslash."""
     return '"%s"' % re.sub(r'(["\\])', r"\\\1", key)
 
 
 def label_of(text: bytes) -> str | None:
     """The label of an envelope; `default` if its first line has none, and None if that line is not a header."""
-    fields = _fields(text)
+    fields = _split_fields(text)
     return (fields[3].decode() or "default") if fields else None
 
 
 def is_whole(text: bytes) -> bool:
     """Whether a text is an envelope with a valid header and a salt, tag and ciphertext of the right form."""
-    fields, header = _fields(text), _header(text)
+    fields, header = _split_fields(text), _first_line(text)
     if not (fields and text.startswith(MAGIC) and header.count(b";") < MOST_FIELDS):
         return False
     if not (fields[1] in VERSIONS and fields[2] == CIPHER and LABEL.fullmatch(fields[3])):
@@ -149,13 +149,13 @@ def is_whole(text: bytes) -> bool:
     return has_lengths and len(ciphertext) > 0 and len(ciphertext) % CIPHER_BLOCK == 0
 
 
-def _header(text: bytes) -> bytes:
+def _first_line(text: bytes) -> bytes:
     """The first line, or a byte more than the longest header has."""
     return LINE_END.split(text[: LONGEST_HEADER + 1], 1)[0]
 
 
-def _fields(text: bytes) -> list[bytes]:
+def _split_fields(text: bytes) -> list[bytes]:
     """The fields of the first line, of which the fourth may be empty; none if that line is not a header."""
-    header = _header(text)
+    header = _first_line(text)
     fields = [field.strip() for field in header.split(b";")]
     return [*fields, b""] if len(fields) > 2 and len(header) <= LONGEST_HEADER and header.isascii() else []

@@ -47,7 +47,7 @@ class NotYaml(Refused):
 
 
 @lru_cache(maxsize=None)
-def pyyaml() -> Any:
+def require_pyyaml() -> Any:
     """PyYAML, which a companion that reads no YAML can do without."""
     try:
         import yaml
@@ -56,19 +56,19 @@ def pyyaml() -> Any:
     return yaml
 
 
-def scalars(data: bytes, every: bool = False) -> Iterator[Value]:
+def read_scalars(data: bytes, every: bool = False) -> Iterator[Value]:
     """The envelopes among the scalars; or every node, but of the keys only envelopes. Raises NotYaml."""
     if BINARY in data:
         raise NotYaml(NOT_YAML.format(NULL))
     if len(data) > LONGEST:
         raise NotYaml(TOO_LONG)
-    yaml = pyyaml()
+    yaml = require_pyyaml()
     skipped = len(BYTE_ORDER_MARK) if data.startswith(BYTE_ORDER_MARK) else 0
     ending = b"\r\n" if b"\r\n" in data else b"\n"
     try:
-        for path, is_key, event in _nodes(yaml, _Shadow(data[skipped:])):
+        for path, is_key, event in _read_nodes(yaml, _Shadow(data[skipped:])):
             if every and not is_key or _is_envelope(path, event):
-                yield _value(data, skipped, ending, path, event)
+                yield _make_value(data, skipped, ending, path, event)
     except yaml.YAMLError as fault:
         mark = getattr(fault, "problem_mark", None)
         where = f"line {mark.line + 1}: " if mark else ""
@@ -94,12 +94,12 @@ class _BytesOfCharacters(dict[int, bytes]):
         return self[code]
 
 
-def _unshadowed(text: str) -> bytes:
+def _remove_shadow(text: str) -> bytes:
     characters: Any = _BytesOfCharacters()
     return text.encode() if text.isascii() else codecs.charmap_encode(text, "strict", characters)[0]
 
 
-def _nodes(yaml: Any, text: _Shadow) -> Iterator[tuple[Steps, bool, Any]]:
+def _read_nodes(yaml: Any, text: _Shadow) -> Iterator[tuple[Steps, bool, Any]]:
     """Each scalar, alias and beginning of a collection, the steps to it, and whether it is a key."""
     steps: Steps = []
     mapping, scalar = yaml.MappingStartEvent, yaml.ScalarEvent
@@ -129,10 +129,10 @@ def _is_envelope(steps: Steps, event: Any) -> bool:
     if text is None:
         return False
     is_tagged = event.tag in TAGS or JSON_KEY in steps[-1:]
-    return is_tagged or text.startswith("$ANSIBLE_VAULT") and bool(envelope.WITH_DIGITS.match(_unshadowed(text)))
+    return is_tagged or text.startswith("$ANSIBLE_VAULT") and bool(envelope.WITH_DIGITS.match(_remove_shadow(text)))
 
 
-def _value(data: bytes, skipped: int, ending: bytes, steps: Steps, event: Any) -> Value:
+def _make_value(data: bytes, skipped: int, ending: bytes, steps: Steps, event: Any) -> Value:
     first, end = event.start_mark.index + skipped, event.end_mark.index + skipped
     properties = PROPERTIES.match(data, first, end)
     assert properties
@@ -147,14 +147,14 @@ def _value(data: bytes, skipped: int, ending: bytes, steps: Steps, event: Any) -
         if line:
             start, margin = line.start("margin"), line["margin"]
     number = event.start_mark.line + 1 + len(LINE_END.findall(data, first, start))
-    text = _unshadowed(getattr(event, "value", ""))
+    text = _remove_shadow(getattr(event, "value", ""))
     if text.strip().startswith(envelope.MAGIC):
         text = text.strip() + b"\n"
     ending = own_ending[0] if own_ending else ending
     tag, anchor = getattr(event, "tag", None) or "", event.anchor or ""
-    return Value(_path(steps), style, number, begin, start, end, margin, ending, text, tag, anchor, None in steps)
+    return Value(_make_path(steps), style, number, begin, start, end, margin, ending, text, tag, anchor, None in steps)
 
 
-def _path(steps: Steps) -> Path:
+def _make_path(steps: Steps) -> Path:
     names = ("" if step is None else step for step in steps)
-    return tuple(_unshadowed(step).decode(errors="replace") if isinstance(step, str) else step for step in names)
+    return tuple(_remove_shadow(step).decode(errors="replace") if isinstance(step, str) else step for step in names)

@@ -31,18 +31,18 @@ def add_paths(parser: argparse.ArgumentParser) -> None:
     parser.add_argument("paths", metavar="PATH", nargs="+", help="a file or directory to search")
 
 
-def files_below(paths: list[str], excluded: Collection[str] = ()) -> list[list[str]]:
+def list_files(paths: list[str], excluded: Collection[str] = ()) -> list[list[str]]:
     """All paths that lead to each file. A path that is no file, and a directory that cannot be read, are among them, so
     that reading them says why. A signal ends the search."""
     files: dict[str, list[str]] = {}
     for path in paths:
         named = [] if _is_excluded(os.path.normpath(path), excluded) else [path]
-        for file in _files_in(path, excluded) if os.path.isdir(path) else named:
+        for file in _list_files_in(path, excluded) if os.path.isdir(path) else named:
             files.setdefault(os.path.realpath(file), []).append(file)
     return [*files.values()]
 
 
-def _files_in(top: str, excluded: Collection[str]) -> Iterator[str]:
+def _list_files_in(top: str, excluded: Collection[str]) -> Iterator[str]:
     unread: list[str] = []
     for folder, folders, names in os.walk(top, onerror=lambda fault: unread.append(fault.filename)):
         processes.check()
@@ -70,40 +70,40 @@ def _is_excluded(path: str, patterns: Collection[str]) -> bool:
 def read(path: str) -> bytes | None:
     """The content of the file at a path, or None if there is no file."""
     try:
-        with opened(path) as file:
-            return whole(file, path)
+        with open_regular(path) as file:
+            return read_whole(file, path)
     except FileNotFoundError:
         return None
 
 
-def named(path: str) -> bytes:
+def read_existing(path: str) -> bytes:
     """The content of a file that must exist. A signal ends the reading at once."""
-    with processes.interruptible(), opened(path) as file:
-        return whole(file, path)
+    with processes.interruptible(), open_regular(path) as file:
+        return read_whole(file, path)
 
 
-def input_of(file: str | int) -> bytes:
+def read_input(file: str | int) -> bytes:
     """The whole of an input such as standard input, or a bit more than any vault has. A signal ends the wait for it."""
     with processes.interruptible(), open(file, "rb", closefd=file != 0) as opened_file:
         return opened_file.read(LIMIT + 1)
 
 
-def pieces(path: str) -> Iterator[bytes]:
+def read_pieces(path: str) -> Iterator[bytes]:
     """Yields the content of a file, up to its stated size if that exceeds LIMIT."""
-    with opened(path) as file:
-        yield from parts(file, max(LIMIT, os.fstat(file.fileno()).st_size))
+    with open_regular(path) as file:
+        yield from read_parts(file, max(LIMIT, os.fstat(file.fileno()).st_size))
 
 
-def whole(file: BinaryIO, path: str) -> bytes:
+def read_whole(file: BinaryIO, path: str) -> bytes:
     """The content of a file. Raises TooLong, and reads nothing of a file whose stated size exceeds the limit."""
     is_longer = os.fstat(file.fileno()).st_size > LIMIT
-    content = b"" if is_longer else b"".join(parts(file, LIMIT + 1))
+    content = b"" if is_longer else b"".join(read_parts(file, LIMIT + 1))
     if is_longer or len(content) > LIMIT:
         raise TooLong(errno.EFBIG, f"it has more than {LIMIT:,} bytes, more than any vault", path)
     return content
 
 
-def parts(file: BinaryIO, limit: int = LIMIT) -> Iterator[bytes]:
+def read_parts(file: BinaryIO, limit: int = LIMIT) -> Iterator[bytes]:
     """Yields the content of a file from its beginning, up to the limit."""
     file.seek(0)
     while limit > 0 and (piece := file.read(CHUNK_SIZE)):
@@ -111,7 +111,7 @@ def parts(file: BinaryIO, limit: int = LIMIT) -> Iterator[bytes]:
         limit -= len(piece)
 
 
-def opened(path: str) -> BinaryIO:
+def open_regular(path: str) -> BinaryIO:
     """Opens a regular file for reading. Refuses anything else: opening a pipe might wait forever."""
     descriptor = os.open(path, os.O_RDONLY | os.O_NONBLOCK | os.O_NOCTTY)
     mode = os.fstat(descriptor).st_mode

@@ -80,11 +80,11 @@ def _copy_metadata(descriptor: int, target: str, is_private: bool) -> None:
     with suppress(OSError):
         os.removexattr(descriptor, "system.posix_acl_access")
     os.fchmod(descriptor, 0o600 if is_private else stat.S_IMODE(old.st_mode))
-    for name in [] if is_private else _attributes(target):
+    for name in [] if is_private else _list_attributes(target):
         os.setxattr(descriptor, name, os.getxattr(target, name))
 
 
-def _attributes(path: str) -> list[str]:
+def _list_attributes(path: str) -> list[str]:
     """The names of the extended attributes, except those of security modules, which the system sets."""
     try:
         return [name for name in os.listxattr(path) if not name.startswith("security.")]

@@ -11,9 +11,9 @@ from functools import reduce
 from typing import Callable, Iterable, NamedTuple
 
 from ansible_vault_companions.envelopes import conflicts, envelope
-from ansible_vault_companions.envelopes.document import Document, mentions, strays
+from ansible_vault_companions.envelopes.document import Document, find_strays, may_have_envelope
 from ansible_vault_companions.envelopes.envelope import ALIAS, JSON_KEY, LOOSE, MAGIC, NO_SCALAR, STRAY, Path
-from ansible_vault_companions.envelopes.scalars import BINARY, NotYaml, scalars
+from ansible_vault_companions.envelopes.scalars import BINARY, NotYaml, read_scalars
 
 # The key of every list item, and the key that merges a mapping into another, which is not part of a path.
 ITEM, MERGE = "[]", "<<"
@@ -56,7 +56,7 @@ def find_facts(data: bytes, needs_plain: bool = False) -> Facts:
         return Facts(is_empty=True, unencrypted="")
     if data.startswith(MAGIC):
         return Facts(is_vault=True, damage=find_damage(Document(data)), unencrypted="")
-    if not (needs_plain or mentions(data)):
+    if not (needs_plain or may_have_envelope(data)):
         return Facts()
     document, leaves = _read_leaves(data)
     made = Facts(False, False, document.fault, find_damage(document), find_unencrypted(document), {}, {})
@@ -72,7 +72,7 @@ def _read_leaves(data: bytes) -> tuple[Document, list[Leaf]]:
     # For each anchor its path, and the number of its first text.
     anchors: dict[str, tuple[Path, int]] = {}
     try:
-        for node in scalars(data, every=True):
+        for node in read_scalars(data, every=True):
             if node.is_value:
                 document.values.append(node)
             if node.style == ALIAS:
@@ -87,7 +87,7 @@ def _read_leaves(data: bytes) -> tuple[Document, list[Leaf]]:
     except NotYaml as fault:
         document, leaves = Document(data, fault=str(fault)), []
     if BINARY not in data:
-        document.values += strays(data, document.values)
+        document.values += find_strays(data, document.values)
     return document, leaves
 
 

@@ -30,9 +30,9 @@ class Check(Work):
         """Checks the file to which these paths lead. It is marked if one of them is."""
         path = next((path for path in paths if path in self.marked), paths[0])
         is_marked = path in self.marked
-        file = document.read(document.content(path))
+        file = document.read_document(document.read_content(path))
         is_prose = document.is_prose(path) and not (is_marked or file.is_vault)
-        why = document.fault(file, path)
+        why = document.find_fault(file, path)
         try:
             self.changed(file, lambda value: _named(value, value.place(path)), report, is_prose)
         except Refused as fault:
@@ -67,7 +67,7 @@ class Check(Work):
         if conflicts.is_unmerged(result.text):
             report.faults.append(f"{where}: its plaintext {conflicts.UNMERGED}")
         place = lambda value: _named(value, f"{where}: in its plaintext, line {max(value.line, 1)}")
-        self.changed(document.read(result.text), place, report)
+        self.changed(document.read_document(result.text), place, report)
 
 
 def _named(value: Value, where: str) -> str:

@@ -31,8 +31,8 @@ class Rotation(Work):
     def file(self, paths: list[str], report: Report) -> None:
         """Rotates the file to which these paths lead."""
         path = paths[0]
-        file = document.read(document.content(path))
-        if not file.values and document.fault(file, path):
+        file = document.read_document(document.read_content(path))
+        if not file.values and document.find_fault(file, path):
             raise Refused(file.fault)
         is_prose = document.is_prose(path) and not file.is_vault
         try:
@@ -83,7 +83,7 @@ class Rotation(Work):
 
     def _within(self, plaintext: bytes, where: str, report: Report) -> bytes:
         """The plaintext of an envelope, with the envelopes in it rotated."""
-        text = document.read(plaintext)
+        text = document.read_document(plaintext)
         if text.is_vault:
             raise Refused("its plaintext is itself a vault, which ansible-vault does not encrypt; decrypt it first")
         return self.changed(text, lambda value: f"{where}: in its plaintext, line {value.line}", report)
