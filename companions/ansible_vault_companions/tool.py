@@ -142,7 +142,7 @@ class Workers(ThreadPoolExecutor):
     def __exit__(self, *_: object) -> None:
         self.shutdown(cancel_futures=True)
 
-    def shared(self, work: Callable[[Item], Result], items: Sequence[Item]) -> list[Result]:
+    def share(self, work: Callable[[Item], Result], items: Sequence[Item]) -> list[Result]:
         """The results for the parts of a worker's own work. It does itself what no other worker has begun."""
         others = [(item, self.submit(work, item)) for item in items[1:]]
         first = [work(item) for item in items[:1]]
@@ -153,4 +153,4 @@ class Workers(ThreadPoolExecutor):
 def at_once(work: Callable[[Item], Result], items: Iterable[Item]) -> list[Result]:
     """The results of some work on each item."""
     with Workers() as workers:
-        return workers.shared(work, [*items])
+        return workers.share(work, [*items])

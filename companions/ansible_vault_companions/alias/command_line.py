@@ -77,7 +77,7 @@ def command_line(words: Collection[str] = tuple(COMMANDS)) -> program.Parser:
     return parser
 
 
-def parsed(words: list[str]) -> Namespace:
+def parse(words: list[str]) -> Namespace:
     """The command line."""
     parser = command_line(words)
     args = parser.parse_args(words)
@@ -117,7 +117,7 @@ def _add_options(parser: argparse.ArgumentParser, command: str) -> None:
     parser.add_argument("arguments", metavar=what, nargs=count, help=text)
 
 
-def passed_on(args: Namespace, without: Iterable[str] = ()) -> list[str]:
+def list_passed_on(args: Namespace, without: Iterable[str] = ()) -> list[str]:
     """The words of the options that are passed on."""
     given = {option: getattr(args, option[2:].replace("-", "_"), None) for option in PASSED_ON if option not in without}
     named = {option: value for option, value in given.items() if value not in (None, False)}
@@ -144,7 +144,7 @@ class Call:
         self.label = getattr(args, "encrypt_vault_id", None) or settings.encrypt_label()
         named = sources.named(args.vault_id, args.vault_password_file, settings)
         sources.load(NAME, named, settings, encrypts, args.any_label)
-        named = named or [_typed(encrypts, sources.NONE)]
+        named = named or [_ask_password(encrypts, sources.NONE)]
         self.new = self._new(named) if args.command == REKEY else []
         self.passwords = self._to_encrypt_with(named) if encrypts else [one for one in named if not one.is_left_out]
         # With a rekeying, too, a label counts if there are several passwords.
@@ -168,7 +168,7 @@ class Call:
         if new and (fitting or not self.args.encrypt_vault_id):
             return new
         if not self.label:
-            return [_typed(True, NO_NEW)]
+            return [_ask_password(True, NO_NEW)]
         if not fitting:
             raise Refused(f"no new password has the label that was chosen for encryption, {escape(self.label)}")
         fitting[0].require()
@@ -183,11 +183,11 @@ class Call:
             *(password.option("--new-vault-id") for password in self.new),
             *([f"{ENCRYPT_ID}={self.label}"] if self.label and self.args.command in ENCRYPTING else []),
             *([MATCH] if self.needs_match and not self.args.require_id_match else []),
-            *passed_on(self.args, (ENCRYPT_ID, "--any-label", *without)),
+            *list_passed_on(self.args, (ENCRYPT_ID, "--any-label", *without)),
         ]
 
 
-def _typed(encrypts: bool, none: str) -> Password:
+def _ask_password(encrypts: bool, none: str) -> Password:
     """A password that is typed where nothing names one. Raises Refused with the text `none` if there is no terminal."""
     password = sources.of_id(ASKED)
     password.obtain(encrypts)

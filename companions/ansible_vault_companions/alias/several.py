@@ -27,7 +27,7 @@ def handle(companion: str, call: Call) -> int:
     """Replaces or shows each file, or makes a value of each string. Returns the exit status."""
     tool = Tool(companion)
     if call.args.command == ENCRYPT_STRING:
-        return _values(tool, call)
+        return _encrypt_strings(tool, call)
     end = b""
 
     def work(path: str) -> None:
@@ -44,9 +44,9 @@ def handle(companion: str, call: Call) -> int:
     return max(program.attempt(NAME, path, partial(work, path)) for path in call.args.arguments)
 
 
-def _values(tool: Tool, call: Call) -> int:
+def _encrypt_strings(tool: Tool, call: Call) -> int:
     """Writes a value for each string, in Ansible's order: the typed one, standard input, arguments."""
-    texts = _texts(call.args)
+    texts = _list_texts(call.args)
     values = []
     for number, text in enumerate(texts, 1):
         named = [f"--stdin-name={text.name}"] if text.name else []
@@ -62,14 +62,14 @@ def _values(tool: Tool, call: Call) -> int:
     return 0
 
 
-def _texts(args: Namespace) -> list[Text]:
+def _list_texts(args: Namespace) -> list[Text]:
     texts = []
     if args.prompt:
         if args.arguments or not args.name:
-            name = prompts.line("Variable name (enter for no name): ").decode(errors="surrogateescape")
+            name = prompts.ask_line("Variable name (enter for no name): ").decode(errors="surrogateescape")
         else:
             name = args.name[0]
-        texts.append(Text(prompts.string(is_hidden=not args.show_input), name, "the prompt"))
+        texts.append(Text(prompts.ask_string(is_hidden=not args.show_input), name, "the prompt"))
     if STANDARD_INPUT in args.arguments or args.stdin_name is not None:
         texts.append(Text(reading.read_input(0), args.stdin_name, "standard input"))
     strings = [os.fsencode(text) for text in args.arguments if text != STANDARD_INPUT]

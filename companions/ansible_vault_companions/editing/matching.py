@@ -58,7 +58,7 @@ class Choice(NamedTuple):
         if len(keys) > 1:
             if len(labels) == 1 or not os.isatty(0):
                 raise Refused(f"{place} is new; choose its password with --encrypt-vault-id")
-            typed = prompts.choice(f"Label to encrypt {name} with", labels)
+            typed = prompts.ask_choice(f"Label to encrypt {name} with", labels)
             keys = [key for key in keys if key[1] == typed]
         keys[0][0].require()
         keys[0][0].confirm()

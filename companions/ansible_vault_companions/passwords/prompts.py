@@ -24,59 +24,59 @@ TO_ENCRYPT = {
 }
 
 
-def password(kind: str, label: str, encrypts: bool) -> bytes:
+def ask_password(kind: str, label: str, encrypts: bool) -> bytes:
     """The password that the user types: once to decrypt, twice to encrypt."""
     questions = (TO_ENCRYPT if encrypts else TO_DECRYPT)[kind]
-    typed = [_answer(question.format(escape(label))) for question in questions]
+    typed = [_ask_hidden_password(question.format(escape(label))) for question in questions]
     if len(set(typed)) > 1:
         raise Refused(DIFFER)
     return typed[0]
 
 
-def is_confirmed(kind: str, label: str, content: bytes) -> bool:
+def confirms(kind: str, label: str, content: bytes) -> bool:
     """Whether the user types a password again."""
-    return _answer(TO_ENCRYPT[kind][-1].format(escape(label))) == content
+    return _ask_hidden_password(TO_ENCRYPT[kind][-1].format(escape(label))) == content
 
 
-def string(is_hidden: bool) -> bytes:
+def ask_string(is_hidden: bool) -> bytes:
     """The string to encrypt, as the user types it."""
-    text = _hidden("String to encrypt (hidden): ") if is_hidden else line("String to encrypt:")
+    text = _ask_hidden("String to encrypt (hidden): ") if is_hidden else ask_line("String to encrypt:")
     if not text:
         raise Refused("you typed an empty string; try again")
     return text
 
 
-def line(question: str) -> bytes:
+def ask_line(question: str) -> bytes:
     """A line that the user types. It is shown."""
     with _terminal() as terminal:
-        return _typed(terminal, question)
+        return _read_answer(terminal, question)
 
 
-def choice(question: str, answers: list[str]) -> str:
+def ask_choice(question: str, answers: list[str]) -> str:
     """One of these answers. Asks until the user types one of them."""
     listed = ", ".join(map(escape, answers))
-    while (typed := line(f"{question} ({listed}): ").decode(errors="replace").strip()) not in answers:
+    while (typed := ask_line(f"{question} ({listed}): ").decode(errors="replace").strip()) not in answers:
         pass
     return typed
 
 
 def agrees(question: str) -> bool:
     """Whether the user says yes; False if nobody is at a terminal."""
-    return os.isatty(0) and choice(question, ["yes", "no"]) == "yes"
+    return os.isatty(0) and ask_choice(question, ["yes", "no"]) == "yes"
 
 
-def _answer(question: str) -> bytes:
-    typed = _hidden(question).strip()
+def _ask_hidden_password(question: str) -> bytes:
+    typed = _ask_hidden(question).strip()
     if not typed:
         raise Refused("you typed an empty password; try again")
     return typed
 
 
-def _hidden(question: str) -> bytes:
+def _ask_hidden(question: str) -> bytes:
     """A line that is not shown. It must be UTF-8, so that the same keys give the same password in every locale."""
     with _terminal() as terminal:
         with _without_echo(terminal):
-            text = _typed(terminal, question).replace(SUSPEND, b"")
+            text = _read_answer(terminal, question).replace(SUSPEND, b"")
         terminal.write(b"\n")
     try:
         text.decode()
@@ -85,7 +85,7 @@ def _hidden(question: str) -> bytes:
     return text
 
 
-def _typed(terminal: FileIO, question: str) -> bytes:
+def _read_answer(terminal: FileIO, question: str) -> bytes:
     terminal.write(question.encode())
     text = terminal.readline()
     if not text:

@@ -32,7 +32,7 @@ TRUE = ("1", "on", "t", "true", "y", "yes")
 RELATIVE = "beside options, a path in the settings counts only if it begins with / or ~; it is ignored"
 
 
-def expanded(path: str, folder: str = "") -> str:
+def expand(path: str, folder: str = "") -> str:
     """A path as Ansible reads it. A relative one starts from this directory, or else from the current one."""
     return os.path.join(folder, os.path.expanduser(os.path.expandvars(path)))
 
@@ -43,34 +43,34 @@ class Settings:
     def __init__(self, beside_options: bool, warn: Callable[[str], None] = lambda _: None) -> None:
         self.beside_options = beside_options
         self.warn = warn
-        self.path = self._configuration()
-        self.keys = _section(self.path) if self.path else {}
+        self.path = self._find_file()
+        self.keys = _read_section(self.path) if self.path else {}
 
     def identities(self) -> list[str]:
         """The sources, as [LABEL@]SOURCE. As with Ansible, relative paths start from the current directory."""
-        items = [_unquoted(item.strip()) for item in self._value(IDENTITIES).split(",")]
+        items = [_unquote(item.strip()) for item in self._read(IDENTITIES).split(",")]
         return [item for item in items if item and self._counts(item.partition("@")[2] or item)]
 
     def password_file(self) -> str:
         """The path of the password file; empty if there is none. In a file, it is relative to the file's directory."""
-        path = self._value(PASSWORD_FILE)
+        path = self._read(PASSWORD_FILE)
         folder = "" if PASSWORD_FILE[0] in os.environ or not self.path else os.path.dirname(self.path)
         counts = path and self._counts(path, folder)
-        return expanded(path.replace(CURRENT, os.getcwd()), folder) if counts else ""
+        return expand(path.replace(CURRENT, os.getcwd()), folder) if counts else ""
 
     def asks(self) -> bool:
         """Whether to ask for a password."""
-        return _unquoted(self._value(ASKS)).lower() in TRUE
+        return _unquote(self._read(ASKS)).lower() in TRUE
 
     def encrypt_label(self) -> str | None:
         """The label of the password to encrypt with."""
-        return _unquoted(self._value(ENCRYPT_IDENTITY)) or None
+        return _unquote(self._read(ENCRYPT_IDENTITY)) or None
 
     def requires_match(self) -> bool:
         """Whether a password may decrypt only its own label. As with Ansible, any value means yes, even `false`."""
-        return bool(_unquoted(self._value(ID_MATCH)))
+        return bool(_unquote(self._read(ID_MATCH)))
 
-    def _value(self, setting: tuple[str, str]) -> str:
+    def _read(self, setting: tuple[str, str]) -> str:
         variable, key = setting
         return os.environ.get(variable, self.keys.get(key, ""))
 
@@ -82,10 +82,10 @@ class Settings:
             self.warn(f"{escape(place)}: {RELATIVE}")
         return counts
 
-    def _configuration(self) -> str | None:
+    def _find_file(self) -> str | None:
         """The file that ANSIBLE_CONFIG names, else the first readable one, in Ansible's order of places."""
         named = os.environ.get("ANSIBLE_CONFIG", "")
-        path = os.path.join(expanded(named), NAME) if os.path.isdir(expanded(named)) else expanded(named)
+        path = os.path.join(expand(named), NAME) if os.path.isdir(expand(named)) else expand(named)
         if _is_readable(path) and self._counts(named):
             return path
         places = [os.path.expanduser("~/.ansible.cfg"), "/etc/ansible/ansible.cfg"]
@@ -97,7 +97,7 @@ class Settings:
         return next((place for place in places if _is_readable(place)), None)
 
 
-def _section(path: str) -> dict[str, str]:
+def _read_section(path: str) -> dict[str, str]:
     """The keys and values of a file's section, empty if there is none. Raises Refused if the file cannot be read."""
     # Imported here, since most runs of ansible-vault-with need no file.
     import configparser
@@ -116,7 +116,7 @@ def _section(path: str) -> dict[str, str]:
     return dict(parser[SECTION]) if SECTION in parser else {}
 
 
-def _unquoted(text: str) -> str:
+def _unquote(text: str) -> str:
     is_quoted = len(text) > 1 and text[0] == text[-1] and text[0] in "\"'" and text[-2] != "\\"
     return text[1:-1] if is_quoted else text
 

@@ -9,7 +9,7 @@ from collections.abc import Callable, Iterable
 
 from ansible_vault_companions import processes
 from ansible_vault_companions.passwords import prompts
-from ansible_vault_companions.passwords.settings import ASK, PROMPT, Settings, expanded
+from ansible_vault_companions.passwords.settings import ASK, PROMPT, Settings, expand
 from ansible_vault_companions.program import Refused, escape, quote_word, reason, write_error
 
 # The maximum length of a password file, in bytes.
@@ -66,7 +66,7 @@ class Password:
 
     def _read(self, encrypts: bool) -> bytes:
         if self.is_prompt:
-            return prompts.password(self.place, self.label, encrypts)
+            return prompts.ask_password(self.place, self.label, encrypts)
         mode = os.stat(self.place).st_mode
         if stat.S_ISREG(mode) and mode & 0o111:
             return _printed(self.place, self.given_label)
@@ -87,7 +87,7 @@ class Password:
     def confirm(self) -> None:
         """Asks again for a password that was typed once and has decrypted nothing: it may be mistyped."""
         if self.is_prompt and not self.is_certain and not self.is_left_out:
-            if not prompts.is_confirmed(self.place, self.label, self.content):
+            if not prompts.confirms(self.place, self.label, self.content):
                 raise Refused(f"{escape(self.given)}: {prompts.DIFFER}")
             self.is_certain = True
 
@@ -98,11 +98,11 @@ def of_id(text: str) -> Password:
         label, place = "", text
     if place in (PROMPT, ASK):
         return Password(label, place, ASKING[1] if text == ASKED else text, is_prompt=True)
-    return Password(label, expanded(place), text)
+    return Password(label, expand(place), text)
 
 
 def of_path(path: str) -> Password:
-    return Password(DEFAULT, expanded(path), path)
+    return Password(DEFAULT, expand(path), path)
 
 
 def named(ids: list[str], paths: list[str], settings: Settings) -> list[Password]:

@@ -34,7 +34,7 @@ class Check(Work):
         is_prose = document.is_prose(path) and not (is_marked or file.is_vault)
         why = document.find_fault(file, path)
         try:
-            self.changed(file, lambda value: _named(value, value.place(path)), report, is_prose)
+            self.change_envelopes(file, lambda value: _name_value(value, value.place(path)), report, is_prose)
         except Refused as fault:
             why = why or str(fault)
         if facts.is_unmerged(file):
@@ -53,12 +53,12 @@ class Check(Work):
         report.labels.add(label)
         result = decrypted(self.tool, value, self.passwords, is_prose)
         if result:
-            self._plaintext(where, result, report)
+            self._check_plaintext(where, result, report)
         else:
             report.labels.clear()
         return same
 
-    def _plaintext(self, where: str, result: Decrypted, report: Report) -> None:
+    def _check_plaintext(self, where: str, result: Decrypted, report: Report) -> None:
         try:
             result.require_label()
             report.lines.append(f"{where}: decrypted by {escape(result.password.given)}")
@@ -66,9 +66,9 @@ class Check(Work):
             report.faults.append(f"{where}: {fault}")
         if conflicts.is_unmerged(result.text):
             report.faults.append(f"{where}: its plaintext {conflicts.UNMERGED}")
-        place = lambda value: _named(value, f"{where}: in its plaintext, line {max(value.line, 1)}")
-        self.changed(document.read_document(result.text), place, report)
+        place = lambda value: _name_value(value, f"{where}: in its plaintext, line {max(value.line, 1)}")
+        self.change_envelopes(document.read_document(result.text), place, report)
 
 
-def _named(value: Value, where: str) -> str:
+def _name_value(value: Value, where: str) -> str:
     return ": ".join([where, *(escape(name) for name in (value.name, value.label or "no label") if name)])

@@ -44,7 +44,7 @@ class Report:
         self.labels |= other.labels
         self.others += other.others
 
-    def counted_others(self) -> str:
+    def count_others(self) -> str:
         """The number of envelopes with other labels, in total and for each label, as text."""
         labels = ", ".join(f"{escape(label)} {count}" for label, count in sorted(self.others.items()))
         return f"{sum(self.others.values())} with other labels" + (f" ({labels})" if labels else "")
@@ -61,12 +61,14 @@ class Work:
         """The text that takes the place of an envelope; None if it stays."""
         raise NotImplementedError
 
-    def changed(self, file: Document, place: Callable[[Value], str], report: Report, is_prose: bool = False) -> bytes:
+    def change_envelopes(
+        self, file: Document, place: Callable[[Value], str], report: Report, is_prose: bool = False
+    ) -> bytes:
         """The data with the texts that take the places of envelopes. What fails stays, and is reported."""
         envelopes = file.envelopes()
         work = lambda value: self._result(value, place(value), is_prose)
         new: dict[int, bytes] = {}
-        for number, (text, own) in zip(envelopes, self.workers.shared(work, [*envelopes.values()])):
+        for number, (text, own) in zip(envelopes, self.workers.share(work, [*envelopes.values()])):
             report.add(own)
             if text is not None:
                 new[number] = text
@@ -97,16 +99,16 @@ class Reports:
             for line in report.lines:
                 write_line(line)
             for text in report.faults:
-                self.tell(text)
+                self.report_fault(text)
 
-    def tell(self, text: str) -> None:
+    def report_fault(self, text: str) -> None:
         write_error(f"{self.companion}: {text}")
 
-    def lacks(self, labels: Collection[str]) -> bool:
+    def report_missing(self, labels: Collection[str]) -> bool:
         """Whether no envelope has one of these labels. Names each of these."""
         missing = sorted(set(labels) - self.total.labels)
         for label in missing:
-            self.tell(f"no vault or value has the label {escape(label)}")
+            self.report_fault(f"no vault or value has the label {escape(label)}")
         return bool(missing)
 
 

@@ -36,7 +36,7 @@ class Rotation(Work):
             raise Refused(file.fault)
         is_prose = document.is_prose(path) and not file.is_vault
         try:
-            after = self.changed(file, lambda value: value.place(path), report, is_prose)
+            after = self.change_envelopes(file, lambda value: value.place(path), report, is_prose)
             if after != file.data:
                 self._put(os.path.realpath(path), after, file.data)
         except (Refused, OSError):
@@ -86,4 +86,4 @@ class Rotation(Work):
         text = document.read_document(plaintext)
         if text.is_vault:
             raise Refused("its plaintext is itself a vault, which ansible-vault does not encrypt; decrypt it first")
-        return self.changed(text, lambda value: f"{where}: in its plaintext, line {value.line}", report)
+        return self.change_envelopes(text, lambda value: f"{where}: in its plaintext, line {value.line}", report)
