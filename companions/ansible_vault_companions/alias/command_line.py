@@ -7,7 +7,7 @@ from collections.abc import Collection, Iterable
 from argparse import Namespace
 
 from ansible_vault_companions import program
-from ansible_vault_companions.passwords import prompts, sources
+from ansible_vault_companions.passwords import options, prompts, sources
 from ansible_vault_companions.passwords.sources import ANY_LABEL, ASKED, Password
 from ansible_vault_companions.program import Refused, escape, write_error
 
@@ -46,7 +46,7 @@ Keep using the commands of Ansible's own tool:
 PASSED_ON = {
     ENCRYPT_ID: ((*SEALING, *EDITING), "LABEL", "the label of the password to encrypt with, among those given"),
     MATCH: ((VIEW, DECRYPT, REKEY), "", "try only passwords with the label of the vault"),
-    ANY_LABEL: ((REKEY, *EDITING), "", sources.ANY_LABEL_HELP),
+    ANY_LABEL: ((REKEY, *EDITING), "", options.ANY_LABEL_HELP),
     "--output": (WRITING, "PATH", "the file to write, or - for standard output"),
     "--salt": (SEALING, "TEXT", "the salt; never use one twice"),
     "--salt-file": (SEALING, "PATH", "the file whose first 32 bytes are the salt"),
@@ -65,7 +65,7 @@ ARGUMENTS: dict[str, tuple[int | str, str, str]] = {
 def command_line(words: Collection[str] = tuple(COMMANDS)) -> program.Parser:
     """The parser, with the options of the commands that are among the words."""
     parser = program.make_parser(NAME, SUMMARY, EXAMPLE, allow_abbrev=True)
-    sources.add_options(parser, before="before_")
+    options.add_options(parser, before="before_")
     parser.add_argument("-v", "--verbose", action="count", help=argparse.SUPPRESS)
     commands = parser.add_subparsers(dest="command", metavar="COMMAND", title="commands")
     for name, text in COMMANDS.items():
@@ -97,7 +97,7 @@ def parse(words: list[str]) -> Namespace:
 
 def _add_options(parser: argparse.ArgumentParser, command: str) -> None:
     program.add_common(parser, NAME)
-    sources.add_options(parser)
+    options.add_options(parser)
     parser.add_argument("-v", "--verbose", action="count", help=argparse.SUPPRESS)
     for option, (commands, metavar, text) in PASSED_ON.items():
         if command in commands and metavar:
@@ -105,7 +105,7 @@ def _add_options(parser: argparse.ArgumentParser, command: str) -> None:
         elif command in commands:
             parser.add_argument(option, action="store_true", help=text)
     if command == REKEY:
-        sources.add_options(parser, "new-")
+        options.add_new_options(parser)
     if command == CREATE:
         parser.add_argument("--skip-tty-check", action="store_true", help="ignored")
     if command == ENCRYPT_STRING:
@@ -137,14 +137,14 @@ class Call:
     """The command line, and the passwords in the order in which they are tried."""
 
     def __init__(self, args: Namespace) -> None:
-        settings = sources.settings_beside(args, lambda text: write_error(f"{NAME}: {text}"))
+        settings = options.read_settings(args, lambda text: write_error(f"{NAME}: {text}"))
         encrypts = args.command in ENCRYPTING
         self.args = args
         # The label of the password to encrypt with.
         self.label = getattr(args, "encrypt_vault_id", None) or settings.encrypt_label()
         named = sources.named(args.vault_id, args.vault_password_file, settings)
         sources.load(NAME, named, settings, encrypts, args.any_label)
-        named = named or [_ask_password(encrypts, sources.NONE)]
+        named = named or [_ask_password(encrypts, options.NO_PASSWORD)]
         self.new = self._new(named) if args.command == REKEY else []
         self.passwords = self._to_encrypt_with(named) if encrypts else [one for one in named if not one.is_left_out]
         # With a rekeying, too, a label counts if there are several passwords.
@@ -163,7 +163,7 @@ class Call:
 
     def _new(self, old: list[Password]) -> list[Password]:
         """The new password of options, else the one of the settings with the chosen label, else a typed one."""
-        new = sources.new_passwords(self.args)
+        new = options.load_new_passwords(self.args)
         fitting = [one for one in new or old if one.label == self.label and (new or one.is_setting)]
         if new and (fitting or not self.args.encrypt_vault_id):
             return new

@@ -2,15 +2,14 @@
 
 from __future__ import annotations
 
-import argparse
 import os
 import stat
-from collections.abc import Callable, Iterable
+from collections.abc import Iterable
 
 from ansible_vault_companions import processes
-from ansible_vault_companions.passwords import prompts
+from ansible_vault_companions.passwords import prompts, scripts
 from ansible_vault_companions.passwords.settings import ASK, PROMPT, Settings, expand
-from ansible_vault_companions.program import Refused, escape, quote_word, reason, write_error
+from ansible_vault_companions.program import Refused, escape, reason, write_error
 
 # The maximum length of a password file, in bytes.
 LIMIT = 4096
@@ -20,14 +19,7 @@ MOST, LONGEST_LABEL = 16, 128
 # The options that ask for a password without a label, and the word for them in place of [LABEL@]FILE.
 ASKING = ("-J", "--ask-vault-password", "--ask-vault-pass")
 ASKED = f"{DEFAULT}@{ASK}"
-BY_PATH = ["--vault-password-file", "--vault-pass-file"]
-# A script gets the label if its name, without the suffix, ends with this.
-CLIENT = "-client"
-ANY_LABEL, ANY_LABEL_HELP = "--any-label", "accept a password whose label differs from the vault's"
-NONE = (
-    "no password is given: name one with --vault-id or --vault-password-file, in ANSIBLE_VAULT_PASSWORD_FILE or "
-    "in ansible.cfg, or type one with --ask-vault-password"
-)
+ANY_LABEL = "--any-label"
 
 
 class Password:
@@ -69,7 +61,7 @@ class Password:
             return prompts.ask_password(self.place, self.label, encrypts)
         mode = os.stat(self.place).st_mode
         if stat.S_ISREG(mode) and mode & 0o111:
-            return _printed(self.place, self.given_label)
+            return scripts.run_script(self.place, self.given_label)[: LIMIT + 1]
         # A pipe may block until something is written to it.
         with processes.interruptible(), open(self.place, "rb") as file:
             return file.read(LIMIT + 1)
@@ -164,77 +156,3 @@ def _fault(label: str, content: bytes) -> str:
         return "a password is empty"
     is_allowed = label.isascii() and label.isprintable() and ";" not in label and label == label.strip(" ")
     return "" if is_allowed and len(label) <= LONGEST_LABEL else "a vault id label is not allowed"
-
-
-def _printed(path: str, label: str) -> bytes:
-    """What a script prints, without the line ends around it, as with Ansible. The label is empty if none was given."""
-    is_client = os.path.splitext(path)[0].endswith(CLIENT)
-    words = [os.path.abspath(path), *(["--vault-id", label] if is_client and label else [])]
-    # A script may ask at the terminal through its standard streams, but must not read the companion's input. Messages
-    # of a client are shown only if it fails.
-    streams = {**({"stdin": None} if os.isatty(0) else {}), **({} if is_client else {"stderr": None})}
-    try:
-        done = processes.run(words, **streams)
-    except OSError as fault:
-        to_do = f"if it is not a script, run `chmod -x {quote_word(path)}`"
-        raise Refused(f"this script cannot be run: {reason(fault)}; {to_do}") from None
-    status = done.returncode
-    if status:
-        message = " ".join((done.stderr or b"").decode(errors="replace").split())
-        why = f"this script ended with status {status}" if status > 0 else f"signal {-status} ended this script"
-        raise Refused(f"{why}: {escape(message)}" if message else why)
-    password = done.stdout.strip(b"\r\n")
-    if password != password.strip():
-        raise Refused("the password of this script begins or ends with white space, which a file cannot have")
-    return password[: LIMIT + 1]
-
-
-def add_options(parser: argparse.ArgumentParser, new: str = "", before: str = "") -> None:
-    """Adds the options that name passwords: old ones, to which settings belong, or with `new-` new ones. `before`
-    begins the names of the attributes that get the values."""
-    if not new:
-        parser.set_defaults(new_vault_id=[], new_vault_password_file=[], any_label=False)
-    ids, paths = (f"{before}{new}{name}".replace("-", "_") for name in ("vault-id", "vault-password-file"))
-    text = "the source of a new password" if new else "the source of a password; may be repeated"
-    parser.add_argument(f"--{new}vault-id", dest=ids, action="append", default=[], metavar="[LABEL@]SOURCE", help=text)
-    names = [f"--{new}vault-password-file"] if new else BY_PATH
-    parser.add_argument(*names, dest=paths, action="append", default=[], metavar="SOURCE", help=text)
-    if not new:
-        asks = "ask at the terminal for a password"
-        parser.add_argument(*ASKING, dest=ids, action="append_const", const=ASKED, help=asks)
-
-
-def add_any_label(parser: argparse.ArgumentParser) -> None:
-    parser.add_argument(ANY_LABEL, action="store_true", help=ANY_LABEL_HELP)
-
-
-def from_options(
-    parser: argparse.ArgumentParser, args: argparse.Namespace, encrypts: bool = False, skips: bool = False
-) -> list[Password]:
-    """The passwords that are named, in Ansible's order. With `skips`, those that cannot be used are ignored."""
-    settings = settings_beside(args, lambda text: write_error(f"{parser.prog}: {text}"))
-    passwords = named(args.vault_id, args.vault_password_file, settings)
-    if not passwords:
-        parser.error(NONE)
-    return load(parser.prog, passwords, settings, encrypts, args.any_label, skips)
-
-
-def new_passwords(args: argparse.Namespace) -> list[Password]:
-    """The new passwords from a command line."""
-    passwords = [*map(of_id, args.new_vault_id), *map(of_path, args.new_vault_password_file)]
-    for password in passwords:
-        password.obtain(encrypts=True)
-        password.require()
-    return passwords
-
-
-def words(args: argparse.Namespace) -> list[str]:
-    """The words of a command line that name the same passwords."""
-    by_id = ("-J" if text == ASKED else f"--vault-id={text}" for text in args.vault_id)
-    return [*by_id, *(f"--vault-password-file={path}" for path in args.vault_password_file)]
-
-
-def settings_beside(args: argparse.Namespace, warn: Callable[[str], None] = lambda _: None) -> Settings:
-    """The settings that apply along with these options."""
-    given = (args.vault_id, args.vault_password_file, args.new_vault_id, args.new_vault_password_file)
-    return Settings(any(given), warn)

@@ -1,0 +1,76 @@
+"""The options of the companions that name passwords, and what they give."""
+
+from __future__ import annotations
+
+import argparse
+from collections.abc import Callable
+
+from ansible_vault_companions.passwords import sources
+from ansible_vault_companions.passwords.settings import Settings
+from ansible_vault_companions.passwords.sources import ANY_LABEL, ASKED, ASKING, Password
+from ansible_vault_companions.program import write_error
+
+ANY_LABEL_HELP = "accept a password whose label differs from the vault's"
+NO_PASSWORD = (
+    "no password is given: name one with --vault-id or --vault-password-file, in ANSIBLE_VAULT_PASSWORD_FILE or "
+    "in ansible.cfg, or type one with --ask-vault-password"
+)
+
+
+def add_options(parser: argparse.ArgumentParser, before: str = "") -> None:
+    """Adds the options that name passwords. `before` begins the names of the attributes that get the values."""
+    parser.set_defaults(new_vault_id=[], new_vault_password_file=[], any_label=False)
+    ids, text = f"{before}vault_id", "the source of a password; may be repeated"
+    _add_source(parser, ["--vault-id"], ids, "[LABEL@]SOURCE", text)
+    by_path = ["--vault-password-file", "--vault-pass-file"]
+    _add_source(parser, by_path, f"{before}vault_password_file", "SOURCE", text)
+    asks = "ask at the terminal for a password"
+    parser.add_argument(*ASKING, dest=ids, action="append_const", const=ASKED, help=asks)
+
+
+def add_new_options(parser: argparse.ArgumentParser) -> None:
+    """Adds the options that name new passwords."""
+    text = "the source of a new password"
+    _add_source(parser, ["--new-vault-id"], "new_vault_id", "[LABEL@]SOURCE", text)
+    _add_source(parser, ["--new-vault-password-file"], "new_vault_password_file", "SOURCE", text)
+
+
+def _add_source(parser: argparse.ArgumentParser, names: list[str], dest: str, metavar: str, text: str) -> None:
+    parser.add_argument(*names, dest=dest, action="append", default=[], metavar=metavar, help=text)
+
+
+def add_any_label(parser: argparse.ArgumentParser) -> None:
+    parser.add_argument(ANY_LABEL, action="store_true", help=ANY_LABEL_HELP)
+
+
+def load_passwords(
+    parser: argparse.ArgumentParser, args: argparse.Namespace, encrypts: bool = False, skips: bool = False
+) -> list[Password]:
+    """The passwords that are named, in Ansible's order. With `skips`, those that cannot be used are ignored."""
+    settings = read_settings(args, lambda text: write_error(f"{parser.prog}: {text}"))
+    passwords = sources.named(args.vault_id, args.vault_password_file, settings)
+    if not passwords:
+        parser.error(NO_PASSWORD)
+    return sources.load(parser.prog, passwords, settings, encrypts, args.any_label, skips)
+
+
+def load_new_passwords(args: argparse.Namespace) -> list[Password]:
+    """The new passwords from a command line."""
+    passwords = [sources.of_id(text) for text in args.new_vault_id]
+    passwords += [sources.of_path(path) for path in args.new_vault_password_file]
+    for password in passwords:
+        password.obtain(encrypts=True)
+        password.require()
+    return passwords
+
+
+def repeat_options(args: argparse.Namespace) -> list[str]:
+    """The words of a command line that name the same passwords."""
+    by_id = ["-J" if text == ASKED else f"--vault-id={text}" for text in args.vault_id]
+    return [*by_id, *(f"--vault-password-file={path}" for path in args.vault_password_file)]
+
+
+def read_settings(args: argparse.Namespace, warn: Callable[[str], None] = lambda _: None) -> Settings:
+    """The settings that apply along with these options."""
+    given = (args.vault_id, args.vault_password_file, args.new_vault_id, args.new_vault_password_file)
+    return Settings(any(given), warn)
