@@ -75,7 +75,7 @@ def common_key(ours: Keys, base: Keys, theirs: Keys) -> Key | None:
         new = theirs
     else:
         return None
-    of_both = {key and (key[0].label, key[1]) for key in ours | theirs}
+    of_both = {key and (key.password.label, key.label) for key in ours | theirs}
     return next(iter(new)) if len(ours) == len(theirs) == len(of_both) == 1 else None
 
 
@@ -93,7 +93,7 @@ class Values:
         self.values = {side: [*filter(_has_token, self.documents[side].values)] for side in SIDES}
         self.opened = self._open(decrypt)
         # The key of the result for the values with each label, unless each keeps its own.
-        self.keys = {label: self._key(label, chosen) for label in {opened.key[1] for opened in self.opened.values()}}
+        self.keys = {label: self._key(label, chosen) for label in {opened.key.label for opened in self.opened.values()}}
         self.mark = b"ansible-vault-%s" % randomness.token_hex(12).encode()
         # The number of each meaning and layout, with the bytes before an envelope and a value as an example.
         self.numbers: dict[Hashable, int] = {}
@@ -134,12 +134,12 @@ class Values:
         of_label = [[value.text for value in self.values[side] if value.label == label] for side in SIDES]
         opened = [map(self.opened.get, envelopes) for envelopes in of_label]
         ours, base, theirs = ({known.key if known else None for known in each} for each in opened)
-        is_chosen = chosen and chosen[1] == label and ours != theirs
+        is_chosen = chosen and chosen.label == label and ours != theirs
         return common_key(ours, base, theirs) or (chosen if is_chosen else None)
 
     def _meaning(self, text: bytes) -> Meaning:
         opened = self.opened.get(text)
-        return (self.keys[opened.key[1]] or opened.key, opened.text) if opened else text
+        return (self.keys[opened.key.label] or opened.key, opened.text) if opened else text
 
     def _shadow(self, side: str) -> bytes:
         data = self.documents[side].data
@@ -242,7 +242,7 @@ class Vaults:
         key = common_key({self.ours.key}, self.base_keys, {self.theirs.key}) or chosen
         if key:
             return key
-        ours, theirs = (escape(vault.key[1]) for vault in (self.ours, self.theirs))
+        ours, theirs = (escape(vault.key.label) for vault in (self.ours, self.theirs))
         labels = f"labels differ: {ours} in ours, {theirs} in theirs"
         what = "passwords of the two sides differ" if ours == theirs else labels
         raise Refused(f"the {what}; choose one with --encrypt-vault-id")

@@ -12,20 +12,25 @@ from typing import Callable, Hashable, Iterable, NamedTuple, Sequence, TypeVar
 
 from ansible_vault_companions import processes
 from ansible_vault_companions.envelopes.envelope import label_of
-from ansible_vault_companions.passwords import sources
-from ansible_vault_companions.passwords.sources import Password
-from ansible_vault_companions.program import Refused, escape
+from ansible_vault_companions.passwords.labels import Policy, describe_tried, order_to_try, require_label
+from ansible_vault_companions.passwords.password import Password
+from ansible_vault_companions.program import Refused
 
 Item = TypeVar("Item")
 Result = TypeVar("Result")
-# A password, and the label that the envelope gets.
-Key = tuple[Password, str]
 NAME = "ansible-vault"
 NOT_DECRYPTED = "no secret decrypts this vault"
 # The beginning of an error message.
 ERROR = "ERROR! "
 # Limits the total size, in bytes, of remembered envelopes and texts, since there may be any number of files.
 MOST_REMEMBERED = 1 << 26
+
+
+class Key(NamedTuple):
+    """What encrypts: a password, and the label that the envelope gets."""
+
+    password: Password
+    label: str
 
 
 class NotDecrypted(Refused):
@@ -38,27 +43,16 @@ class Decrypted(NamedTuple):
     envelope: bytes
     password: Password
     text: bytes
+    # What its label means.
+    policy: Policy
 
     @property
     def key(self) -> Key:
-        return self.password, label_of(self.envelope) or ""
+        return Key(self.password, label_of(self.envelope) or "")
 
     def require_label(self, where: str = "") -> None:
-        """Refuses a text that its label does not allow to encrypt again with this password.
-
-        A label is a hint, not a proof: anybody can change it, or copy the envelope, without a password. So if several
-        passwords are given, all are tried, but only one with the envelope's label may encrypt the text again, or the
-        text would get the password that belongs to another label. With one password, no other can be meant."""
-        (password, label), own = self.key, escape(self.password.label)
-        if "@" in label:
-            why = "has an @, so no option can name it; change it in its first line"
-            raise Refused(f"{where}its label {escape(label)} {why}")
-        if label != password.label and not password.serves_any_label:
-            raise Refused(
-                f"{where}its label is {escape(label)}, but {escape(password.given)}, a password with the label {own}, "
-                f"decrypts it; find out who changed the label or copied the text here; then write {own} as the label "
-                f"in its first line, or permit it with {sources.ANY_LABEL} when you change it"
-            )
+        """Refuses a text that its label does not allow to encrypt again with this password."""
+        require_label(*self.key, self.policy, where)
 
 
 Decrypt = Callable[[bytes], Decrypted]
@@ -96,15 +90,16 @@ class Tool:
         view = lambda: self.run(["view", password.option()], envelope, [password])
         return self.once((envelope, password), len(envelope), view)
 
-    def decrypt(self, envelope: bytes, passwords: list[Password]) -> Decrypted:
+    def decrypt(self, envelope: bytes, passwords: list[Password], policy: Policy) -> Decrypted:
         """Tries passwords one at a time, those with the envelope's label first, so it is certain which one works."""
-        tried = sources.in_order(passwords, label_of(envelope))
+        label = label_of(envelope)
+        tried = order_to_try(passwords, label, policy)
         for password in tried:
             with suppress(NotDecrypted):
                 plaintext = self.view(envelope, password)
-                password.is_certain = True
-                return Decrypted(envelope, password, plaintext)
-        raise NotDecrypted(f"{NOT_DECRYPTED} {sources.tried(label_of(envelope), tried)}")
+                password.trust()
+                return Decrypted(envelope, password, plaintext, policy)
+        raise NotDecrypted(f"{NOT_DECRYPTED} {describe_tried(label, tried)}")
 
     def encrypt(self, plaintext: bytes, password: Password, label: str) -> bytes:
         """The plaintext, encrypted with a password and labeled with this label."""

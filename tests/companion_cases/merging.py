@@ -165,7 +165,8 @@ def test_secrets_of_vaults(tmp_path: Path, monkeypatch: pytest.MonkeyPatch) -> N
             assert (bool(result.why), result.content) == (True, both(contents[1:])), vaults
             counts["refused"] += 1
             continue
-        _, secret, text = tool.opened(result.content)
+        opened = tool.opened(result.content)
         counts["under a new secret"] += ours.password != theirs.password
-        assert (result.why, secret.place, text) == ("", wanted.partition("@")[2], changes[changed]), vaults
+        found = (result.why, opened.password.source.place, opened.text)
+        assert found == ("", wanted.partition("@")[2], changes[changed]), vaults
     assert counts["refused"] > 10 and counts["under a new secret"] == 24, counts

@@ -20,7 +20,9 @@ from ansible_vault_companions import merging
 from ansible_vault_companions.envelopes import conflicts
 from ansible_vault_companions.envelopes.envelope import MAGIC
 from ansible_vault_companions.merging import Merged, Versions
-from ansible_vault_companions.passwords.sources import Password
+from ansible_vault_companions.passwords.labels import Policy
+from ansible_vault_companions.passwords.password import Password
+from ansible_vault_companions.passwords.sources import source_of_id
 from ansible_vault_companions.tool import Decrypted, NotDecrypted, Tool
 from companion_cases import PASSWORDS, decrypted
 from companion_cases.repository import SALTS, by_git, repository
@@ -29,7 +31,8 @@ from model.vaults import seal
 
 # The label of each named secret. Two labels have an old secret and a new one. One secret is not named.
 LABELS = {"dev": "dev", "prod": "prod", "prod2": "prod", "old": "default", "new": "default"}
-SECRETS = {name: Password(label, name, f"{label}@{name}") for name, label in LABELS.items()}
+SECRETS = {name: Password(source_of_id(f"{label}@{name}"), b"", -1) for name, label in LABELS.items()}
+POLICY = Policy(requires_match=False, any_label=False, usual_label=None)
 UNNAMED = "dev2"
 TEXTS = [b"clear x", b"clear y\n", b"two\nclear lines\n"]
 INDENTATIONS = [4, 10, 10]
@@ -124,16 +127,16 @@ class Model(Tool):
         self.made: dict[bytes, Value] = {}
 
     def view(self, envelope: bytes, secret: Password) -> bytes:
-        text = decrypted(secret.place, envelope)
+        text = decrypted(secret.source.place, envelope)
         if text is None:
             raise NotDecrypted("no secret decrypts this vault")
         return text
 
     def opened(self, envelope: bytes) -> Decrypted:
-        return self.decrypt(envelope, [*SECRETS.values()])
+        return self.decrypt(envelope, [*SECRETS.values()], POLICY)
 
     def encrypt(self, plaintext: bytes, secret: Password, label: str) -> bytes:
-        value = Value("", plaintext, "" if label == "default" else label, secret.place, next(self.salts), 0)
+        value = Value("", plaintext, "" if label == "default" else label, secret.source.place, next(self.salts), 0)
         self.made[value.envelope()] = value
         return value.envelope()
 

@@ -15,12 +15,15 @@ from ansible_vault_companions.editing.matching import Choice
 from ansible_vault_companions.editing.values import YamlFile, nodes
 from ansible_vault_companions.envelopes.document import Change, apply_changes, find_column
 from ansible_vault_companions.envelopes.envelope import LINE_END, Path
-from ansible_vault_companions.passwords.sources import Password
+from ansible_vault_companions.passwords.labels import Policy
+from ansible_vault_companions.passwords.password import Password
+from ansible_vault_companions.passwords.sources import source_of_path
 from ansible_vault_companions.program import Refused
 from ansible_vault_companions.tool import Decrypted, Tool
 from companion_cases.spellings import LOADERS, Generator, composed
 
-SECRET = Password("default", "", "")
+SECRET = Password(source_of_path(""), b"", -1)
+POLICY = Policy(requires_match=False, any_label=False, usual_label=None)
 # Each way in which a text can begin and end.
 PLAINTEXTS = ["", "x", "x\n", "x\n\n", "\n", "\n\n", " x", " x\ny", "\n x\n", "\tx", "x\n\ny", "x ", " ", "x\n  "]
 PLAINTEXTS += ["# x", "x: 'y", "größe\n", "- a\n- b\n", "<<<<<<< x\n", "---\n", "\n\n x\n\n\n", "!vault |\n  x"]
@@ -33,7 +36,7 @@ def envelope(plaintext: bytes) -> bytes:
 
 def decrypt(text: bytes) -> Decrypted:
     try:
-        return Decrypted(text, SECRET, binascii.unhexlify(b"".join(text.split()[1:])))
+        return Decrypted(text, SECRET, binascii.unhexlify(b"".join(text.split()[1:])), POLICY)
     except ValueError:
         raise Refused("a comment below is part of its text") from None
 

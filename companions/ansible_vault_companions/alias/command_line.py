@@ -7,8 +7,10 @@ from collections.abc import Collection, Iterable
 from argparse import Namespace
 
 from ansible_vault_companions import program
-from ansible_vault_companions.passwords import options, prompts, sources
-from ansible_vault_companions.passwords.sources import ANY_LABEL, ASKED, Password
+from ansible_vault_companions.passwords import loading, options, prompts
+from ansible_vault_companions.passwords.labels import ANY_LABEL, choose_to_encrypt, first_with_label, make_policy
+from ansible_vault_companions.passwords.password import Password
+from ansible_vault_companions.passwords.sources import ASKED, list_sources, source_of_id
 from ansible_vault_companions.program import Refused, escape, write_error
 
 NAME = "ansible-vault-with"
@@ -89,7 +91,10 @@ def parse(words: list[str]) -> Namespace:
     if len(args.new_vault_id) + len(args.new_vault_password_file) > 1:
         parser.error("rekey takes one new password")
     if args.command == ENCRYPT_STRING:
-        count += args.prompt + (STANDARD_INPUT not in args.arguments and args.stdin_name is not None)
+        if args.prompt:
+            count += 1
+        if args.stdin_name is not None and STANDARD_INPUT not in args.arguments:
+            count += 1
     if count > 1 and args.command in SEALING and (args.salt is not None or args.salt_file is not None):
         parser.error("--salt and --salt-file are for a single FILE or STRING: two would share a key stream")
     return args
@@ -140,40 +145,42 @@ class Call:
         settings = options.read_settings(args, lambda text: write_error(f"{NAME}: {text}"))
         encrypts = args.command in ENCRYPTING
         self.args = args
-        # The label of the password to encrypt with.
-        self.label = getattr(args, "encrypt_vault_id", None) or settings.encrypt_label()
-        named = sources.named(args.vault_id, args.vault_password_file, settings)
-        sources.load(NAME, named, settings, encrypts, args.any_label)
+        sources = list_sources(args.vault_id, args.vault_password_file, settings)
+        named = loading.load_passwords(NAME, sources, encrypts)
+        policy = make_policy(named, settings, args.any_label)
         named = named or [_ask_password(encrypts, options.NO_PASSWORD)]
-        self.new = self._new(named) if args.command == REKEY else []
-        self.passwords = self._to_encrypt_with(named) if encrypts else [one for one in named if not one.is_left_out]
+        # The label of the password to encrypt with.
+        self.label = getattr(args, "encrypt_vault_id", None) or policy.usual_label
+        self.new = self._choose_new(named) if args.command == REKEY else []
+        self.passwords = self._choose(named) if encrypts else [password for password in named if not password.fault]
         # With a rekeying, too, a label counts if there are several passwords.
-        self.needs_match = not encrypts and settings.requires_match()
-        self.needs_match |= args.command == REKEY and not self.passwords[0].serves_any_label
+        is_rekeying = args.command == REKEY and not policy.any_label
+        self.needs_match = is_rekeying or policy.requires_match and not encrypts
 
-    def _to_encrypt_with(self, named: list[Password]) -> list[Password]:
-        """The password that encrypts. It is chosen among all that are named, and refused if it was left out."""
-        if self.label:
-            chosen = next((password for password in named if password.label == self.label), named[0])
-            chosen.require()
-            return [chosen]
-        if any(password.is_left_out for password in named):
-            raise Refused("several passwords were given; choose one with --encrypt-vault-id")
-        return named
+    def _choose(self, named: list[Password]) -> list[Password]:
+        """The password that encrypts. It is chosen among all that are named, and refused if it was ignored."""
+        if not self.label:
+            if any(password.fault for password in named):
+                raise Refused("several passwords were given; choose one with --encrypt-vault-id")
+            return named
+        if first_with_label(named, self.label) is None:
+            # The tool refuses the label, with its own message.
+            named[0].require_usable()
+            return named[:1]
+        return [choose_to_encrypt(named, self.label)]
 
-    def _new(self, old: list[Password]) -> list[Password]:
+    def _choose_new(self, old: list[Password]) -> list[Password]:
         """The new password of options, else the one of the settings with the chosen label, else a typed one."""
         new = options.load_new_passwords(self.args)
-        fitting = [one for one in new or old if one.label == self.label and (new or one.is_setting)]
-        if new and (fitting or not self.args.encrypt_vault_id):
+        if new and not self.args.encrypt_vault_id:
             return new
         if not self.label:
             return [_ask_password(True, NO_NEW)]
-        if not fitting:
-            raise Refused(f"no new password has the label that was chosen for encryption, {escape(self.label)}")
-        fitting[0].require()
-        fitting[0].confirm()
-        return fitting[:1]
+        none = f"no new password has the label that was chosen for encryption, {escape(self.label)}"
+        of_settings = [password for password in old if password.source.is_setting]
+        chosen = choose_to_encrypt(new or of_settings, self.label, none)
+        chosen.confirm()
+        return [chosen]
 
     def words(self, *without: str) -> list[str]:
         """The words that give the tool the command, the passwords and the options that are passed on."""
@@ -188,10 +195,10 @@ class Call:
 
 
 def _ask_password(encrypts: bool, none: str) -> Password:
-    """A password that is typed where nothing names one. Raises Refused with the text `none` if there is no terminal."""
-    password = sources.of_id(ASKED)
-    password.obtain(encrypts)
+    """Asks for a password where nothing names one. Raises Refused with the text `none` if there is no terminal."""
+    password = loading.read_password(source_of_id(ASKED), encrypts)
     if password.fault == prompts.NO_TERMINAL:
         raise Refused(none)
-    password.require()
+    if password.fault:
+        raise password.refusal(password.fault)
     return password

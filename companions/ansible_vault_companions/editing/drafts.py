@@ -16,7 +16,8 @@ from ansible_vault_companions.envelopes.document import NO_TEXT, NOT_ENCRYPTED, 
 from ansible_vault_companions.envelopes.envelope import ALIAS, MAGIC, NO_SCALAR, Path, Value, quote_key
 from ansible_vault_companions.files import reading
 from ansible_vault_companions.git.repository import make_pathspec
-from ansible_vault_companions.passwords.sources import Password
+from ansible_vault_companions.passwords.labels import Policy
+from ansible_vault_companions.passwords.password import Password
 from ansible_vault_companions.program import Refused, escape
 from ansible_vault_companions.tool import Decrypt, Key, Tool
 
@@ -92,7 +93,13 @@ Draft = Union[Vault, YamlFile, merging.Conflict]
 
 
 def load(
-    tool: Tool, passwords: list[Password], path: str, value: str | None, chosen: str | None, usual: str | None
+    tool: Tool,
+    passwords: list[Password],
+    policy: Policy,
+    path: str,
+    value: str | None,
+    chosen: str | None,
+    usual: str | None,
 ) -> Union[Draft, SingleValue]:
     """The draft for the file at a path, or for a single value in it. Refuses one whose text could not be encrypted
     again. The label that the user has chosen is also for the text of a conflict and for a single value, and the usual
@@ -100,7 +107,7 @@ def load(
     target = os.path.realpath(path)
     with processes.interruptible():
         content = reading.read(target)
-    decrypt: Decrypt = lambda envelope: tool.decrypt(envelope, passwords)
+    decrypt: Decrypt = lambda envelope: tool.decrypt(envelope, passwords, policy)
     if value is not None:
         return SingleValue(target, content, value, decrypt, Choice(passwords, chosen))
     choice = Choice(passwords, chosen or usual)

@@ -107,7 +107,7 @@ def taken_up(path: str, base: bytes, keys: list[Key], decrypt: Decrypt) -> bytes
     """The text of a copy. The file may be under new passwords by now, but what it says, and for whom, is as before."""
     content = reading.read_existing(path)
     text = decrypt(content).text
-    if [label for _, label in keys] != [label_of(content)] or not text.startswith(_head(base)):
+    if [key.label for key in keys] != [label_of(content)] or not text.startswith(_head(base)):
         why = f"its text or its label has changed since the edit that left {escape(path)}"
         raise Refused(f"{why}; take what you need from the copy, which `ansible-vault-textconv` shows")
     return text[len(_head(base)) :]

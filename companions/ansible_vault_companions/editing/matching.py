@@ -12,7 +12,7 @@ from typing import Callable, Iterable, Iterator, NamedTuple
 
 from ansible_vault_companions.envelopes.envelope import Path, Value
 from ansible_vault_companions.passwords import prompts
-from ansible_vault_companions.passwords.sources import Password
+from ansible_vault_companions.passwords.password import Password
 from ansible_vault_companions.program import Refused, escape
 from ansible_vault_companions.tool import Decrypted, Key
 
@@ -44,24 +44,24 @@ class Choice(NamedTuple):
     label: str | None
 
     def keys(self) -> list[Key]:
-        """The keys to choose from. A label chooses the first password that has it, even one that was left out."""
+        """The keys to choose from. A label chooses the first password that has it, even one that was ignored."""
         if self.label is None:
-            return [(password, password.label) for password in self.passwords]
-        return [(password, password.label) for password in self.passwords if password.label == self.label][:1]
+            return [Key(password, password.label) for password in self.passwords]
+        return [Key(password, password.label) for password in self.passwords if password.label == self.label][:1]
 
     def key(self, name: str, place: str) -> Key:
         """The key for what has this name and place. Asks for the label at a terminal if it is unclear."""
         keys = self.keys()
         if not keys:
             raise Refused(f"{place} is new, and no secret has the label of --encrypt-vault-id")
-        labels = [*dict.fromkeys(label for _, label in keys)]
+        labels = [*dict.fromkeys(key.label for key in keys)]
         if len(keys) > 1:
             if len(labels) == 1 or not os.isatty(0):
                 raise Refused(f"{place} is new; choose its password with --encrypt-vault-id")
             typed = prompts.ask_choice(f"Label to encrypt {name} with", labels)
-            keys = [key for key in keys if key[1] == typed]
-        keys[0][0].require()
-        keys[0][0].confirm()
+            keys = [key for key in keys if key.label == typed]
+        keys[0].password.require_usable()
+        keys[0].password.confirm()
         return keys[0]
 
 
@@ -113,7 +113,7 @@ def _changed(
         keys = [before[at].decrypted.key for at in old[group]]
         if len(typed[group]) > len(vanished[group]):
             keys += choice.keys()
-        if len({password.content for password, _ in keys}) > 1 and vanished[group] != typed[group]:
+        if len({key.password.content for key in keys}) > 1 and vanished[group] != typed[group]:
             raise Refused(UNCLEAR.format(place_of(after[min(typed[group])])))
         changed |= typed[group] & before.keys()
     return changed

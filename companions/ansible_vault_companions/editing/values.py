@@ -47,7 +47,7 @@ class YamlFile:
         """One key of each password that a value has, or that a new one may get."""
         keys = [old.decrypted.key for old in self.opened.values()]
         keys += self.choice.keys() if self.choice.label is not None or not keys else []
-        return list({password.content: (password, label) for password, label in reversed(keys)}.values())
+        return list({key.password.content: key for key in reversed(keys)}.values())
 
     def is_as_it_was(self, text: bytes) -> bool:
         is_done = self.content == self.file.data and all(value.is_envelope for value in self.tagged.values())

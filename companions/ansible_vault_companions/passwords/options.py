@@ -5,9 +5,11 @@ from __future__ import annotations
 import argparse
 from collections.abc import Callable
 
-from ansible_vault_companions.passwords import sources
+from ansible_vault_companions.passwords import loading
+from ansible_vault_companions.passwords.labels import ANY_LABEL, Policy, make_policy
+from ansible_vault_companions.passwords.password import Password
 from ansible_vault_companions.passwords.settings import Settings
-from ansible_vault_companions.passwords.sources import ANY_LABEL, ASKED, ASKING, Password
+from ansible_vault_companions.passwords.sources import ASKED, ASKING, list_sources, source_of_id, source_of_path
 from ansible_vault_companions.program import write_error
 
 ANY_LABEL_HELP = "accept a password whose label differs from the vault's"
@@ -45,23 +47,22 @@ def add_any_label(parser: argparse.ArgumentParser) -> None:
 
 def load_passwords(
     parser: argparse.ArgumentParser, args: argparse.Namespace, encrypts: bool = False, skips: bool = False
-) -> list[Password]:
-    """The passwords that are named, in Ansible's order. With `skips`, those that cannot be used are ignored."""
+) -> tuple[list[Password], Policy]:
+    """The passwords that are named, in Ansible's order, and what labels mean to them. With `skips`, those that cannot
+    be used are ignored."""
     settings = read_settings(args, lambda text: write_error(f"{parser.prog}: {text}"))
-    passwords = sources.named(args.vault_id, args.vault_password_file, settings)
-    if not passwords:
+    sources = list_sources(args.vault_id, args.vault_password_file, settings)
+    if not sources:
         parser.error(NO_PASSWORD)
-    return sources.load(parser.prog, passwords, settings, encrypts, args.any_label, skips)
+    passwords = loading.load_passwords(parser.prog, sources, encrypts, skips)
+    return passwords, make_policy(passwords, settings, args.any_label)
 
 
 def load_new_passwords(args: argparse.Namespace) -> list[Password]:
     """The new passwords from a command line."""
-    passwords = [sources.of_id(text) for text in args.new_vault_id]
-    passwords += [sources.of_path(path) for path in args.new_vault_password_file]
-    for password in passwords:
-        password.obtain(encrypts=True)
-        password.require()
-    return passwords
+    sources = [source_of_id(text) for text in args.new_vault_id]
+    sources += [source_of_path(path) for path in args.new_vault_password_file]
+    return [loading.load_password(source, encrypts=True) for source in sources]
 
 
 def repeat_options(args: argparse.Namespace) -> list[str]:

@@ -8,8 +8,8 @@ from ansible_vault_companions.envelopes import conflicts, document
 from ansible_vault_companions.envelopes.envelope import Value
 from ansible_vault_companions.git import facts
 from ansible_vault_companions.git.repository import make_pathspec
-from ansible_vault_companions.passwords.sources import Password
-from ansible_vault_companions.plaintext.reports import Report, Work, decrypted
+from ansible_vault_companions.passwords.password import Password
+from ansible_vault_companions.plaintext.reports import Report, Work
 from ansible_vault_companions.program import Refused, escape
 from ansible_vault_companions.tool import Decrypted
 
@@ -51,7 +51,7 @@ class Check(Work):
             report.others[label] += 1
             return same
         report.labels.add(label)
-        result = decrypted(self.tool, value, self.passwords, is_prose)
+        result = self.decrypt(value, self.passwords, is_prose)
         if result:
             self._check_plaintext(where, result, report)
         else:
@@ -61,7 +61,7 @@ class Check(Work):
     def _check_plaintext(self, where: str, result: Decrypted, report: Report) -> None:
         try:
             result.require_label()
-            report.lines.append(f"{where}: decrypted by {escape(result.password.given)}")
+            report.lines.append(f"{where}: decrypted by {escape(result.password.source.text)}")
         except Refused as fault:
             report.faults.append(f"{where}: {fault}")
         if conflicts.is_unmerged(result.text):

@@ -9,19 +9,10 @@ from typing import Callable, Collection
 from ansible_vault_companions import program
 from ansible_vault_companions.envelopes.document import Document
 from ansible_vault_companions.envelopes.envelope import Value
-from ansible_vault_companions.passwords.sources import Password
+from ansible_vault_companions.passwords.labels import Policy
+from ansible_vault_companions.passwords.password import Password
 from ansible_vault_companions.program import Refused, escape, write_error, write_line
 from ansible_vault_companions.tool import Decrypted, NotDecrypted, Tool, Workers
-
-
-def decrypted(tool: Tool, value: Value, passwords: list[Password], is_prose: bool) -> Decrypted | None:
-    """An envelope in plaintext; None for an example: one in prose that is damaged or that nothing decrypts."""
-    try:
-        return tool.decrypt(value.readable(), passwords)
-    except Refused as fault:
-        if is_prose and (isinstance(fault, NotDecrypted) or not value.is_whole):
-            return None
-        raise
 
 
 @dataclass
@@ -56,10 +47,21 @@ class Work:
 
     tool: Tool
     workers: Workers
+    # What labels mean to the passwords.
+    policy: Policy
 
     def envelope(self, value: Value, where: str, report: Report, is_prose: bool) -> bytes | None:
         """The text that takes the place of an envelope; None if it stays."""
         raise NotImplementedError
+
+    def decrypt(self, value: Value, passwords: list[Password], is_prose: bool) -> Decrypted | None:
+        """An envelope in plaintext; None for an example: one in prose that is damaged or that nothing decrypts."""
+        try:
+            return self.tool.decrypt(value.readable(), passwords, self.policy)
+        except Refused as fault:
+            if is_prose and (isinstance(fault, NotDecrypted) or not value.is_whole):
+                return None
+            raise
 
     def change_envelopes(
         self, file: Document, place: Callable[[Value], str], report: Report, is_prose: bool = False

@@ -8,8 +8,8 @@ from dataclasses import dataclass
 from ansible_vault_companions.envelopes import document
 from ansible_vault_companions.envelopes.envelope import Value
 from ansible_vault_companions.files import replacing
-from ansible_vault_companions.passwords.sources import Password
-from ansible_vault_companions.plaintext.reports import Report, Work, decrypted
+from ansible_vault_companions.passwords.password import Password
+from ansible_vault_companions.plaintext.reports import Report, Work
 from ansible_vault_companions.program import Refused, escape
 
 # What is counted: envelopes that get a new password, and those that have it already.
@@ -64,11 +64,11 @@ class Rotation(Work):
         if new:
             report.labels.add(label)
             # Passwords with its label are tried first, so most envelopes are decrypted by the first one.
-            result = decrypted(self.tool, value, [*self.old, new], is_prose)
+            result = self.decrypt(value, [*self.old, new], is_prose)
         else:
             report.others[label] += 1
             passwords = [password for password in self.old if password.label == label]
-            result = decrypted(self.tool, value, passwords, is_prose=True) if value.is_whole else None
+            result = self.decrypt(value, passwords, is_prose=True) if value.is_whole else None
         if not result:
             report.labels.clear()
             return None

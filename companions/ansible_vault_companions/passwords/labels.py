@@ -1,0 +1,92 @@
+"""What labels mean: which passwords may decrypt an envelope, which one encrypts, and which labels are allowed.
+
+A label is a hint, not a proof: anybody can change it, or copy an envelope, without a password. So if several passwords
+are given, all are tried, but only one with the envelope's label may encrypt its text again, or the text would get the
+password that belongs to another label. With one password, no other can be meant.
+"""
+
+from __future__ import annotations
+
+from collections.abc import Iterable, Sequence
+
+from ansible_vault_companions.passwords.password import Password
+from ansible_vault_companions.passwords.settings import Settings
+from ansible_vault_companions.program import Refused, escape
+
+# The module `typing` takes long to import.
+TYPE_CHECKING = False
+if TYPE_CHECKING:
+    from typing import Final
+
+# The most characters of a label.
+LONGEST = 128
+ANY_LABEL = "--any-label"
+NONE_HAS_LABEL = "no secret has the label of --encrypt-vault-id"
+
+
+class Policy:
+    """What labels mean to the passwords of a command line."""
+
+    def __init__(self, requires_match: bool, any_label: bool, usual_label: str | None) -> None:
+        # Whether a password may decrypt only envelopes with its label.
+        self.requires_match: Final = requires_match
+        # Whether a password may encrypt again what has another label.
+        self.any_label: Final = any_label
+        # The label that the settings choose for encryption.
+        self.usual_label: Final = usual_label
+
+
+def make_policy(passwords: Iterable[Password], settings: Settings, any_label: bool) -> Policy:
+    """The policy for these passwords. Passwords that are all the same count as one."""
+    are_one = len({password.content for password in passwords}) == 1
+    return Policy(settings.requires_match(), any_label or are_one, settings.encrypt_label())
+
+
+def order_to_try(passwords: Iterable[Password], label: str | None, policy: Policy) -> list[Password]:
+    """The passwords that may be tried on an envelope with this label. Those with the same label come first."""
+    usable = [password for password in passwords if not password.fault]
+    same = [password for password in usable if password.label == label]
+    others = [password for password in usable if password.label != label]
+    return same if policy.requires_match else same + others
+
+
+def first_with_label(passwords: Iterable[Password], label: str) -> Password | None:
+    """The password that a label chooses: the first that has it, even one that was ignored."""
+    return next((password for password in passwords if password.label == label), None)
+
+
+def choose_to_encrypt(passwords: Iterable[Password], label: str, none: str = NONE_HAS_LABEL) -> Password:
+    """The password that a label chooses to encrypt with. Raises Refused if it cannot be used, since no other encrypts
+    in its place; and, with the text `none`, if no password has the label."""
+    password = first_with_label(passwords, label)
+    if password is None:
+        raise Refused(none)
+    password.require_usable()
+    return password
+
+
+def require_label(password: Password, label: str, policy: Policy, where: str = "") -> None:
+    """Refuses to encrypt again, with the password that decrypted it, a text whose envelope has this label."""
+    own = escape(password.label)
+    if "@" in label:
+        why = "has an @, so no option can name it; change it in its first line"
+        raise Refused(f"{where}its label {escape(label)} {why}")
+    if label != password.label and not policy.any_label:
+        raise Refused(
+            f"{where}its label is {escape(label)}, but {escape(password.source.text)}, a password with the label "
+            f"{own}, decrypts it; find out who changed the label or copied the text here; then write {own} as the "
+            f"label in its first line, or permit it with {ANY_LABEL} when you change it"
+        )
+
+
+def describe_tried(label: str | None, passwords: Sequence[Password]) -> str:
+    """For a message: which passwords were tried on an envelope that none decrypts, and what to do."""
+    names = ", ".join(escape(password.source.text) for password in passwords) or "none: no password has its label"
+    has = f"label {escape(label)}" if label else "no label"
+    return f"({has}; tried {names}): name its password with --vault-id LABEL@SOURCE"
+
+
+def is_allowed(label: str) -> bool:
+    """Whether the tool accepts a label."""
+    is_printable = label.isascii() and label.isprintable()
+    return is_printable and ";" not in label and label == label.strip(" ") and len(label) <= LONGEST

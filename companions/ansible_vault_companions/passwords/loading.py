@@ -1,0 +1,83 @@
+"""Reads passwords: from files, from scripts and at the terminal. Says which of them the tool would refuse, and ignores
+those of the settings that cannot be used."""
+
+from __future__ import annotations
+
+import os
+import stat
+
+from ansible_vault_companions import processes
+from ansible_vault_companions.passwords import prompts, scripts
+from ansible_vault_companions.passwords.labels import is_allowed
+from ansible_vault_companions.passwords.password import Password
+from ansible_vault_companions.passwords.sources import Source
+from ansible_vault_companions.program import Refused, escape, reason, write_error
+
+# The maximum length of a password file, in bytes.
+LIMIT = 4096
+
+
+def load_passwords(companion: str, sources: list[Source], encrypts: bool, skips: bool = False) -> list[Password]:
+    """Reads the passwords. Those that are ignored stay in the list, since the one to encrypt with is chosen among all
+    that are named."""
+    passwords = [read_password(source, encrypts) for source in sources]
+    ignored = _list_ignored(passwords, skips)
+    for password in ignored:
+        write_error(f"{companion}: {escape(password.source.text)}: {password.fault}; it is ignored")
+    for password in passwords:
+        if password.fault and password not in ignored:
+            raise password.refusal(password.fault)
+    return passwords
+
+
+def _list_ignored(passwords: list[Password], skips: bool) -> list[Password]:
+    """Those of the settings that cannot be used, if any other is left; with `skips`, all that cannot be used."""
+    faulty = [password for password in passwords if password.fault]
+    if skips:
+        return faulty
+    ignored = [password for password in faulty if password.source.is_setting]
+    return ignored if len(ignored) < len(passwords) else []
+
+
+def load_password(source: Source, encrypts: bool) -> Password:
+    """Reads a password that must be usable."""
+    password = read_password(source, encrypts)
+    if password.fault:
+        raise password.refusal(password.fault)
+    return password
+
+
+def read_password(source: Source, encrypts: bool) -> Password:
+    """Keeps a password in memory, since `<(..)` can be read only once. To encrypt, the user has to type it twice."""
+    try:
+        content = _read(source, encrypts)
+    except (Refused, OSError) as fault:
+        return Password(source, b"", -1, reason(fault))
+    descriptor = os.memfd_create("password")
+    os.write(descriptor, content)
+    why = _find_fault(source.label, content)
+    return Password(source, content.strip(), descriptor, why, source.is_prompt and not encrypts and not why)
+
+
+def _read(source: Source, encrypts: bool) -> bytes:
+    if source.is_prompt:
+        return prompts.ask_password(source.place, source.label, encrypts)
+    mode = os.stat(source.place).st_mode
+    if stat.S_ISREG(mode) and mode & 0o111:
+        return scripts.run_script(source.place, source.written_label)[: LIMIT + 1]
+    # A pipe may block until something is written to it.
+    with processes.interruptible(), open(source.place, "rb") as file:
+        return file.read(LIMIT + 1)
+
+
+def _find_fault(label: str, content: bytes) -> str:
+    """Why the tool would refuse a password, with the tool's words; empty if it would not."""
+    if len(content) > LIMIT:
+        return f"a password file is longer than {LIMIT} bytes"
+    if content.startswith(b"#!"):
+        return "a password file is a script"
+    if content.startswith(b"$ANSIBLE_VAULT"):
+        return "a password file is itself a vault"
+    if not content.strip():
+        return "a password is empty"
+    return "" if is_allowed(label) else "a vault id label is not allowed"

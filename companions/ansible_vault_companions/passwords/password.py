@@ -1,0 +1,51 @@
+"""A password: what was read from a source, and whether it may encrypt."""
+
+from __future__ import annotations
+
+from ansible_vault_companions.passwords import prompts
+from ansible_vault_companions.passwords.sources import Source
+from ansible_vault_companions.program import Refused, escape
+
+# The module `typing` takes long to import.
+TYPE_CHECKING = False
+if TYPE_CHECKING:
+    from typing import Final
+
+
+class Password:
+    """What was read from a source. Only its doubt changes."""
+
+    def __init__(
+        self, source: Source, content: bytes, descriptor: int, fault: str = "", is_doubtful: bool = False
+    ) -> None:
+        self.source: Final = source
+        self.label: Final = source.label
+        # What the tool takes for the password, and the file in memory that contains it.
+        self.content: Final = content
+        self.descriptor: Final = descriptor
+        # Why it cannot be used; empty if it can.
+        self.fault: Final = fault
+        # Whether it was typed once and has decrypted nothing yet, so that it may be mistyped.
+        self._is_doubtful = is_doubtful
+
+    def option(self, name: str = "--vault-id", label: str | None = None) -> str:
+        """The word that names it to the tool, with its own label or another one."""
+        return f"{name}={self.label if label is None else label}@/dev/fd/{self.descriptor}"
+
+    def refusal(self, why: str) -> Refused:
+        return Refused(f"{escape(self.source.text)}: {why}")
+
+    def require_usable(self) -> None:
+        """Refuses to encrypt with one that was ignored: no other password takes its place."""
+        if self.fault:
+            raise self.refusal(f"{self.fault}, and no other password encrypts in its place")
+
+    def trust(self) -> None:
+        self._is_doubtful = False
+
+    def confirm(self) -> None:
+        """Asks again for one that is in doubt, before it encrypts."""
+        if self._is_doubtful:
+            if not prompts.confirms(self.source.place, self.label, self.content):
+                raise self.refusal(prompts.DIFFER)
+            self.trust()
