@@ -93,13 +93,7 @@ Draft = Union[Vault, YamlFile, merging.Conflict]
 
 
 def load(
-    tool: Tool,
-    passwords: list[Password],
-    policy: Policy,
-    path: str,
-    value: str | None,
-    chosen: str | None,
-    usual: str | None,
+    tool: Tool, passwords: list[Password], policy: Policy, path: str, value: str | None, chosen: str | None
 ) -> Union[Draft, SingleValue]:
     """The draft for the file at a path, or for a single value in it. Refuses one whose text could not be encrypted
     again. The label that the user has chosen is also for the text of a conflict and for a single value, and the usual
@@ -110,7 +104,7 @@ def load(
     decrypt: Decrypt = lambda envelope: tool.decrypt(envelope, passwords, policy)
     if value is not None:
         return SingleValue(target, content, value, decrypt, Choice(passwords, chosen))
-    choice = Choice(passwords, chosen or usual)
+    choice = Choice(passwords, chosen or policy.usual_label)
     if content is None:
         return Vault(target, None, [choice.key("the new vault", "the vault")])
     if conflicts.split_sides(content):

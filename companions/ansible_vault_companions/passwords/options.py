@@ -71,7 +71,7 @@ def repeat_options(args: argparse.Namespace) -> list[str]:
     return [*by_id, *(f"--vault-password-file={path}" for path in args.vault_password_file)]
 
 
-def read_settings(args: argparse.Namespace, warn: Callable[[str], None] = lambda _: None) -> Settings:
+def read_settings(args: argparse.Namespace, warn: Callable[[str], None]) -> Settings:
     """The settings that apply along with these options."""
     given = (args.vault_id, args.vault_password_file, args.new_vault_id, args.new_vault_password_file)
     return Settings(any(given), warn)

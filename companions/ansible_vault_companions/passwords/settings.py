@@ -40,7 +40,7 @@ def expand(path: str, folder: str = "") -> str:
 class Settings:
     """The values of the settings. An environment variable overrides the file, even if it is empty."""
 
-    def __init__(self, beside_options: bool, warn: Callable[[str], None] = lambda _: None) -> None:
+    def __init__(self, beside_options: bool, warn: Callable[[str], None]) -> None:
         self.beside_options = beside_options
         self.warn = warn
         self.path = self._find_file()
