@@ -47,6 +47,15 @@ def test_how_often(place: Place) -> None:
     assert found == [TEXT + b"more\nmore\n", b"more\n"]
 
 
+@pytest.mark.parametrize("words", (["-J"], []))
+def test_only_password(place: Place, words: list[str]) -> None:
+    """A single password that is typed re-encrypts a vault of any label, even if nothing asks for it."""
+    place.put("a.yml", sealed("dev", label="prod"))
+    new = "--new-vault-password-file=../secrets/new"
+    session = ask(place, WITH, "rekey", *words, new, "a.yml", answers=typed("dev", ASKED))
+    assert (session.returncode, decrypted("new", place.get("a.yml"))) == (0, TEXT), session
+
+
 NEW_VALUE = b"word: !vault TEXT\n"
 OF_PROD = typed("prod", "Vault password (prod): ", "Confirm new vault password (prod): ")
 BY_LABEL = "--vault-id prod@prompt --encrypt-vault-id prod"

@@ -146,9 +146,8 @@ class Call:
         encrypts = args.command in ENCRYPTING
         self.args = args
         sources = list_sources(args.vault_id, args.vault_password_file, settings)
-        named = loading.load_passwords(NAME, sources, encrypts)
+        named = loading.load_passwords(NAME, sources, encrypts) or [_ask_password(encrypts, options.NO_PASSWORD)]
         policy = make_policy(named, settings, args.any_label)
-        named = named or [_ask_password(encrypts, options.NO_PASSWORD)]
         # The label of the password to encrypt with.
         self.label = getattr(args, "encrypt_vault_id", None) or policy.usual_label
         self.new = self._choose_new(named) if args.command == REKEY else []
