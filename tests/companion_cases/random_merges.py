@@ -16,10 +16,10 @@ import hypothesis
 import pytest
 from hypothesis import strategies as st
 
-from ansible_vault_companions import merging
 from ansible_vault_companions.envelopes import conflicts
 from ansible_vault_companions.envelopes.envelope import MAGIC
-from ansible_vault_companions.merging import Merged, Versions
+from ansible_vault_companions.merging.files import Merged, merge_file
+from ansible_vault_companions.merging.lines import Versions
 from ansible_vault_companions.passwords.labels import Policy
 from ansible_vault_companions.passwords.password import Password
 from ansible_vault_companions.passwords.sources import source_of_id
@@ -142,7 +142,7 @@ class Model(Tool):
 
     def merged(self, contents: list[bytes]) -> Merged:
         base, ours, theirs = contents
-        return merging.merged(self, self.opened, Versions(ours, base, theirs), conflicts.SIZE, None)
+        return merge_file(self, self.opened, Versions(ours, base, theirs), conflicts.SIZE, None)
 
 
 @st.composite

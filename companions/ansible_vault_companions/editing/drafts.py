@@ -8,7 +8,7 @@ import re
 from dataclasses import dataclass
 from typing import Union
 
-from ansible_vault_companions import merging, processes
+from ansible_vault_companions import processes
 from ansible_vault_companions.editing.matching import Choice, place_of
 from ansible_vault_companions.editing.values import YamlFile, closed_block, nodes, written
 from ansible_vault_companions.envelopes import conflicts, document
@@ -16,6 +16,8 @@ from ansible_vault_companions.envelopes.document import NO_TEXT, NOT_ENCRYPTED, 
 from ansible_vault_companions.envelopes.envelope import ALIAS, MAGIC, NO_SCALAR, Path, Value, quote_key
 from ansible_vault_companions.files import reading
 from ansible_vault_companions.git.repository import make_pathspec
+from ansible_vault_companions.merging.files import KINDS_DIFFER, find_versions, merge_file
+from ansible_vault_companions.merging.vaults import Vaults
 from ansible_vault_companions.passwords.labels import Policy
 from ansible_vault_companions.passwords.password import Password
 from ansible_vault_companions.program import Refused, escape
@@ -25,6 +27,7 @@ NO_VAULT = (
     "it is not a vault, and no value in it has the tag `!vault`; encrypt it with `ansible-vault-with encrypt`, or "
     "write `NAME: !vault TEXT` in it for a single value and run this again"
 )
+ONE_SIDE = f"{KINDS_DIFFER}; take one with `git checkout --ours -- {{}}` or with `--theirs`"
 TO_ADD = "; or, to add values without seeing the others, choose a password for the new ones with --encrypt-vault-id"
 TO_ENCRYPT = "; to encrypt it there, choose its password with --encrypt-vault-id"
 NO_PLACE = "there is no place for {} in this YAML; edit the file without --value"
@@ -88,8 +91,24 @@ class SingleValue:
             raise Refused(NO_PLACE.format(escape(self.path))) from None
 
 
+class Conflict:
+    """A file with two vaults between markers. Their texts are merged, and what is saved becomes one vault."""
+
+    def __init__(self, target: str, content: bytes, vaults: Vaults, key: Key) -> None:
+        self.target, self.content, self.vaults, self.keys = target, content, vaults, [key]
+        self.plaintext = vaults.merge.text
+
+    def is_as_it_was(self, text: bytes) -> bool:
+        return text == self.plaintext and self.vaults.merge.conflicts > 0
+
+    def encrypted(self, tool: Tool, text: bytes) -> bytes:
+        if any(len(match[1]) == self.vaults.marker_size for match in conflicts.MARKER.finditer(text)):
+            raise Refused(conflicts.STILL)
+        return self.vaults.seal(tool, text, self.keys[0])
+
+
 # A text to change, and how the file becomes what was saved. Its `keys` may read a copy, if there is a single one.
-Draft = Union[Vault, YamlFile, merging.Conflict]
+Draft = Union[Vault, YamlFile, Conflict]
 
 
 def load(
@@ -119,17 +138,18 @@ def load(
 def _of_conflict(
     tool: Tool, decrypt: Decrypt, target: str, content: bytes, choice: Choice, chosen: str | None
 ) -> Draft:
-    sides = merging.unmerged(target, content)
+    sides = find_versions(target, content)
     assert sides
     key = next(iter(choice.keys()), None) if chosen else None
     are_vaults = [side.startswith(MAGIC) for side in (sides.ours, sides.theirs)]
     if all(are_vaults):
-        return merging.Conflict(decrypt, target, content, sides, key)
+        vaults = Vaults(decrypt, sides)
+        return Conflict(target, content, vaults, vaults.choose_key(key))
     if any(are_vaults):
-        raise Refused(merging.ONE_SIDE.format(make_pathspec(target)))
+        raise Refused(ONE_SIDE.format(make_pathspec(target)))
     # Where git has merged the digits of values, only whole ones are between the markers of the merged text.
     is_merged = sides.ours and sides.theirs
-    merged = merging.merged(tool, decrypt, sides, conflicts.SIZE, key).content if is_merged else content
+    merged = merge_file(tool, decrypt, sides, conflicts.SIZE, key).content if is_merged else content
     draft = _of_values(decrypt, target, merged, choice)
     draft.content = content
     return draft

@@ -1,0 +1,78 @@
+"""Merges three versions of a file: as a vault, or as any other file with envelopes.
+
+What cannot be merged becomes a conflict of whole envelopes, so nothing is decrypted into the file.
+"""
+
+from __future__ import annotations
+
+import os
+from typing import NamedTuple
+
+from ansible_vault_companions.envelopes import conflicts
+from ansible_vault_companions.envelopes.envelope import MAGIC
+from ansible_vault_companions.git import repository
+from ansible_vault_companions.merging.lines import Versions
+from ansible_vault_companions.merging.values import Values
+from ansible_vault_companions.merging.vaults import Vaults
+from ansible_vault_companions.program import Refused
+from ansible_vault_companions.tool import Decrypt, Key, Tool
+
+NOT_MERGED = "not merged, so both sides are whole in the file: {}"
+KINDS_DIFFER = "one side is a vault and the other is not"
+
+
+class Merged(NamedTuple):
+    content: bytes
+    # Why it has a conflict; empty if it has none.
+    why: str = ""
+
+
+def merge_file(tool: Tool, decrypt: Decrypt, versions: Versions, size: int, chosen: Key | None) -> Merged:
+    """The merged file, with markers of this size around what could not be merged. The chosen key counts only if it is
+    unclear which password a text gets."""
+    ours, base, theirs = versions
+    # git itself does so first, but not where it reuses a resolution, with a conflict as base and ours.
+    if base in (ours, theirs) or ours == theirs:
+        return Merged(theirs if base == ours else ours)
+    try:
+        are_vaults = [text.startswith(MAGIC) for text in (ours, theirs)]
+        if all(are_vaults):
+            return Merged(_merge_vaults(tool, decrypt, versions, chosen))
+        if any(are_vaults):
+            raise Refused(KINDS_DIFFER)
+        return _merge_values(tool, decrypt, versions, size, chosen)
+    except Refused as fault:
+        return Merged(conflicts.join_sides(ours, theirs, size), NOT_MERGED.format(fault))
+
+
+def _merge_vaults(tool: Tool, decrypt: Decrypt, versions: Versions, chosen: Key | None) -> bytes:
+    vaults = Vaults(decrypt, versions)
+    key = vaults.choose_key(chosen)
+    if vaults.merge.conflicts:
+        raise Refused(vaults.why)
+    return vaults.seal(tool, vaults.merge.text, key)
+
+
+def _merge_values(tool: Tool, decrypt: Decrypt, versions: Versions, size: int, chosen: Key | None) -> Merged:
+    if versions.base.startswith(MAGIC):
+        # A base that was a vault has no lines for a conflict.
+        versions = versions._replace(base=b"")
+    content, count = Values(decrypt, versions, chosen).merge(tool, size)
+    if count == 0:
+        return Merged(content)
+    return Merged(content, f"{count} conflict{'s' if count > 1 else ''}")
+
+
+def find_versions(path: str, data: bytes) -> Versions | None:
+    """The sides of a file with a conflict, and their base if the index has this conflict; None if there is none."""
+    sides = conflicts.split_sides(data)
+    if not sides:
+        return None
+    ours, theirs = sides[conflicts.OURS], sides[conflicts.THEIRS]
+    target = os.path.realpath(path)
+    folder = repository.find_repository(os.path.dirname(target))
+    names = [f":{stage}:{os.path.relpath(target, folder)}" for stage in (1, 2, 3)]
+    base, *stages = (repository.try_git("cat-file", "blob", name, folder=folder) if folder else b"" for name in names)
+    # Ends of lines may differ from those in the file.
+    is_same = [stage.split() for stage in stages] == [ours.split(), theirs.split()]
+    return Versions(ours, base if is_same else b"", theirs)

@@ -1,0 +1,45 @@
+"""Merges three versions of a text by lines, as git does."""
+
+from __future__ import annotations
+
+import os
+from typing import NamedTuple
+
+from ansible_vault_companions.git import repository
+from ansible_vault_companions.program import Refused
+
+# The names of the sides in git's conflict markers.
+SIDES = OURS, BASE, THEIRS = ("ours", "base", "theirs")
+# The status of `git merge-file` is the number of conflicts, up to this. A greater status means failure.
+MOST_CONFLICTS = 127
+
+
+class Versions(NamedTuple):
+    """Three versions of a file or of its text."""
+
+    ours: bytes
+    base: bytes
+    theirs: bytes
+
+
+class Lines(NamedTuple):
+    text: bytes
+    conflicts: int
+
+
+def merge_lines(versions: Versions, size: int) -> Lines:
+    """The result of git's merge, with markers of this size. The texts are passed in memory, never on disk."""
+    files = [os.memfd_create("version") for _ in versions]
+    for file, text in zip(files, versions):
+        with open(file, "wb", closefd=False) as writer:
+            writer.write(text)
+    names = [word for side in SIDES for word in ("-L", side)]
+    words = ["merge-file", "-p", f"--marker-size={size}", *names, *(f"/proc/self/fd/{file}" for file in files)]
+    try:
+        done = repository.run(*words, pass_fds=files)
+    finally:
+        for file in files:
+            os.close(file)
+    if not 0 <= done.returncode <= MOST_CONFLICTS:
+        raise Refused("git merge-file cannot merge it; it may be binary")
+    return Lines(done.stdout, done.returncode)

@@ -1,0 +1,133 @@
+"""The tokens that stand for the envelopes of a file while git merges its lines.
+
+A token is a number that stands for what its envelope means and how it is laid out. So git merges the lines as if it
+could read the envelopes, and then envelopes take the places of the tokens again.
+"""
+
+from __future__ import annotations
+
+import re
+import secrets as randomness
+from collections import Counter, defaultdict
+from typing import Hashable, NamedTuple, Union
+
+from ansible_vault_companions.envelopes import conflicts
+from ansible_vault_companions.envelopes.document import Change, replace_envelope
+from ansible_vault_companions.envelopes.envelope import LITERAL, STRAY, Value
+from ansible_vault_companions.merging.lines import BASE, OURS, SIDES, THEIRS
+from ansible_vault_companions.tool import Decrypted, Key, Tool
+
+OF_SIGN = {conflicts.OURS: OURS, conflicts.BASE: BASE, conflicts.THEIRS: THEIRS}
+
+
+class KeyAndText(NamedTuple):
+    """What an opened envelope means: the key that it has in the result, and its text."""
+
+    key: Key
+    text: bytes
+
+
+# What any envelope means. One that is not opened means itself.
+Meaning = Union[KeyAndText, bytes]
+
+
+class Token(NamedTuple):
+    """What a token stands for. Its layout is that of one value: the bytes before the envelope, and those around it."""
+
+    meaning: Meaning
+    head: bytes
+    value: Value
+
+
+class Tokens:
+    """The tokens of three versions. Those of the same meaning and layout have the same number."""
+
+    def __init__(self) -> None:
+        self.mark = b"ansible-vault-%s" % randomness.token_hex(12).encode()
+        self.pattern = re.compile(rb"%s-(\d+)" % self.mark)
+        # A line with this below a token keeps the lines of two values apart.
+        self.separator = b"%s/" % self.mark
+        self.numbers: dict[Hashable, int] = {}
+        self.tokens: list[Token] = []
+        # The envelopes of each side with a meaning, in order.
+        self.envelopes: dict[tuple[str, Meaning], list[bytes]] = defaultdict(list)
+        # How a version writes an envelope in the layout of a token.
+        self.written: dict[tuple[bytes, int], bytes] = {}
+
+    def replace(self, side: str, data: bytes, value: Value, meaning: Meaning) -> Change:
+        """Puts a token in place of an envelope of a side, which has this data."""
+        begin = value.start if value.style == STRAY else value.begin
+        head = data[begin : value.start]
+        number = self._number(Token(meaning, head, value))
+        self.envelopes[side, meaning].append(value.text)
+        self.written[value.text, number] = data[begin : value.end]
+        text = b"%s-%d" % (self.mark, number)
+        if value.style in (LITERAL, STRAY):
+            text += b"%s%s%s" % (value.ending, self.separator, value.name.encode().hex().encode())
+        return Change(begin, value.end, text)
+
+    def write(self, number: int, envelope: bytes) -> bytes:
+        """An envelope in the layout of a token: as a version has it, if one does."""
+        token = self.tokens[number]
+        return self.written.get((envelope, number)) or token.head + replace_envelope(token.value, envelope).text
+
+    def _number(self, token: Token) -> int:
+        layout = token.value.style, token.head, token.value.margin, token.value.ending
+        number = self.numbers.setdefault((token.meaning, layout), len(self.tokens))
+        if number == len(self.tokens):
+            self.tokens.append(token)
+        return number
+
+
+class Restoration:
+    """Puts envelopes in place of the tokens of a merged text."""
+
+    def __init__(self, tokens: Tokens, opened: dict[bytes, Decrypted], tool: Tool) -> None:
+        self.tokens, self.opened, self.tool = tokens, opened, tool
+        # How many envelopes of each side and meaning are used, and all that are, in order.
+        self.used: Counter[tuple[str, Meaning]] = Counter()
+        self.envelopes: list[bytes] = []
+
+    def restore(self, text: bytes, inner: int, size: int) -> bytes:
+        """The text with envelopes in place of its tokens, and with markers of a size, which is `inner` in the text."""
+        lines: list[bytes] = []
+        for sign, line in conflicts.sign_lines(text, inner):
+            if sign == conflicts.END:
+                lines.append(line[:1] * size + line[inner:])
+            elif not line.startswith(self.tokens.separator):
+                lines.append(self._restore_line(line, OF_SIGN.get(sign, "")))
+            elif not line.endswith(b"\n"):
+                # The last line of the file has no end.
+                lines.append(lines.pop().removesuffix(b"\n").removesuffix(b"\r"))
+        return b"".join(lines)
+
+    def _restore_line(self, line: bytes, side: str) -> bytes:
+        """A line of a side of a conflict, or of the merged text if no side is given."""
+        pieces = self.tokens.pattern.split(line)
+        # Every other piece is the number of a token.
+        for place in range(1, len(pieces), 2):
+            number = int(pieces[place])
+            envelope = self._choose(self.tokens.tokens[number].meaning, side)
+            self.envelopes.append(envelope)
+            pieces[place] = self.tokens.write(number, envelope)
+        return b"".join(pieces)
+
+    def _choose(self, meaning: Meaning, side: str) -> bytes:
+        """The next envelope with a meaning, or the last one again; a new one if there is none."""
+        if isinstance(meaning, bytes):
+            return meaning
+        number = self.used[side or OURS, meaning]
+        self.used.update((each, meaning) for each in ([side] if side else SIDES))
+        for envelopes in self._list_choices(meaning, side):
+            if envelopes:
+                return envelopes[min(number, len(envelopes) - 1)]
+        return self.tool.encrypt(meaning.text, *meaning.key)
+
+    def _list_choices(self, meaning: KeyAndText, side: str) -> list[list[bytes]]:
+        """The envelopes with a meaning, the best first: in a conflict those of its side, and otherwise those under the
+        key of the result, if possible of the side that changed them."""
+        if side:
+            return [self.tokens.envelopes[side, meaning]]
+        ours, base, theirs = (self.tokens.envelopes[each, meaning] for each in SIDES)
+        by_preference = [theirs if ours == base else ours, ours, theirs]
+        return [[each for each in envelopes if self.opened[each].key == meaning.key] for envelopes in by_preference]

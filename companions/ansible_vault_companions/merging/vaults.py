@@ -1,0 +1,67 @@
+"""Merges three versions of a vault: their plaintexts, line by line."""
+
+from __future__ import annotations
+
+from ansible_vault_companions.envelopes import conflicts
+from ansible_vault_companions.envelopes.envelope import MAGIC
+from ansible_vault_companions.merging.keys import Keys, find_common_key
+from ansible_vault_companions.merging.lines import OURS, THEIRS, Versions, merge_lines
+from ansible_vault_companions.program import Refused, escape
+from ansible_vault_companions.tool import Decrypt, Decrypted, Key, NotDecrypted, Tool
+
+
+class Vaults:
+    """The vaults of two sides, and the text of their base, which need not be a vault."""
+
+    def __init__(self, decrypt: Decrypt, versions: Versions) -> None:
+        # Why their merge may have a conflict.
+        self.why = "both sides changed the same lines"
+        self.ours = _decrypt_side(OURS, decrypt, versions.ours)
+        self.theirs = _decrypt_side(THEIRS, decrypt, versions.theirs)
+        text, self.base_keys = self._decrypt_base(decrypt, versions.base)
+        texts = Versions(self.ours.text, text, self.theirs.text)
+        self.marker_size = conflicts.find_unused_size(texts)
+        self.merge = merge_lines(texts, self.marker_size)
+
+    def choose_key(self, chosen: Key | None) -> Key:
+        """The key of the result. The chosen one counts only if the sides have none in common."""
+        key = find_common_key({self.ours.key}, self.base_keys, {self.theirs.key}) or chosen
+        if key:
+            return key
+        ours, theirs = escape(self.ours.key.label), escape(self.theirs.key.label)
+        labels = f"labels differ: {ours} in ours, {theirs} in theirs"
+        what = "passwords of the two sides differ" if ours == theirs else labels
+        raise Refused(f"the {what}; choose one with --encrypt-vault-id")
+
+    def seal(self, tool: Tool, text: bytes, key: Key) -> bytes:
+        """The vault of a side, if it has this text under this key, or else a new one."""
+        for vault in (self.ours, self.theirs):
+            if (vault.text, vault.key) == (text, key):
+                return vault.envelope
+        return tool.encrypt(text, *key)
+
+    def _decrypt_base(self, decrypt: Decrypt, data: bytes) -> tuple[bytes, Keys]:
+        """The text of the base, and its keys. In a crossed history it is a merge of bases, and may be a conflict."""
+        sides = conflicts.split_sides(data)
+        if sides:
+            ours, our_keys = self._decrypt_base(decrypt, sides[conflicts.OURS])
+            theirs, their_keys = self._decrypt_base(decrypt, sides[conflicts.THEIRS])
+            texts = Versions(ours, b"", theirs)
+            return merge_lines(texts, conflicts.find_unused_size(texts)).text, our_keys | their_keys
+        if not data.startswith(MAGIC):
+            return data, set()
+        try:
+            vault = decrypt(data)
+        except NotDecrypted as fault:
+            self.why = f"base: {fault}"
+            return b"", set()
+        return vault.text, {vault.key}
+
+
+def _decrypt_side(side: str, decrypt: Decrypt, vault: bytes) -> Decrypted:
+    try:
+        decrypted = decrypt(vault)
+        decrypted.require_label()
+    except Refused as fault:
+        raise Refused(f"{side}: {fault}") from None
+    return decrypted
