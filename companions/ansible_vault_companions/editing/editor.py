@@ -1,27 +1,20 @@
-"""Runs an editor on a plaintext. Whatever fails, what was saved is put back, or kept in an encrypted copy.
-
-The text is in a private directory, and the copies are in a directory of the user. Neither is ever in a repository,
-which others may fill.
-"""
+"""Runs an editor on a plaintext. Whatever fails, what was saved is put back, or kept in an encrypted copy."""
 
 from __future__ import annotations
 
-import hashlib
 import os
-import shutil
-import tempfile
 from contextlib import suppress
 
 from ansible_vault_companions import processes, program
+from ansible_vault_companions.editing.copies import save_copy
 from ansible_vault_companions.editing.drafts import Draft, SingleValue
-from ansible_vault_companions.envelopes.envelope import MAGIC, label_of
+from ansible_vault_companions.editing.private_folder import PrivateFolder
+from ansible_vault_companions.envelopes.envelope import MAGIC
 from ansible_vault_companions.files import reading, replacing
-from ansible_vault_companions.git.repository import find_repository
 from ansible_vault_companions.passwords import prompts
 from ansible_vault_companions.program import Refused, escape
-from ansible_vault_companions.tool import Decrypt, Key, Tool
+from ansible_vault_companions.tool import Tool
 
-NAME = "ansible-vault-edit"
 A_VAULT = "what you gave is a vault, which ansible-vault does not encrypt again; decrypt it first"
 TOO_LONG = "standard input has more bytes than a vault can hold; split it"
 NOTHING_GIVEN = "standard input is empty"
@@ -29,97 +22,6 @@ NO_FILE = "the editor left no file"
 RESCUED = "{}; what you saved is encrypted in {}\n--resume reopens it, unless the file has changed."
 # With these, a command is more than the name of a program and its arguments.
 SHELL_WORDS = frozenset("=;&|()<>{}`\n")
-PREFIX = "ansible-vault-"
-# Precedes the text of a copy, so that no text begins like a vault, which ansible-vault would not encrypt. The digest is
-# that of the text that the edit began with.
-HEAD = b"# ansible-vault-edit %s: what was saved begins below.\n"
-
-
-class PrivateFolder:
-    """A directory that only its owner can open, in memory if possible. It is removed at the end, unless it is kept."""
-
-    def __init__(self) -> None:
-        self.is_kept = False
-        self.path = _made()
-
-    def __enter__(self) -> PrivateFolder:
-        return self
-
-    def __exit__(self, _kind: object, fault: BaseException | None, _trace: object) -> None:
-        if self.is_kept:
-            return
-        shutil.rmtree(self.path, ignore_errors=True)
-        if os.path.lexists(self.path):
-            left = f"plaintext is left in {self.path}; remove it yourself"
-            raise Refused(f"{fault}; {left}" if isinstance(fault, Refused) else left) from None
-
-    def create(self, name: str, content: bytes) -> None:
-        with open(os.path.join(self.path, name), "xb", opener=lambda path, flags: os.open(path, flags, 0o600)) as file:
-            file.write(content)
-
-    def keep(self, why: str, name: str, text: bytes | None = None) -> Refused:
-        """Keeps the directory, with a text that may be missing in it. Returns the exception that says where."""
-        self.is_kept = True
-        if text is not None and not os.path.lexists(os.path.join(self.path, name)):
-            os.makedirs(self.path, 0o700, exist_ok=True)
-            self.create(name, text)
-        return Refused(f"{why}; what you saved is left in plaintext in {self.path}")
-
-
-def _made() -> str:
-    """A new directory. What a repository contains, or a relative path leads to, may belong to a stranger."""
-    for place in (os.environ.get("XDG_RUNTIME_DIR"), "/dev/shm", os.environ.get("TMPDIR"), "/tmp"):
-        if place and os.path.isabs(place) and not find_repository(os.path.realpath(place)):
-            with suppress(OSError):
-                return tempfile.mkdtemp(prefix=PREFIX, dir=place)
-    raise Refused("no private directory can be made for the plaintext; set TMPDIR to a directory outside of git")
-
-
-def copies_folder() -> str:
-    """The directory of copies, which may be missing. Refuses one that somebody else may have filled."""
-    state = os.environ.get("XDG_STATE_HOME", "")
-    path = os.path.join(state if os.path.isabs(state) else os.path.expanduser("~/.local/state"), "ansible-vault")
-    if not os.path.isabs(path) or find_repository(os.path.realpath(path)):
-        raise Refused(f"{escape(path)} is in a git repository")
-    with suppress(FileNotFoundError):
-        about = os.lstat(path)
-        if about.st_uid != os.geteuid() or about.st_mode & 0o077:
-            raise Refused(f"{escape(path)} is not a directory that only you can open")
-    return path
-
-
-def copies_of(target: str) -> list[str]:
-    """The paths of all copies for a file, the newest first."""
-    path = copies_folder()
-    names = os.listdir(path) if os.path.isdir(path) else []
-    paths = [os.path.join(path, name) for name in names if name.startswith(_prefix(target))]
-    return sorted(paths, key=os.path.getmtime, reverse=True)
-
-
-def save_copy(tool: Tool, key: Key, target: str, base: bytes, text: bytes) -> str:
-    """Writes the copy of a text, and returns its path. The edit began with `base`."""
-    path = copies_folder()
-    os.makedirs(path, 0o700, exist_ok=True)
-    return replacing.write_new(path, tool.encrypt(_head(base) + text, *key), prefix=_prefix(target))
-
-
-def taken_up(path: str, base: bytes, keys: list[Key], decrypt: Decrypt) -> bytes:
-    """The text of a copy. The file may be under new passwords by now, but what it says, and for whom, is as before."""
-    content = reading.read_existing(path)
-    text = decrypt(content).text
-    if [key.label for key in keys] != [label_of(content)] or not text.startswith(_head(base)):
-        why = f"its text or its label has changed since the edit that left {escape(path)}"
-        raise Refused(f"{why}; take what you need from the copy, which `ansible-vault-textconv` shows")
-    return text[len(_head(base)) :]
-
-
-def _head(base: bytes) -> bytes:
-    return HEAD % hashlib.sha256(base).hexdigest().encode()
-
-
-def _prefix(target: str) -> str:
-    """The beginning of the names of a file's copies."""
-    return hashlib.sha256(os.fsencode(target)).hexdigest()[:16] + "-"
 
 
 class Edit:
