@@ -11,7 +11,7 @@ from collections import Counter
 import pytest
 import yaml
 
-from ansible_vault_companions.editing.matching import Choice
+from ansible_vault_companions.editing.choosing import Choice
 from ansible_vault_companions.editing.values import YamlFile, nodes
 from ansible_vault_companions.envelopes.document import Change, apply_changes, find_column
 from ansible_vault_companions.envelopes.envelope import LINE_END, Path

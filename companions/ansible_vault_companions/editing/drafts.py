@@ -9,7 +9,8 @@ from dataclasses import dataclass
 from typing import Union
 
 from ansible_vault_companions import processes
-from ansible_vault_companions.editing.matching import Choice, place_of
+from ansible_vault_companions.editing.choosing import Choice
+from ansible_vault_companions.editing.matching import place_of
 from ansible_vault_companions.editing.values import YamlFile, closed_block, nodes, written
 from ansible_vault_companions.envelopes import conflicts, document
 from ansible_vault_companions.envelopes.document import NO_TEXT, NOT_ENCRYPTED, Change, Document, apply_changes
@@ -68,7 +69,7 @@ class SingleValue:
         # The old text, if the password that opens it is to encrypt the new one.
         self.before: bytes | None = None
         if is_chosen:
-            key = choice.key(escape(path), escape(path))
+            key = choice.choose_key(escape(path), escape(path))
         else:
             decrypted = decrypt(self.value.readable())
             # If the password has another label than the value, the new text may be for other readers.
@@ -125,7 +126,7 @@ def load(
         return SingleValue(target, content, value, decrypt, Choice(passwords, chosen))
     choice = Choice(passwords, chosen or policy.usual_label)
     if content is None:
-        return Vault(target, None, [choice.key("the new vault", "the vault")])
+        return Vault(target, None, [choice.choose_key("the new vault", "the vault")])
     if conflicts.split_sides(content):
         return _of_conflict(tool, decrypt, target, content, choice, chosen)
     if not content.startswith(MAGIC):
@@ -140,7 +141,7 @@ def _of_conflict(
 ) -> Draft:
     sides = find_versions(target, content)
     assert sides
-    key = next(iter(choice.keys()), None) if chosen else None
+    key = next(iter(choice.list_keys()), None) if chosen else None
     are_vaults = [side.startswith(MAGIC) for side in (sides.ours, sides.theirs)]
     if all(are_vaults):
         vaults = Vaults(decrypt, sides)

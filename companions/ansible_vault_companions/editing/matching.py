@@ -6,13 +6,11 @@ the user has chosen that password for new values.
 
 from __future__ import annotations
 
-import os
 from collections import Counter, defaultdict
 from typing import Callable, Iterable, Iterator, NamedTuple
 
+from ansible_vault_companions.editing.choosing import Choice
 from ansible_vault_companions.envelopes.envelope import Path, Value
-from ansible_vault_companions.passwords import prompts
-from ansible_vault_companions.passwords.password import Password
 from ansible_vault_companions.program import Refused, escape
 from ansible_vault_companions.tool import Decrypted, Key
 
@@ -36,35 +34,6 @@ class Match(NamedTuple):
     key: Key | None = None
 
 
-class Choice(NamedTuple):
-    """Chooses the password for a new value or vault."""
-
-    passwords: list[Password]
-    # The label from --encrypt-vault-id.
-    label: str | None
-
-    def keys(self) -> list[Key]:
-        """The keys to choose from. A label chooses the first password that has it, even one that was ignored."""
-        if self.label is None:
-            return [Key(password, password.label) for password in self.passwords]
-        return [Key(password, password.label) for password in self.passwords if password.label == self.label][:1]
-
-    def key(self, name: str, place: str) -> Key:
-        """The key for what has this name and place. Asks for the label at a terminal if it is unclear."""
-        keys = self.keys()
-        if not keys:
-            raise Refused(f"{place} is new, and no secret has the label of --encrypt-vault-id")
-        labels = [*dict.fromkeys(key.label for key in keys)]
-        if len(keys) > 1:
-            if len(labels) == 1 or not os.isatty(0):
-                raise Refused(f"{place} is new; choose its password with --encrypt-vault-id")
-            typed = prompts.ask_choice(f"Label to encrypt {name} with", labels)
-            keys = [key for key in keys if key.label == typed]
-        keys[0].password.require_usable()
-        keys[0].password.confirm()
-        return keys[0]
-
-
 def name_of(value: Value) -> str:
     return escape(value.name) if value.name else "this value"
 
@@ -74,18 +43,18 @@ def place_of(value: Value) -> str:
     return f"line {value.line}: {name_of(value)}"
 
 
-def matches(opened: list[Opened], typed: list[Value], choice: Choice) -> list[Match]:
+def find_matches(opened: list[Opened], typed: list[Value], choice: Choice) -> list[Match]:
     """What each typed value was before, and its key, in order."""
-    before = dict(zip(_places(old.value for old in opened), opened))
-    after = dict(zip(_places(typed), typed))
+    before = dict(zip(_number_places(old.value for old in opened), opened))
+    after = dict(zip(_number_places(typed), typed))
     # The places of typed values whose envelope stays, with the places where those were.
     kept = {at: at for at, value in after.items() if at in before and before[at].decrypted.text == value.text}
     _keep_moved(kept, before, after, _list_of)
-    changed = _changed(kept, before, after, choice)
+    changed = _find_changed(kept, before, after, choice)
     _keep_moved(kept, before, {at: value for at, value in after.items() if at not in changed}, lambda _: ())
     known = {at: Match(before[at], before[at].decrypted.key) for at in changed}
     known |= {at: Match(before[kept[at]]) for at in kept}
-    return [known.get(at) or Match(None, choice.key(name_of(new), place_of(new))) for at, new in after.items()]
+    return [known.get(at) or Match(None, choice.choose_key(name_of(new), place_of(new))) for at, new in after.items()]
 
 
 def _keep_moved(
@@ -101,32 +70,32 @@ def _keep_moved(
             kept[at] = sources.pop()
 
 
-def _changed(
+def _find_changed(
     kept: dict[Place, Place], before: dict[Place, Opened], after: dict[Place, Value], choice: Choice
 ) -> set[Place]:
     """The places of values with a new text, which keep their password. If the items of a list might get several
     passwords, they have to be where those were that are gone."""
-    old, vanished = _by_list(before), _by_list(before.keys() - {*kept.values()})
-    typed = _by_list(after.keys() - kept.keys())
+    old, vanished = _group_by_list(before), _group_by_list(before.keys() - {*kept.values()})
+    typed = _group_by_list(after.keys() - kept.keys())
     changed: set[Place] = set()
     for group in vanished.keys() & typed.keys():
         keys = [before[at].decrypted.key for at in old[group]]
         if len(typed[group]) > len(vanished[group]):
-            keys += choice.keys()
+            keys += choice.list_keys()
         if len({key.password.content for key in keys}) > 1 and vanished[group] != typed[group]:
             raise Refused(UNCLEAR.format(place_of(after[min(typed[group])])))
         changed |= typed[group] & before.keys()
     return changed
 
 
-def _places(values: Iterable[Value]) -> Iterator[Place]:
+def _number_places(values: Iterable[Value]) -> Iterator[Place]:
     seen: Counter[Path] = Counter()
     for value in values:
         seen[value.path] += 1
         yield value.path, seen[value.path]
 
 
-def _by_list(places: Iterable[Place]) -> dict[Path, set[Place]]:
+def _group_by_list(places: Iterable[Place]) -> dict[Path, set[Place]]:
     groups: dict[Path, set[Place]] = defaultdict(set)
     for at in places:
         groups[_list_of(at)].add(at)

@@ -8,8 +8,8 @@ from __future__ import annotations
 
 from typing import Callable
 
-from ansible_vault_companions.editing import matching
-from ansible_vault_companions.editing.matching import Choice, Opened, place_of
+from ansible_vault_companions.editing.choosing import Choice
+from ansible_vault_companions.editing.matching import Opened, find_matches, place_of
 from ansible_vault_companions.envelopes import conflicts
 from ansible_vault_companions.envelopes.document import HEADER, NOT_UTF_8, Change, Document, apply_changes, find_column
 from ansible_vault_companions.envelopes.document import indent, put_in_quotes, put_plaintext
@@ -46,7 +46,7 @@ class YamlFile:
     def keys(self) -> list[Key]:
         """One key of each password that a value has, or that a new one may get."""
         keys = [old.decrypted.key for old in self.opened.values()]
-        keys += self.choice.keys() if self.choice.label is not None or not keys else []
+        keys += self.choice.list_keys() if self.choice.label is not None or not keys else []
         return list({key.password.content: key for key in reversed(keys)}.values())
 
     def is_as_it_was(self, text: bytes) -> bool:
@@ -62,7 +62,7 @@ class YamlFile:
         _check_tags(self.file, after)
         closed = {value.text for value, _ in self.faults}
         typed = {number: value for number, value in enumerate(after.values) if _is_typed(value, closed)}
-        found = matching.matches([*self.opened.values()], [*typed.values()], self.choice)
+        found = find_matches([*self.opened.values()], [*typed.values()], self.choice)
         matches = dict(zip(typed, found))
 
         def envelope(number: int) -> bytes:

@@ -1,0 +1,43 @@
+"""Chooses the password for a new value or vault."""
+
+from __future__ import annotations
+
+import os
+from typing import NamedTuple
+
+from ansible_vault_companions.passwords import prompts
+from ansible_vault_companions.passwords.labels import NONE_HAS_LABEL, choose_to_encrypt, first_with_label
+from ansible_vault_companions.passwords.password import Password
+from ansible_vault_companions.program import Refused
+from ansible_vault_companions.tool import Key
+
+
+class Choice(NamedTuple):
+    """What there is to choose from."""
+
+    passwords: list[Password]
+    # The label of the password for new values and vaults, if one is chosen.
+    label: str | None
+
+    def list_keys(self) -> list[Key]:
+        """The keys that something new may get: with a label, at most one."""
+        if self.label is None:
+            return [Key(password, password.label) for password in self.passwords]
+        password = first_with_label(self.passwords, self.label)
+        return [Key(password, self.label)] if password else []
+
+    def choose_key(self, name: str, place: str) -> Key:
+        """The key for what has this name and place."""
+        label = self._choose_label(name, place) if self.label is None else self.label
+        password = choose_to_encrypt(self.passwords, label, f"{place} is new, and {NONE_HAS_LABEL}")
+        password.confirm()
+        return Key(password, label)
+
+    def _choose_label(self, name: str, place: str) -> str:
+        """The label of the only password, or else the one that the user chooses at a terminal."""
+        labels = [*dict.fromkeys(password.label for password in self.passwords)]
+        if len(self.passwords) == 1:
+            return labels[0]
+        if len(labels) == 1 or not os.isatty(0):
+            raise Refused(f"{place} is new; choose its password with --encrypt-vault-id")
+        return prompts.ask_choice(f"Label to encrypt {name} with", labels)
