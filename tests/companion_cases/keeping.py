@@ -11,9 +11,9 @@ STAYS, CHANGED_MEANWHILE = {"all.yml": sealed("old")}, "another program changed 
 # Changes of the companion: an unexpected exception, a tool that cannot encrypt, and a tree on a full disk.
 BROKEN = """
 from ansible_vault_companions.editing.drafts import Vault
-def encrypted(*words):
+def encrypt(*words):
     raise RecursionError("too deep")
-Vault.encrypted = encrypted
+Vault.encrypt = encrypt
 """
 UNSEALED = """
 from ansible_vault_companions.tool import Tool

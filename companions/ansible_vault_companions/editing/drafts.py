@@ -11,10 +11,11 @@ from typing import Union
 from ansible_vault_companions import processes
 from ansible_vault_companions.editing.choosing import Choice
 from ansible_vault_companions.editing.matching import place_of
-from ansible_vault_companions.editing.values import YamlFile, closed_block, nodes, written
+from ansible_vault_companions.editing.values import YamlFile
+from ansible_vault_companions.editing.writing import make_sealed_block, read_nodes, write_values
 from ansible_vault_companions.envelopes import conflicts, document
 from ansible_vault_companions.envelopes.document import NO_TEXT, NOT_ENCRYPTED, Change, Document, apply_changes
-from ansible_vault_companions.envelopes.envelope import ALIAS, MAGIC, NO_SCALAR, Path, Value, quote_key
+from ansible_vault_companions.envelopes.envelope import ALIAS, MAGIC, NO_SCALAR, Path, quote_key
 from ansible_vault_companions.files import reading
 from ansible_vault_companions.git.repository import make_pathspec
 from ansible_vault_companions.merging.files import KINDS_DIFFER, find_versions, merge_file
@@ -50,7 +51,7 @@ class Vault:
         """Whether the file may stay if this is saved."""
         return text == self.plaintext
 
-    def encrypted(self, tool: Tool, text: bytes) -> bytes:
+    def encrypt(self, tool: Tool, text: bytes) -> bytes:
         """What the file becomes if this is saved."""
         vault = tool.encrypt(text, *self.keys[0])
         return vault.replace(b"\n", b"\r\n") if b"\r\n" in (self.content or b"") else vault
@@ -80,14 +81,12 @@ class SingleValue:
     def is_as_it_was(self, text: bytes) -> bool:
         return text == self.before
 
-    def encrypted(self, tool: Tool, text: bytes) -> bytes:
+    def encrypt(self, tool: Tool, text: bytes) -> bytes:
         number, envelope = self.text.values.index(self.value), tool.encrypt(text, *self.keys[0])
-
-        def block(_: int, value: Value) -> list[Change] | None:
-            return closed_block(self.text.data, value, envelope, value if value.is_envelope else None)
-
+        old = self.value if self.value.is_envelope else None
+        block = make_sealed_block(self.text.data, self.value, envelope, old)
         try:
-            return written(self.text, {number: envelope}, block)
+            return write_values(self.text, {number: envelope}, {number: block} if block else {})
         except Refused:
             raise Refused(NO_PLACE.format(escape(self.path))) from None
 
@@ -102,7 +101,7 @@ class Conflict:
     def is_as_it_was(self, text: bytes) -> bool:
         return text == self.plaintext and self.vaults.merge.conflicts > 0
 
-    def encrypted(self, tool: Tool, text: bytes) -> bytes:
+    def encrypt(self, tool: Tool, text: bytes) -> bytes:
         if any(len(match[1]) == self.vaults.marker_size for match in conflicts.MARKER.finditer(text)):
             raise Refused(conflicts.STILL)
         return self.vaults.seal(tool, text, self.keys[0])
@@ -130,7 +129,7 @@ def load(
     if conflicts.split_sides(content):
         return _of_conflict(tool, decrypt, target, content, choice, chosen)
     if not content.startswith(MAGIC):
-        return _of_values(decrypt, target, content, choice)
+        return _of_values(decrypt, target, content, content, choice)
     decrypted = decrypt(content)
     decrypted.require_label()
     return Vault(target, content, [decrypted.key], decrypted.text)
@@ -151,13 +150,11 @@ def _of_conflict(
     # Where git has merged the digits of values, only whole ones are between the markers of the merged text.
     is_merged = sides.ours and sides.theirs
     merged = merge_file(tool, decrypt, sides, conflicts.SIZE, key).content if is_merged else content
-    draft = _of_values(decrypt, target, merged, choice)
-    draft.content = content
-    return draft
+    return _of_values(decrypt, target, content, merged, choice)
 
 
-def _of_values(decrypt: Decrypt, target: str, content: bytes, choice: Choice) -> YamlFile:
-    draft = YamlFile(target, content, decrypt, choice) if document.may_have_envelope(content) else None
+def _of_values(decrypt: Decrypt, target: str, content: bytes, edited: bytes, choice: Choice) -> YamlFile:
+    draft = YamlFile(target, content, edited, decrypt, choice) if document.may_have_envelope(edited) else None
     if not draft or not draft.tagged:
         raise Refused(NO_VAULT)
     for old in draft.opened.values():
@@ -174,7 +171,7 @@ def _tagged(data: bytes, path: str, is_chosen: bool) -> Document:
         raise Refused("the whole file is a vault; edit it without --value")
     if conflicts.is_unmerged(data):
         raise Refused(f"it {conflicts.UNMERGED}")
-    file = nodes(data)
+    file = read_nodes(data)
     if is_chosen and KEY.fullmatch(path) and not file.values_at(path):
         key = path if SIMPLE_KEY.fullmatch(path) else quote_key(path)
         end = b"" if data.endswith(b"\n") or not data else b"\n"

@@ -56,7 +56,7 @@ class Edit:
         try:
             if text.startswith(MAGIC):
                 raise Refused(A_VAULT)
-            content = draft.encrypted(self.tool, text)
+            content = draft.encrypt(self.tool, text)
         # Whatever went wrong, the text must not be lost.
         except Exception as failed:
             if isinstance(failed, Refused) and self._opens_again(failed):
@@ -117,7 +117,7 @@ def set_value(tool: Tool, draft: SingleValue) -> None:
     text = _standard_input()
     if not draft.is_as_it_was(text):
         with processes.postponed():
-            replacing.replace(draft.target, draft.encrypted(tool, text), draft.content)
+            replacing.replace(draft.target, draft.encrypt(tool, text), draft.content)
 
 
 def _standard_input() -> bytes:
