@@ -2,27 +2,24 @@
 
 from __future__ import annotations
 
-import errno
 import os
-import re
 from dataclasses import dataclass
 from typing import Union
 
 from ansible_vault_companions import processes
 from ansible_vault_companions.editing.choosing import Choice
 from ansible_vault_companions.editing.matching import place_of
+from ansible_vault_companions.editing.single_value import SingleValue
 from ansible_vault_companions.editing.values import YamlFile
-from ansible_vault_companions.editing.writing import make_sealed_block, read_nodes, write_values
 from ansible_vault_companions.envelopes import conflicts, document
-from ansible_vault_companions.envelopes.document import NO_TEXT, NOT_ENCRYPTED, Change, Document, apply_changes
-from ansible_vault_companions.envelopes.envelope import ALIAS, MAGIC, NO_SCALAR, Path, quote_key
+from ansible_vault_companions.envelopes.envelope import MAGIC
 from ansible_vault_companions.files import reading
 from ansible_vault_companions.git.repository import make_pathspec
 from ansible_vault_companions.merging.files import KINDS_DIFFER, find_versions, merge_file
 from ansible_vault_companions.merging.vaults import Vaults
 from ansible_vault_companions.passwords.labels import Policy
 from ansible_vault_companions.passwords.password import Password
-from ansible_vault_companions.program import Refused, escape
+from ansible_vault_companions.program import Refused
 from ansible_vault_companions.tool import Decrypt, Key, Tool
 
 NO_VAULT = (
@@ -31,11 +28,6 @@ NO_VAULT = (
 )
 ONE_SIDE = f"{KINDS_DIFFER}; take one with `git checkout --ours -- {{}}` or with `--theirs`"
 TO_ADD = "; or, to add values without seeing the others, choose a password for the new ones with --encrypt-vault-id"
-TO_ENCRYPT = "; to encrypt it there, choose its password with --encrypt-vault-id"
-NO_PLACE = "there is no place for {} in this YAML; edit the file without --value"
-# A new key, and one that YAML reads as this string without further quotes.
-KEY = re.compile(r'[^."\[\]\x00-\x1f]+|"(?:[^"\\]|\\.)*"')
-SIMPLE_KEY = re.compile(r'(?!(?i:y|yes|n|no|on|off|true|false|null)\Z)[A-Za-z_][A-Za-z0-9_-]*|".*"')
 
 
 @dataclass
@@ -55,40 +47,6 @@ class Vault:
         """What the file becomes if this is saved."""
         vault = tool.encrypt(text, *self.keys[0])
         return vault.replace(b"\n", b"\r\n") if b"\r\n" in (self.content or b"") else vault
-
-
-class SingleValue:
-    """A value of YAML that gets a new text, with its own password or a chosen one. Everything else stays."""
-
-    def __init__(self, target: str, content: bytes | None, path: str, decrypt: Decrypt, choice: Choice) -> None:
-        self.target, self.content, self.path = target, content, path
-        is_chosen = choice.label is not None
-        if content is None and not is_chosen:
-            raise FileNotFoundError(errno.ENOENT, os.strerror(errno.ENOENT), target)
-        self.text = _tagged(content or b"", path, is_chosen)
-        self.value = self.text.value_at(path)
-        # The old text, if the password that opens it is to encrypt the new one.
-        self.before: bytes | None = None
-        if is_chosen:
-            key = choice.choose_key(escape(path), escape(path))
-        else:
-            decrypted = decrypt(self.value.readable())
-            # If the password has another label than the value, the new text may be for other readers.
-            decrypted.require_label()
-            key, self.before = decrypted.key, decrypted.text
-        self.keys = [key]
-
-    def is_as_it_was(self, text: bytes) -> bool:
-        return text == self.before
-
-    def encrypt(self, tool: Tool, text: bytes) -> bytes:
-        number, envelope = self.text.values.index(self.value), tool.encrypt(text, *self.keys[0])
-        old = self.value if self.value.is_envelope else None
-        block = make_sealed_block(self.text.data, self.value, envelope, old)
-        try:
-            return write_values(self.text, {number: envelope}, {number: block} if block else {})
-        except Refused:
-            raise Refused(NO_PLACE.format(escape(self.path))) from None
 
 
 class Conflict:
@@ -163,37 +121,3 @@ def _of_values(decrypt: Decrypt, target: str, content: bytes, edited: bytes, cho
         value, why = draft.faults[0]
         raise Refused(f"{place_of(value)}: {why}{TO_ADD}")
     return draft
-
-
-def _tagged(data: bytes, path: str, is_chosen: bool) -> Document:
-    """The nodes of a file, with the tag before a value, which may be a new one at its end."""
-    if data.startswith(MAGIC):
-        raise Refused("the whole file is a vault; edit it without --value")
-    if conflicts.is_unmerged(data):
-        raise Refused(f"it {conflicts.UNMERGED}")
-    file = read_nodes(data)
-    if is_chosen and KEY.fullmatch(path) and not file.values_at(path):
-        key = path if SIMPLE_KEY.fullmatch(path) else quote_key(path)
-        end = b"" if data.endswith(b"\n") or not data else b"\n"
-        tag = Change(len(data), len(data), b'%s%s: !vault ""\n' % (end, key.encode(errors="surrogateescape")))
-    else:
-        value = file.value_at(path)
-        if value.is_tagged and value.is_envelope:
-            return file
-        if not is_chosen:
-            raise Refused(NOT_ENCRYPTED.format(escape(path)) + TO_ENCRYPT)
-        if value.style in (NO_SCALAR, ALIAS):
-            raise Refused(NO_TEXT.format(escape(path)))
-        text = b"" if value.is_tagged else b"!vault " if value.end > value.begin else b' !vault ""'
-        tag = Change(value.begin, value.begin, text)
-    after = document.read_document(apply_changes(data, [tag]), every=True)
-    if after.fault or _others(after, path) != _others(file, path):
-        raise Refused(NO_PLACE.format(escape(path)))
-    return after
-
-
-def _others(file: Document, path: str) -> list[tuple[Path, str, bytes]]:
-    """All nodes except the value, and except the empty one of a file without any."""
-    here = file.values_at(path)
-    others = [value for value in file.values if (value.path or value.text) and value not in here]
-    return [(value.path, value.tag, value.text) for value in others]

@@ -7,17 +7,15 @@ from contextlib import suppress
 
 from ansible_vault_companions import processes, program
 from ansible_vault_companions.editing.copies import save_copy
-from ansible_vault_companions.editing.drafts import Draft, SingleValue
+from ansible_vault_companions.editing.drafts import Draft
 from ansible_vault_companions.editing.private_folder import PrivateFolder
+from ansible_vault_companions.editing.single_value import A_VAULT
 from ansible_vault_companions.envelopes.envelope import MAGIC
 from ansible_vault_companions.files import reading, replacing
 from ansible_vault_companions.passwords import prompts
 from ansible_vault_companions.program import Refused, escape
 from ansible_vault_companions.tool import Tool
 
-A_VAULT = "what you gave is a vault, which ansible-vault does not encrypt again; decrypt it first"
-TOO_LONG = "standard input has more bytes than a vault can hold; split it"
-NOTHING_GIVEN = "standard input is empty"
 NO_FILE = "the editor left no file"
 RESCUED = "{}; what you saved is encrypted in {}\n--resume reopens it, unless the file has changed."
 # With these, a command is more than the name of a program and its arguments.
@@ -110,22 +108,3 @@ def edited(tool: Tool, draft: Draft, path: str, text: bytes | None) -> bytes | N
         if fault:
             raise Refused(f"{fault}; nothing was changed")
     return None
-
-
-def set_value(tool: Tool, draft: SingleValue) -> None:
-    """Sets the value of a draft to standard input."""
-    text = _standard_input()
-    if not draft.is_as_it_was(text):
-        with processes.postponed():
-            replacing.replace(draft.target, draft.encrypt(tool, text), draft.content)
-
-
-def _standard_input() -> bytes:
-    if os.isatty(0):
-        raise Refused("--value reads standard input, which is a terminal; use a pipe or a file")
-    text = reading.read_input(0)
-    faults = {TOO_LONG: len(text) > reading.LONGEST_PLAINTEXT, NOTHING_GIVEN: not text, A_VAULT: text.startswith(MAGIC)}
-    for fault, holds in faults.items():
-        if holds:
-            raise Refused(fault)
-    return text

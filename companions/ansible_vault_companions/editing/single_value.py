@@ -1,0 +1,121 @@
+"""A single value of YAML that gets a new text from standard input. Everything else stays."""
+
+from __future__ import annotations
+
+import errno
+import os
+import re
+
+from ansible_vault_companions import processes
+from ansible_vault_companions.editing.choosing import Choice
+from ansible_vault_companions.editing.writing import make_sealed_block, read_nodes, write_values
+from ansible_vault_companions.envelopes import conflicts, document
+from ansible_vault_companions.envelopes.document import NO_TEXT, NOT_ENCRYPTED, Change, Document, apply_changes
+from ansible_vault_companions.envelopes.envelope import ALIAS, MAGIC, NO_SCALAR, Path, Value, quote_key
+from ansible_vault_companions.files import reading, replacing
+from ansible_vault_companions.program import Refused, escape
+from ansible_vault_companions.tool import Decrypt, Tool
+
+A_VAULT = "what you gave is a vault, which ansible-vault does not encrypt again; decrypt it first"
+TOO_LONG = "standard input has more bytes than a vault can hold; split it"
+NOTHING_GIVEN = "standard input is empty"
+TO_ENCRYPT = "; to encrypt it there, choose its password with --encrypt-vault-id"
+NO_PLACE = "there is no place for {} in this YAML; edit the file without --value"
+# A new key, and one that YAML reads as this string without further quotes.
+KEY = re.compile(r'[^."\[\]\x00-\x1f]+|"(?:[^"\\]|\\.)*"')
+SIMPLE_KEY = re.compile(r'(?!(?i:y|yes|n|no|on|off|true|false|null)\Z)[A-Za-z_][A-Za-z0-9_-]*|".*"')
+
+
+class SingleValue:
+    """A value at a path in a file. Its new text gets its own password, or a chosen one."""
+
+    def __init__(self, target: str, content: bytes | None, path: str, decrypt: Decrypt, choice: Choice) -> None:
+        self.target, self.content, self.path = target, content, path
+        is_chosen = choice.label is not None
+        if content is None and not is_chosen:
+            raise FileNotFoundError(errno.ENOENT, os.strerror(errno.ENOENT), target)
+        self.text = _tag(content or b"", path, is_chosen)
+        self.value = self.text.value_at(path)
+        # The old text, if the password that opens it is to encrypt the new one.
+        self.before: bytes | None = None
+        if is_chosen:
+            self.key = choice.choose_key(escape(path), escape(path))
+        else:
+            decrypted = decrypt(self.value.readable())
+            # If the password has another label than the value, the new text may be for other readers.
+            decrypted.require_label()
+            self.key, self.before = decrypted.key, decrypted.text
+
+    def set_text(self, tool: Tool) -> None:
+        """Sets it to standard input."""
+        text = _read_input()
+        if text != self.before:
+            with processes.postponed():
+                replacing.replace(self.target, self._encrypt(tool, text), self.content)
+
+    def _encrypt(self, tool: Tool, text: bytes) -> bytes:
+        """The file with the value encrypted."""
+        number, envelope = self.text.values.index(self.value), tool.encrypt(text, *self.key)
+        old = self.value if self.value.is_envelope else None
+        block = make_sealed_block(self.text.data, self.value, envelope, old)
+        try:
+            return write_values(self.text, {number: envelope}, {number: block} if block else {})
+        except Refused:
+            raise Refused(NO_PLACE.format(escape(self.path))) from None
+
+
+def _tag(data: bytes, path: str, is_chosen: bool) -> Document:
+    """The nodes of a file, with the tag before the value, which may be a new one if its password is chosen."""
+    if data.startswith(MAGIC):
+        raise Refused("the whole file is a vault; edit it without --value")
+    if conflicts.is_unmerged(data):
+        raise Refused(f"it {conflicts.UNMERGED}")
+    file = read_nodes(data)
+    if is_chosen and KEY.fullmatch(path) and not file.values_at(path):
+        tag = _add_key(data, path)
+    else:
+        value = file.value_at(path)
+        if value.is_tagged and value.is_envelope:
+            return file
+        if not is_chosen:
+            raise Refused(NOT_ENCRYPTED.format(escape(path)) + TO_ENCRYPT)
+        tag = _add_tag(value, path)
+    after = document.read_document(apply_changes(data, [tag]), every=True)
+    if after.fault or _list_others(after, path) != _list_others(file, path):
+        raise Refused(NO_PLACE.format(escape(path)))
+    return after
+
+
+def _add_key(data: bytes, path: str) -> Change:
+    """The change that adds a key at the end of a file, with an empty value."""
+    key = path if SIMPLE_KEY.fullmatch(path) else quote_key(path)
+    end = b"" if data.endswith(b"\n") or not data else b"\n"
+    return Change(len(data), len(data), b'%s%s: !vault ""\n' % (end, key.encode(errors="surrogateescape")))
+
+
+def _add_tag(value: Value, path: str) -> Change:
+    """The change that adds the tag before a text that is there, or before an empty one."""
+    if value.style in (NO_SCALAR, ALIAS):
+        raise Refused(NO_TEXT.format(escape(path)))
+    text = b"!vault " if value.end > value.begin else b' !vault ""'
+    return Change(value.begin, value.begin, b"" if value.is_tagged else text)
+
+
+def _list_others(file: Document, path: str) -> list[tuple[Path, str, bytes]]:
+    """All nodes except the value, and except the empty one of a file without any."""
+    here = file.values_at(path)
+    others = [value for value in file.values if (value.path or value.text) and value not in here]
+    return [(value.path, value.tag, value.text) for value in others]
+
+
+def _read_input() -> bytes:
+    if os.isatty(0):
+        raise Refused("--value reads standard input, which is a terminal; use a pipe or a file")
+    text = reading.read_input(0)
+    if len(text) > reading.LONGEST_PLAINTEXT:
+        raise Refused(TOO_LONG)
+    if not text:
+        raise Refused(NOTHING_GIVEN)
+    if text.startswith(MAGIC):
+        raise Refused(A_VAULT)
+    return text
