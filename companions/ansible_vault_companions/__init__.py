@@ -2,7 +2,7 @@
 
 `files` finds, reads and replaces files, and `envelopes` finds the envelopes in them. `passwords` gets passwords, and
 `tool` runs ansible-vault with them. `git` asks git, and has the rules of the hook. Above these are `merging`,
-`editing` and `plaintext` (check, rotate and textconv); `alias` takes the command lines of Ansible's tool.
+`editing` and `plaintext` (check and rotate); `alias` takes the command lines of Ansible's tool.
 """
 
 import os

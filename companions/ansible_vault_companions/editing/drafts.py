@@ -4,7 +4,7 @@ from __future__ import annotations
 
 import os
 from dataclasses import dataclass
-from typing import Union
+from typing import Protocol, Union
 
 from ansible_vault_companions import processes
 from ansible_vault_companions.editing.choosing import Choice
@@ -16,6 +16,7 @@ from ansible_vault_companions.envelopes.envelope import MAGIC
 from ansible_vault_companions.files import reading
 from ansible_vault_companions.git.repository import make_pathspec
 from ansible_vault_companions.merging.files import KINDS_DIFFER, find_versions, merge_file
+from ansible_vault_companions.merging.lines import Versions
 from ansible_vault_companions.merging.vaults import Vaults
 from ansible_vault_companions.passwords.labels import Policy
 from ansible_vault_companions.passwords.password import Password
@@ -30,6 +31,32 @@ ONE_SIDE = f"{KINDS_DIFFER}; take one with `git checkout --ours -- {{}}` or with
 TO_ADD = "; or, to add values without seeing the others, choose a password for the new ones with --encrypt-vault-id"
 
 
+class Draft(Protocol):
+    """A text to change, and how the file becomes what was saved."""
+
+    @property
+    def target(self) -> str:
+        """The path of the file."""
+
+    @property
+    def content(self) -> bytes | None:
+        """What the file has; None if there is none."""
+
+    @property
+    def plaintext(self) -> bytes:
+        """The text to change."""
+
+    @property
+    def keys(self) -> list[Key]:
+        """One key of each password that may encrypt the text. If there is a single one, it may read a copy."""
+
+    def is_as_it_was(self, text: bytes) -> bool:
+        """Whether the file may stay if this is saved."""
+
+    def encrypt(self, tool: Tool, text: bytes) -> bytes:
+        """What the file becomes if this is saved."""
+
+
 @dataclass
 class Vault:
     """A file that is a vault, or a new one."""
@@ -40,11 +67,9 @@ class Vault:
     plaintext: bytes = b""
 
     def is_as_it_was(self, text: bytes) -> bool:
-        """Whether the file may stay if this is saved."""
         return text == self.plaintext
 
     def encrypt(self, tool: Tool, text: bytes) -> bytes:
-        """What the file becomes if this is saved."""
         vault = tool.encrypt(text, *self.keys[0])
         return vault.replace(b"\n", b"\r\n") if b"\r\n" in (self.content or b"") else vault
 
@@ -65,59 +90,58 @@ class Conflict:
         return self.vaults.seal(tool, text, self.keys[0])
 
 
-# A text to change, and how the file becomes what was saved. Its `keys` may read a copy, if there is a single one.
-Draft = Union[Vault, YamlFile, Conflict]
+class Loader:
+    """Makes the draft for a file. Refuses one whose text could not be encrypted again."""
 
+    def __init__(self, tool: Tool, passwords: list[Password], policy: Policy, label: str | None) -> None:
+        self.tool, self.passwords = tool, passwords
+        self.decrypt: Decrypt = lambda envelope: tool.decrypt(envelope, passwords, policy)
+        # The label that the user has chosen is also for the text of a conflict and for a single value; the usual one is
+        # for new vaults and values alone.
+        self.chosen = Choice(passwords, label)
+        self.choice = Choice(passwords, label or policy.usual_label)
 
-def load(
-    tool: Tool, passwords: list[Password], policy: Policy, path: str, value: str | None, chosen: str | None
-) -> Union[Draft, SingleValue]:
-    """The draft for the file at a path, or for a single value in it. Refuses one whose text could not be encrypted
-    again. The label that the user has chosen is also for the text of a conflict and for a single value, and the usual
-    one for new vaults and values alone. A signal ends the reading."""
-    target = os.path.realpath(path)
-    with processes.interruptible():
-        content = reading.read(target)
-    decrypt: Decrypt = lambda envelope: tool.decrypt(envelope, passwords, policy)
-    if value is not None:
-        return SingleValue(target, content, value, decrypt, Choice(passwords, chosen))
-    choice = Choice(passwords, chosen or policy.usual_label)
-    if content is None:
-        return Vault(target, None, [choice.choose_key("the new vault", "the vault")])
-    if conflicts.split_sides(content):
-        return _of_conflict(tool, decrypt, target, content, choice, chosen)
-    if not content.startswith(MAGIC):
-        return _of_values(decrypt, target, content, content, choice)
-    decrypted = decrypt(content)
-    decrypted.require_label()
-    return Vault(target, content, [decrypted.key], decrypted.text)
+    def load(self, path: str, value: str | None) -> Union[Draft, SingleValue]:
+        """The draft for the file at a path, or for a single value in it. A signal ends the reading."""
+        target = os.path.realpath(path)
+        with processes.interruptible():
+            content = reading.read(target)
+        if value is not None:
+            return SingleValue(target, content, value, self.decrypt, self.chosen)
+        if content is None:
+            return Vault(target, None, [self.choice.choose_key("the new vault", "the vault")])
+        sides = find_versions(target, content)
+        if sides:
+            return self._load_conflict(target, content, sides)
+        if not content.startswith(MAGIC):
+            return self._load_values(target, content, content)
+        decrypted = self.decrypt(content)
+        decrypted.require_label()
+        return Vault(target, content, [decrypted.key], decrypted.text)
 
+    def _load_conflict(self, target: str, content: bytes, sides: Versions) -> Draft:
+        key = next(iter(self.chosen.list_keys()), None) if self.chosen.label else None
+        are_vaults = [side.startswith(MAGIC) for side in (sides.ours, sides.theirs)]
+        if all(are_vaults):
+            vaults = Vaults(self.decrypt, sides)
+            return Conflict(target, content, vaults, vaults.choose_key(key))
+        if any(are_vaults):
+            raise Refused(ONE_SIDE.format(make_pathspec(target)))
+        if not (sides.ours and sides.theirs):
+            return self._load_values(target, content, content)
+        # Where git has merged the digits of values, only whole ones are between the markers of the merged text.
+        merged = merge_file(self.tool, self.decrypt, sides, conflicts.SIZE, key)
+        return self._load_values(target, content, merged.content)
 
-def _of_conflict(
-    tool: Tool, decrypt: Decrypt, target: str, content: bytes, choice: Choice, chosen: str | None
-) -> Draft:
-    sides = find_versions(target, content)
-    assert sides
-    key = next(iter(choice.list_keys()), None) if chosen else None
-    are_vaults = [side.startswith(MAGIC) for side in (sides.ours, sides.theirs)]
-    if all(are_vaults):
-        vaults = Vaults(decrypt, sides)
-        return Conflict(target, content, vaults, vaults.choose_key(key))
-    if any(are_vaults):
-        raise Refused(ONE_SIDE.format(make_pathspec(target)))
-    # Where git has merged the digits of values, only whole ones are between the markers of the merged text.
-    is_merged = sides.ours and sides.theirs
-    merged = merge_file(tool, decrypt, sides, conflicts.SIZE, key).content if is_merged else content
-    return _of_values(decrypt, target, content, merged, choice)
-
-
-def _of_values(decrypt: Decrypt, target: str, content: bytes, edited: bytes, choice: Choice) -> YamlFile:
-    draft = YamlFile(target, content, edited, decrypt, choice) if document.may_have_envelope(edited) else None
-    if not draft or not draft.tagged:
-        raise Refused(NO_VAULT)
-    for old in draft.opened.values():
-        old.decrypted.require_label(f"{place_of(old.value)}: ")
-    if len(draft.faults) == len(draft.tagged) and choice.label is None:
-        value, why = draft.faults[0]
-        raise Refused(f"{place_of(value)}: {why}{TO_ADD}")
-    return draft
+    def _load_values(self, target: str, content: bytes, edited: bytes) -> YamlFile:
+        if not document.may_have_envelope(edited):
+            raise Refused(NO_VAULT)
+        draft = YamlFile(target, content, edited, self.decrypt, self.choice)
+        if not draft.tagged:
+            raise Refused(NO_VAULT)
+        for old in draft.opened.values():
+            old.decrypted.require_label(f"{place_of(old.value)}: ")
+        if len(draft.faults) == len(draft.tagged) and self.choice.label is None:
+            value, why = draft.faults[0]
+            raise Refused(f"{place_of(value)}: {why}{TO_ADD}")
+        return draft

@@ -4,6 +4,7 @@ from __future__ import annotations
 
 import os
 from contextlib import suppress
+from typing import NamedTuple
 
 from ansible_vault_companions import processes, program
 from ansible_vault_companions.editing.copies import save_copy
@@ -22,6 +23,14 @@ RESCUED = "{}; what you saved is encrypted in {}\n--resume reopens it, unless th
 SHELL_WORDS = frozenset("=;&|()<>{}`\n")
 
 
+class Saved(NamedTuple):
+    """What the editor has left: a text, unless the file is gone."""
+
+    text: bytes | None
+    # Why it must not replace the file; empty if it may.
+    fault: str
+
+
 class Edit:
     """An edit of a draft: its text is in a private directory, under the name of the file."""
 
@@ -30,44 +39,52 @@ class Edit:
         # As on the command line.
         self.path, self.name = path, os.path.basename(path)
 
-    def run_editor(self) -> tuple[bytes | None, str]:
-        """Runs the editor. Returns the saved text, or None, and why it must not replace the file, if it must not."""
+    def run_editor(self) -> Saved:
         editor = os.environ.get("VISUAL") or os.environ.get("EDITOR") or "vi"
-        path, status = os.path.join(self.folder.path, self.name), 0
-        # A signal may come before the editor is opened again, and then the text that was saved first is still there.
-        with suppress(processes.Stopped):
-            # Without a shell between, signals reach the editor, unless its command needs one.
-            command = editor if SHELL_WORDS.intersection(editor) else f"exec {editor}"
-            status = processes.run_on_terminal(["sh", "-c", f'{command} "$@"', editor, path])
+        status = self._run(editor)
         try:
-            text = reading.read(path)
+            text = reading.read(os.path.join(self.folder.path, self.name))
         except (Refused, OSError) as unread:
             raise self.folder.keep(program.reason(unread), self.name) from None
+        if status:
+            return Saved(text, f"the editor failed ({editor}, status {status})")
         # Even the directory may be gone: logging out removes files in memory.
-        return text, f"the editor failed ({editor}, status {status})" if status else NO_FILE if text is None else ""
+        return Saved(text, NO_FILE if text is None else "")
 
-    def put_back(self, text: bytes, fault: str = "") -> bool:
+    def _run(self, editor: str) -> int:
+        """Runs the editor, and returns its status."""
+        path = os.path.join(self.folder.path, self.name)
+        # Without a shell between, signals reach the editor, unless its command needs one.
+        command = editor if SHELL_WORDS.intersection(editor) else f"exec {editor}"
+        # A signal may come before the editor is opened again, and then the text that was saved first is still there.
+        with suppress(processes.Stopped):
+            return processes.run_on_terminal(["sh", "-c", f'{command} "$@"', editor, path])
+        return 0
+
+    def put_back(self, text: bytes, fault: str) -> bool:
         """Encrypts a text into the file or, if that fails, a copy. False if the user wants to edit it again."""
         if fault:
-            raise self._rescued(text, fault)
-        draft = self.draft
+            raise self._rescue(text, fault)
         try:
             if text.startswith(MAGIC):
                 raise Refused(A_VAULT)
-            content = draft.encrypt(self.tool, text)
+            content = self.draft.encrypt(self.tool, text)
         # Whatever went wrong, the text must not be lost.
         except Exception as failed:
             if isinstance(failed, Refused) and self._opens_again(failed):
                 return False
-            raise self._rescued(text, program.reason(failed) or by_signal()) from None
+            raise self._rescue(text, program.reason(failed) or describe_signal()) from None
         try:
-            if processes.ending_signal():
-                raise Refused(by_signal())
-            if content != draft.content:
-                replacing.replace(draft.target, content, draft.content)
+            self._replace(content)
         except (Refused, OSError) as failed:
-            raise self._rescued(text, program.reason(failed)) from None
+            raise self._rescue(text, program.reason(failed)) from None
         return True
+
+    def _replace(self, content: bytes) -> None:
+        if processes.ending_signal():
+            raise Refused(describe_signal())
+        if content != self.draft.content:
+            replacing.replace(self.draft.target, content, self.draft.content)
 
     def _opens_again(self, why: Refused) -> bool:
         """Whether the user, asked at the terminal, wants to correct the saved text."""
@@ -77,7 +94,7 @@ class Edit:
         except (processes.Stopped, Refused, OSError):
             return False
 
-    def _rescued(self, text: bytes, why: str) -> Refused:
+    def _rescue(self, text: bytes, why: str) -> Refused:
         """Keeps a text that is not put back. Returns the exception that says where it is, and how to go on."""
         try:
             # A text with several passwords has no copy, since no password may read all of it.
@@ -88,23 +105,24 @@ class Edit:
         return Refused(RESCUED.format(why, escape(copy)))
 
 
-def by_signal() -> str:
+def describe_signal() -> str:
     return f"signal {processes.ending_signal()} ended the edit"
 
 
-def edited(tool: Tool, draft: Draft, path: str, text: bytes | None) -> bytes | None:
-    """Edits the plaintext, starting with `text` if given. Returns the saved text, or None if nothing changed."""
+def edit_draft(tool: Tool, draft: Draft, path: str, text: bytes | None) -> bool:
+    """Edits the plaintext, starting with `text` if given. Returns whether anything was changed."""
     with PrivateFolder() as folder:
         edit = Edit(tool, draft, path, folder)
         folder.create(edit.name, draft.plaintext if text is None else text)
         while True:
-            saved, fault = edit.run_editor()
+            saved = edit.run_editor()
             with processes.postponed():
-                fault = by_signal() if processes.ending_signal() else fault
-                if saved is None or draft.is_as_it_was(saved):
+                if processes.ending_signal():
+                    saved = saved._replace(fault=describe_signal())
+                if saved.text is None or draft.is_as_it_was(saved.text):
                     break
-                if edit.put_back(saved, fault):
-                    return saved
-        if fault:
-            raise Refused(f"{fault}; nothing was changed")
-    return None
+                if edit.put_back(saved.text, saved.fault):
+                    return True
+        if saved.fault:
+            raise Refused(f"{saved.fault}; nothing was changed")
+    return False
