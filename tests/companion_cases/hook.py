@@ -178,6 +178,17 @@ def test_history(place: Place) -> None:
     assert "deep" not in place.names()
 
 
+def test_versions(place: Place) -> None:
+    """Files may be named like commits."""
+    under_git(place, "")
+    first = committed(place, "HEAD", TEXT)
+    for text in (b"1", b"2", b"3"):
+        committed(place, place.shell("git rev-parse HEAD").stdout.strip(), TEXT)
+        committed(place, "a.yml", sealed("old", text))
+    for words in ([HOOK], [HOOK, "--since", first]):
+        silent("three versions", place.run(*words))
+
+
 def test_merge(place: Place) -> None:
     """What a merge puts in plaintext is compared with each branch, before the commit and after it."""
     under_git(place, "")

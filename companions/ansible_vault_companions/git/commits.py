@@ -24,6 +24,7 @@ MERGED = "GITHEAD_"
 BATCH = 1000
 # git compares each removed file with each new one, so it looks for renames only up to this many.
 RENAMES = ("--find-renames", "-l400")
+RAW = ("--raw", "-z", "--no-abbrev")
 # How many links are followed, one after another.
 MOST_LINKS = 40
 SHALLOW = "earlier commits are missing: run `git fetch --unshallow`, or set fetch-depth or GIT_DEPTH of a pipeline to 0"
@@ -67,7 +68,7 @@ class Index:
 
     def change(self, commit: str) -> Differences:
         """The differences from a commit. A file that git calls renamed is not removed."""
-        words = ("diff-index", "--cached", *RENAMES, commit)
+        words = ("diff-index", "--cached", *RENAMES, *RAW, commit, "--")
         files = [
             File(name, blob if mode in MODES else "", before if old_mode in FILE_MODES else "", mode == LINK_MODE)
             for name, old_mode, mode, before, blob in _list_differences(*words, index=self.path)
@@ -80,8 +81,8 @@ class Index:
 
     def former(self, commit: str) -> set[File]:
         """The files, each with a version that a commit in the history had of it."""
-        commits = run_git("rev-list", commit).splitlines(keepends=True)
-        words = ("diff-tree", "--stdin", "-r", "-m", "--root", "--no-commit-id", "--no-renames")
+        commits = run_git("rev-list", commit, "--").splitlines(keepends=True)
+        words = ("diff-tree", "--stdin", "-r", "-m", "--root", "--no-commit-id", "--no-renames", *RAW)
         files: set[File] = set()
         for first in range(0, len(commits), BATCH):
             for name, _, mode, _, blob in _list_differences(*words, data=b"".join(commits[first : first + BATCH])):
@@ -111,8 +112,8 @@ Difference = tuple[bytes, str, str, str, str]
 
 
 def _list_differences(*words: str, data: bytes = b"", index: str | None = None) -> Iterator[Difference]:
-    """The entries of git's raw output."""
-    fields = iter(run_git(*words, "--raw", "-z", "--no-abbrev", data=data, index=index).split(b"\0")[:-1])
+    """The entries of git's output in the format RAW."""
+    fields = iter(run_git(*words, data=data, index=index).split(b"\0")[:-1])
     for about in fields:
         old_mode, mode, old_blob, blob, status = about.decode().removeprefix(":").split()
         name = next(fields)
@@ -154,7 +155,7 @@ def open_index(commit: str) -> Iterator[Index]:
     with tempfile.TemporaryDirectory(prefix="ansible-vault-", dir=above) as folder:
         path = os.path.join(folder, "index")
         run_git("read-tree", commit, index=path)
-        yield Index(run_git("rev-list", "--parents", "--max-count=1", commit).decode().split()[1:], path)
+        yield Index(run_git("rev-list", "--parents", "--max-count=1", commit, "--").decode().split()[1:], path)
 
 
 class Blobs:

@@ -201,7 +201,7 @@ def review_staged(review: Review, paths: list[str]) -> None:
 def review_since(review: Review, name: str) -> None:
     """Reviews each commit after this one, and what all of them change since the merge bases."""
     first, last = commits.find_commit(name), commits.find_commit("HEAD")
-    for commit in run_git("rev-list", "--reverse", "--topo-order", f"{first}..{last}").decode().split():
+    for commit in run_git("rev-list", "--reverse", "--topo-order", f"{first}..{last}", "--").decode().split():
         with commits.open_index(commit) as index:
             review.look_at(index, index.changes(), f"{commit[:10]}: ")
     with commits.open_index(last) as index:
