@@ -179,13 +179,13 @@ def test_history(place: Place) -> None:
 
 
 def test_versions(place: Place) -> None:
-    """Files may be named like commits."""
+    """Any number of versions of a vault is fine, also beside files that are named like commits."""
     under_git(place, "")
     first = committed(place, "HEAD", TEXT)
     for text in (b"1", b"2", b"3"):
         committed(place, place.shell("git rev-parse HEAD").stdout.strip(), TEXT)
         committed(place, "a.yml", sealed("old", text))
-    for words in ([HOOK], [HOOK, "--since", first]):
+    for words in ([HOOK], [HOOK, "--all"], [HOOK, "--since", first]):
         silent("three versions", place.run(*words))
 
 

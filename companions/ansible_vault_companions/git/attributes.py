@@ -32,11 +32,11 @@ def read_attributes(
     options = [] if folder else ["--cached"]
     data = b"".join(name + b"\0" for name in names)
     fields = run_git("check-attr", *options, "-z", "--stdin", *ATTRIBUTES, data=data, index=index, folder=folder)
-    values: dict[bytes, list[bytes]] = {}
+    values: dict[bytes, dict[bytes, bytes]] = {}
     triples = iter(fields.split(b"\0")[:-1])
-    for name, _, value in zip(triples, triples, triples):
-        values.setdefault(name, []).append(value)
-    return {name: _make_attributes(*given) for name, given in values.items()}
+    for name, attribute, value in zip(triples, triples, triples):
+        values.setdefault(name, {})[attribute] = value
+    return {name: _make_attributes(*given.values()) for name, given in values.items()}
 
 
 def _make_attributes(diff: bytes, vault: bytes, plain: bytes) -> Attributes:
