@@ -13,7 +13,7 @@ from hypothesis import given, settings
 from hypothesis import strategies as st
 
 from ansible_vault_companions.git.commits import Blobs
-from ansible_vault_companions.git.guard import Review, review_staged
+from ansible_vault_companions.guard.review import Review, review_staged
 from companion_cases import lines_of
 from companion_cases.repository import AUTHOR, repository
 from model.vaults import serialized

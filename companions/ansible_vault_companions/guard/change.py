@@ -1,0 +1,40 @@
+"""What the hook's rules know of a change: each file's facts and attributes, now and before."""
+
+from __future__ import annotations
+
+import os
+
+from ansible_vault_companions.envelopes.document import PROSE, YAML
+from ansible_vault_companions.envelopes.scalars import TOO_LONG
+from ansible_vault_companions.git import facts
+from ansible_vault_companions.git.attributes import read_attributes
+from ansible_vault_companions.git.commits import Blobs, Differences, File, Index
+from ansible_vault_companions.git.facts import Facts
+
+
+class Change:
+    """It reads each content once, and again only if a plaintext may have moved."""
+
+    def __init__(self, differences: Differences, index: Index, blobs: Blobs) -> None:
+        self.index = index
+        self.blobs = blobs
+        self.since = f" in {differences.since}" if differences.since else ""
+        self.attributes = read_attributes([file.name for file in differences.files], index.path)
+        self.before = {file: self.find_facts(file.before, is_old=True) for file in differences.files}
+        has_values = any(before.encrypted for before in self.before.values())
+        self.now = {file: self.find_facts(file.blob, has_values) for file in differences.files}
+
+    def find_facts(self, blob: str, needs_plain: bool = False, is_old: bool = False) -> Facts:
+        content = self.blobs.read(blob, is_old) if blob else b""
+        return Facts(fault=TOO_LONG) if content is None else facts.find_facts(content, needs_plain)
+
+    def is_exempt(self, file: File) -> bool:
+        return self.attributes[file.name].is_exempt
+
+    def is_example(self, file: File) -> bool:
+        """Whether a file is a document, which may have envelopes that are none."""
+        return os.fsdecode(file.name).lower().endswith(PROSE) and not self.attributes[file.name].is_marked
+
+
+def is_yaml(file: File) -> bool:
+    return os.fsdecode(file.name).lower().endswith(YAML)

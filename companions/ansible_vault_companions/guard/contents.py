@@ -1,0 +1,63 @@
+"""What is refused of one file, whatever else the change has: damage, and what cannot be checked or is marked."""
+
+from __future__ import annotations
+
+import os
+
+from ansible_vault_companions.envelopes import conflicts
+from ansible_vault_companions.files import replacing
+from ansible_vault_companions.git.attributes import PLAIN_VALUES, VAULT, make_line
+from ansible_vault_companions.git.commits import File
+from ansible_vault_companions.git.facts import write_keys
+from ansible_vault_companions.git.repository import make_pathspec
+from ansible_vault_companions.guard.change import Change, is_yaml
+from ansible_vault_companions.guard.faults import EXEMPT, Fault, make_fault
+
+LEFTOVER = "was left behind by a companion, and may be plaintext"
+NOT_YAML = "had encrypted values, but can no longer be checked: {}"
+STALE = "is encrypted again, but .gitattributes allows plaintext in it: remove `{}` there, or narrow its pattern"
+# What to do.
+REMOVE = "look at its content, and remove it with `git rm -f -- {}`"
+RESOLVE = "resolve the conflict with ansible-vault-edit"
+RESTORE = "restore it, for example with `git checkout HEAD -- {}` if it is whole there; "
+REPAIR = "repair it; "
+UNMARK = "encrypt it, or unmark it with a line at the end of {}"
+
+UNMARKED = f"!diff !{VAULT}"
+
+
+def find_damage(change: Change, file: File) -> Fault | None:
+    if change.is_exempt(file) or change.is_example(file):
+        return None
+    name, damage = os.fsdecode(file.name), change.now[file].damage
+    path = make_pathspec(name, is_below_top=True)
+    if replacing.is_leftover(os.path.basename(name)):
+        return Fault(LEFTOVER, REMOVE.format(path))
+    if damage == conflicts.UNMERGED:
+        return Fault(damage, RESOLVE)
+    return make_fault(change, file, damage, RESTORE.format(path)) if damage else None
+
+
+def find_unreadable(change: Change, file: File) -> Fault | None:
+    """A file by whose name it is YAML, and that cannot be compared with what it was, since it is none."""
+    before, now = change.before[file], change.now[file]
+    if is_yaml(file) and before.encrypted and now.fault and not change.is_exempt(file):
+        return make_fault(change, file, NOT_YAML.format(now.fault), REPAIR)
+    return None
+
+
+def find_unencrypted(change: Change, file: File) -> Fault | None:
+    """A marked file that is not encrypted."""
+    why = change.now[file].unencrypted
+    if change.attributes[file.name].is_marked and why:
+        return Fault(why, UNMARK.format(make_line(file.name, UNMARKED, change.index.files)))
+    return None
+
+
+def find_stale(change: Change, file: File) -> Fault | None:
+    """A file that is encrypted again, and would be left without a guard."""
+    now, given = change.now[file], change.attributes[file.name]
+    if now.is_vault and not now.damage and (given.is_exempt or given.plain_values):
+        return Fault(STALE.format(EXEMPT if given.is_exempt else PLAIN_VALUES))
+    names = given.plain_values & {write_keys(keys) for keys in now.encrypted.keys() - now.plain.keys()}
+    return Fault(STALE.format(",".join(sorted(names)))) if names else None

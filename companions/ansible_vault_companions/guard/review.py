@@ -1,0 +1,86 @@
+"""Refuses what a commit must not do to vaults and values, by the five sentences of `ansible-vault-hook --help`."""
+
+from __future__ import annotations
+
+import os
+from typing import Iterator
+
+from ansible_vault_companions.envelopes.envelope import MAGIC
+from ansible_vault_companions.git import commits
+from ansible_vault_companions.git.commits import Blobs, Differences, File, Index
+from ansible_vault_companions.git.repository import read_line, run_git
+from ansible_vault_companions.guard import contents
+from ansible_vault_companions.guard.change import Change
+from ansible_vault_companions.guard.faults import Fault
+from ansible_vault_companions.guard.values import Values
+from ansible_vault_companions.guard.vaults import Vaults
+from ansible_vault_companions.program import escape, write_error
+
+
+def find_faults(change: Change) -> Iterator[tuple[File, Fault]]:
+    """Each refused file, with the first of its faults."""
+    vaults, values = Vaults(change), Values(change)
+    for file in change.now:
+        if file.blob:
+            fault = (
+                contents.find_damage(change, file)
+                or contents.find_unreadable(change, file)
+                or vaults.find_fault(file)
+                or values.find_fault(file)
+                or contents.find_unencrypted(change, file)
+                or contents.find_stale(change, file)
+            )
+            if fault:
+                yield file, fault
+
+
+class Review:
+    """Checks changes, and reports each refused content of a file once."""
+
+    def __init__(self, program: str, blobs: Blobs) -> None:
+        self.program = program
+        self.blobs = blobs
+        self.reported: set[tuple[bytes, str]] = set()
+
+    def look_at(self, index: Index, changes: list[Differences], where: str = "") -> None:
+        """Checks changes with the attributes of an index. `where` precedes each message. A link counts as the file that
+        it leads to, and as none if that is not in the index."""
+        for differences in changes:
+            blobs = {file: index.target(file, self.blobs) if file.is_link else file.blob for file in differences.files}
+            files = [file._replace(blob=blob) for file, blob in blobs.items()]
+            for file, fault in find_faults(Change(differences._replace(files=files), index, self.blobs)):
+                if (file.name, file.blob) in self.reported:
+                    continue
+                self.reported.add((file.name, file.blob))
+                why = f"is a link to a file that {fault.why}" if file.is_link else fault.why
+                write_error(f"{self.program}: {where}{escape(os.fsdecode(file.name))} {why}")
+                if fault.hint:
+                    write_error(f"  {fault.hint}")
+
+
+def review_staged(review: Review, paths: list[str]) -> None:
+    """Reviews the staged changes, and the files at or below these paths even if they did not change."""
+    index = commits.read_staged()
+    named = Differences("", index.at(paths) if paths else [])
+    review.look_at(index, [*index.changes(), named])
+
+
+def review_since(review: Review, name: str) -> None:
+    """Reviews each commit after this one, and what all of them change since the merge bases."""
+    first, last = commits.find_commit(name), commits.find_commit("HEAD")
+    for commit in run_git("rev-list", "--reverse", "--topo-order", f"{first}..{last}", "--").decode().split():
+        with commits.open_index(commit) as index:
+            review.look_at(index, index.changes(), f"{commit[:10]}: ")
+    with commits.open_index(last) as index:
+        bases = read_line("merge-base", "--all", first, last).split()
+        review.look_at(index, [index.change(base) for base in bases], f"{last[:10]}: ")
+
+
+def review_all(review: Review) -> None:
+    """Reviews all files, the changes of the last commit, and every file that was a vault in an earlier commit."""
+    commit = commits.find_commit("HEAD")
+    with commits.open_index(commit) as index:
+        former = index.former(commit)
+        vaults = {file.before for file in former if review.blobs.read(file.before, is_old=True) == MAGIC}
+        were_vaults = Differences("an earlier commit", sorted(file for file in former if file.before in vaults))
+        review.look_at(index, [Differences("", index.at([])), *index.changes(), were_vaults])

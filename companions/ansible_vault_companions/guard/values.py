@@ -1,0 +1,64 @@
+"""An encrypted value stays one, is removed, or becomes nothing or an expression, but no plaintext anywhere."""
+
+from __future__ import annotations
+
+import os
+from collections import Counter
+from functools import cached_property
+from typing import Iterable, Iterator
+
+from ansible_vault_companions.git import facts
+from ansible_vault_companions.git.attributes import PLAIN_VALUES
+from ansible_vault_companions.git.commits import File
+from ansible_vault_companions.git.facts import NONE, Facts, Keys, write_keys
+from ansible_vault_companions.guard.change import Change
+from ansible_vault_companions.guard.faults import Fault, make_fault
+from ansible_vault_companions.program import escape
+
+NOW_PLAIN = "has {} in plaintext, which {} encrypted{}"
+
+
+class Values:
+    def __init__(self, change: Change) -> None:
+        self.change = change
+
+    @cached_property
+    def removed(self) -> dict[Keys, bytes]:
+        """The keys of the values of which there are fewer in all, each with a file that had it."""
+        before, now = self.change.before, self.change.now
+        gone = Counter(_list_envelopes(before.values()))
+        gone.subtract(_list_envelopes(now.values()))
+        removed = {}
+        for file in before:
+            for keys, texts in before[file].encrypted.items():
+                left = now[file].encrypted.get(keys, NONE)
+                is_fewer = sum(texts.values()) > sum(left.values()) and not now[file].is_vault
+                if is_fewer and any(gone[text] > 0 for text in texts - left):
+                    removed[keys] = file.name
+        return removed
+
+    def find_fault(self, file: File) -> Fault | None:
+        before, now = self.change.before[file], self.change.now[file]
+        allowed = self.change.attributes[file.name].plain_values
+        elsewhere = self._find_from_elsewhere(file, now)
+        sources = {keys: f" of {escape(os.fsdecode(self.removed[keys]))}" for keys in elsewhere}
+        sources.update(dict.fromkeys(facts.find_now_plain(before, now), ""))
+        refused = sorted((keys for keys in sources if write_keys(keys) not in allowed), key=write_keys)
+        if not refused:
+            return None
+        names = ", ".join(write_keys(keys) + sources[keys] for keys in refused)
+        why = NOW_PLAIN.format(names, "was" if len(refused) == 1 else "were", self.change.since)
+        attribute = f"{PLAIN_VALUES}={','.join(sorted({*map(write_keys, sources), *allowed}))}"
+        return make_fault(self.change, file, why, attribute=attribute)
+
+    def _find_from_elsewhere(self, file: File, now: Facts) -> set[Keys]:
+        """The keys of removed values at or below which there is new plaintext."""
+        if not self.removed or self.removed.keys().isdisjoint(facts.list_branches(now.plain)):
+            return set()
+        before = self.change.find_facts(file.before, needs_plain=True)
+        return facts.list_branches(facts.find_new_plaintext(before, now)) & self.removed.keys()
+
+
+def _list_envelopes(files: Iterable[Facts]) -> Iterator[int]:
+    """The envelopes in values, each as often as it is there."""
+    return (text for file in files for texts in file.encrypted.values() for text in texts.elements())
