@@ -52,6 +52,12 @@ PASSING: dict[str, tuple[Content, Content]] = {
     "a template": ({"a.j2": PW}, {"a.j2": b"{% if x %}\n" + PW2 + b"{% endif %}\n"}),
     "a test of the header": (X, {"a.py": b'HEADER = "$ANSIBLE_VAULT;1.1;AES256"\n'}),
     "a document with a cut example": (X, {"a.md": b"```\n" + PW[:200] + b"\n```\n"}),
+    "a vault split in two": ({"b/all.yml": VAULT}, {"b/all/vars.yml": JINJA, "b/all/vault.yml": OTHER}),
+    "one vault of a name for another": ({"a/x.yml": VAULT, "y": X}, {"b/x.yml": OTHER, "c/x.yml": X, "y": X}),
+    "expressions in a file of its name": ({"a/x.yml": VAULT, "y": X}, {"b/x.yml": JINJA}),
+    "tasks and a play of its name": (
+        {"a/x.yml": VAULT, "y": X}, {"t/x.yml": b'- debug: "{{ x }}"\n', "x.yml": b"- hosts: x\n"}
+    ),
     "meant damage": (X, {"a.txt": CONFLICT % (PW, CUT), ".gitattributes": b"*.txt -ansible-vault diff=ansible-vault"}),
 }
 pw, db, elsewhere = (IN_PART.format(key) for key in ("pw", "db.pw", "db.pw of a.yml"))
@@ -66,6 +72,18 @@ REFUSED: dict[str, tuple[Content, Content, str]] = {
     "another folder": ({"one/a.yml": VAULT}, {"two/a.yml": TEXT}, f"two/a.yml {GONE.format('one/a.yml')}"),
     "fewer folders": ({"x/y/a.yml": VAULT}, {"y/a.yml": TEXT}, f"y/a.yml {GONE.format('x/y/a.yml')}"),
     "another suffix of main": ({"main.yml": VAULT}, {"main.json": TEXT}, f"main.json {GONE.format('main.yml')}"),
+    "another directory, deeper": ({"a/x.yml": VAULT}, {"b/c/x.yml": TEXT}, f"b/c/x.yml {GONE.format('a/x.yml')}"),
+    "a list by another name": ({"a.yml": VAULT}, {"a.txt": b"- plain\n"}, f"a.txt {GONE.format('a.yml')}"),
+    "a list and a mapping": (
+        {"a/x.yml": VAULT}, {"b/x.yml": b"- plain\n---\nx: 1\n"}, f"b/x.yml {GONE.format('a/x.yml')}"
+    ),
+    "another case": ({"A/x.yml": VAULT}, {"a/X.yml": TEXT}, f"a/X.yml {GONE.format('A/x.yml')}"),
+    "a directory for a file": ({"b/x.yml": VAULT}, {"b/x/main.yml": TEXT}, f"b/x/main.yml {GONE.format('b/x.yml')}"),
+    "a file for a directory": ({"b/x/y.yml": VAULT}, {"b/x.yml": TEXT}, f"b/x.yml {GONE.format('b/x/y.yml')}"),
+    "one of two of a name": (
+        {"a/x.yml": VAULT, "b/x.yml": OTHER}, {"c/x.yml": sealed("dev"), "d/x.yml": TEXT},
+        f"d/x.yml {GONE.format('b/x.yml')}",
+    ),
     "a text that begins like a value": (PW, b"pw: $ANSIBLE_VAULT_KEY\n", pw),
     "text between expressions": (PW, b'pw: "{{ x }}:{{ y }}"\n', pw),
     "a statement of Jinja": (PW, b'pw: "{% set x = 1 %}"\n', pw),

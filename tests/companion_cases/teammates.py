@@ -124,7 +124,8 @@ class Team:
                 places = [self.new("f{}.yml")]
             if way == "vault":
                 # In its own file, or in one that takes its place.
-                keys, places = ["k"], [name, name.replace(".yml", ".txt"), f"{name}.old", f"x/y/{name}"]
+                stem = name.removesuffix(".yml")
+                keys, places = ["k"], [name, f"{stem}.txt", f"{name}.old", f"x/y/{name.upper()}", f"{stem}/main.yml"]
             place = self.random.choice(places)
             self.files[place, *keys] = plain.format(self.new("text{}"))
             yield place

@@ -1,4 +1,4 @@
-"""Refuses what a commit must not do to vaults and values, by the five sentences of `ansible-vault-hook --help`."""
+"""Refuses what a commit must not do to vaults and values, by the sentences of `ansible-vault-hook --help`."""
 
 from __future__ import annotations
 

@@ -4,10 +4,11 @@ from __future__ import annotations
 
 import os
 from functools import cached_property
-from typing import Iterator
+from typing import Iterable, Iterator
 
 from ansible_vault_companions.git.commits import File
-from ansible_vault_companions.guard.change import Change
+from ansible_vault_companions.git.facts import ITEM
+from ansible_vault_companions.guard.change import Change, is_yaml
 from ansible_vault_companions.guard.faults import Fault, make_fault
 from ansible_vault_companions.program import escape
 
@@ -20,35 +21,63 @@ class Vaults:
         self.change = change
 
     @cached_property
-    def removed(self) -> dict[tuple[bytes, ...], bytes]:
-        """The removed vaults, by what a file has that takes their place."""
-        before = self.change.before
-        names = [file.name for file in before if before[file].is_vault and not file.blob]
-        return {place: name for name in names for place in _list_places(name, b"in", b"of")}
+    def removed(self) -> RemovedVaults:
+        before, now = self.change.before, self.change.now
+        removed = [file.name for file in before if before[file].is_vault and not file.blob]
+        return RemovedVaults(removed, (file.name for file in now if now[file].is_vault and not before[file].is_vault))
 
     def find_fault(self, file: File) -> Fault | None:
         before, now = self.change.before[file], self.change.now[file]
-        if now.is_vault or now.is_empty or self.change.is_exempt(file):
+        if now.is_vault or now.is_empty:
             return None
-        if before.is_vault:
-            return make_fault(self.change, file, NO_VAULT.format(self.change.since))
-        places = () if file.before else _list_places(file.name, b"of", b"in")
-        vault = next((self.removed[place] for place in places if place in self.removed), None)
-        if vault is None:
+        vault = None if file.before else self.removed.find_replaced(file.name)
+        if vault and not self._has_plaintext(file):
             return None
-        return make_fault(self.change, file, SUCCESSOR.format(escape(os.fsdecode(vault)), self.change.since))
+        if not (before.is_vault or vault) or self.change.is_exempt(file):
+            return None
+        since = self.change.since
+        why = SUCCESSOR.format(escape(os.fsdecode(vault)), since) if vault else NO_VAULT.format(since)
+        return make_fault(self.change, file, why)
+
+    def _has_plaintext(self, file: File) -> bool:
+        """Whether a file has plaintext that is in no YAML list. Tasks and plays are lists, and variables are none."""
+        now = self.change.find_facts(file.blob, needs_plain=True)
+        return not is_yaml(file) or now.fault != "" or any(keys[:1] != (ITEM,) for keys in now.plain)
 
 
-def _list_places(name: bytes, whole: bytes, end: bytes) -> Iterator[tuple[bytes, ...]]:
-    """What two paths have in common that differ in the suffix alone, or in one directory; or if one ends with the
-    other: these words stand for the whole and for its ends."""
-    *folders, base = name.split(b"/")
-    stem = os.path.splitext(base)[0]
-    yield b"stem", *folders, stem
-    yield b"stem", *folders, base
-    # What a file with this name is, its directory says.
-    if stem != b"main":
-        yield whole, name
-        for number in range(len(folders)):
-            yield b"folders", *folders[:number], b"", *folders[number + 1 :], base
-            yield end, b"/".join([*folders[number + 1 :], base])
+class RemovedVaults:
+    """Removed vaults without a new vault in their place. A file is in the place of a vault if it has its name, whatever
+    its directory, or its path, whatever its suffix; or if one is `all.yml` and the other is in the directory `all`
+    beside it, with the same suffix. Upper and lower case are the same. Many files are named `main`, so this name alone
+    says nothing."""
+
+    def __init__(self, removed: list[bytes], new: Iterable[bytes]) -> None:
+        self.left = {*removed}
+        self.at: dict[bytes, list[bytes]] = {}
+        for name in removed:
+            for place in (*_list_places(name), b"above: " + _find_above(name)):
+                self.at.setdefault(place, []).append(name)
+        for name in new:
+            self.left.discard(self.find_replaced(name) or b"")
+
+    def find_replaced(self, name: bytes) -> bytes | None:
+        """One of these vaults that had the place of a file."""
+        places = (*_list_places(name), _find_above(name), b"above: " + name.lower())
+        vaults = (vault for place in places for vault in self.at.get(place, ()))
+        return next((vault for vault in vaults if vault in self.left), None)
+
+
+def _list_places(name: bytes) -> Iterator[bytes]:
+    """The path, with and without the suffix, and the name, with a slash before it."""
+    path = name.lower()
+    stem, _ = os.path.splitext(path)
+    yield path
+    yield stem
+    if os.path.basename(stem) != b"main":
+        yield b"/" + os.path.basename(path)
+
+
+def _find_above(name: bytes) -> bytes:
+    """The file that a directory may take the place of: `all.yml` for `all/vars.yml`."""
+    path, suffix = os.path.splitext(name.lower())
+    return os.path.dirname(path) + suffix
