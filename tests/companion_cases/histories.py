@@ -58,6 +58,11 @@ PASSING: dict[str, tuple[Content, Content]] = {
     "tasks and a play of its name": (
         {"a/x.yml": VAULT, "y": X}, {"t/x.yml": b'- debug: "{{ x }}"\n', "x.yml": b"- hosts: x\n"}
     ),
+    "a locked account beside a rotation": (users(PW), users(PW2, b"pw: '!'\n", b"pw: '*'\n")),
+    "a value encrypted again elsewhere, and another default": (
+        {"a.yml": PW + X, "c.yml": PLAIN}, {"a.yml": X, "b.yml": PW2, "c.yml": b"pw: default\n"}
+    ),
+    "users by name": (users(PW), below(b"users", below(b"a", PW) + below(b"b", PLAIN))),
     "meant damage": (X, {"a.txt": CONFLICT % (PW, CUT), ".gitattributes": b"*.txt -ansible-vault diff=ansible-vault"}),
 }
 pw, db, elsewhere = (IN_PART.format(key) for key in ("pw", "db.pw", "db.pw of a.yml"))
@@ -83,6 +88,13 @@ REFUSED: dict[str, tuple[Content, Content, str]] = {
     "one of two of a name": (
         {"a/x.yml": VAULT, "b/x.yml": OTHER}, {"c/x.yml": sealed("dev"), "d/x.yml": TEXT},
         f"d/x.yml {GONE.format('b/x.yml')}",
+    ),
+    "a list, now by name": (users(PW), below(b"users", below(b"a", PLAIN)), IN_PART.format("users[].pw")),
+    "by name, now a list": (below(b"users", below(b"a", PW)), users(PLAIN), IN_PART.format("users.a.pw")),
+    "a list, now texts by name": (users(PW), b"users: {a: plain}\n", IN_PART.format("users[].pw")),
+    "one of two values that were one": (PW, {"b.yml": PW2, "c.yml": PLAIN}, f"c.yml {IN_PART.format('pw of a.yml')}"),
+    "a default for a value": (
+        {"a.yml": PW, "c.yml": PLAIN}, {"c.yml": b"pw: s3cret\n"}, f"c.yml {IN_PART.format('pw of a.yml')}"
     ),
     "a text that begins like a value": (PW, b"pw: $ANSIBLE_VAULT_KEY\n", pw),
     "text between expressions": (PW, b'pw: "{{ x }}:{{ y }}"\n', pw),

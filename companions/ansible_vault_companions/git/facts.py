@@ -17,7 +17,8 @@ from ansible_vault_companions.envelopes.scalars import BINARY, NotYaml, read_sca
 
 # The key of every list item, and the key that merges a mapping into another, which is not part of a path.
 ITEM, MERGE = "[]", "<<"
-NOTHING = (b"", b"~", b"null")
+# What is no secret as a whole text: nothing, and the passwords of locked accounts.
+NOTHING = (b"", b"~", b"null", b"!", b"*")
 # Jinja expressions and blanks. An expression has strings, and braces within braces, to a depth that nobody exceeds.
 STRING = r"'(?:[^'\\]|\\.)*'|\"(?:[^\"\\]|\\.)*\""
 WORDS = reduce(lambda inner, _: rf"[^{{}}'\"]|{STRING}|\{{(?:{inner})*\}}", range(4), rf"[^{{}}'\"]|{STRING}")
@@ -125,19 +126,35 @@ def list_branches(paths: Iterable[Keys]) -> set[Keys]:
     return {keys[:length] for keys in paths for length in range(len(keys) + 1)}
 
 
+def count_envelopes(files: Iterable[Facts]) -> Counter[int]:
+    """The envelopes in values, and how often each is there."""
+    return Counter(text for file in files for texts in file.encrypted.values() for text in texts.elements())
+
+
+def count_values(files: Iterable[Facts]) -> Counter[Keys]:
+    """How many values there are at each key path."""
+    return Counter(keys for file in files for keys, texts in file.encrypted.items() for _ in texts.elements())
+
+
 def find_now_plain(before: Facts, after: Facts) -> list[Keys]:
     """Where an envelope was and new plaintext is, at its keys, above or below. Where items of a list share the keys, an
-    envelope has to be gone."""
-    new = find_new_plaintext(before, after)
-    # An item of a list stands for the list: it may take the place of a mapping.
-    new |= {keys[:-1] for keys in new if keys[-1:] == (ITEM,)}
-    above = list_branches(new)
-    return [
-        keys
-        for keys, texts in before.encrypted.items()
-        if (ITEM not in keys or texts - after.encrypted.get(keys, NONE))
-        and (keys in above or any(keys[:length] in new for length in range(len(keys))))
-    ]
+    envelope has to be gone from the file. If a mapping takes the place of a list, or a list that of a mapping, the keys
+    of the mapping count as items."""
+    came_at = find_new_plaintext(before, after)
+    lists = {keys[:place] for keys in (*before.encrypted, *came_at) for place, key in enumerate(keys) if key == ITEM}
+
+    def with_items(keys: Keys) -> Keys:
+        return tuple(ITEM if keys[:place] in lists else key for place, key in enumerate(keys))
+
+    new = {with_items(keys) for keys in came_at}
+    above, gone = list_branches(new), count_envelopes([before]) - count_envelopes([after])
+    found = list[Keys]()
+    for keys, texts in before.encrypted.items():
+        place = with_items(keys)
+        is_new = place in above or any(place[:length] in new for length in range(len(place)))
+        if is_new and (ITEM not in place or not gone.keys().isdisjoint(texts)):
+            found.append(keys)
+    return found
 
 
 def is_unmerged(document: Document) -> bool:

@@ -5,7 +5,6 @@ from __future__ import annotations
 import os
 from collections import Counter
 from functools import cached_property
-from typing import Iterable, Iterator
 
 from ansible_vault_companions.git import facts
 from ansible_vault_companions.git.attributes import PLAIN_VALUES
@@ -24,18 +23,22 @@ class Values:
 
     @cached_property
     def removed(self) -> dict[Keys, bytes]:
-        """The keys of the values of which there are fewer in all, each with a file that had it."""
+        """The keys of which a file has fewer values, if an envelope of them is gone, each with such a file."""
         before, now = self.change.before, self.change.now
-        gone = Counter(_list_envelopes(before.values()))
-        gone.subtract(_list_envelopes(now.values()))
+        gone = facts.count_envelopes(before.values()) - facts.count_envelopes(now.values())
         removed = {}
         for file in before:
             for keys, texts in before[file].encrypted.items():
                 left = now[file].encrypted.get(keys, NONE)
                 is_fewer = sum(texts.values()) > sum(left.values()) and not now[file].is_vault
-                if is_fewer and any(gone[text] > 0 for text in texts - left):
+                if is_fewer and not gone.keys().isdisjoint(texts - left):
                     removed[keys] = file.name
         return removed
+
+    @cached_property
+    def fewer(self) -> Counter[Keys]:
+        """The keys of which there are fewer values in all."""
+        return facts.count_values(self.change.before.values()) - facts.count_values(self.change.now.values())
 
     def find_fault(self, file: File) -> Fault | None:
         before, now = self.change.before[file], self.change.now[file]
@@ -52,13 +55,10 @@ class Values:
         return make_fault(self.change, file, why, attribute=attribute)
 
     def _find_from_elsewhere(self, file: File, now: Facts) -> set[Keys]:
-        """The keys of removed values at or below which there is new plaintext."""
+        """The keys of removed values at or below which there is new plaintext. If there are as many values elsewhere,
+        a plaintext that was there may change."""
         if not self.removed or self.removed.keys().isdisjoint(facts.list_branches(now.plain)):
             return set()
         before = self.change.find_facts(file.before, needs_plain=True)
-        return facts.list_branches(facts.find_new_plaintext(before, now)) & self.removed.keys()
-
-
-def _list_envelopes(files: Iterable[Facts]) -> Iterator[int]:
-    """The envelopes in values, each as often as it is there."""
-    return (text for file in files for texts in file.encrypted.values() for text in texts.elements())
+        found = facts.list_branches(facts.find_new_plaintext(before, now)) & self.removed.keys()
+        return found - (facts.list_branches(before.plain) - self.fewer.keys())
