@@ -96,6 +96,7 @@ REFUSED: dict[str, tuple[Content, Content, str]] = {
     "a default for a value": (
         {"a.yml": PW, "c.yml": PLAIN}, {"c.yml": b"pw: s3cret\n"}, f"c.yml {IN_PART.format('pw of a.yml')}"
     ),
+    "plaintext with the tag": (PW, PW + b"x: !vault plain\n", "has plaintext with the tag `!vault` in line 8"),
     "a text that begins like a value": (PW, b"pw: $ANSIBLE_VAULT_KEY\n", pw),
     "text between expressions": (PW, b'pw: "{{ x }}:{{ y }}"\n', pw),
     "a statement of Jinja": (PW, b'pw: "{% set x = 1 %}"\n', pw),

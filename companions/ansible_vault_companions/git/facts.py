@@ -30,6 +30,7 @@ UNWRITTEN = re.compile(r"[^\w$@/:+*-]")
 
 NOT_ENCRYPTED = "is not encrypted"
 NOT_READ = "cannot be checked: {}"
+TAGGED = "has plaintext with the tag `!vault` in line {}"
 
 Keys = tuple[str, ...]
 # For each text at some keys, a number that stands for it, and how often it is there.
@@ -44,8 +45,11 @@ class Facts(NamedTuple):
     is_empty: bool = False
     # Why it cannot be read as YAML.
     fault: str = ""
-    # What is wrong with its envelopes, and with the whole if it is marked.
+    # How many envelopes it has.
+    envelopes: int = 0
+    # What is wrong with its envelopes, with what only has their tag, and with the whole if it is marked.
     damage: str = ""
+    tagged: str = ""
     unencrypted: str = NOT_ENCRYPTED
     encrypted: Texts = {}
     plain: Texts = {}
@@ -56,11 +60,13 @@ def find_facts(data: bytes, needs_plain: bool = False) -> Facts:
     if not data.strip():
         return Facts(is_empty=True, unencrypted="")
     if data.startswith(MAGIC):
-        return Facts(is_vault=True, damage=find_damage(Document(data)), unencrypted="")
+        return Facts(is_vault=True, envelopes=1, damage=find_damage(Document(data)), unencrypted="")
     if not (needs_plain or may_have_envelope(data)):
         return Facts()
     document, leaves = _read_leaves(data)
-    made = Facts(False, False, document.fault, find_damage(document), find_unencrypted(document), {}, {})
+    envelopes = sum(value.is_envelope for value in document.values)
+    faults = find_damage(document), find_tagged(document), find_unencrypted(document)
+    made = Facts(False, False, document.fault, envelopes, *faults, encrypted={}, plain={})
     for path, is_encrypted, text in leaves:
         texts = made.encrypted if is_encrypted else made.plain
         texts.setdefault(_keys(path), Counter())[text] += 1
@@ -173,6 +179,12 @@ def find_damage(document: Document) -> str:
     return f"has a damaged value in line {line}" if line else ""
 
 
+def find_tagged(document: Document) -> str:
+    """What is wrong with a text that has the tag of an envelope and is none; empty if there is no such text."""
+    line = next((value.line for value in document.values if value.is_tagged and not value.is_envelope), 0)
+    return TAGGED.format(line) if line else ""
+
+
 def find_unencrypted(document: Document) -> str:
     """Why a marked file that is not empty is refused; empty if it is not."""
     values = [value for value in document.values if value.style not in (STRAY, LOOSE)]
@@ -181,7 +193,4 @@ def find_unencrypted(document: Document) -> str:
             return NOT_READ.format(document.fault)
         if not any(value.is_envelope for value in values):
             return NOT_ENCRYPTED
-        line = next((value.line for value in values if not value.is_envelope), 0)
-        if line:
-            return f"has plaintext with the tag `!vault` in line {line}"
-    return find_damage(document)
+    return find_tagged(document) or find_damage(document)

@@ -22,6 +22,7 @@ RESOLVE = "resolve the conflict with ansible-vault-edit"
 RESTORE = "restore it, for example with `git checkout HEAD -- {}` if it is whole there; "
 REPAIR = "repair it; "
 UNMARK = "encrypt it, or unmark it with a line at the end of {}"
+ENCRYPT = "encrypt it with ansible-vault-edit, or remove the tag"
 
 UNMARKED = f"!diff !{VAULT}"
 
@@ -47,10 +48,13 @@ def find_unreadable(change: Change, file: File) -> Fault | None:
 
 
 def find_unencrypted(change: Change, file: File) -> Fault | None:
-    """A marked file that is not encrypted."""
-    why = change.now[file].unencrypted
-    if change.attributes[file.name].is_marked and why:
-        return Fault(why, UNMARK.format(make_line(file.name, UNMARKED, change.index.files)))
+    """A marked file that is not encrypted, or plaintext with the tag of envelopes beside one."""
+    before, now = change.before[file], change.now[file]
+    if change.attributes[file.name].is_marked and now.unencrypted:
+        return Fault(now.unencrypted, UNMARK.format(make_line(file.name, UNMARKED, change.index.files)))
+    is_tagged = now.tagged and (before.envelopes or now.envelopes)
+    if is_tagged and not (change.is_exempt(file) or change.is_example(file)):
+        return Fault(now.tagged, ENCRYPT)
     return None
 
 
