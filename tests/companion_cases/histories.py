@@ -33,6 +33,8 @@ CONFLICT = b"<<<<<<< HEAD\n%b=======\n%b>>>>>>> branch\n"
 # A text that git compares with others, to find renames.
 LINES = b"".join(b"line%d: %d\n" % (number, number) for number in range(80))
 
+POINTER = b"version https://git-lfs.github.com/spec/v1\noid sha256:61\nsize 5\n"
+
 # What a commit has in place of what was there before.
 PASSING: dict[str, tuple[Content, Content]] = {
     "braces and strings in an expression": (PW, b"pw: \"{{ {'a': {'b': x, 'c': '}}'}} }}{{ '{{' ~ y }}\"\n"),
@@ -67,6 +69,7 @@ PASSING: dict[str, tuple[Content, Content]] = {
 }
 pw, db, elsewhere = (IN_PART.format(key) for key in ("pw", "db.pw", "db.pw of a.yml"))
 DAMAGED, CUT_VALUE, UNMERGED = "is a damaged vault", "has a damaged value in line {}", "has git's conflict markers"
+LFS = "is a pointer of git-lfs, so its content cannot be checked"
 NOT_YAML = "had encrypted values, but can no longer be checked: line 1: it cannot be read as YAML: "
 # The same of commits that are to be refused, with the reason, and with the file if that is not a.yml.
 REFUSED: dict[str, tuple[Content, Content, str]] = {
@@ -78,6 +81,7 @@ REFUSED: dict[str, tuple[Content, Content, str]] = {
     "fewer folders": ({"x/y/a.yml": VAULT}, {"y/a.yml": TEXT}, f"y/a.yml {GONE.format('x/y/a.yml')}"),
     "another suffix of main": ({"main.yml": VAULT}, {"main.json": TEXT}, f"main.json {GONE.format('main.yml')}"),
     "another directory, deeper": ({"a/x.yml": VAULT}, {"b/c/x.yml": TEXT}, f"b/c/x.yml {GONE.format('a/x.yml')}"),
+    "another name's pointer": ({"a/x.yml": VAULT}, {"b/x.yml": POINTER}, f"b/x.yml {GONE.format('a/x.yml')}"),
     "a list by another name": ({"a.yml": VAULT}, {"a.txt": b"- plain\n"}, f"a.txt {GONE.format('a.yml')}"),
     "a list and a mapping": (
         {"a/x.yml": VAULT}, {"b/x.yml": b"- plain\n---\nx: 1\n"}, f"b/x.yml {GONE.format('a/x.yml')}"
@@ -89,6 +93,8 @@ REFUSED: dict[str, tuple[Content, Content, str]] = {
         {"a/x.yml": VAULT, "b/x.yml": OTHER}, {"c/x.yml": sealed("dev"), "d/x.yml": TEXT},
         f"d/x.yml {GONE.format('b/x.yml')}",
     ),
+    "a vault, now in git-lfs": (VAULT, POINTER, LFS),
+    "values, now in git-lfs": (PW, POINTER, LFS),
     "a list, now by name": (users(PW), below(b"users", below(b"a", PLAIN)), IN_PART.format("users[].pw")),
     "by name, now a list": (below(b"users", below(b"a", PW)), users(PLAIN), IN_PART.format("users.a.pw")),
     "a list, now texts by name": (users(PW), b"users: {a: plain}\n", IN_PART.format("users[].pw")),

@@ -28,7 +28,11 @@ MOST = 100_000
 # What the value of an attribute cannot have, or what separates keys.
 UNWRITTEN = re.compile(r"[^\w$@/:+*-]")
 
+# What git-lfs stores in place of a file.
+POINTER = b"version https://git-lfs.github.com/spec/"
+
 NOT_ENCRYPTED = "is not encrypted"
+IN_LFS = "is a pointer of git-lfs, so its content cannot be checked"
 NOT_READ = "cannot be checked: {}"
 TAGGED = "has plaintext with the tag `!vault` in line {}"
 
@@ -61,6 +65,8 @@ def find_facts(data: bytes, needs_plain: bool = False) -> Facts:
         return Facts(is_empty=True, unencrypted="")
     if data.startswith(MAGIC):
         return Facts(is_vault=True, envelopes=1, damage=find_damage(Document(data)), unencrypted="")
+    if data.startswith(POINTER):
+        return Facts(fault=IN_LFS, unencrypted=IN_LFS)
     if not (needs_plain or may_have_envelope(data)):
         return Facts()
     document, leaves = _read_leaves(data)

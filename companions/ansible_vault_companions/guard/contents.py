@@ -8,7 +8,7 @@ from ansible_vault_companions.envelopes import conflicts
 from ansible_vault_companions.files import replacing
 from ansible_vault_companions.git.attributes import PLAIN_VALUES, VAULT, make_line
 from ansible_vault_companions.git.commits import File
-from ansible_vault_companions.git.facts import write_keys
+from ansible_vault_companions.git.facts import IN_LFS, write_keys
 from ansible_vault_companions.git.repository import make_pathspec
 from ansible_vault_companions.guard.change import Change, is_yaml
 from ansible_vault_companions.guard.faults import EXEMPT, Fault, make_fault
@@ -21,10 +21,11 @@ REMOVE = "look at its content, and remove it with `git rm -f -- {}`"
 RESOLVE = "resolve the conflict with ansible-vault-edit"
 RESTORE = "restore it, for example with `git checkout HEAD -- {}` if it is whole there; "
 REPAIR = "repair it; "
+OUT_OF_LFS = "keep it out of git-lfs: run `git add --renormalize -- {}` with this line at the end of {}"
 UNMARK = "encrypt it, or unmark it with a line at the end of {}"
 ENCRYPT = "encrypt it with ansible-vault-edit, or remove the tag"
 
-UNMARKED = f"!diff !{VAULT}"
+UNMARKED, NO_FILTER = f"!diff !{VAULT}", "!filter"
 
 
 def find_damage(change: Change, file: File) -> Fault | None:
@@ -37,6 +38,15 @@ def find_damage(change: Change, file: File) -> Fault | None:
     if damage == conflicts.UNMERGED:
         return Fault(damage, RESOLVE)
     return make_fault(change, file, damage, RESTORE.format(path)) if damage else None
+
+
+def find_pointer(change: Change, file: File) -> Fault | None:
+    """A pointer of git-lfs in place of what is or was encrypted."""
+    is_marked, had_envelopes = change.attributes[file.name].is_marked, change.before[file].envelopes > 0
+    if change.now[file].unencrypted != IN_LFS or not (is_marked or had_envelopes and not change.is_exempt(file)):
+        return None
+    line = make_line(file.name, NO_FILTER, change.index.files)
+    return Fault(IN_LFS, OUT_OF_LFS.format(make_pathspec(os.fsdecode(file.name), is_below_top=True), line))
 
 
 def find_unreadable(change: Change, file: File) -> Fault | None:

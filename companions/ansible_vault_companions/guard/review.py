@@ -24,6 +24,7 @@ def find_faults(change: Change) -> Iterator[tuple[File, Fault]]:
         if file.blob:
             fault = (
                 contents.find_damage(change, file)
+                or contents.find_pointer(change, file)
                 or contents.find_unreadable(change, file)
                 or vaults.find_fault(file)
                 or values.find_fault(file)
