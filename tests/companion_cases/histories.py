@@ -33,7 +33,7 @@ CONFLICT = b"<<<<<<< HEAD\n%b=======\n%b>>>>>>> branch\n"
 # A text that git compares with others, to find renames.
 LINES = b"".join(b"line%d: %d\n" % (number, number) for number in range(80))
 
-POINTER = b"version https://git-lfs.github.com/spec/v1\noid sha256:61\nsize 5\n"
+POINTER, TAB = b"version https://git-lfs.github.com/spec/v1\noid sha256:61\nsize 5\n", b"\tx: 1\n"
 
 # What a commit has in place of what was there before.
 PASSING: dict[str, tuple[Content, Content]] = {
@@ -65,12 +65,14 @@ PASSING: dict[str, tuple[Content, Content]] = {
         {"a.yml": PW + X, "c.yml": PLAIN}, {"a.yml": X, "b.yml": PW2, "c.yml": b"pw: default\n"}
     ),
     "users by name": (users(PW), below(b"users", below(b"a", PW) + below(b"b", PLAIN))),
+    "a repaired file with as many values": (TAB + PW, PW2 + X),
     "meant damage": (X, {"a.txt": CONFLICT % (PW, CUT), ".gitattributes": b"*.txt -ansible-vault diff=ansible-vault"}),
 }
 pw, db, elsewhere = (IN_PART.format(key) for key in ("pw", "db.pw", "db.pw of a.yml"))
 DAMAGED, CUT_VALUE, UNMERGED = "is a damaged vault", "has a damaged value in line {}", "has git's conflict markers"
-LFS = "is a pointer of git-lfs, so its content cannot be checked"
 NOT_YAML = "had encrypted values, but can no longer be checked: line 1: it cannot be read as YAML: "
+FEWER = "has fewer envelopes than in HEAD, and cannot be compared with what it was there: "
+LFS, TOKEN = "is a pointer of git-lfs, so its content cannot be checked", "found character that cannot start any token"
 # The same of commits that are to be refused, with the reason, and with the file if that is not a.yml.
 REFUSED: dict[str, tuple[Content, Content, str]] = {
     "a vault of another format": (AES, TEXT, WHOLE),
@@ -103,6 +105,7 @@ REFUSED: dict[str, tuple[Content, Content, str]] = {
         {"a.yml": PW, "c.yml": PLAIN}, {"c.yml": b"pw: s3cret\n"}, f"c.yml {IN_PART.format('pw of a.yml')}"
     ),
     "plaintext with the tag": (PW, PW + b"x: !vault plain\n", "has plaintext with the tag `!vault` in line 8"),
+    "a repaired file": (TAB + PW, PLAIN, f"{FEWER}line 1: it cannot be read as YAML: {TOKEN}"),
     "a text that begins like a value": (PW, b"pw: $ANSIBLE_VAULT_KEY\n", pw),
     "text between expressions": (PW, b'pw: "{{ x }}:{{ y }}"\n', pw),
     "a statement of Jinja": (PW, b'pw: "{% set x = 1 %}"\n', pw),

@@ -49,7 +49,7 @@ class Facts(NamedTuple):
     is_empty: bool = False
     # Why it cannot be read as YAML.
     fault: str = ""
-    # How many envelopes it has.
+    # How many envelopes it has, even if it cannot be read.
     envelopes: int = 0
     # What is wrong with its envelopes, with what only has their tag, and with the whole if it is marked.
     damage: str = ""

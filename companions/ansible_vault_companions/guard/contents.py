@@ -15,6 +15,7 @@ from ansible_vault_companions.guard.faults import EXEMPT, Fault, make_fault
 
 LEFTOVER = "was left behind by a companion, and may be plaintext"
 NOT_YAML = "had encrypted values, but can no longer be checked: {}"
+WAS_NO_YAML = "has fewer envelopes than{}, and cannot be compared with what it was there: {}"
 STALE = "is encrypted again, but .gitattributes allows plaintext in it: remove `{}` there, or narrow its pattern"
 # What to do.
 REMOVE = "look at its content, and remove it with `git rm -f -- {}`"
@@ -50,10 +51,14 @@ def find_pointer(change: Change, file: File) -> Fault | None:
 
 
 def find_unreadable(change: Change, file: File) -> Fault | None:
-    """A file by whose name it is YAML, and that cannot be compared with what it was, since it is none."""
+    """A file by whose name it is YAML, and that cannot be compared with what it was, since one of them is none."""
     before, now = change.before[file], change.now[file]
-    if is_yaml(file) and before.encrypted and now.fault and not change.is_exempt(file):
+    if not is_yaml(file) or change.is_exempt(file):
+        return None
+    if before.encrypted and now.fault:
         return make_fault(change, file, NOT_YAML.format(now.fault), REPAIR)
+    if before.fault and before.envelopes > now.envelopes and not (now.is_vault or now.is_empty):
+        return make_fault(change, file, WAS_NO_YAML.format(change.since, before.fault))
     return None
 
 

@@ -25,9 +25,9 @@ def find_faults(change: Change) -> Iterator[tuple[File, Fault]]:
             fault = (
                 contents.find_damage(change, file)
                 or contents.find_pointer(change, file)
-                or contents.find_unreadable(change, file)
                 or vaults.find_fault(file)
                 or values.find_fault(file)
+                or contents.find_unreadable(change, file)
                 or contents.find_unencrypted(change, file)
                 or contents.find_stale(change, file)
             )
