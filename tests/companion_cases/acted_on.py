@@ -93,12 +93,6 @@ def paste(case: Case, told: "re.Match[str]") -> None:
     case.stage(case.place.get(path) + f"{line}\n".encode(), path)
 
 
-def remove(case: Case, told: "re.Match[str]") -> None:
-    """Remove an attribute, with its value, or names from a value."""
-    named = re.escape(told[1].encode()) + rb"(=\S*)?"
-    case.stage(re.sub(named, b"", case.place.get(".gitattributes")), ".gitattributes")
-
-
 def resolve(case: Case, told: "re.Match[str]") -> None:
     case.run(f"{told[1]} {OLD}")
     case.stage(case.place.get(case.name))
@@ -152,11 +146,9 @@ JOINED, LINES = b'a: !vault "%s"\n' % b" ".join(OLD_VAULT.split()), lines_of(OLD
 KEY = '"a b,%=.c[]": '
 VALUES = KEY.encode() + block("old", name="").lstrip(b": ") + b"x:\n- " + block("old", name="pw") + b"y: 1\n"
 PLAIN = f"{KEY}plain\nx: [pw: plain]\ny: 1\n".encode()
-MARKED, EXEMPT, DRIVER = "*.yml diff=ansible-vault\n", "*.yml -ansible-vault\n", "*.yml merge=ansible-vault\n"
+MARKED, DRIVER = "*.yml diff=ansible-vault\n", "*.yml merge=ansible-vault\n"
 TAKE_THEIRS, TYPE = "sed -i '/^<<<</,/^====/d; /^>>>>/d' \"$1\"", "echo 'b: !vault {}' >> \"$1\""
-EXEMPT_VALUES, FAIL = "*.yml ansible-vault-plain=a%20b%2C%25%3D%2Ec%5B%5D,x[].pw\n", f"{CHANGE}; exit 3"
-# Not for the neighbour.
-EXEMPT_VALUES += "x* !ansible-vault-plain\n*x.yml !ansible-vault-plain\n"
+FAIL = f"{CHANGE}; exit 3"
 ORIGIN = "git clone -q . ../other && git -C ../other branch more && git remote add origin $PWD/../other"
 SHALLOW = """git commit -q --allow-empty -m second && git clone -q --bare . ../all && rm -rf .git
 git clone -q --depth 1 file://$PWD/../all ../one && mv ../one/.git .git && git reset -q"""
@@ -167,9 +159,6 @@ ROWS = {
     "plaintext": Row(staged(OLD_VAULT, TEXT), HOOK, "or add to (.*)", paste, []),
     "plain values": Row(staged(VALUES, PLAIN), HOOK, "or add to (.*)", paste, []),
     "marked": Row(staged(b"", TEXT), HOOK, "at the end of (.*)", paste, [], MARKED),
-    "exempt": Row(staged(TEXT, OLD_VAULT), HOOK, "remove `(.*)` there", remove, [TEXT], EXEMPT),
-    "exempt values": Row(staged(PLAIN, VALUES), HOOK, "remove `(.*)` there", remove, [TEXT, TEXT], EXEMPT_VALUES),
-    "values, now a vault": Row(staged(PLAIN, OLD_VAULT), HOOK, "remove `(.*)` there", remove, [TEXT], EXEMPT_VALUES),
     "markers": Row(merged(*VAULTS, is_added=True), HOOK, "conflict with (.*)", resolve, [THEIRS], "", TAKE_THEIRS),
     "unmerged": Row(
         merged(*VAULTS), HOOK, "and run `(.*)`", lambda case, told: (case.put(OLD_VAULT), case.shell(told[1]))

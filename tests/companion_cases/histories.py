@@ -33,6 +33,8 @@ CONFLICT = b"<<<<<<< HEAD\n%b=======\n%b>>>>>>> branch\n"
 # A text that git compares with others, to find renames.
 LINES = b"".join(b"line%d: %d\n" % (number, number) for number in range(80))
 
+FIXTURES: dict[str, bytes] = {".gitattributes": b"t/* -ansible-vault\n"}
+EXEMPT = {".gitattributes": b"a.yml ansible-vault-plain=pw\n"}
 POINTER, TAB = b"version https://git-lfs.github.com/spec/v1\noid sha256:61\nsize 5\n", b"\tx: 1\n"
 
 # What a commit has in place of what was there before.
@@ -65,6 +67,8 @@ PASSING: dict[str, tuple[Content, Content]] = {
         {"a.yml": PW + X, "c.yml": PLAIN}, {"a.yml": X, "b.yml": PW2, "c.yml": b"pw: default\n"}
     ),
     "users by name": (users(PW), below(b"users", below(b"a", PW) + below(b"b", PLAIN))),
+    "fixtures": (FIXTURES, FIXTURES | {"t/a.yml": VAULT, "t/b.yml": CUT, "t/c.yml": b"pw: !vault x\n" + PW2}),
+    "encrypted again": ({"a.yml": PLAIN, **EXEMPT}, {"a.yml": PW, **EXEMPT}),
     "a repaired file with as many values": (TAB + PW, PW2 + X),
     "meant damage": (X, {"a.txt": CONFLICT % (PW, CUT), ".gitattributes": b"*.txt -ansible-vault diff=ansible-vault"}),
 }
@@ -97,6 +101,8 @@ REFUSED: dict[str, tuple[Content, Content, str]] = {
     ),
     "a vault, now in git-lfs": (VAULT, POINTER, LFS),
     "values, now in git-lfs": (PW, POINTER, LFS),
+    "an exempt fixture": (FIXTURES | {"t/a.yml": VAULT}, FIXTURES | {"t/a.yml": TEXT}, f"t/a.yml {WHOLE}"),
+    "a value exempt in advance": ({"a.yml": PW, **EXEMPT}, {"a.yml": PLAIN, **EXEMPT}, f"a.yml {pw}"),
     "a list, now by name": (users(PW), below(b"users", below(b"a", PLAIN)), IN_PART.format("users[].pw")),
     "by name, now a list": (below(b"users", below(b"a", PW)), users(PLAIN), IN_PART.format("users.a.pw")),
     "a list, now texts by name": (users(PW), b"users: {a: plain}\n", IN_PART.format("users[].pw")),

@@ -20,9 +20,9 @@ SPECIAL = re.compile(rb"[*?\[\\]")
 
 
 class Attributes(NamedTuple):
-    is_marked: bool
-    is_exempt: bool
-    plain_values: set[str]
+    is_marked: bool = False
+    is_exempt: bool = False
+    plain_values: frozenset[str] = frozenset()
 
 
 def read_attributes(
@@ -43,7 +43,7 @@ def _make_attributes(diff: bytes, vault: bytes, plain: bytes) -> Attributes:
     is_exempt = vault == b"unset"
     is_marked = not is_exempt and (diff == NAME or vault == b"set")
     has_values = plain not in (b"unspecified", b"set", b"unset")
-    return Attributes(is_marked, is_exempt, {*os.fsdecode(plain).split(",")} if has_values else set())
+    return Attributes(is_marked, is_exempt, frozenset(os.fsdecode(plain).split(",") if has_values else ()))
 
 
 def find_marked(paths: list[str]) -> set[str]:

@@ -45,6 +45,8 @@ class Differences(NamedTuple):
 
     since: str
     files: list[File]
+    # The other commit, unless the files are compared with several.
+    parent: str = ""
 
 
 class Index:
@@ -73,7 +75,7 @@ class Index:
             File(name, blob if mode in MODES else "", before if old_mode in FILE_MODES else "", mode == LINK_MODE)
             for name, old_mode, mode, before, blob in _list_differences(*words, index=self.path)
         ]
-        return Differences(commit[:10], files)
+        return Differences(commit[:10], files, commit)
 
     def changes(self) -> list[Differences]:
         """The differences from each parent."""
@@ -148,13 +150,20 @@ def find_commit(name: str) -> str:
 
 
 @contextmanager
-def open_index(commit: str) -> Iterator[Index]:
-    """A context with a temporary index that contains the files of a commit."""
+def open_index_file(tree: str) -> Iterator[str]:
+    """A context with the path of a temporary index that contains the files of a commit or tree."""
     # If none is named, `tempfile` might choose another directory, even the current one.
     above = os.path.abspath(os.environ.get("TMPDIR") or "/tmp")
     with tempfile.TemporaryDirectory(prefix="ansible-vault-", dir=above) as folder:
         path = os.path.join(folder, "index")
-        run_git("read-tree", commit, index=path)
+        run_git("read-tree", tree, index=path)
+        yield path
+
+
+@contextmanager
+def open_index(commit: str) -> Iterator[Index]:
+    """A context with a temporary index that contains the files of a commit."""
+    with open_index_file(commit) as path:
         yield Index(run_git("rev-list", "--parents", "--max-count=1", commit, "--").decode().split()[1:], path)
 
 

@@ -3,11 +3,12 @@
 from __future__ import annotations
 
 import os
+from functools import cached_property
 
 from ansible_vault_companions.envelopes.document import PROSE, YAML
 from ansible_vault_companions.envelopes.scalars import TOO_LONG
-from ansible_vault_companions.git import facts
-from ansible_vault_companions.git.attributes import read_attributes
+from ansible_vault_companions.git import commits, facts
+from ansible_vault_companions.git.attributes import Attributes, read_attributes
 from ansible_vault_companions.git.commits import Blobs, Differences, File, Index
 from ansible_vault_companions.git.facts import Facts
 
@@ -18,6 +19,7 @@ class Change:
     def __init__(self, differences: Differences, index: Index, blobs: Blobs) -> None:
         self.index = index
         self.blobs = blobs
+        self.parent = differences.parent
         self.since = f" in {differences.since}" if differences.since else ""
         self.attributes = read_attributes([file.name for file in differences.files], index.path)
         self.before = {file: self.find_facts(file.before, is_old=True) for file in differences.files}
@@ -28,8 +30,21 @@ class Change:
         content = self.blobs.read(blob, is_old) if blob else b""
         return Facts(fault=TOO_LONG) if content is None else facts.find_facts(content, needs_plain)
 
+    @cached_property
+    def earlier(self) -> dict[bytes, Attributes]:
+        """The attributes before the change."""
+        if not self.parent:
+            return {}
+        with commits.open_index_file(self.parent) as path:
+            return read_attributes(self.attributes, path)
+
+    def find_earlier(self, file: File) -> Attributes:
+        return self.earlier.get(file.name, Attributes())
+
     def is_exempt(self, file: File) -> bool:
-        return self.attributes[file.name].is_exempt
+        """Whether a line exempts a file that the change adds. For a new file, it may be older."""
+        is_exempt = self.attributes[file.name].is_exempt
+        return is_exempt and not (file.before and self.find_earlier(file).is_exempt)
 
     def is_example(self, file: File) -> bool:
         """Whether a file is a document, which may have envelopes that are none."""

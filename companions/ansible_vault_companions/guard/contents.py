@@ -6,17 +6,16 @@ import os
 
 from ansible_vault_companions.envelopes import conflicts
 from ansible_vault_companions.files import replacing
-from ansible_vault_companions.git.attributes import PLAIN_VALUES, VAULT, make_line
+from ansible_vault_companions.git.attributes import VAULT, make_line
 from ansible_vault_companions.git.commits import File
-from ansible_vault_companions.git.facts import IN_LFS, write_keys
+from ansible_vault_companions.git.facts import IN_LFS
 from ansible_vault_companions.git.repository import make_pathspec
 from ansible_vault_companions.guard.change import Change, is_yaml
-from ansible_vault_companions.guard.faults import EXEMPT, Fault, make_fault
+from ansible_vault_companions.guard.faults import Fault, make_fault
 
 LEFTOVER = "was left behind by a companion, and may be plaintext"
 NOT_YAML = "had encrypted values, but can no longer be checked: {}"
 WAS_NO_YAML = "has fewer envelopes than{}, and cannot be compared with what it was there: {}"
-STALE = "is encrypted again, but .gitattributes allows plaintext in it: remove `{}` there, or narrow its pattern"
 # What to do.
 REMOVE = "look at its content, and remove it with `git rm -f -- {}`"
 RESOLVE = "resolve the conflict with ansible-vault-edit"
@@ -30,7 +29,7 @@ UNMARKED, NO_FILTER = f"!diff !{VAULT}", "!filter"
 
 
 def find_damage(change: Change, file: File) -> Fault | None:
-    if change.is_exempt(file) or change.is_example(file):
+    if change.attributes[file.name].is_exempt or change.is_example(file):
         return None
     name, damage = os.fsdecode(file.name), change.now[file].damage
     path = make_pathspec(name, is_below_top=True)
@@ -55,10 +54,11 @@ def find_unreadable(change: Change, file: File) -> Fault | None:
     before, now = change.before[file], change.now[file]
     if not is_yaml(file) or change.is_exempt(file):
         return None
+    is_given = change.attributes[file.name].is_exempt
     if before.encrypted and now.fault:
-        return make_fault(change, file, NOT_YAML.format(now.fault), REPAIR)
+        return make_fault(change, file, NOT_YAML.format(now.fault), REPAIR, is_given=is_given)
     if before.fault and before.envelopes > now.envelopes and not (now.is_vault or now.is_empty):
-        return make_fault(change, file, WAS_NO_YAML.format(change.since, before.fault))
+        return make_fault(change, file, WAS_NO_YAML.format(change.since, before.fault), is_given=is_given)
     return None
 
 
@@ -71,12 +71,3 @@ def find_unencrypted(change: Change, file: File) -> Fault | None:
     if is_tagged and not (change.is_exempt(file) or change.is_example(file)):
         return Fault(now.tagged, ENCRYPT)
     return None
-
-
-def find_stale(change: Change, file: File) -> Fault | None:
-    """A file that is encrypted again, and would be left without a guard."""
-    now, given = change.now[file], change.attributes[file.name]
-    if now.is_vault and not now.damage and (given.is_exempt or given.plain_values):
-        return Fault(STALE.format(EXEMPT if given.is_exempt else PLAIN_VALUES))
-    names = given.plain_values & {write_keys(keys) for keys in now.encrypted.keys() - now.plain.keys()}
-    return Fault(STALE.format(",".join(sorted(names)))) if names else None

@@ -9,15 +9,20 @@ from ansible_vault_companions.git.commits import File
 from ansible_vault_companions.guard.change import Change
 
 MEANT = "{}if that is intended, commit with --no-verify, or add to {}"
+TOO_OLD = "{}if that is intended, commit with --no-verify: .gitattributes allowed it in an earlier commit, not now"
 EXEMPT = f"-{VAULT}"
 
 
 class Fault(NamedTuple):
     why: str
     # What to do.
-    hint: str = ""
+    hint: str
 
 
-def make_fault(change: Change, file: File, why: str, first: str = "", attribute: str = EXEMPT) -> Fault:
-    """A fault that an attribute allows."""
+def make_fault(
+    change: Change, file: File, why: str, first: str = "", attribute: str = EXEMPT, is_given: bool = False
+) -> Fault:
+    """A fault that is none in the commit that adds an attribute. A line of an earlier commit may already give it."""
+    if is_given:
+        return Fault(why, TOO_OLD.format(first))
     return Fault(why, MEANT.format(first, make_line(file.name, attribute, change.index.files)))

@@ -29,7 +29,6 @@ def find_faults(change: Change) -> Iterator[tuple[File, Fault]]:
                 or values.find_fault(file)
                 or contents.find_unreadable(change, file)
                 or contents.find_unencrypted(change, file)
-                or contents.find_stale(change, file)
             )
             if fault:
                 yield file, fault

@@ -5,6 +5,7 @@ from __future__ import annotations
 import os
 from collections import Counter
 from functools import cached_property
+from typing import Iterator
 
 from ansible_vault_companions.git import facts
 from ansible_vault_companions.git.attributes import PLAIN_VALUES
@@ -42,7 +43,7 @@ class Values:
 
     def find_fault(self, file: File) -> Fault | None:
         before, now = self.change.before[file], self.change.now[file]
-        allowed = self.change.attributes[file.name].plain_values
+        given, allowed = self.change.attributes[file.name].plain_values, {*self._list_allowed(file)}
         elsewhere = self._find_from_elsewhere(file, now)
         sources = {keys: f" of {escape(os.fsdecode(self.removed[keys]))}" for keys in elsewhere}
         sources.update(dict.fromkeys(facts.find_now_plain(before, now), ""))
@@ -51,8 +52,16 @@ class Values:
             return None
         names = ", ".join(write_keys(keys) + sources[keys] for keys in refused)
         why = NOW_PLAIN.format(names, "was" if len(refused) == 1 else "were", self.change.since)
-        attribute = f"{PLAIN_VALUES}={','.join(sorted({*map(write_keys, sources), *allowed}))}"
-        return make_fault(self.change, file, why, attribute=attribute)
+        attribute = f"{PLAIN_VALUES}={','.join(sorted({*map(write_keys, sources), *given}))}"
+        is_given = not given.isdisjoint(map(write_keys, refused))
+        return make_fault(self.change, file, why, attribute=attribute, is_given=is_given)
+
+    def _list_allowed(self, file: File) -> Iterator[str]:
+        """The key paths that may be plaintext, since the change itself says so, or since they were before."""
+        given = self.change.attributes[file.name].plain_values
+        if given:
+            yield from given - self.change.find_earlier(file).plain_values
+            yield from given.intersection(map(write_keys, self.change.find_facts(file.before, needs_plain=True).plain))
 
     def _find_from_elsewhere(self, file: File, now: Facts) -> set[Keys]:
         """The keys of removed values at or below which there is new plaintext. If there are as many values elsewhere,

@@ -35,9 +35,9 @@ class Vaults:
             return None
         if not (before.is_vault or vault) or self.change.is_exempt(file):
             return None
-        since = self.change.since
+        since, is_given = self.change.since, self.change.attributes[file.name].is_exempt
         why = SUCCESSOR.format(escape(os.fsdecode(vault)), since) if vault else NO_VAULT.format(since)
-        return make_fault(self.change, file, why)
+        return make_fault(self.change, file, why, is_given=is_given)
 
     def _has_plaintext(self, file: File) -> bool:
         """Whether a file has plaintext that is in no YAML list. Tasks and plays are lists, and variables are none."""
