@@ -156,8 +156,8 @@ ROWS = {
     "damage": Row(staged(OLD_VAULT, OLD_VAULT[:-99]), HOOK, "`(git .*)` if it is whole", in_shell),
     "a damaged value": Row(staged(block("old"), block("old")[:-99]), HOOK, "`(git .*)` if it is whole", in_shell),
     "a leftover": Row(lambda case: case.stage(TEXT, case.name + LEFTOVER), HOOK, "remove it with `(.*)`", in_shell),
-    "plaintext": Row(staged(OLD_VAULT, TEXT), HOOK, "or add to (.*)", paste, []),
-    "plain values": Row(staged(VALUES, PLAIN), HOOK, "or add to (.*)", paste, []),
+    "plaintext": Row(staged(OLD_VAULT, TEXT), HOOK, "this line, too, in (.*)", paste, []),
+    "plain values": Row(staged(VALUES, PLAIN), HOOK, "this line, too, in (.*)", paste, []),
     "marked": Row(staged(b"", TEXT), HOOK, "at the end of (.*)", paste, [], MARKED),
     "markers": Row(merged(*VAULTS, is_added=True), HOOK, "conflict with (.*)", resolve, [THEIRS], "", TAKE_THEIRS),
     "unmerged": Row(

@@ -179,7 +179,8 @@ def test_history(place: Place) -> None:
 
 
 def test_versions(place: Place) -> None:
-    """Any number of versions of a vault is fine, also beside files that are named like commits."""
+    """Any number of versions of a vault is fine, also beside files that are named like commits. What is committed is no
+    longer to be committed otherwise, so the advice is another one."""
     under_git(place, "")
     first = committed(place, "HEAD", TEXT)
     for text in (b"1", b"2", b"3"):
@@ -187,6 +188,16 @@ def test_versions(place: Place) -> None:
         committed(place, "a.yml", sealed("old", text))
     for words in ([HOOK], [HOOK, "--all"], [HOOK, "--since", first]):
         silent("three versions", place.run(*words))
+    committed(place, "a.yml", TEXT)
+    for option in ("--all", "--since=HEAD~1"):
+        done = place.run(HOOK, option)
+        assert len(told(done)) == 1 and "rewrite the commit" in done.stderr and "--no-verify" not in done.stderr
+    committed(place, "b.yml", TEXT)
+    done = place.run(HOOK, "--all")
+    assert told(done) == [f"a.yml {WHOLE.replace('HEAD', 'an earlier commit')}"]
+    assert "commit this line in .gitattributes: /a.yml -ansible-vault" in done.stderr
+    committed(place, ".gitattributes", b"/a.yml -ansible-vault\n")
+    silent("the line is committed", place.run(HOOK, "--all"))
 
 
 def test_merge(place: Place) -> None:

@@ -22,7 +22,7 @@ RESOLVE = "resolve the conflict with ansible-vault-edit"
 RESTORE = "restore it, for example with `git checkout HEAD -- {}` if it is whole there; "
 REPAIR = "repair it; "
 OUT_OF_LFS = "keep it out of git-lfs: run `git add --renormalize -- {}` with this line at the end of {}"
-UNMARK = "encrypt it, or unmark it with a line at the end of {}"
+UNMARK = "encrypt it, or unmark it: stage this line at the end of {}"
 ENCRYPT = "encrypt it with ansible-vault-edit, or remove the tag"
 
 UNMARKED, NO_FILTER = f"!diff !{VAULT}", "!filter"

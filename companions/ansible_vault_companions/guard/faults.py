@@ -8,15 +8,15 @@ from ansible_vault_companions.git.attributes import VAULT, make_line
 from ansible_vault_companions.git.commits import File
 from ansible_vault_companions.guard.change import Change
 
-MEANT = "{}if that is intended, commit with --no-verify, or add to {}"
 TOO_OLD = "{}if that is intended, commit with --no-verify: .gitattributes allowed it in an earlier commit, not now"
 EXEMPT = f"-{VAULT}"
 
 
 class Fault(NamedTuple):
     why: str
-    # What to do.
+    # What to do, or the words before how to allow it with a line in .gitattributes.
     hint: str
+    line: str = ""
 
 
 def make_fault(
@@ -25,4 +25,4 @@ def make_fault(
     """A fault that is none in the commit that adds an attribute. A line of an earlier commit may already give it."""
     if is_given:
         return Fault(why, TOO_OLD.format(first))
-    return Fault(why, MEANT.format(first, make_line(file.name, attribute, change.index.files)))
+    return Fault(why, first, make_line(file.name, attribute, change.index.files))

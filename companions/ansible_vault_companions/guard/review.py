@@ -16,6 +16,12 @@ from ansible_vault_companions.guard.values import Values
 from ansible_vault_companions.guard.vaults import Vaults
 from ansible_vault_companions.program import escape, write_error
 
+# How to allow what is staged, and what a commit has.
+TO_STAGE = "if that is intended, commit with --no-verify, or stage this line, too, in "
+TO_COMMIT = "if that is intended, commit this line in "
+# What to do about a commit. No later one changes what the hook says of it.
+REWRITE = "rewrite the commit, for example with `git rebase -i`; if that was intended, check only those after it"
+
 
 def find_faults(change: Change) -> Iterator[tuple[File, Fault]]:
     """Each refused file, with the first of its faults."""
@@ -42,9 +48,12 @@ class Review:
         self.blobs = blobs
         self.reported: set[tuple[bytes, str]] = set()
 
-    def look_at(self, index: Index, changes: list[Differences], where: str = "") -> None:
-        """Checks changes with the attributes of an index. `where` precedes each message. A link counts as the file that
-        it leads to, and as none if that is not in the index."""
+    def look_at(
+        self, index: Index, changes: list[Differences], where: str = "", to_allow: str = TO_STAGE, hint: str = ""
+    ) -> None:
+        """Checks changes with the attributes of an index. `where` precedes each message, and a hint follows it: the
+        fault's own, unless one is given. A link counts as the file that it leads to, and as none if that is not in the
+        index."""
         for differences in changes:
             blobs = {file: index.target(file, self.blobs) if file.is_link else file.blob for file in differences.files}
             files = [file._replace(blob=blob) for file, blob in blobs.items()]
@@ -53,9 +62,9 @@ class Review:
                     continue
                 self.reported.add((file.name, file.blob))
                 why = f"is a link to a file that {fault.why}" if file.is_link else fault.why
+                own = f"{fault.hint}{to_allow}{fault.line}" if fault.line else fault.hint
                 write_error(f"{self.program}: {where}{escape(os.fsdecode(file.name))} {why}")
-                if fault.hint:
-                    write_error(f"  {fault.hint}")
+                write_error(f"  {hint or own}")
 
 
 def review_staged(review: Review, paths: list[str]) -> None:
@@ -70,10 +79,10 @@ def review_since(review: Review, name: str) -> None:
     first, last = commits.find_commit(name), commits.find_commit("HEAD")
     for commit in run_git("rev-list", "--reverse", "--topo-order", f"{first}..{last}", "--").decode().split():
         with commits.open_index(commit) as index:
-            review.look_at(index, index.changes(), f"{commit[:10]}: ")
+            review.look_at(index, index.changes(), f"{commit[:10]}: ", hint=REWRITE)
     with commits.open_index(last) as index:
         bases = read_line("merge-base", "--all", first, last).split()
-        review.look_at(index, [index.change(base) for base in bases], f"{last[:10]}: ")
+        review.look_at(index, [index.change(base) for base in bases], f"{last[:10]}: ", hint=REWRITE)
 
 
 def review_all(review: Review) -> None:
@@ -82,5 +91,7 @@ def review_all(review: Review) -> None:
     with commits.open_index(commit) as index:
         former = index.former(commit)
         vaults = {file.before for file in former if review.blobs.read(file.before, is_old=True) == MAGIC}
-        were_vaults = Differences("an earlier commit", sorted(file for file in former if file.before in vaults))
-        review.look_at(index, [Differences("", index.at([])), *index.changes(), were_vaults])
+        were_vaults = sorted(file for file in former if file.before in vaults)
+        review.look_at(index, [Differences("", index.at([]))], to_allow=TO_COMMIT)
+        review.look_at(index, index.changes(), hint=REWRITE)
+        review.look_at(index, [Differences("an earlier commit", were_vaults)], to_allow=TO_COMMIT)
