@@ -21,14 +21,19 @@ class Change:
         self.blobs = blobs
         self.parent = differences.parent
         self.since = f" in {differences.since}" if differences.since else ""
+        self.known: dict[tuple[str, bool, bool], Facts] = {}
         self.attributes = read_attributes([file.name for file in differences.files], index.path)
         self.before = {file: self.find_facts(file.before, is_old=True) for file in differences.files}
         has_values = any(before.encrypted for before in self.before.values())
         self.now = {file: self.find_facts(file.blob, has_values) for file in differences.files}
 
     def find_facts(self, blob: str, needs_plain: bool = False, is_old: bool = False) -> Facts:
-        content = self.blobs.read(blob, is_old) if blob else b""
-        return Facts(fault=TOO_LONG) if content is None else facts.find_facts(content, needs_plain)
+        """What is known of a blob, which may be there under several names."""
+        key = blob, needs_plain, is_old
+        if key not in self.known:
+            content = self.blobs.read(blob, is_old) if blob else b""
+            self.known[key] = Facts(fault=TOO_LONG) if content is None else facts.find_facts(content, needs_plain)
+        return self.known[key]
 
     @cached_property
     def earlier(self) -> dict[bytes, Attributes]:

@@ -90,8 +90,10 @@ def review_all(review: Review) -> None:
     commit = commits.find_commit("HEAD")
     with commits.open_index(commit) as index:
         former = index.former(commit)
-        vaults = {file.before for file in former if review.blobs.read(file.before, is_old=True) == MAGIC}
-        were_vaults = sorted(file for file in former if file.before in vaults)
+        blobs = {file.before for file in former}
+        vaults = {blob for blob in blobs if review.blobs.read(blob, is_old=True) == MAGIC}
+        # One version is enough.
+        were_vaults = {file.name: file for file in sorted(former) if file.before in vaults}
         review.look_at(index, [Differences("", index.at([]))], to_allow=TO_COMMIT)
         review.look_at(index, index.changes(), hint=REWRITE)
-        review.look_at(index, [Differences("an earlier commit", were_vaults)], to_allow=TO_COMMIT)
+        review.look_at(index, [Differences("an earlier commit", [*were_vaults.values()])], to_allow=TO_COMMIT)
