@@ -54,8 +54,8 @@ def _merge_vaults(tool: Tool, decrypt: Decrypt, versions: Versions, chosen: Key 
 
 
 def _merge_values(tool: Tool, decrypt: Decrypt, versions: Versions, size: int, chosen: Key | None) -> Merged:
-    if versions.base.startswith(MAGIC):
-        # A base that was a vault has no lines for a conflict.
+    if versions.base.startswith(MAGIC) or conflicts.is_unmerged(versions.base):
+        # A base that was a vault has no lines for a conflict. One that is a conflict, as in a crossed history, is none.
         versions = versions._replace(base=b"")
     content, count = Values(decrypt, versions, chosen).merge(tool, size)
     if count == 0:

@@ -41,15 +41,9 @@ class Vaults:
         return tool.encrypt(text, *key)
 
     def _decrypt_base(self, decrypt: Decrypt, data: bytes) -> tuple[bytes, Keys]:
-        """The text of the base, and its keys. In a crossed history it is a merge of bases, and may be a conflict."""
-        sides = conflicts.split_sides(data)
-        if sides:
-            ours, our_keys = self._decrypt_base(decrypt, sides[conflicts.OURS])
-            theirs, their_keys = self._decrypt_base(decrypt, sides[conflicts.THEIRS])
-            texts = Versions(ours, b"", theirs)
-            return merge_lines(texts, conflicts.find_unused_size(texts)).text, our_keys | their_keys
+        """The text of the base, and its keys. One that is a conflict, as in a crossed history, counts as none."""
         if not data.startswith(MAGIC):
-            return data, set()
+            return b"" if conflicts.is_unmerged(data) else data, set()
         try:
             vault = decrypt(data)
         except NotDecrypted as fault:
