@@ -30,9 +30,9 @@ def test_vaults(place: Place, style: str, end: bytes) -> None:
     words = [*place.by_file("old"), "a.yml"]
     ended("no choice", edit(place, 'cp "$1" ../seen', *words), 1, STILL)
     seen = place.get("../seen")
-    assert seen.startswith(b"<<<<<<<< ") and seen.count(b"x: ours\n") == seen.count(b"x: theirs\n") == 1
+    assert seen.startswith(b"<<<<<<< ") and seen.count(b"x: ours\n") == seen.count(b"x: theirs\n") == 1
     assert (seen.endswith(b"\n" + LINES + b"y: ours\n"), place.get("a.yml")) == (True, before)
-    ended("a marker", edit(place, "sed -i '/^<<<<<<<< /d; /^>>>>>>>> /d' \"$1\"", *words), 1, STILL)
+    ended("a marker", edit(place, "sed -i '/^<<<<<<< /d; /^>>>>>>> /d' \"$1\"", *words), 1, STILL)
     assert (len(place.kept()), place.get("a.yml")) == (1, before)
     texts = {TAKE_THEIRS: b"x: theirs\n" + LINES + b"y: ours\n", f"printf '{SIDES[1].decode()}' > \"$1\"": SIDES[1]}
     for editor, text in texts.items():
@@ -40,6 +40,16 @@ def test_vaults(place: Place, style: str, end: bytes) -> None:
         ended(editor, edit(place, editor, *words), 0)
         assert decrypted("old", place.get("a.yml").replace(b"\r", b"")) == text
     assert place.get("a.yml") == vaults[1], "the vault of a side is kept"
+
+
+def test_long_markers(place: Place) -> None:
+    """An edit refuses a conflict whose markers have another size, which an attribute may give them."""
+    needs_pyyaml()
+    before = b"%s ours\n%s%s\n%s%s theirs\n" % (b"<" * 15, block("old"), b"=" * 15, block("new"), b">" * 15)
+    place.put("a.yml", before)
+    why = "no whole conflict between markers of seven characters; take a side with `git checkout`"
+    ended("edit", edit(place, "touch ../started", *place.by_file("old"), "a.yml"), 1, why)
+    assert (place.get("a.yml"), (place.path / "started").exists()) == (before, False)
 
 
 def test_merged_texts(place: Place) -> None:

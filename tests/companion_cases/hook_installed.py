@@ -52,7 +52,7 @@ def test_drivers(place: Place) -> None:
     before = place.get(".git/config")
     words = shlex.join(secrets)
     values = [f"{place.tools}/{TEXTCONV} {words}"]
-    values.append(f"{place.tools}/{MERGE} {words.replace('%', '%%')} %O %A %B %L %P {OR_ELSE}")
+    values.append(f"{place.tools}/{MERGE} {words.replace('%', '%%')} %O %A %B %P {OR_ELSE}")
     for status in ("set to", "is already"):
         done = place.run(HOOK, "--install", *secrets)
         lines = [f"{setting}: {status} {value}" for setting, value in zip(SETTINGS, values)]

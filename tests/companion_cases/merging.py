@@ -90,7 +90,7 @@ def test_those_that_fail(place: Place, why: str) -> None:
 
 def test_what_fails(place: Place) -> None:
     """There is no secret, the tool fails, or a signal ends the driver. Whatever git does then, both sides are in the
-    file, with markers of git's size. Without one of the versions, the file stays."""
+    file, even if an earlier setting gives the size of markers. Without one of the versions, the file stays."""
     words = [*place.by_file("old"), *versions(place, "a.yml", *OLD)]
     ended("no base", place.run(MERGE, *words[:2], "../missing", *words[3:]), 1, "missing: No such file or directory")
     assert place.files() == {"a.yml": OLD[1]}
@@ -99,7 +99,7 @@ def test_what_fails(place: Place) -> None:
         place.wrap_tool(f'[ "$1" != view ] || {tool}')
         done = place.run(MERGE, *(words[2:-1] if tool == ":" else words[:-1]), "9", words[-1])
         ended(tool, done, 1 if why else -9, why)
-        assert place.files() == {"a.yml": both(OLD[1:], 9)}, tool
+        assert place.files() == {"a.yml": both(OLD[1:])}, tool
     place.wrap_tool('case " $* " in *" merge-file "*) kill -9 $$;; esac', "git")
     ended("git is killed", place.run(MERGE, *words[:2], *versions(place, "a.yml", *FILES["values.yml"])), 1, WHOLE)
     assert place.files() == {"a.yml": both(FILES["values.yml"][1:])}

@@ -16,7 +16,6 @@ import hypothesis
 import pytest
 from hypothesis import strategies as st
 
-from ansible_vault_companions.envelopes import conflicts
 from ansible_vault_companions.envelopes.envelope import MAGIC
 from ansible_vault_companions.merging.files import Merged, merge_file
 from ansible_vault_companions.merging.lines import Versions
@@ -142,7 +141,7 @@ class Model(Tool):
 
     def merged(self, contents: list[bytes]) -> Merged:
         base, ours, theirs = contents
-        return merge_file(self, self.opened, Versions(ours, base, theirs), conflicts.SIZE, None)
+        return merge_file(self, self.opened, Versions(ours, base, theirs), None)
 
 
 @st.composite

@@ -85,7 +85,8 @@ class Conflict:
         return text == self.plaintext and self.vaults.merge.conflicts > 0
 
     def encrypt(self, tool: Tool, text: bytes) -> bytes:
-        if any(len(match[1]) == self.vaults.marker_size for match in conflicts.MARKER.finditer(text)):
+        of_sides = conflicts.count_markers(self.vaults.ours.text) | conflicts.count_markers(self.vaults.theirs.text)
+        if conflicts.count_markers(text) - of_sides:
             raise Refused(conflicts.STILL)
         return self.vaults.seal(tool, text, self.keys[0])
 
@@ -114,6 +115,8 @@ class Loader:
         if sides:
             return self._load_conflict(target, content, sides)
         if not content.startswith(MAGIC):
+            if conflicts.is_unmerged(content):
+                raise Refused(conflicts.LONG)
             return self._load_values(target, content, content)
         decrypted = self.decrypt(content)
         decrypted.require_label()
@@ -130,7 +133,7 @@ class Loader:
         if not (sides.ours and sides.theirs):
             return self._load_values(target, content, content)
         # Where git has merged the digits of values, only whole ones are between the markers of the merged text.
-        merged = merge_file(self.tool, self.decrypt, sides, conflicts.SIZE, key)
+        merged = merge_file(self.tool, self.decrypt, sides, key)
         return self._load_values(target, content, merged.content)
 
     def _load_values(self, target: str, content: bytes, edited: bytes) -> YamlFile:

@@ -4,42 +4,43 @@ from __future__ import annotations
 
 import re
 from bisect import bisect_left
-from typing import Iterable
+from collections import Counter
 
 from ansible_vault_companions.envelopes import document
 from ansible_vault_companions.envelopes.document import Document
 from ansible_vault_companions.envelopes.envelope import Value
 
-# The usual number of characters in a marker. The attribute `conflict-marker-size` asks for others.
-SIZE = 7
-# The first characters of the markers, before each side and at the end.
-OURS, BASE, THEIRS, END = b"<", b"|", b"=", b">"
-# A line that is a marker of some size.
-MARKER = re.compile(rb"^(([<|=>])\2{6,})(?:[ \t][^\r\n]*)?\r?$", re.MULTILINE)
+# How each marker begins, before each side and at the end.
+OURS, BASE, THEIRS, END = b"<" * 7, b"|" * 7, b"=" * 7, b">" * 7
+# A line that is a marker; and one that is a marker or, by the attribute `conflict-marker-size`, a longer one. A longer
+# line of equal signs is a title.
+MARKER = re.compile(rb"^(<{7}|\|{7}|={7}|>{7})(?:[ \t][^\r\n]*)?\r?$", re.MULTILINE)
+LONGER = re.compile(rb"^(?:<{7,}|\|{7,}|>{7,})(?:[ \t][^\r\n]*)?\r?$", re.MULTILINE)
 LINES = re.compile(rb"[^\n]*\n|[^\n]+\Z")
 
 UNMERGED = "has git's conflict markers"
+LONG = f"it {UNMERGED}, but no whole conflict between markers of seven characters; take a side with `git checkout`"
 STILL = "it still has git's conflict markers: choose between the sides, and remove the markers"
 
 
 def is_unmerged(text: bytes) -> bool:
-    """Whether a text has a marker. A line of equal signs may also be a title."""
-    signs = OURS, END, BASE
-    return any(sign * SIZE in text for sign in signs) and any(match[2] in signs for match in MARKER.finditer(text))
+    """Whether a text has a marker other than equal signs, which may also be a title."""
+    return any(marker in text for marker in (OURS, BASE, END)) and LONGER.search(text) is not None
 
 
-def find_unused_size(texts: Iterable[bytes]) -> int:
-    """A size of markers that no line of these texts has."""
-    return max([SIZE, *(len(match[1]) + 1 for text in texts for match in MARKER.finditer(text))])
+def count_markers(text: bytes) -> Counter[bytes]:
+    """How often a text has each line that is a marker, or that would be taken for one in a conflict."""
+    return Counter(match[0].rstrip() for match in MARKER.finditer(text))
 
 
-def sign_lines(text: bytes, size: int) -> list[tuple[bytes, bytes]]:
-    """Each line, with the sign of its side before it: none outside of conflicts, and END for a marker itself."""
+def mark_lines(text: bytes, is_unmerged: bool = True) -> list[tuple[bytes, bytes]]:
+    """Each line, with the marker of its side before it: none outside of conflicts, and END for a marker itself. A text
+    that git has merged may still have lines that look like markers."""
     side, lines = b"", []
     for line in LINES.findall(text):
         match = MARKER.match(line)
-        if match and len(match[1]) == size and (side or match[2] == OURS):
-            side = match[2].strip(END)
+        if match and is_unmerged and (side or match[1] == OURS):
+            side = b"" if match[1] == END else match[1]
             lines.append((END, line))
         else:
             lines.append((side, line))
@@ -47,27 +48,26 @@ def sign_lines(text: bytes, size: int) -> list[tuple[bytes, bytes]]:
 
 
 def split_sides(text: bytes, is_masked: bool = False) -> dict[bytes, bytes]:
-    """The text of each side, by the character of its first marker; empty if there is no whole conflict. The first
-    marker has the size. If they are masked, the bytes of other lines become newlines, so that all places stay."""
-    if OURS * SIZE not in text:
+    """The text of each side, by its marker; empty if there is no whole conflict. If they are masked, the bytes of other
+    lines become newlines, so that all places stay."""
+    if OURS not in text:
         return {}
-    lines = sign_lines(text, next((len(match[1]) for match in MARKER.finditer(text) if match[2] == OURS), 0))
-    markers = [line[:1] for sign, line in lines if sign == END]
-    if not {OURS, THEIRS, END} <= {*markers} or markers[-1] != END:
+    lines = mark_lines(text)
+    found = [line[: len(END)] for marker, line in lines if marker == END]
+    if not {OURS, THEIRS, END} <= {*found} or found[-1] != END:
         return {}
     return {
-        side: b"".join(line if sign in (b"", side) else b"\n" * len(line) * is_masked for sign, line in lines)
-        for side in dict.fromkeys(markers)
+        side: b"".join(line if marker in (b"", side) else b"\n" * len(line) * is_masked for marker, line in lines)
+        for side in dict.fromkeys(found)
         if side != END
     }
 
 
-def join_sides(ours: bytes, theirs: bytes, size: int = SIZE) -> bytes:
+def join_sides(ours: bytes, theirs: bytes) -> bytes:
     """A conflict of two whole files."""
     end = b"\r\n" if b"\r\n" in ours else b"\n"
     texts = [text if not text or text.endswith(b"\n") else text + end for text in (ours, theirs)]
-    markers = [OURS * size + b" ours" + end, THEIRS * size + end, END * size + b" theirs" + end]
-    return markers[0] + texts[0] + markers[1] + texts[1] + markers[2]
+    return OURS + b" ours" + end + texts[0] + THEIRS + end + texts[1] + END + b" theirs" + end
 
 
 def read_sides(data: bytes, every: bool = False) -> Document:

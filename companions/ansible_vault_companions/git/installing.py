@@ -16,7 +16,7 @@ OR_ELSE = ' || { s=$?; [ "$s" -lt 2 ] || [ "$s" -gt 127 ] || git merge-file -q %
 # The git settings, each with the companion that it runs and the arguments after the passwords.
 SETTINGS = {
     "diff.ansible-vault.textconv": ("ansible-vault-textconv", ""),
-    "merge.ansible-vault.driver": ("ansible-vault-merge", f" %O %A %B %L %P{OR_ELSE}"),
+    "merge.ansible-vault.driver": ("ansible-vault-merge", f" %O %A %B %P{OR_ELSE}"),
 }
 NO_PASSWORDS = "git diff and git merge are set up only with passwords: --install --vault-id dev@~/.vault/dev.pass"
 MARKS = """\

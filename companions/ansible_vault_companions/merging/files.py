@@ -27,9 +27,9 @@ class Merged(NamedTuple):
     why: str = ""
 
 
-def merge_file(tool: Tool, decrypt: Decrypt, versions: Versions, size: int, chosen: Key | None) -> Merged:
-    """The merged file, with markers of this size around what could not be merged. The chosen key counts only if it is
-    unclear which password a text gets."""
+def merge_file(tool: Tool, decrypt: Decrypt, versions: Versions, chosen: Key | None) -> Merged:
+    """The merged file, with markers around what could not be merged. The chosen key counts only if it is unclear which
+    password a text gets."""
     ours, base, theirs = versions
     # git itself does so first, but not where it reuses a resolution, with a conflict as base and ours.
     if base in (ours, theirs) or ours == theirs:
@@ -40,9 +40,9 @@ def merge_file(tool: Tool, decrypt: Decrypt, versions: Versions, size: int, chos
             return Merged(_merge_vaults(tool, decrypt, versions, chosen))
         if any(are_vaults):
             raise Refused(KINDS_DIFFER)
-        return _merge_values(tool, decrypt, versions, size, chosen)
+        return _merge_values(tool, decrypt, versions, chosen)
     except Refused as fault:
-        return Merged(conflicts.join_sides(ours, theirs, size), NOT_MERGED.format(fault))
+        return Merged(conflicts.join_sides(ours, theirs), NOT_MERGED.format(fault))
 
 
 def _merge_vaults(tool: Tool, decrypt: Decrypt, versions: Versions, chosen: Key | None) -> bytes:
@@ -53,11 +53,11 @@ def _merge_vaults(tool: Tool, decrypt: Decrypt, versions: Versions, chosen: Key 
     return vaults.seal(tool, vaults.merge.text, key)
 
 
-def _merge_values(tool: Tool, decrypt: Decrypt, versions: Versions, size: int, chosen: Key | None) -> Merged:
+def _merge_values(tool: Tool, decrypt: Decrypt, versions: Versions, chosen: Key | None) -> Merged:
     if versions.base.startswith(MAGIC) or conflicts.is_unmerged(versions.base):
         # A base that was a vault has no lines for a conflict. One that is a conflict, as in a crossed history, is none.
         versions = versions._replace(base=b"")
-    content, count = Values(decrypt, versions, chosen).merge(tool, size)
+    content, count = Values(decrypt, versions, chosen).merge(tool)
     if count == 0:
         return Merged(content)
     return Merged(content, f"{count} conflict{'s' if count > 1 else ''}")

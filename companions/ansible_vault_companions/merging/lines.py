@@ -27,14 +27,14 @@ class Lines(NamedTuple):
     conflicts: int
 
 
-def merge_lines(versions: Versions, size: int) -> Lines:
-    """The result of git's merge, with markers of this size. The texts are passed in memory, never on disk."""
+def merge_lines(versions: Versions) -> Lines:
+    """The result of git's merge. The texts are passed in memory, never on disk."""
     files = [os.memfd_create("version") for _ in versions]
     for file, text in zip(files, versions):
         with open(file, "wb", closefd=False) as writer:
             writer.write(text)
     names = [word for side in SIDES for word in ("-L", side)]
-    words = ["merge-file", "-p", f"--marker-size={size}", *names, *(f"/proc/self/fd/{file}" for file in files)]
+    words = ["merge-file", "-p", *names, *(f"/proc/self/fd/{file}" for file in files)]
     try:
         done = repository.run(*words, pass_fds=files)
     finally:

@@ -17,7 +17,7 @@ from ansible_vault_companions.envelopes.envelope import LITERAL, STRAY, Value
 from ansible_vault_companions.merging.lines import BASE, OURS, SIDES, THEIRS
 from ansible_vault_companions.tool import Decrypted, Key, Tool
 
-OF_SIGN = {conflicts.OURS: OURS, conflicts.BASE: BASE, conflicts.THEIRS: THEIRS}
+OF_MARKER = {conflicts.OURS: OURS, conflicts.BASE: BASE, conflicts.THEIRS: THEIRS}
 
 
 class KeyAndText(NamedTuple):
@@ -88,14 +88,12 @@ class Restoration:
         self.used: Counter[tuple[str, Meaning]] = Counter()
         self.envelopes: list[bytes] = []
 
-    def restore(self, text: bytes, inner: int, size: int) -> bytes:
-        """The text with envelopes in place of its tokens, and with markers of a size, which is `inner` in the text."""
+    def restore(self, text: bytes, has_conflict: bool) -> bytes:
+        """The text with envelopes in place of its tokens."""
         lines: list[bytes] = []
-        for sign, line in conflicts.sign_lines(text, inner):
-            if sign == conflicts.END:
-                lines.append(line[:1] * size + line[inner:])
-            elif not line.startswith(self.tokens.separator):
-                lines.append(self._restore_line(line, OF_SIGN.get(sign, "")))
+        for marker, line in conflicts.mark_lines(text, has_conflict):
+            if not line.startswith(self.tokens.separator):
+                lines.append(self._restore_line(line, OF_MARKER.get(marker, "")))
             elif not line.endswith(b"\n"):
                 # The last line of the file has no end.
                 lines.append(lines.pop().removesuffix(b"\n").removesuffix(b"\r"))

@@ -4,7 +4,7 @@ from __future__ import annotations
 
 from collections import Counter
 
-from ansible_vault_companions.envelopes import conflicts
+from ansible_vault_companions.envelopes import conflicts, document
 from ansible_vault_companions.envelopes.document import apply_changes
 from ansible_vault_companions.envelopes.envelope import LOOSE, Value
 from ansible_vault_companions.merging.keys import find_common_key
@@ -14,6 +14,7 @@ from ansible_vault_companions.program import Refused
 from ansible_vault_companions.tool import Decrypt, Decrypted, Key, Tool, at_once
 
 NOT_YAML = "git can merge its lines, but then {}"
+HAS_MARKERS = "it has lines that look like git's conflict markers"
 NEW_VALUE = "git can merge its lines, but the result has a value that neither side has"
 
 
@@ -21,21 +22,21 @@ class Values:
     """Three versions of a file, and what their envelopes mean."""
 
     def __init__(self, decrypt: Decrypt, versions: Versions, chosen: Key | None) -> None:
-        self.documents = {side: conflicts.read_sides(data) for side, data in zip(SIDES, versions)}
+        self.documents = {side: document.read_document(data) for side, data in zip(SIDES, versions)}
         self.values = {side: [*filter(_has_token, self.documents[side].values)] for side in SIDES}
         self.opened = self._open(decrypt)
         # The key of the result for the values with each label, unless each keeps its own.
         labels = {opened.key.label for opened in self.opened.values()}
         self.keys = {label: self._choose_key(label, chosen) for label in labels}
 
-    def merge(self, tool: Tool, size: int) -> Lines:
-        """The merged file. A conflict has markers of this size."""
+    def merge(self, tool: Tool) -> Lines:
+        """The merged file."""
         tokens = Tokens()
-        shadows = Versions(*(self._shadow(side, tokens) for side in SIDES))
-        inner = conflicts.find_unused_size(shadows)
-        text, count = merge_lines(shadows, inner)
+        text, count = merge_lines(Versions(*(self._shadow(side, tokens) for side in SIDES)))
+        if count and any(conflicts.count_markers(self.documents[side].data) for side in SIDES):
+            raise Refused(HAS_MARKERS)
         restoration = Restoration(tokens, self.opened, tool)
-        content = restoration.restore(text, inner, size)
+        content = restoration.restore(text, has_conflict=count > 0)
         self._check(content, restoration.envelopes, has_conflict=count > 0)
         return Lines(content, count)
 
