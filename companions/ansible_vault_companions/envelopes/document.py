@@ -18,6 +18,7 @@ from ansible_vault_companions import processes
 from ansible_vault_companions.envelopes.envelope import LITERAL, LOOSE, MAGIC, STRAY, WHOLE, WITH_DIGITS, Value
 from ansible_vault_companions.envelopes.scalars import BINARY, NotYaml, read_scalars
 from ansible_vault_companions.files.reading import open_regular, read_parts, read_whole
+from ansible_vault_companions.limits import TooMuch
 from ansible_vault_companions.program import Refused, escape
 
 # A file with an envelope has one of these words, or spells it with escapes, which take no more than OVERLAP bytes.
@@ -177,7 +178,7 @@ def read_document(data: bytes, every: bool = False) -> Document:
         return document
     try:
         document.values = list(read_scalars(data, every))
-    except NotYaml as fault:
+    except (NotYaml, TooMuch) as fault:
         document.fault = str(fault)
     if not every and BINARY not in data:
         document.values += find_strays(data, document.values)

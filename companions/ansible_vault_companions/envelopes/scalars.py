@@ -11,17 +11,14 @@ import re
 from functools import lru_cache
 from typing import Any, Iterator, Union
 
-from ansible_vault_companions import processes
+from ansible_vault_companions import limits, processes
 from ansible_vault_companions.envelopes import envelope
 from ansible_vault_companions.envelopes.envelope import ALIAS, FOLDED, JSON_KEY, LINE_END, LITERAL, NO_SCALAR, PLAIN
 from ansible_vault_companions.envelopes.envelope import TAGS, Path, Value
+from ansible_vault_companions.limits import TooMuch
 from ansible_vault_companions.program import Refused
 
 BYTE_ORDER_MARK = b"\xef\xbb\xbf"
-# libyaml takes quadratic time for brackets, so a file that is nested more deeply, as none is, would hang this.
-DEEPEST = 1000
-# The most bytes to parse, as many as a plaintext has.
-LONGEST = 16_777_216
 # YAML has no such character, but other files do, in which escapes mean nothing.
 BINARY = b"\0"
 
@@ -36,8 +33,7 @@ BLANKS = b" \t\r\n"
 
 NO_PYYAML = "PyYAML, which reads YAML, is missing: install Debian's python3-yaml, or PyYAML with pip"
 NOT_YAML = "it cannot be read as YAML: {}"
-TOO_DEEP, NULL = "it is nested too deeply", "it has a null character"
-TOO_LONG = NOT_YAML.format(f"it has more than {LONGEST:,} bytes")
+NULL = "it has a null character"
 # The key or number of the next node in each collection; None while a key comes next.
 Steps = list[Union[str, int, None]]
 
@@ -57,11 +53,11 @@ def require_pyyaml() -> Any:
 
 
 def read_scalars(data: bytes, every: bool = False) -> Iterator[Value]:
-    """The envelopes among the scalars; or every node, but of the keys only envelopes. Raises NotYaml."""
+    """The envelopes among the scalars; or every node, but of the keys only envelopes. Raises NotYaml, or TooMuch."""
     if BINARY in data:
         raise NotYaml(NOT_YAML.format(NULL))
-    if len(data) > LONGEST:
-        raise NotYaml(TOO_LONG)
+    if len(data) > limits.LONGEST:
+        raise TooMuch(limits.TOO_LONG)
     yaml = require_pyyaml()
     skipped = len(BYTE_ORDER_MARK) if data.startswith(BYTE_ORDER_MARK) else 0
     ending = b"\r\n" if b"\r\n" in data else b"\n"
@@ -117,8 +113,8 @@ def _read_nodes(yaml: Any, text: _Shadow) -> Iterator[tuple[Steps, bool, Any]]:
             yield steps, step is None, event
         if kind in starts:
             steps.append(None if kind is mapping else 0)
-            if len(steps) > DEEPEST:
-                raise yaml.YAMLError(TOO_DEEP)
+            if len(steps) > limits.DEEPEST:
+                raise TooMuch(limits.TOO_DEEP)
         elif steps:
             key = event.value if kind is scalar else ""
             steps[-1] = step + 1 if isinstance(step, int) else key if step is None else None

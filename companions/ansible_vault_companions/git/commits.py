@@ -10,9 +10,9 @@ from functools import cached_property
 from typing import Iterator, NamedTuple
 
 from ansible_vault_companions.envelopes.envelope import MAGIC
-from ansible_vault_companions.envelopes.scalars import LONGEST
 from ansible_vault_companions.files.reading import LIMIT
 from ansible_vault_companions.git.repository import build_command, build_environment, make_pathspec, read_line, run_git
+from ansible_vault_companions.limits import LONGEST
 from ansible_vault_companions.program import Refused, escape
 
 # The modes of regular files and of links, as opposed to submodules.

@@ -8,13 +8,16 @@ from __future__ import annotations
 import re
 from collections import Counter
 from functools import reduce
-from typing import Callable, Iterable, NamedTuple
+from typing import Callable, Iterable, Iterator, NamedTuple
 
+from ansible_vault_companions import limits
 from ansible_vault_companions.envelopes import conflicts, envelope
 from ansible_vault_companions.envelopes.document import Document, find_strays, may_have_envelope
-from ansible_vault_companions.envelopes.envelope import ALIAS, JSON_KEY, LOOSE, MAGIC, NO_SCALAR, STRAY, Path
+from ansible_vault_companions.envelopes.envelope import ALIAS, JSON_KEY, LOOSE, MAGIC, NO_SCALAR, STRAY, Path, Value
 from ansible_vault_companions.envelopes.scalars import BINARY, NotYaml, read_scalars
+from ansible_vault_companions.limits import TooMuch
 
+HEADER = MAGIC + b";"
 # The key of every list item, and the key that merges a mapping into another, which is not part of a path.
 ITEM, MERGE = "[]", "<<"
 # What is no secret as a whole text: nothing, and the passwords of locked accounts.
@@ -23,8 +26,6 @@ NOTHING = (b"", b"~", b"null", b"!", b"*")
 STRING = r"'(?:[^'\\]|\\.)*'|\"(?:[^\"\\]|\\.)*\""
 WORDS = reduce(lambda inner, _: rf"[^{{}}'\"]|{STRING}|\{{(?:{inner})*\}}", range(4), rf"[^{{}}'\"]|{STRING}")
 JINJA = re.compile(rf"(?:\s|\{{\{{(?:{WORDS})+\}}\}})+".encode(), re.DOTALL)
-# The most texts of a file, with those that aliases stand for.
-MOST = 100_000
 # What the value of an attribute cannot have, or what separates keys.
 UNWRITTEN = re.compile(r"[^\w$@/:+*-]")
 
@@ -47,9 +48,10 @@ Leaf = tuple[Path, bool, int]
 class Facts(NamedTuple):
     is_vault: bool = False
     is_empty: bool = False
-    # Why it cannot be read as YAML.
+    # Why it cannot be read as YAML, and whether that is because it exceeds a limit.
     fault: str = ""
-    # How many envelopes it has, even if it cannot be read.
+    is_too_much: bool = False
+    # How many envelopes it has, even if it cannot be read; beyond a limit, how many headers of some.
     envelopes: int = 0
     # What is wrong with its envelopes, with what only has their tag, and with the whole if it is marked.
     damage: str = ""
@@ -59,8 +61,17 @@ class Facts(NamedTuple):
     plain: Texts = {}
 
 
-def find_facts(data: bytes, needs_plain: bool = False) -> Facts:
-    """Reads a content that may have an envelope, or the plaintexts of any."""
+def find_facts(data: bytes | None, needs_plain: bool = False) -> Facts:
+    """Reads a content that may have an envelope, or the plaintexts of any. None is one that is too long."""
+    try:
+        return _read_facts(data, needs_plain)
+    except TooMuch as fault:
+        return Facts(fault=str(fault), is_too_much=True, envelopes=data.count(HEADER) if data else 0)
+
+
+def _read_facts(data: bytes | None, needs_plain: bool) -> Facts:
+    if data is None:
+        raise TooMuch(limits.TOO_LONG)
     if not data.strip():
         return Facts(is_empty=True, unencrypted="")
     if data.startswith(MAGIC):
@@ -72,7 +83,7 @@ def find_facts(data: bytes, needs_plain: bool = False) -> Facts:
     document, leaves = _read_leaves(data)
     envelopes = sum(value.is_envelope for value in document.values)
     faults = find_damage(document), find_tagged(document), find_unencrypted(document)
-    made = Facts(False, False, document.fault, envelopes, *faults, encrypted={}, plain={})
+    made = Facts(False, False, document.fault, False, envelopes, *faults, encrypted={}, plain={})
     for path, is_encrypted, text in leaves:
         texts = made.encrypted if is_encrypted else made.plain
         texts.setdefault(_keys(path), Counter())[text] += 1
@@ -81,22 +92,18 @@ def find_facts(data: bytes, needs_plain: bool = False) -> Facts:
 
 def _read_leaves(data: bytes) -> tuple[Document, list[Leaf]]:
     """The envelopes, and the texts at each path that leads to them, from one look at the nodes."""
-    document, leaves = Document(data), list[Leaf]()
+    document, leaves, keys = Document(data), list[Leaf](), 0
     # For each anchor its path, and the number of its first text.
     anchors: dict[str, tuple[Path, int]] = {}
     try:
         for node in read_scalars(data, every=True):
             if node.is_value:
                 document.values.append(node)
-            if node.style == ALIAS:
-                _add_again(leaves, node.path, *anchors.get(node.anchor, ((), len(leaves))))
-                continue
-            anchors[node.anchor] = node.path, len(leaves)
-            text = node.text.strip()
-            if node.style != NO_SCALAR and not (text.lower() in NOTHING or JINJA.fullmatch(text)):
-                leaves.append((node.path, node.is_value and node.is_envelope, hash(text)))
-            if len(leaves) > MOST:
-                raise NotYaml(f"it has more than {MOST:,} values")
+            for leaf in _list_leaves(node, leaves, anchors):
+                keys += 1 + len(leaf[0])
+                if keys > limits.MOST_KEYS:
+                    raise TooMuch(limits.TOO_MANY)
+                leaves.append(leaf)
     except NotYaml as fault:
         document, leaves = Document(data, fault=str(fault)), []
     if BINARY not in data:
@@ -104,13 +111,22 @@ def _read_leaves(data: bytes) -> tuple[Document, list[Leaf]]:
     return document, leaves
 
 
-def _add_again(leaves: list[Leaf], path: Path, base: Path, first: int) -> None:
-    """Adds what is at and below an anchor, from its first text, for an alias at a path."""
-    for number in range(first, len(leaves)):
-        below, is_encrypted, text = leaves[number]
-        if below[: len(base)] != base or len(leaves) > MOST:
-            break
-        leaves.append((path + below[len(base) :], is_encrypted, text))
+def _list_leaves(node: Value, leaves: list[Leaf], anchors: dict[str, tuple[Path, int]]) -> Iterator[Leaf]:
+    """The text of a node; or of an alias, all that is at and below its anchor."""
+    if node.style == ALIAS:
+        base, first = anchors.get(node.anchor, ((), len(leaves)))
+        for number in range(first, len(leaves)):
+            path, is_encrypted, text = leaves[number]
+            if path[: len(base)] != base:
+                break
+            if len(node.path) + len(path) - len(base) > limits.DEEPEST:
+                raise TooMuch(limits.TOO_DEEP)
+            yield node.path + path[len(base) :], is_encrypted, text
+        return
+    anchors[node.anchor] = node.path, len(leaves)
+    own = node.text.strip()
+    if node.style != NO_SCALAR and not (own.lower() in NOTHING or JINJA.fullmatch(own)):
+        yield node.path, node.is_value and node.is_envelope, hash(own)
 
 
 def _keys(path: Path) -> Keys:
@@ -171,7 +187,7 @@ def find_now_plain(before: Facts, after: Facts) -> list[Keys]:
 
 def is_unmerged(document: Document) -> bool:
     """Whether git's conflict markers are in an envelope or beside one, even if git has torn it."""
-    return conflicts.is_unmerged(document.data) and bool(document.values or MAGIC + b";" in document.data)
+    return conflicts.is_unmerged(document.data) and bool(document.values or HEADER in document.data)
 
 
 def find_damage(document: Document) -> str:

@@ -6,7 +6,6 @@ import os
 from functools import cached_property
 
 from ansible_vault_companions.envelopes.document import PROSE, YAML
-from ansible_vault_companions.envelopes.scalars import TOO_LONG
 from ansible_vault_companions.git import commits, facts
 from ansible_vault_companions.git.attributes import Attributes, read_attributes
 from ansible_vault_companions.git.commits import Blobs, Differences, File, Index
@@ -31,8 +30,7 @@ class Change:
         """What is known of a blob, which may be there under several names."""
         key = blob, needs_plain, is_old
         if key not in self.known:
-            content = self.blobs.read(blob, is_old) if blob else b""
-            self.known[key] = Facts(fault=TOO_LONG) if content is None else facts.find_facts(content, needs_plain)
+            self.known[key] = facts.find_facts(self.blobs.read(blob, is_old) if blob else b"", needs_plain)
         return self.known[key]
 
     @cached_property

@@ -8,14 +8,14 @@ from ansible_vault_companions.envelopes import conflicts
 from ansible_vault_companions.files import replacing
 from ansible_vault_companions.git.attributes import VAULT, make_line
 from ansible_vault_companions.git.commits import File
-from ansible_vault_companions.git.facts import IN_LFS
+from ansible_vault_companions.git.facts import IN_LFS, NOT_READ
 from ansible_vault_companions.git.repository import make_pathspec
 from ansible_vault_companions.guard.change import Change, is_yaml
 from ansible_vault_companions.guard.faults import Fault, make_fault
 
 LEFTOVER = "was left behind by a companion, and may be plaintext"
 NOT_YAML = "had encrypted values, but can no longer be checked: {}"
-WAS_NO_YAML = "has fewer envelopes than{}, and cannot be compared with what it was there: {}"
+NOT_COMPARED = "has fewer envelopes than{}, and cannot be compared with what it was there: {}"
 # What to do.
 REMOVE = "look at its content, and remove it with `git rm -f -- {}`"
 RESOLVE = "resolve the conflict with ansible-vault-edit"
@@ -50,15 +50,19 @@ def find_pointer(change: Change, file: File) -> Fault | None:
 
 
 def find_unreadable(change: Change, file: File) -> Fault | None:
-    """A file by whose name it is YAML, and that cannot be compared with what it was, since one of them is none."""
+    """A file that cannot be compared with what it was, since one of them exceeds a limit or is no YAML."""
     before, now = change.before[file], change.now[file]
-    if not is_yaml(file) or change.is_exempt(file):
+    if change.is_exempt(file) or change.is_example(file):
         return None
     is_given = change.attributes[file.name].is_exempt
-    if before.encrypted and now.fault:
+    if now.is_too_much and (before.envelopes or now.envelopes):
+        return make_fault(change, file, NOT_READ.format(now.fault), is_given=is_given)
+    if before.encrypted and now.fault and is_yaml(file):
         return make_fault(change, file, NOT_YAML.format(now.fault), REPAIR, is_given=is_given)
-    if before.fault and before.envelopes > now.envelopes and not (now.is_vault or now.is_empty):
-        return make_fault(change, file, WAS_NO_YAML.format(change.since, before.fault), is_given=is_given)
+    has_fewer = before.envelopes > now.envelopes and not (now.is_vault or now.is_empty)
+    is_repaired = before.fault and not now.fault and is_yaml(file)
+    if has_fewer and (before.is_too_much or is_repaired):
+        return make_fault(change, file, NOT_COMPARED.format(change.since, before.fault), is_given=is_given)
     return None
 
 
