@@ -6,6 +6,14 @@ the next file is taken.
 
 from __future__ import annotations
 
+import _signal  # type: ignore
+import resource
+import threading
+from contextlib import contextmanager
+from typing import Iterator
+
+from ansible_vault_companions import processes
+from ansible_vault_companions.processes import state
 from ansible_vault_companions.program import Refused
 
 # The levels of YAML, with those of an alias at its place. libyaml takes quadratic time for brackets.
@@ -14,11 +22,52 @@ DEEPEST = 64
 MOST_KEYS = 1_000_000
 # The bytes of YAML, as many as a plaintext has.
 LONGEST = 16_777_216
+# Processor time, with more of it for the hook, since a file that it refuses cannot be committed; and memory beyond what
+# the companion has already.
+SECONDS, HOOK_SECONDS, MEGABYTES = 10, 30, 256
 
 TOO_DEEP = f"it is nested over {DEEPEST} levels"
 TOO_MANY = f"it has over {MOST_KEYS:,} keys and texts"
 TOO_LONG = f"it has over {LONGEST:,} bytes"
+TOO_SLOW = "it takes over {} s of processor time"
+TOO_MUCH = f"it takes over {MEGABYTES} MB of memory"
 
 
 class TooMuch(Refused):
     """A file exceeds a limit."""
+
+
+@contextmanager
+def limit_work(seconds: int = SECONDS) -> Iterator[None]:
+    """A context for work on what a file contains, in which nothing is written. A signal ends it at once, even within a
+    search, and so do the limits of time and memory: they raise TooMuch. Python handles signals only in the main thread,
+    so in others, which read only what a password has opened, there is no limit. Nor is there one of memory while others
+    run, since it would be theirs as well."""
+    if state.is_timed or threading.current_thread() is not threading.main_thread():
+        yield
+        return
+    before = resource.getrlimit(resource.RLIMIT_DATA)
+    if threading.active_count() == 1:
+        most = _measure_memory() + (MEGABYTES << 20)
+        resource.setrlimit(resource.RLIMIT_DATA, (min(most, before[0]) if before[0] > 0 else most, before[1]))
+    state.is_timed = True
+    _signal.setitimer(_signal.ITIMER_PROF, seconds)
+    try:
+        try:
+            with processes.interruptible():
+                yield
+        finally:
+            _signal.setitimer(_signal.ITIMER_PROF, 0)
+    except processes.TimeOver:
+        raise TooMuch(TOO_SLOW.format(seconds)) from None
+    except MemoryError:
+        raise TooMuch(TOO_MUCH) from None
+    finally:
+        state.is_timed = False
+        resource.setrlimit(resource.RLIMIT_DATA, before)
+
+
+def _measure_memory() -> int:
+    """The bytes of data that this process has."""
+    with open("/proc/self/statm", encoding="ascii") as file:
+        return int(file.read().split()[5]) * resource.getpagesize()

@@ -30,9 +30,15 @@ class Stopped(Exception):
     """A signal has asked the companion to end."""
 
 
+class TimeOver(Exception):
+    """The limit of processor time is reached."""
+
+
 class State:
     """The first signal received, and how the next one is handled."""
 
+    # Whether SIGPROF means that the time is over.
+    is_timed = False
     noted: int | None = None
     # Whether keyboard signals are left to the running program.
     leaves_keys = False
@@ -54,6 +60,9 @@ def listen() -> None:
 
 
 def _note(number: int, _frame: object) -> None:
+    if state.is_timed and number == _signal.SIGPROF:
+        state.is_timed = False
+        raise TimeOver
     # Only the first signal counts, so that nothing interrupts the restoring of the terminal.
     if state.noted is not None or state.leaves_keys and number in (_signal.SIGINT, _signal.SIGQUIT):
         return
@@ -92,13 +101,13 @@ def postponed() -> Iterator[None]:
 def interruptible() -> Iterator[None]:
     """A context for a wait, which a signal ends at once, even where signals are postponed."""
     mask = _signal.pthread_sigmask(_signal.SIG_UNBLOCK, ENDING if state.is_postponed else ())
-    state.is_interruptible = True
+    before, state.is_interruptible = state.is_interruptible, True
     try:
         if state.noted is not None:
             raise Stopped
         yield
     finally:
-        state.is_interruptible = False
+        state.is_interruptible = before
         _signal.pthread_sigmask(_signal.SIG_SETMASK, mask)
 
 

@@ -14,7 +14,7 @@ from bisect import bisect_right
 from dataclasses import dataclass, field
 from typing import Iterable, Iterator, NamedTuple
 
-from ansible_vault_companions import processes
+from ansible_vault_companions import limits, processes
 from ansible_vault_companions.envelopes.envelope import LITERAL, LOOSE, MAGIC, STRAY, WHOLE, WITH_DIGITS, Value
 from ansible_vault_companions.envelopes.scalars import BINARY, NotYaml, read_scalars
 from ansible_vault_companions.files.reading import open_regular, read_parts, read_whole
@@ -177,11 +177,13 @@ def read_document(data: bytes, every: bool = False) -> Document:
     if not (every or may_have_envelope(data)):
         return document
     try:
-        document.values = list(read_scalars(data, every))
+        with limits.limit_work():
+            document.values = list(read_scalars(data, every))
     except (NotYaml, TooMuch) as fault:
         document.fault = str(fault)
     if not every and BINARY not in data:
-        document.values += find_strays(data, document.values)
+        with limits.limit_work():
+            document.values += find_strays(data, document.values)
         document.values.sort(key=lambda value: value.start)
     return document
 
@@ -193,7 +195,6 @@ def find_strays(data: bytes, values: list[Value]) -> Iterator[Value]:
     # Behind empty lines alone, Ansible reads neither a vault nor a value.
     first = len(data) - len(data.lstrip())
     for header in WITH_DIGITS.finditer(data):
-        processes.check()
         number += data.count(b"\n", place, header.start())
         line_start = max(line_start, data.rfind(b"\n", place, header.start()) + 1)
         place = header.start()
@@ -201,7 +202,8 @@ def find_strays(data: bytes, values: list[Value]) -> Iterator[Value]:
         is_within = before >= 0 and place < values[before].end
         if is_within and are_envelopes[before]:
             continue
-        lines = LINES_OF_STRAY.match(data, line_start)
+        is_first = not data[line_start:place].strip(b" \t#")
+        lines = LINES_OF_STRAY.match(data, line_start) if is_first else None
         if lines and lines.end("margin") == place > first and not is_within:
             text = b"".join(line[len(lines["margin"]) :] + b"\n" for line in lines[0].splitlines())
             ending = b"\r\n" if b"\r\n" in lines[0] else b"\n"

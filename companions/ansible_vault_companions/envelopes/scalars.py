@@ -11,7 +11,7 @@ import re
 from functools import lru_cache
 from typing import Any, Iterator, Union
 
-from ansible_vault_companions import limits, processes
+from ansible_vault_companions import limits
 from ansible_vault_companions.envelopes import envelope
 from ansible_vault_companions.envelopes.envelope import ALIAS, FOLDED, JSON_KEY, LINE_END, LITERAL, NO_SCALAR, PLAIN
 from ansible_vault_companions.envelopes.envelope import TAGS, Path, Value
@@ -28,7 +28,7 @@ SHADOW = "".join(chr(byte) if 0x20 <= byte < 0x7F or byte in b"\t\n\r" else chr(
 SURROGATE = re.compile(rb"\\u[dD][89a-fA-F](?=[0-9a-fA-F]{2})")
 # What precedes the text of a scalar: tag, anchor, comments; and the first line of a block with text.
 PROPERTIES = re.compile(rb"(?:[!&][^\s,\]}]*(?:\s|(?<=\s)#[^\r\n]*)*)*")
-FIRST_LINE = re.compile(rb"[^\n\r]*\s*[\r\n](?P<margin>[ \t]*)")
+FIRST_LINE = re.compile(rb"[^\n\r]*(?:\r\n?|\n)(?:[ \t]*(?:\r\n?|\n))*(?P<margin>[ \t]*)")
 BLANKS = b" \t\r\n"
 
 NO_PYYAML = "PyYAML, which reads YAML, is missing: install Debian's python3-yaml, or PyYAML with pip"
@@ -102,7 +102,6 @@ def _read_nodes(yaml: Any, text: _Shadow) -> Iterator[tuple[Steps, bool, Any]]:
     starts, ends = (mapping, yaml.SequenceStartEvent), (yaml.MappingEndEvent, yaml.SequenceEndEvent)
     nodes = (scalar, yaml.AliasEvent, *starts)
     for event in yaml.parse(text, getattr(yaml, "CSafeLoader", yaml.SafeLoader)):
-        processes.check()
         kind = type(event)
         if kind in ends:
             steps.pop()

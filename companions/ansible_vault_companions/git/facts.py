@@ -64,7 +64,8 @@ class Facts(NamedTuple):
 def find_facts(data: bytes | None, needs_plain: bool = False) -> Facts:
     """Reads a content that may have an envelope, or the plaintexts of any. None is one that is too long."""
     try:
-        return _read_facts(data, needs_plain)
+        with limits.limit_work(limits.HOOK_SECONDS):
+            return _read_facts(data, needs_plain)
     except TooMuch as fault:
         return Facts(fault=str(fault), is_too_much=True, envelopes=data.count(HEADER) if data else 0)
 

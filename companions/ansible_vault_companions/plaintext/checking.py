@@ -5,6 +5,7 @@ from __future__ import annotations
 from dataclasses import dataclass
 
 from ansible_vault_companions.envelopes import conflicts, document
+from ansible_vault_companions.envelopes.document import Document
 from ansible_vault_companions.envelopes.envelope import Value
 from ansible_vault_companions.git import facts
 from ansible_vault_companions.git.repository import make_pathspec
@@ -26,11 +27,10 @@ class Check(Work):
     # The paths that git's attributes mark.
     marked: set[str]
 
-    def file(self, paths: list[str], report: Report) -> None:
+    def file(self, paths: list[str], file: Document, report: Report) -> None:
         """Checks the file to which these paths lead. It is marked if one of them is."""
         path = next((path for path in paths if path in self.marked), paths[0])
         is_marked = path in self.marked
-        file = document.read_document(document.read_content(path))
         is_prose = document.is_prose(path) and not (is_marked or file.is_vault)
         why = document.find_fault(file, path)
         try:

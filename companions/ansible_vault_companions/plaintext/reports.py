@@ -2,11 +2,13 @@
 
 from __future__ import annotations
 
-from collections import Counter
+from collections import Counter, deque
+from concurrent.futures import Future
 from dataclasses import dataclass, field
 from typing import Callable, Collection
 
 from ansible_vault_companions import program
+from ansible_vault_companions.envelopes import document
 from ansible_vault_companions.envelopes.document import Document
 from ansible_vault_companions.envelopes.envelope import Value
 from ansible_vault_companions.passwords.labels import Policy
@@ -87,6 +89,12 @@ class Work:
             return None, report
 
 
+# What is done with a file, to which these paths lead.
+OnFile = Callable[[list[str], Document, Report], None]
+# How many files are read ahead of the work on them.
+AHEAD = 32
+
+
 class Reports:
     """Prints a companion's reports, and adds them up."""
 
@@ -94,14 +102,23 @@ class Reports:
         self.companion = companion
         self.total = Report()
 
-    def take_all(self, files: list[list[str]], work: Callable[[list[str], Report], None], workers: Workers) -> None:
-        """Works on each file, to which one or more paths lead, and reports on it."""
-        for report in workers.map(lambda paths: _of_file(paths, work), files):
-            self.total.add(report)
-            for line in report.lines:
-                write_line(line)
-            for text in report.faults:
-                self.report_fault(text)
+    def take_all(self, files: list[list[str]], work: OnFile, workers: Workers) -> None:
+        """Works on each file, to which one or more paths lead, and reports on it. The files are read here, in the main
+        thread, where limits hold."""
+        begun: deque[Future[Report]] = deque()
+        for paths in files:
+            begun.append(_begin(paths, work, workers))
+            if len(begun) > AHEAD:
+                self._take(begun.popleft().result())
+        while begun:
+            self._take(begun.popleft().result())
+
+    def _take(self, report: Report) -> None:
+        self.total.add(report)
+        for line in report.lines:
+            write_line(line)
+        for text in report.faults:
+            self.report_fault(text)
 
     def report_fault(self, text: str) -> None:
         write_error(f"{self.companion}: {text}")
@@ -114,11 +131,21 @@ class Reports:
         return bool(missing)
 
 
-def _of_file(paths: list[str], work: Callable[[list[str], Report], None]) -> Report:
-    """The report that `work` makes. A failure is in it, so that the other files are still processed."""
-    report, path = Report(), paths[0]
+def _begin(paths: list[str], work: OnFile, workers: Workers) -> Future[Report]:
+    """Reads a file and begins the work on it. A failure is in its report, so the other files are still processed."""
     try:
-        work(paths, report)
+        file = document.read_document(document.read_content(paths[0]))
     except (Refused, OSError) as fault:
-        report.faults.append(program.refusal(path, fault))
+        refused: Future[Report] = Future()
+        refused.set_result(Report(faults=[program.refusal(paths[0], fault)]))
+        return refused
+    return workers.submit(_of_file, paths, file, work)
+
+
+def _of_file(paths: list[str], file: Document, work: OnFile) -> Report:
+    report = Report()
+    try:
+        work(paths, file, report)
+    except (Refused, OSError) as fault:
+        report.faults.append(program.refusal(paths[0], fault))
     return report

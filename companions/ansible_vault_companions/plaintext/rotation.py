@@ -6,6 +6,7 @@ import os
 from dataclasses import dataclass
 
 from ansible_vault_companions.envelopes import document
+from ansible_vault_companions.envelopes.document import Document
 from ansible_vault_companions.envelopes.envelope import Value
 from ansible_vault_companions.files import replacing
 from ansible_vault_companions.passwords.password import Password
@@ -28,10 +29,9 @@ class Rotation(Work):
     places: list[str]
     is_dry: bool
 
-    def file(self, paths: list[str], report: Report) -> None:
+    def file(self, paths: list[str], file: Document, report: Report) -> None:
         """Rotates the file to which these paths lead."""
         path = paths[0]
-        file = document.read_document(document.read_content(path))
         if not file.values and document.find_fault(file, path):
             raise Refused(file.fault)
         is_prose = document.is_prose(path) and not file.is_vault
