@@ -20,8 +20,8 @@ from ansible_vault_companions.program import Refused
 DEEPEST = 64
 # The texts of a file, and the keys above them, which count for each text and again for each alias.
 MOST_KEYS = 1_000_000
-# The bytes of YAML, as many as a plaintext has.
-LONGEST = 16_777_216
+# The bytes of YAML, as many as a plaintext has; and of a link, as many as Linux has.
+LONGEST, LONGEST_LINK = 16_777_216, 4_096
 # Processor time, with more of it for the hook, since a file that it refuses cannot be committed; and memory beyond what
 # the companion has already.
 SECONDS, HOOK_SECONDS, MEGABYTES = 10, 30, 256

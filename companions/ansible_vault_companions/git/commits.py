@@ -12,7 +12,7 @@ from typing import Iterator, NamedTuple
 from ansible_vault_companions.envelopes.envelope import MAGIC
 from ansible_vault_companions.files.reading import LIMIT
 from ansible_vault_companions.git.repository import build_command, build_environment, make_pathspec, read_line, run_git
-from ansible_vault_companions.limits import LONGEST
+from ansible_vault_companions.limits import LONGEST, LONGEST_LINK
 from ansible_vault_companions.program import Refused, escape
 
 # The modes of regular files and of links, as opposed to submodules.
@@ -103,6 +103,8 @@ class Index:
             file = self.files.get(b"/".join(path))
             if file and file.is_link:
                 text = blobs.read(file.blob) or b""
+                if len(text) > LONGEST_LINK:
+                    return ""
                 path = [b""] if text.startswith(b"/") else path[:-1]
                 steps += text.split(b"/")[::-1]
                 links += 1
