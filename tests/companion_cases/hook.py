@@ -78,6 +78,18 @@ def test_marked_content(place: Place) -> None:
     assert staged(place, files) == [f"{what}/a.vault.yml {why}" for what, (_, why) in CONTENTS.items() if why]
 
 
+def test_git_that_fails(place: Place) -> None:
+    """If git cannot read the last commit, there may be one, so nothing passes as the first."""
+    under_git(place, "")
+    place.put("a.yml", sealed("old"))
+    add_and_commit(place)
+    place.put("a.yml", TEXT)
+    place.shell("git add -A")
+    for status, why in ((1, "git cannot read refs/heads/"), (128, "git rev-parse failed: ")):
+        place.wrap_tool(f'case "$*" in *rev-parse*--verify*HEAD*) exit {status};; esac', "git")
+        ended(why, place.run(HOOK), 1, why)
+
+
 def test_pre_commit(place: Place) -> None:
     """The framework runs it in the top directory, with the files of the commit that are no links."""
     needs("pre-commit")

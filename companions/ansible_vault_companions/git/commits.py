@@ -138,14 +138,25 @@ def read_staged() -> Index:
             names.update(file.read().split())
     except FileNotFoundError:
         pass
-    return Index(["HEAD", *sorted(names)] if read_line("rev-parse", "--verify", "HEAD") else [])
+    return Index(["HEAD", *sorted(names)] if _has_commit() else [])
+
+
+def _has_commit() -> bool:
+    """Whether HEAD is a commit, and not a branch that has none yet. Raises Refused if it is neither."""
+    if read_line("rev-parse", "--verify", "--quiet", "HEAD"):
+        return True
+    # git also says so if it cannot read the branch. If it still cannot, the first of these fails.
+    branch = os.fsdecode(run_git("symbolic-ref", "HEAD").removesuffix(b"\n"))
+    if run_git("for-each-ref", branch):
+        raise Refused(f"git cannot read {escape(branch)}")
+    return False
 
 
 def find_commit(name: str) -> str:
     """The ID of the commit with this name. Raises Refused if there is none, or if the clone lacks earlier ones."""
     if read_line("rev-parse", "--is-shallow-repository") == "true":
         raise Refused(SHALLOW)
-    commit = read_line("rev-parse", "--verify", "--end-of-options", f"{name}^{{commit}}")
+    commit = read_line("rev-parse", "--verify", "--quiet", "--end-of-options", f"{name}^{{commit}}")
     if not commit:
         raise Refused(f"{escape(name)} is not a commit in this clone; if others have it, run `git fetch`")
     return commit

@@ -47,16 +47,19 @@ def run(
         raise Refused("git is not installed; install it") from None
 
 
-def run_git(*words: str, data: bytes = b"", index: str | None = None, folder: str | None = None) -> bytes:
-    """The output of a git command. If it fails, so does this, with git's own message. Warnings are left out."""
+def run_git(
+    *words: str, data: bytes = b"", index: str | None = None, folder: str | None = None, may_be_none: bool = False
+) -> bytes:
+    """The output of a git command. If it fails, so does this, with git's own message. Warnings are left out. Some
+    commands have the status 1 if there is none of what they look for."""
     done = run(*words, data=data, index=index, cwd=folder)
-    if done.returncode != 0:
+    if done.returncode != 0 and not (may_be_none and done.returncode == 1):
         raise Refused(f"git {words[0]} failed: {' '.join(done.stderr.decode(errors='replace').split())}")
     return done.stdout
 
 
 def try_git(*words: str, folder: str | None = None) -> bytes:
-    """The output of a git command, or nothing if it fails."""
+    """The output of a git command, or nothing if it fails, for what is better than nothing, but not needed."""
     try:
         return run_git(*words, folder=folder)
     except Refused:
@@ -64,8 +67,8 @@ def try_git(*words: str, folder: str | None = None) -> bytes:
 
 
 def read_line(*words: str) -> str:
-    """The one line that a git command prints, or nothing if it fails."""
-    return os.fsdecode(try_git(*words).removesuffix(b"\n"))
+    """The one line that a git command prints, or nothing if there is none of what it looks for."""
+    return os.fsdecode(run_git(*words, may_be_none=True).removesuffix(b"\n"))
 
 
 @lru_cache(maxsize=None)
