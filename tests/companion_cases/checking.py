@@ -116,6 +116,15 @@ def test_help(name: str) -> None:
     assert max(map(len, lines)) <= 80 and (len(lines) <= 34 or name == WITH) and "None" not in map(str.strip, lines)
 
 
+def test_vanished_files(place: Place) -> None:
+    """A file that is found and then vanishes, as those of a rotation do, is no failure, but a named one is."""
+    place.wrap_tool("rm -f t/39.yml")
+    for words, status, output in ((["t"], 0, "39 decrypted, 0 not"), (["t", "t/39.yml"], 1, "t/39.yml: No such file")):
+        for number in range(40):
+            place.put(f"t/{number}.yml", sealed("old"))
+        ended(output, place.run(CHECK, *place.by_file("old"), *words), status, output)
+
+
 def test_same_password_in_another_file(place: Place) -> None:
     """Ansible strips the white space around a password, so this file contains the same secret, of the greatest length
     here. An input that does not fit into a pipe is written completely."""

@@ -98,8 +98,10 @@ AHEAD = 32
 class Reports:
     """Prints a companion's reports, and adds them up."""
 
-    def __init__(self, companion: str) -> None:
+    def __init__(self, companion: str, named: list[str]) -> None:
         self.companion = companion
+        # The paths of the command line. Files that are found below them may vanish.
+        self.named = named
         self.total = Report()
 
     def take_all(self, files: list[list[str]], work: OnFile, workers: Workers) -> None:
@@ -107,11 +109,22 @@ class Reports:
         thread, where limits hold."""
         begun: deque[Future[Report]] = deque()
         for paths in files:
-            begun.append(_begin(paths, work, workers))
+            begun.append(self._begin(paths, work, workers))
             if len(begun) > AHEAD:
                 self._take(begun.popleft().result())
         while begun:
             self._take(begun.popleft().result())
+
+    def _begin(self, paths: list[str], work: OnFile, workers: Workers) -> Future[Report]:
+        """Reads a file and begins the work on it. A failure is in its report, so other files are still processed."""
+        try:
+            file = document.read_document(document.read_content(paths[0]))
+        except (Refused, OSError) as fault:
+            is_gone = isinstance(fault, FileNotFoundError) and not any(path in self.named for path in paths)
+            refused: Future[Report] = Future()
+            refused.set_result(Report(faults=[] if is_gone else [program.refusal(paths[0], fault)]))
+            return refused
+        return workers.submit(_of_file, paths, file, work)
 
     def _take(self, report: Report) -> None:
         self.total.add(report)
@@ -129,17 +142,6 @@ class Reports:
         for label in missing:
             self.report_fault(f"no vault or value has the label {escape(label)}")
         return bool(missing)
-
-
-def _begin(paths: list[str], work: OnFile, workers: Workers) -> Future[Report]:
-    """Reads a file and begins the work on it. A failure is in its report, so the other files are still processed."""
-    try:
-        file = document.read_document(document.read_content(paths[0]))
-    except (Refused, OSError) as fault:
-        refused: Future[Report] = Future()
-        refused.set_result(Report(faults=[program.refusal(paths[0], fault)]))
-        return refused
-    return workers.submit(_of_file, paths, file, work)
 
 
 def _of_file(paths: list[str], file: Document, work: OnFile) -> Report:
