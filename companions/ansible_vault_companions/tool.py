@@ -6,7 +6,7 @@ from __future__ import annotations
 import os
 import re
 import threading
-from concurrent.futures import Future, ThreadPoolExecutor
+from concurrent.futures import Future, ThreadPoolExecutor, wait
 from contextlib import suppress
 from typing import Callable, Hashable, Iterable, NamedTuple, Sequence, TypeVar
 
@@ -24,6 +24,8 @@ NOT_DECRYPTED = "no secret decrypts this vault"
 ERROR = "ERROR! "
 # Limits the total size, in bytes, of remembered envelopes and texts, since there may be any number of files.
 MOST_REMEMBERED = 1 << 26
+# Seconds until the main thread looks whether a signal has arrived.
+LONGEST_WAIT = 0.2
 
 
 class Key(NamedTuple):
@@ -137,11 +139,19 @@ class Workers(ThreadPoolExecutor):
     def __exit__(self, *_: object) -> None:
         self.shutdown(cancel_futures=True)
 
+    @staticmethod
+    def wait_for(future: Future[Result]) -> Result:
+        """The result of some work. A signal ends the wait: the system may give it to another thread, and Python handles
+        it only when the main thread wakes up."""
+        while not wait([future], LONGEST_WAIT).done:
+            processes.check()
+        return future.result()
+
     def share(self, work: Callable[[Item], Result], items: Sequence[Item]) -> list[Result]:
         """The results for the parts of a worker's own work. It does itself what no other worker has begun."""
         others = [(item, self.submit(work, item)) for item in items[1:]]
         first = [work(item) for item in items[:1]]
-        rest = [work(item) if future.cancel() else future.result() for item, future in reversed(others)]
+        rest = [work(item) if future.cancel() else self.wait_for(future) for item, future in reversed(others)]
         return first + rest[::-1]
 
 

@@ -4,6 +4,7 @@ import os
 import re
 import signal
 import subprocess
+import sys
 from collections.abc import Callable
 from pathlib import Path
 
@@ -11,6 +12,7 @@ import pytest
 
 from companion_cases import CHANGE, CHANGED, EDIT, MERGE, ROTATE, TEXT, Companions, Place, block, decrypted
 from companion_cases import edit, run_changed, sealed, silent, texts, to_new, versions, wait_until
+from lib.paths import ROOT
 from lib.processes import SECONDS, started
 from lib.subtests import SubTests
 
@@ -148,3 +150,29 @@ def test_waits(place: Place, git: None) -> None:
             assert process.communicate(timeout=SECONDS)[1] == "", "without a word"
             assert process.returncode == -signal.SIGTERM, "it ends by the signal"
         assert (os.listdir(place.temporary), place.left()) == ([], []), "nothing is left"
+
+
+IN_WORKER = """
+import signal, threading, time
+from ansible_vault_companions import processes
+from ansible_vault_companions.tool import Workers
+def work():
+    # The main thread waits by then.
+    time.sleep(0.3)
+    signal.pthread_kill(threading.get_ident(), signal.SIGTERM)
+    while processes.state.noted is None:
+        time.sleep(0.01)
+    time.sleep(1)
+processes.listen()
+with Workers() as workers:
+    try:
+        workers.wait_for(workers.submit(work))
+    except processes.Stopped:
+        print("stopped")
+"""
+
+
+def test_signal_to_a_worker(place: Place) -> None:
+    """The system may give a signal to a thread that is not the main one, which is to end its wait."""
+    done = place.run(sys.executable, "-c", IN_WORKER, PYTHONPATH=str(ROOT / "companions"))
+    assert (done.returncode, done.stdout, done.stderr) == (0, "stopped\n", "")

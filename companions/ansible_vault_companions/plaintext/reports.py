@@ -111,9 +111,9 @@ class Reports:
         for paths in files:
             begun.append(self._begin(paths, work, workers))
             if len(begun) > AHEAD:
-                self._take(begun.popleft().result())
+                self._take(workers.wait_for(begun.popleft()))
         while begun:
-            self._take(begun.popleft().result())
+            self._take(workers.wait_for(begun.popleft()))
 
     def _begin(self, paths: list[str], work: OnFile, workers: Workers) -> Future[Report]:
         """Reads a file and begins the work on it. A failure is in its report, so other files are still processed."""
