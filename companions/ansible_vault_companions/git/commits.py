@@ -97,9 +97,12 @@ class Index:
         path, steps, links, file = list[bytes](), link.name.split(b"/")[::-1], 0, None
         while steps and links <= MOST_LINKS:
             step = steps.pop()
-            if step == b".." and not path:
-                return ""
-            path = path[:-1] if step == b".." else [*path, step] if step not in (b"", b".") else path
+            if step == b"..":
+                if not path:
+                    return ""
+                path.pop()
+            elif step not in (b"", b"."):
+                path.append(step)
             file = self.files.get(b"/".join(path))
             if file and file.is_link:
                 text = blobs.read(file.blob) or b""

@@ -8,7 +8,7 @@ from __future__ import annotations
 import re
 from collections import Counter
 from functools import reduce
-from typing import Callable, Iterable, Iterator, NamedTuple
+from typing import Callable, Iterator, NamedTuple
 
 from ansible_vault_companions import limits
 from ansible_vault_companions.envelopes import conflicts, envelope
@@ -82,9 +82,15 @@ def _read_facts(data: bytes | None, needs_plain: bool) -> Facts:
     if not (needs_plain or may_have_envelope(data)):
         return Facts()
     document, leaves = _read_leaves(data)
-    envelopes = sum(value.is_envelope for value in document.values)
-    faults = find_damage(document), find_tagged(document), find_unencrypted(document)
-    made = Facts(False, False, document.fault, False, envelopes, *faults, encrypted={}, plain={})
+    made = Facts(
+        fault=document.fault,
+        envelopes=sum(value.is_envelope for value in document.values),
+        damage=find_damage(document),
+        tagged=find_tagged(document),
+        unencrypted=find_unencrypted(document),
+        encrypted={},
+        plain={},
+    )
     for path, is_encrypted, text in leaves:
         texts = made.encrypted if is_encrypted else made.plain
         texts.setdefault(_keys(path), Counter())[text] += 1
@@ -93,7 +99,9 @@ def _read_facts(data: bytes | None, needs_plain: bool) -> Facts:
 
 def _read_leaves(data: bytes) -> tuple[Document, list[Leaf]]:
     """The envelopes, and the texts at each path that leads to them, from one look at the nodes."""
-    document, leaves, keys = Document(data), list[Leaf](), 0
+    document, leaves = Document(data), list[Leaf]()
+    # How many keys and texts the leaves have.
+    number = 0
     # For each anchor its path, and the number of its first text.
     anchors: dict[str, tuple[Path, int]] = {}
     try:
@@ -101,8 +109,8 @@ def _read_leaves(data: bytes) -> tuple[Document, list[Leaf]]:
             if node.is_value:
                 document.values.append(node)
             for leaf in _list_leaves(node, leaves, anchors):
-                keys += 1 + len(leaf[0])
-                if keys > limits.MOST_KEYS:
+                number += 1 + len(leaf[0])
+                if number > limits.MOST_KEYS:
                     raise TooMuch(limits.TOO_MANY)
                 leaves.append(leaf)
     except NotYaml as fault:
@@ -143,47 +151,6 @@ def write_keys(keys: Keys) -> str:
     escape: Callable[[re.Match[str]], str] = lambda text: "".join(f"%{byte:02X}" for byte in text[0].encode())
     steps = (key if key is ITEM else UNWRITTEN.sub(escape, key) for key in keys)
     return ".".join(steps).replace(f".{ITEM}", ITEM) or "."
-
-
-def find_new_plaintext(before: Facts, after: Facts) -> set[Keys]:
-    """Where there is new plaintext."""
-    return {keys for keys, texts in after.plain.items() if texts - before.plain.get(keys, NONE)}
-
-
-def list_branches(paths: Iterable[Keys]) -> set[Keys]:
-    """These and those above them."""
-    return {keys[:length] for keys in paths for length in range(len(keys) + 1)}
-
-
-def count_envelopes(files: Iterable[Facts]) -> Counter[int]:
-    """The envelopes in values, and how often each is there."""
-    return Counter(text for file in files for texts in file.encrypted.values() for text in texts.elements())
-
-
-def count_values(files: Iterable[Facts]) -> Counter[Keys]:
-    """How many values there are at each key path."""
-    return Counter(keys for file in files for keys, texts in file.encrypted.items() for _ in texts.elements())
-
-
-def find_now_plain(before: Facts, after: Facts) -> list[Keys]:
-    """Where an envelope was and new plaintext is, at its keys, above or below. Where items of a list share the keys, an
-    envelope has to be gone from the file. If a mapping takes the place of a list, or a list that of a mapping, the keys
-    of the mapping count as items."""
-    came_at = find_new_plaintext(before, after)
-    lists = {keys[:place] for keys in (*before.encrypted, *came_at) for place, key in enumerate(keys) if key == ITEM}
-
-    def with_items(keys: Keys) -> Keys:
-        return tuple(ITEM if keys[:place] in lists else key for place, key in enumerate(keys))
-
-    new = {with_items(keys) for keys in came_at}
-    above, gone = list_branches(new), count_envelopes([before]) - count_envelopes([after])
-    found = list[Keys]()
-    for keys, texts in before.encrypted.items():
-        place = with_items(keys)
-        is_new = place in above or any(place[:length] in new for length in range(len(place)))
-        if is_new and (ITEM not in place or not gone.keys().isdisjoint(texts)):
-            found.append(keys)
-    return found
 
 
 def is_unmerged(document: Document) -> bool:

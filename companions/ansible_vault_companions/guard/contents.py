@@ -50,7 +50,7 @@ def find_pointer(change: Change, file: File) -> Fault | None:
 
 
 def find_unreadable(change: Change, file: File) -> Fault | None:
-    """A file that cannot be compared with what it was, since one of them exceeds a limit or is no YAML."""
+    """A file with envelopes that exceeds a limit, or one that had values and is no YAML now."""
     before, now = change.before[file], change.now[file]
     if change.is_exempt(file) or change.is_example(file):
         return None
@@ -59,11 +59,19 @@ def find_unreadable(change: Change, file: File) -> Fault | None:
         return make_fault(change, file, NOT_READ.format(now.fault), is_given=is_given)
     if before.encrypted and now.fault and is_yaml(file):
         return make_fault(change, file, NOT_YAML.format(now.fault), REPAIR, is_given=is_given)
-    has_fewer = before.envelopes > now.envelopes and not (now.is_vault or now.is_empty)
-    is_repaired = before.fault and not now.fault and is_yaml(file)
-    if has_fewer and (before.is_too_much or is_repaired):
-        return make_fault(change, file, NOT_COMPARED.format(change.since, before.fault), is_given=is_given)
     return None
+
+
+def find_incomparable(change: Change, file: File) -> Fault | None:
+    """A file with fewer envelopes than before, when it exceeded a limit or was no YAML. A template never is."""
+    before, now = change.before[file], change.now[file]
+    if change.is_exempt(file) or change.is_example(file) or now.is_vault or now.is_empty:
+        return None
+    is_repaired = before.fault and not now.fault and is_yaml(file)
+    if before.envelopes <= now.envelopes or not (before.is_too_much or is_repaired):
+        return None
+    why = NOT_COMPARED.format(change.since, before.fault)
+    return make_fault(change, file, why, is_given=change.attributes[file.name].is_exempt)
 
 
 def find_unencrypted(change: Change, file: File) -> Fault | None:

@@ -34,6 +34,7 @@ def find_faults(change: Change) -> Iterator[tuple[File, Fault]]:
                 or vaults.find_fault(file)
                 or values.find_fault(file)
                 or contents.find_unreadable(change, file)
+                or contents.find_incomparable(change, file)
                 or contents.find_unencrypted(change, file)
             )
             if fault:

@@ -7,10 +7,10 @@ from collections import Counter
 from functools import cached_property
 from typing import Iterator
 
-from ansible_vault_companions.git import facts
 from ansible_vault_companions.git.attributes import PLAIN_VALUES
 from ansible_vault_companions.git.commits import File
 from ansible_vault_companions.git.facts import NONE, Facts, Keys, write_keys
+from ansible_vault_companions.guard import comparing
 from ansible_vault_companions.guard.change import Change
 from ansible_vault_companions.guard.faults import Fault, make_fault
 from ansible_vault_companions.program import escape
@@ -26,7 +26,7 @@ class Values:
     def removed(self) -> dict[Keys, bytes]:
         """The keys of which a file has fewer values, if an envelope of them is gone, each with such a file."""
         before, now = self.change.before, self.change.now
-        gone = facts.count_envelopes(before.values()) - facts.count_envelopes(now.values())
+        gone = comparing.count_envelopes(before.values()) - comparing.count_envelopes(now.values())
         removed = {}
         for file in before:
             for keys, texts in before[file].encrypted.items():
@@ -39,14 +39,14 @@ class Values:
     @cached_property
     def fewer(self) -> Counter[Keys]:
         """The keys of which there are fewer values in all."""
-        return facts.count_values(self.change.before.values()) - facts.count_values(self.change.now.values())
+        return comparing.count_values(self.change.before.values()) - comparing.count_values(self.change.now.values())
 
     def find_fault(self, file: File) -> Fault | None:
         before, now = self.change.before[file], self.change.now[file]
         given, allowed = self.change.attributes[file.name].plain_values, {*self._list_allowed(file)}
         elsewhere = self._find_from_elsewhere(file, now)
         sources = {keys: f" of {escape(os.fsdecode(self.removed[keys]))}" for keys in elsewhere}
-        sources.update(dict.fromkeys(facts.find_now_plain(before, now), ""))
+        sources.update(dict.fromkeys(comparing.find_now_plain(before, now), ""))
         refused = sorted((keys for keys in sources if write_keys(keys) not in allowed), key=write_keys)
         if not refused:
             return None
@@ -66,8 +66,8 @@ class Values:
     def _find_from_elsewhere(self, file: File, now: Facts) -> set[Keys]:
         """The keys of removed values at or below which there is new plaintext. If there are as many values elsewhere,
         a plaintext that was there may change."""
-        if not self.removed or self.removed.keys().isdisjoint(facts.list_branches(now.plain)):
+        if not self.removed or self.removed.keys().isdisjoint(comparing.list_branches(now.plain)):
             return set()
         before = self.change.find_facts(file.before, needs_plain=True)
-        found = facts.list_branches(facts.find_new_plaintext(before, now)) & self.removed.keys()
-        return found - (facts.list_branches(before.plain) - self.fewer.keys())
+        found = comparing.list_branches(comparing.find_new_plaintext(before, now)) & self.removed.keys()
+        return found - (comparing.list_branches(before.plain) - self.fewer.keys())
