@@ -19,9 +19,7 @@ pytestmark = pytest.mark.allocations
 
 
 @pytest.mark.parametrize("command, target", TARGETS)
-def test_each_refused(
-    cases: Cases, command: str, target: str, record_property: Callable[[str, object], None]
-) -> None:
+def test_each_refused(cases: Cases, command: str, target: str, record_property: Callable[[str, object], None]) -> None:
     needs("cc")
     library = build_library(str(cases.folder), "refuse_allocation")
     scenario = scenario_of(cases, command, target, 1_000)

@@ -89,5 +89,5 @@ def test_values(place: Place, command: str) -> None:
     ended("theirs", edit(place, TAKE_THEIRS, *words), 0)
     assert place.get("a.yml") == files[2]
     place.put("a.yml", before)
-    ended("both", edit(place, f"{TAKE_THEIRS}; sed -i s/theirs/both/ \"$1\"", *words), 0)
+    ended("both", edit(place, f'{TAKE_THEIRS}; sed -i s/theirs/both/ "$1"', *words), 0)
     assert texts(place.get("a.yml"), "old") == [b"both"]

@@ -10,7 +10,7 @@ AGAIN, INTENDED = "Open the editor again? (yes, no): ", "Is that intended? (yes,
 SHOWN = f"secret: !vault |\n  {TEXT.decode()}"
 TYPO = 'new: !vault "more'
 TYPED = f"{SHOWN}{TYPO}\n".encode()
-MEND = "sed -i 's/\"more/more/' \"$1\""
+MEND = 'sed -i \'s/"more/more/\' "$1"'
 # The first run of the editor makes a mistake, and the others do something else. Each run notes what it sees.
 MISTAKES = f"""\
 cat "$1" >> ../seen

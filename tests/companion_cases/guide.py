@@ -23,6 +23,7 @@ VARIABLE = "Variable name (enter for no name): "
 HIDDEN: Typed = [(VARIABLE, "one"), ("String to encrypt (hidden): ", " first ")]
 SHOWN: Typed = [(VARIABLE, ""), ("String to encrypt:", " first ")]
 
+
 class Row(NamedTuple):
     """A command line after `ansible-vault`."""
 

@@ -60,11 +60,13 @@ PASSING: dict[str, tuple[Content, Content]] = {
     "one vault of a name for another": ({"a/x.yml": VAULT, "y": X}, {"b/x.yml": OTHER, "c/x.yml": X, "y": X}),
     "expressions in a file of its name": ({"a/x.yml": VAULT, "y": X}, {"b/x.yml": JINJA}),
     "tasks and a play of its name": (
-        {"a/x.yml": VAULT, "y": X}, {"t/x.yml": b'- debug: "{{ x }}"\n', "x.yml": b"- hosts: x\n"}
+        {"a/x.yml": VAULT, "y": X},
+        {"t/x.yml": b'- debug: "{{ x }}"\n', "x.yml": b"- hosts: x\n"},
     ),
     "a locked account beside a rotation": (users(PW), users(PW2, b"pw: '!'\n", b"pw: '*'\n")),
     "a value encrypted again elsewhere, and another default": (
-        {"a.yml": PW + X, "c.yml": PLAIN}, {"a.yml": X, "b.yml": PW2, "c.yml": b"pw: default\n"}
+        {"a.yml": PW + X, "c.yml": PLAIN},
+        {"a.yml": X, "b.yml": PW2, "c.yml": b"pw: default\n"},
     ),
     "users by name": (users(PW), below(b"users", below(b"a", PW) + below(b"b", PLAIN))),
     "fixtures": (FIXTURES, FIXTURES | {"t/a.yml": VAULT, "t/b.yml": CUT, "t/c.yml": b"pw: !vault x\n" + PW2}),
@@ -90,13 +92,16 @@ REFUSED: dict[str, tuple[Content, Content, str]] = {
     "another name's pointer": ({"a/x.yml": VAULT}, {"b/x.yml": POINTER}, f"b/x.yml {GONE.format('a/x.yml')}"),
     "a list by another name": ({"a.yml": VAULT}, {"a.txt": b"- plain\n"}, f"a.txt {GONE.format('a.yml')}"),
     "a list and a mapping": (
-        {"a/x.yml": VAULT}, {"b/x.yml": b"- plain\n---\nx: 1\n"}, f"b/x.yml {GONE.format('a/x.yml')}"
+        {"a/x.yml": VAULT},
+        {"b/x.yml": b"- plain\n---\nx: 1\n"},
+        f"b/x.yml {GONE.format('a/x.yml')}",
     ),
     "another case": ({"A/x.yml": VAULT}, {"a/X.yml": TEXT}, f"a/X.yml {GONE.format('A/x.yml')}"),
     "a directory for a file": ({"b/x.yml": VAULT}, {"b/x/main.yml": TEXT}, f"b/x/main.yml {GONE.format('b/x.yml')}"),
     "a file for a directory": ({"b/x/y.yml": VAULT}, {"b/x.yml": TEXT}, f"b/x.yml {GONE.format('b/x/y.yml')}"),
     "one of two of a name": (
-        {"a/x.yml": VAULT, "b/x.yml": OTHER}, {"c/x.yml": sealed("dev"), "d/x.yml": TEXT},
+        {"a/x.yml": VAULT, "b/x.yml": OTHER},
+        {"c/x.yml": sealed("dev"), "d/x.yml": TEXT},
         f"d/x.yml {GONE.format('b/x.yml')}",
     ),
     "a vault, now in git-lfs": (VAULT, POINTER, LFS),
@@ -108,7 +113,9 @@ REFUSED: dict[str, tuple[Content, Content, str]] = {
     "a list, now texts by name": (users(PW), b"users: {a: plain}\n", IN_PART.format("users[].pw")),
     "one of two values that were one": (PW, {"b.yml": PW2, "c.yml": PLAIN}, f"c.yml {IN_PART.format('pw of a.yml')}"),
     "a default for a value": (
-        {"a.yml": PW, "c.yml": PLAIN}, {"c.yml": b"pw: s3cret\n"}, f"c.yml {IN_PART.format('pw of a.yml')}"
+        {"a.yml": PW, "c.yml": PLAIN},
+        {"c.yml": b"pw: s3cret\n"},
+        f"c.yml {IN_PART.format('pw of a.yml')}",
     ),
     "plaintext with the tag": (PW, PW + b"x: !vault plain\n", "has plaintext with the tag `!vault` in line 8"),
     "a repaired file": (TAB + PW, PLAIN, f"{FEWER}line 1: it cannot be read as YAML: {TOKEN}"),
@@ -162,7 +169,8 @@ def test_changes(place: Place, before: Content, after: Content, why: str) -> Non
 MERGES = {
     "a renamed vault and a rotation": ("git mv a.yml c.yml", "cp ../new/* ."),
     "a plaintext that is meant": (
-        "touch new.yml && git add .", "echo 'b.yml ansible-vault-plain=pw' > .gitattributes && echo 'pw: x' > b.yml"
+        "touch new.yml && git add .",
+        "echo 'b.yml ansible-vault-plain=pw' > .gitattributes && echo 'pw: x' > b.yml",
     ),
 }
 

@@ -67,7 +67,9 @@ WHICH = [("Label to encrypt word with (dev, prod): ", label) for label in (b"sta
 ONLY_ENCRYPTING: dict[str, tuple[str, bytes, list[tuple[str, bytes]]]] = {
     "a new value": (f"{EDIT} -J a.yml", NEW_VALUE, typed("prod", ASKED, AGAIN)),
     "a label that is typed": (
-        f"{EDIT} {BOTH} a.yml < /dev/tty", OF_ANOTHER + NEW_VALUE, [OF_PROD[0], *WHICH, OF_PROD[1]]
+        f"{EDIT} {BOTH} a.yml < /dev/tty",
+        OF_ANOTHER + NEW_VALUE,
+        [OF_PROD[0], *WHICH, OF_PROD[1]],
     ),
     "one that is set": (f"printf new | {EDIT} {BY_LABEL} --value=word a.yml", NEW_VALUE, OF_PROD),
     "rekey": (f"{WITH} rekey --encrypt-vault-id=prod a.yml", sealed("old"), OF_PROD),

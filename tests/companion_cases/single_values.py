@@ -22,7 +22,7 @@ VALUES = {"db_password": b"correct horse", "app.users[0].pw": ANY_BYTES, '"a.b \
 VAULT = sealed("dev", b"db:\n  password: 'it''s'\n  list: [1]\n" + block("prod", b"inner", "prod", "x"), "dev")
 # The content of a file, a path that leads to no single value, and why.
 NOT_SHOWN = [
-    (FILE, "pw", "no value pw; encrypted here: db_password, app.users[0].pw, \"a.b \\\"c\\\\d\\\"\"[0].x"),
+    (FILE, "pw", 'no value pw; encrypted here: db_password, app.users[0].pw, "a.b \\"c\\\\d\\""[0].x'),
     (FILE, "app.plain", "app.plain is not encrypted"),
     (block("dev", b"one", "dev", "a") * 2, "a", "2 values are at a; number the items of lists, as in "),
     (VAULT, "db", "db is a list, a mapping or an alias"),

@@ -37,9 +37,7 @@ def build_environment(index: str | None = None) -> dict[str, str]:
     return {**os.environ, **NO_TRANSPORT, **({"GIT_INDEX_FILE": index} if index else {})}
 
 
-def run(
-    *words: str, data: bytes = b"", index: str | None = None, **options: Any
-) -> subprocess.CompletedProcess[bytes]:
+def run(*words: str, data: bytes = b"", index: str | None = None, **options: Any) -> subprocess.CompletedProcess[bytes]:
     """Runs a git command to its end, whatever its status."""
     try:
         return processes.run(build_command(words), data, env=build_environment(index), **options)
