@@ -14,7 +14,7 @@ from typing import Iterator
 
 from ansible_vault_companions import processes
 from ansible_vault_companions.processes import state
-from ansible_vault_companions.program import Refused
+from ansible_vault_companions.refusals import Refused
 
 # The levels of YAML, with those of an alias at its place. libyaml takes quadratic time for brackets.
 DEEPEST = 64

@@ -14,7 +14,7 @@ from ansible_vault_companions import processes
 from ansible_vault_companions.envelopes.envelope import label_of
 from ansible_vault_companions.passwords.labels import Policy, describe_tried, order_to_try, require_label
 from ansible_vault_companions.passwords.password import Password
-from ansible_vault_companions.program import Refused
+from ansible_vault_companions.refusals import Refused
 
 Item = TypeVar("Item")
 Result = TypeVar("Result")

@@ -19,7 +19,7 @@ from ansible_vault_companions.envelopes.envelope import LINE_END, Path
 from ansible_vault_companions.passwords.labels import Policy
 from ansible_vault_companions.passwords.password import Password
 from ansible_vault_companions.passwords.sources import source_of_path
-from ansible_vault_companions.program import Refused
+from ansible_vault_companions.refusals import Refused
 from ansible_vault_companions.tool import Decrypted, Tool
 from companion_cases.spellings import LOADERS, Generator, composed
 

@@ -6,12 +6,14 @@ import argparse
 from collections.abc import Collection, Iterable
 from argparse import Namespace
 
-from ansible_vault_companions import program
+from ansible_vault_companions import parsers
+from ansible_vault_companions.output import write_error
 from ansible_vault_companions.passwords import loading, options, prompts
 from ansible_vault_companions.passwords.labels import ANY_LABEL, choose_to_encrypt, first_with_label, make_policy
 from ansible_vault_companions.passwords.password import Password
 from ansible_vault_companions.passwords.sources import ASKED, list_sources, source_of_id
-from ansible_vault_companions.program import Refused, escape, write_error
+from ansible_vault_companions.quoting import escape
+from ansible_vault_companions.refusals import Refused
 
 NAME = "ansible-vault-with"
 VIEW, DECRYPT, ENCRYPT, ENCRYPT_STRING, REKEY = "view", "decrypt", "encrypt", "encrypt_string", "rekey"
@@ -64,15 +66,15 @@ ARGUMENTS: dict[str, tuple[int | str, str, str]] = {
 }
 
 
-def command_line(words: Collection[str] = tuple(COMMANDS)) -> program.Parser:
+def command_line(words: Collection[str] = tuple(COMMANDS)) -> parsers.Parser:
     """The parser, with the options of the commands that are among the words."""
-    parser = program.make_parser(NAME, SUMMARY, EXAMPLE, allow_abbrev=True)
+    parser = parsers.make_parser(NAME, SUMMARY, EXAMPLE, allow_abbrev=True)
     options.add_options(parser, before="before_")
     parser.add_argument("-v", "--verbose", action="count", help=argparse.SUPPRESS)
     commands = parser.add_subparsers(dest="command", metavar="COMMAND", title="commands")
     for name, text in COMMANDS.items():
         command = commands.add_parser(
-            name, help=text, description=text, formatter_class=program.Formatter, add_help=False
+            name, help=text, description=text, formatter_class=parsers.Formatter, add_help=False
         )
         if name in words:
             _add_options(command, name)
@@ -101,7 +103,7 @@ def parse(words: list[str]) -> Namespace:
 
 
 def _add_options(parser: argparse.ArgumentParser, command: str) -> None:
-    program.add_common(parser, NAME)
+    parsers.add_common_options(parser, NAME)
     options.add_options(parser)
     parser.add_argument("-v", "--verbose", action="count", help=argparse.SUPPRESS)
     for option, (commands, metavar, text) in PASSED_ON.items():

@@ -7,11 +7,11 @@ from argparse import Namespace
 from functools import partial
 from typing import NamedTuple
 
-from ansible_vault_companions import program
+from ansible_vault_companions import lifecycle, output, quoting
 from ansible_vault_companions.alias.command_line import DECRYPT, ENCRYPT_STRING, NAME, STANDARD_INPUT, VIEW, Call
 from ansible_vault_companions.files import reading, replacing
+from ansible_vault_companions.output import write_error
 from ansible_vault_companions.passwords import prompts
-from ansible_vault_companions.program import write_error
 from ansible_vault_companions.tool import Tool
 
 
@@ -36,12 +36,12 @@ def handle(companion: str, call: Call) -> int:
         before = reading.read_existing(path)
         after = tool.run(call.words(), before, [*call.passwords, *call.new])
         if call.args.command == VIEW:
-            program.write(end + after)
+            output.write_data(end + after)
             end = b"\n" if after and not after.endswith(b"\n") else b""
         else:
             replacing.replace(path, after, before, call.args.command == DECRYPT)
 
-    return max(program.attempt(NAME, path, partial(work, path)) for path in call.args.arguments)
+    return max(lifecycle.attempt_work(NAME, path, partial(work, path)) for path in call.args.arguments)
 
 
 def _encrypt_strings(tool: Tool, call: Call) -> int:
@@ -52,11 +52,11 @@ def _encrypt_strings(tool: Tool, call: Call) -> int:
         named = [f"--stdin-name={text.name}"] if text.name else []
         values.append(tool.run([*call.words("--stdin-name", "--output"), *named], text.content, call.passwords))
         if len(texts) > 1:
-            what = f"the variable {program.escape(text.name)}" if text.name else "a string without a name"
+            what = f"the variable {quoting.escape(text.name)}" if text.name else "a string without a name"
             write_error(f"# Value {number} is {what}, from {text.origin}.")
     path = call.args.output
     if path is None or path == STANDARD_INPUT:
-        program.write(b"".join(values))
+        output.write_data(b"".join(values))
     else:
         replacing.replace(path, b"".join(values), reading.read(path))
     return 0

@@ -8,7 +8,7 @@ from typing import NamedTuple
 from ansible_vault_companions.passwords import prompts
 from ansible_vault_companions.passwords.labels import NONE_HAS_LABEL, choose_to_encrypt, first_with_label
 from ansible_vault_companions.passwords.password import Password
-from ansible_vault_companions.program import Refused
+from ansible_vault_companions.refusals import Refused
 from ansible_vault_companions.tool import Key
 
 

@@ -12,7 +12,8 @@ from contextlib import suppress
 from ansible_vault_companions.envelopes.envelope import label_of
 from ansible_vault_companions.files import reading, replacing
 from ansible_vault_companions.git.repository import find_repository
-from ansible_vault_companions.program import Refused, escape
+from ansible_vault_companions.quoting import escape
+from ansible_vault_companions.refusals import Refused
 from ansible_vault_companions.tool import Decrypt, Key, Tool
 
 # Precedes the text of a copy, so that no text begins like a vault, which ansible-vault would not encrypt. The digest is

@@ -20,7 +20,7 @@ from ansible_vault_companions.merging.lines import Versions
 from ansible_vault_companions.merging.vaults import Vaults
 from ansible_vault_companions.passwords.labels import Policy
 from ansible_vault_companions.passwords.password import Password
-from ansible_vault_companions.program import Refused
+from ansible_vault_companions.refusals import Refused
 from ansible_vault_companions.tool import Decrypt, Key, Tool
 
 NO_VAULT = (

@@ -6,7 +6,7 @@ import os
 from contextlib import suppress
 from typing import NamedTuple
 
-from ansible_vault_companions import processes, program
+from ansible_vault_companions import processes, refusals
 from ansible_vault_companions.editing.copies import save_copy
 from ansible_vault_companions.editing.drafts import Draft
 from ansible_vault_companions.editing.private_folder import PrivateFolder
@@ -14,7 +14,8 @@ from ansible_vault_companions.editing.single_value import A_VAULT
 from ansible_vault_companions.envelopes.envelope import MAGIC
 from ansible_vault_companions.files import reading, replacing
 from ansible_vault_companions.passwords import prompts
-from ansible_vault_companions.program import Refused, escape
+from ansible_vault_companions.quoting import escape
+from ansible_vault_companions.refusals import Refused
 from ansible_vault_companions.tool import Tool
 
 NO_FILE = "the editor left no file"
@@ -45,7 +46,7 @@ class Edit:
         try:
             text = reading.read(os.path.join(self.folder.path, self.name))
         except (Refused, OSError) as unread:
-            raise self.folder.keep(program.reason(unread), self.name) from None
+            raise self.folder.keep(refusals.describe_fault(unread), self.name) from None
         if status:
             return Saved(text, f"the editor failed ({editor}, status {status})")
         # Even the directory may be gone: logging out removes files in memory.
@@ -73,11 +74,11 @@ class Edit:
         except Exception as failed:
             if isinstance(failed, Refused) and self._opens_again(failed):
                 return False
-            raise self._rescue(text, program.reason(failed) or describe_signal()) from None
+            raise self._rescue(text, refusals.describe_fault(failed) or describe_signal()) from None
         try:
             self._replace(content)
         except (Refused, OSError) as failed:
-            raise self._rescue(text, program.reason(failed)) from None
+            raise self._rescue(text, refusals.describe_fault(failed)) from None
         return True
 
     def _replace(self, content: bytes) -> None:

@@ -11,7 +11,8 @@ from typing import Callable, Iterable, Iterator, NamedTuple
 
 from ansible_vault_companions.editing.choosing import Choice
 from ansible_vault_companions.envelopes.envelope import Path, Value
-from ansible_vault_companions.program import Refused, escape
+from ansible_vault_companions.quoting import escape
+from ansible_vault_companions.refusals import Refused
 from ansible_vault_companions.tool import Decrypted, Key
 
 UNCLEAR = "{} may be a new value or a changed one, and the password depends on which; save one change at a time"

@@ -8,7 +8,7 @@ import tempfile
 from contextlib import suppress
 
 from ansible_vault_companions.git.repository import find_repository
-from ansible_vault_companions.program import Refused
+from ansible_vault_companions.refusals import Refused
 
 PREFIX = "ansible-vault-"
 

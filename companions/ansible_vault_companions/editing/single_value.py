@@ -10,10 +10,11 @@ from ansible_vault_companions import processes
 from ansible_vault_companions.editing.choosing import Choice
 from ansible_vault_companions.editing.writing import make_sealed_block, read_nodes, write_values
 from ansible_vault_companions.envelopes import conflicts, document
-from ansible_vault_companions.envelopes.document import NO_TEXT, NOT_ENCRYPTED, Change, Document, apply_changes
+from ansible_vault_companions.envelopes.document import NOT_ENCRYPTED, NO_TEXT, Change, Document, apply_changes
 from ansible_vault_companions.envelopes.envelope import ALIAS, MAGIC, NO_SCALAR, Path, Value, quote_key
 from ansible_vault_companions.files import reading, replacing
-from ansible_vault_companions.program import Refused, escape
+from ansible_vault_companions.quoting import escape
+from ansible_vault_companions.refusals import Refused
 from ansible_vault_companions.tool import Decrypt, Tool
 
 A_VAULT = "what you gave is a vault, which ansible-vault does not encrypt again; decrypt it first"

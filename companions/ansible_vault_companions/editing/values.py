@@ -9,7 +9,7 @@ from ansible_vault_companions.envelopes import conflicts
 from ansible_vault_companions.envelopes.document import NOT_UTF_8, Change, Document
 from ansible_vault_companions.envelopes.envelope import ALIAS, MAGIC, NO_SCALAR, PLAIN, TAGS, Value
 from ansible_vault_companions.passwords import prompts
-from ansible_vault_companions.program import Refused
+from ansible_vault_companions.refusals import Refused
 from ansible_vault_companions.tool import Decrypt, Key, Tool, at_once
 
 NEW_TAG = "line {}: it has a tag that the file did not have, other than `!vault`, so what follows stays in plaintext"

@@ -6,10 +6,18 @@ What was written is read again, and what does not read as expected is refused.
 from __future__ import annotations
 
 from ansible_vault_companions.envelopes import conflicts
-from ansible_vault_companions.envelopes.document import HEADER, Change, Document, apply_changes, find_column
-from ansible_vault_companions.envelopes.document import indent, put_in_quotes, put_plaintext
+from ansible_vault_companions.envelopes.document import (
+    HEADER,
+    Change,
+    Document,
+    apply_changes,
+    find_column,
+    indent,
+    put_in_quotes,
+    put_plaintext,
+)
 from ansible_vault_companions.envelopes.envelope import LINE_END, LITERAL, Path, Value
-from ansible_vault_companions.program import Refused
+from ansible_vault_companions.refusals import Refused
 
 NO_PLACE = "its values cannot be written where they are; write each as `NAME: !vault |`"
 # What a node of YAML says: its path and its text.

@@ -19,7 +19,8 @@ from ansible_vault_companions.envelopes.envelope import LITERAL, LOOSE, MAGIC, S
 from ansible_vault_companions.envelopes.scalars import BINARY, NotYaml, read_scalars
 from ansible_vault_companions.files.reading import open_regular, read_parts, read_whole
 from ansible_vault_companions.limits import TooMuch
-from ansible_vault_companions.program import Refused, escape
+from ansible_vault_companions.quoting import escape
+from ansible_vault_companions.refusals import Refused
 
 # A file with an envelope has one of these words, or spells it with escapes, which take no more than OVERLAP bytes.
 WORDS = (b"ANSIBLE_VAULT", b"!vault", b"__ansible_vault", b"%TAG")

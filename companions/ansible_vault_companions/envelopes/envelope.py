@@ -6,7 +6,8 @@ import binascii
 import re
 from typing import NamedTuple, Union
 
-from ansible_vault_companions.program import Refused, escape
+from ansible_vault_companions.quoting import escape
+from ansible_vault_companions.refusals import Refused
 
 MAGIC = b"$ANSIBLE_VAULT"
 LINE_END = re.compile(rb"\r\n?|\n")

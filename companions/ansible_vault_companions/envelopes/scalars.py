@@ -13,10 +13,20 @@ from typing import Any, Iterator, Union
 
 from ansible_vault_companions import limits
 from ansible_vault_companions.envelopes import envelope
-from ansible_vault_companions.envelopes.envelope import ALIAS, FOLDED, JSON_KEY, LINE_END, LITERAL, NO_SCALAR, PLAIN
-from ansible_vault_companions.envelopes.envelope import TAGS, Path, Value
+from ansible_vault_companions.envelopes.envelope import (
+    ALIAS,
+    FOLDED,
+    JSON_KEY,
+    LINE_END,
+    LITERAL,
+    NO_SCALAR,
+    PLAIN,
+    TAGS,
+    Path,
+    Value,
+)
 from ansible_vault_companions.limits import TooMuch
-from ansible_vault_companions.program import Refused
+from ansible_vault_companions.refusals import Refused
 
 BYTE_ORDER_MARK = b"\xef\xbb\xbf"
 # YAML has no such character, but other files do, in which escapes mean nothing.

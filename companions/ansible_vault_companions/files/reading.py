@@ -10,7 +10,7 @@ from fnmatch import fnmatchcase
 from typing import BinaryIO, Collection, Iterator
 
 from ansible_vault_companions import processes
-from ansible_vault_companions.program import Refused
+from ansible_vault_companions.refusals import Refused
 
 # Bytes to read at once, since a file may be huge. Some files in /proc refuse reads of an odd size.
 CHUNK_SIZE = 1 << 20

@@ -10,7 +10,7 @@ import tempfile
 from contextlib import suppress
 
 from ansible_vault_companions.files import reading
-from ansible_vault_companions.program import Refused
+from ansible_vault_companions.refusals import Refused
 
 PREFIX, SUFFIX = ".ansible-vault-", ".new"
 

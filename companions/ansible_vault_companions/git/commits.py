@@ -13,7 +13,8 @@ from ansible_vault_companions.envelopes.envelope import MAGIC
 from ansible_vault_companions.files.reading import LIMIT
 from ansible_vault_companions.git.repository import build_command, build_environment, make_pathspec, read_line, run_git
 from ansible_vault_companions.limits import LONGEST, LONGEST_LINK
-from ansible_vault_companions.program import Refused, escape
+from ansible_vault_companions.quoting import escape
+from ansible_vault_companions.refusals import Refused
 
 # The modes of regular files and of links, as opposed to submodules.
 FILE_MODES, LINK_MODE = ("100644", "100755"), "120000"

@@ -9,7 +9,8 @@ import os
 import shlex
 
 from ansible_vault_companions.git.repository import find_top, read_line, run_git
-from ansible_vault_companions.program import Refused, escape, quote_word
+from ansible_vault_companions.quoting import escape, quote_word
+from ansible_vault_companions.refusals import Refused
 
 # If the driver does not start, git's own merge leaves a conflict; otherwise git would keep ours without a word.
 OR_ELSE = ' || { s=$?; [ "$s" -lt 2 ] || [ "$s" -gt 127 ] || git merge-file -q %A %O %B; exit 1; }'

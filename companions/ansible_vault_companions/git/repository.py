@@ -9,7 +9,8 @@ from functools import lru_cache
 from typing import Any
 
 from ansible_vault_companions import processes
-from ansible_vault_companions.program import Refused, quote_word
+from ansible_vault_companions.quoting import quote_word
+from ansible_vault_companions.refusals import Refused
 
 # A stranger's repository has its own settings, hooks and attributes, which name programs. git would start the program
 # in core.fsmonitor to read an index, the hook post-index-change to write one, and a transport (and so core.sshCommand

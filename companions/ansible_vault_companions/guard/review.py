@@ -14,7 +14,8 @@ from ansible_vault_companions.guard.change import Change
 from ansible_vault_companions.guard.faults import Fault
 from ansible_vault_companions.guard.values import Values
 from ansible_vault_companions.guard.vaults import Vaults
-from ansible_vault_companions.program import escape, write_error
+from ansible_vault_companions.output import write_error
+from ansible_vault_companions.quoting import escape
 
 # How to allow what is staged, and what a commit has.
 TO_STAGE = "if that is intended, commit with --no-verify, or stage this line, too, in "

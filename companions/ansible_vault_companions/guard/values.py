@@ -13,7 +13,7 @@ from ansible_vault_companions.git.facts import NONE, Facts, Keys, write_keys
 from ansible_vault_companions.guard import comparing
 from ansible_vault_companions.guard.change import Change
 from ansible_vault_companions.guard.faults import Fault, make_fault
-from ansible_vault_companions.program import escape
+from ansible_vault_companions.quoting import escape
 
 NOW_PLAIN = "has {} in plaintext, which {} encrypted{}"
 

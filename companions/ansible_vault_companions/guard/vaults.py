@@ -10,7 +10,7 @@ from ansible_vault_companions.git.commits import File
 from ansible_vault_companions.git.facts import ITEM
 from ansible_vault_companions.guard.change import Change, is_yaml
 from ansible_vault_companions.guard.faults import Fault, make_fault
-from ansible_vault_companions.program import escape
+from ansible_vault_companions.quoting import escape
 
 NO_VAULT = "is not a vault, but was one{}"
 SUCCESSOR = "is not encrypted, and {}, which is gone, was a vault{}"

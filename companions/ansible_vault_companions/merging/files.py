@@ -14,7 +14,7 @@ from ansible_vault_companions.git import repository
 from ansible_vault_companions.merging.lines import Versions
 from ansible_vault_companions.merging.values import Values
 from ansible_vault_companions.merging.vaults import Vaults
-from ansible_vault_companions.program import Refused
+from ansible_vault_companions.refusals import Refused
 from ansible_vault_companions.tool import Decrypt, Key, Tool
 
 NOT_MERGED = "not merged, so both sides are whole in the file: {}"

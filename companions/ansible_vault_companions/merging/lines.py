@@ -6,7 +6,7 @@ import os
 from typing import NamedTuple
 
 from ansible_vault_companions.git import repository
-from ansible_vault_companions.program import Refused
+from ansible_vault_companions.refusals import Refused
 
 # The names of the sides in git's conflict markers.
 SIDES = OURS, BASE, THEIRS = ("ours", "base", "theirs")

@@ -10,7 +10,7 @@ from ansible_vault_companions.envelopes.envelope import LOOSE, Value
 from ansible_vault_companions.merging.keys import find_common_key
 from ansible_vault_companions.merging.lines import OURS, SIDES, THEIRS, Lines, Versions, merge_lines
 from ansible_vault_companions.merging.tokens import KeyAndText, Meaning, Restoration, Tokens
-from ansible_vault_companions.program import Refused
+from ansible_vault_companions.refusals import Refused
 from ansible_vault_companions.tool import Decrypt, Decrypted, Key, Tool, at_once
 
 NOT_YAML = "git can merge its lines, but then {}"

@@ -6,7 +6,8 @@ from ansible_vault_companions.envelopes import conflicts
 from ansible_vault_companions.envelopes.envelope import MAGIC
 from ansible_vault_companions.merging.keys import Keys, find_common_key
 from ansible_vault_companions.merging.lines import OURS, THEIRS, Versions, merge_lines
-from ansible_vault_companions.program import Refused, escape
+from ansible_vault_companions.quoting import escape
+from ansible_vault_companions.refusals import Refused
 from ansible_vault_companions.tool import Decrypt, Decrypted, Key, NotDecrypted, Tool
 
 

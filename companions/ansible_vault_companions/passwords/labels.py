@@ -11,7 +11,8 @@ from collections.abc import Iterable, Sequence
 
 from ansible_vault_companions.passwords.password import Password
 from ansible_vault_companions.passwords.settings import Settings
-from ansible_vault_companions.program import Refused, escape
+from ansible_vault_companions.quoting import escape
+from ansible_vault_companions.refusals import Refused
 
 # The module `typing` takes long to import.
 TYPE_CHECKING = False

@@ -7,11 +7,13 @@ import os
 import stat
 
 from ansible_vault_companions import processes
+from ansible_vault_companions.output import write_error
 from ansible_vault_companions.passwords import prompts, scripts
 from ansible_vault_companions.passwords.labels import is_allowed
 from ansible_vault_companions.passwords.password import Password
 from ansible_vault_companions.passwords.sources import Source
-from ansible_vault_companions.program import Refused, escape, reason, write_error
+from ansible_vault_companions.quoting import escape
+from ansible_vault_companions.refusals import Refused, describe_fault
 
 # The maximum length of a password file, in bytes.
 LIMIT = 4096
@@ -52,7 +54,7 @@ def read_password(source: Source, encrypts: bool) -> Password:
     try:
         content = _read(source, encrypts)
     except (Refused, OSError) as fault:
-        return Password(source, b"", -1, reason(fault))
+        return Password(source, b"", -1, describe_fault(fault))
     descriptor = os.memfd_create("password")
     os.write(descriptor, content)
     why = _find_fault(source.label, content)

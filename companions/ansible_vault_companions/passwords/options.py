@@ -5,12 +5,12 @@ from __future__ import annotations
 import argparse
 from collections.abc import Callable
 
+from ansible_vault_companions.output import write_error
 from ansible_vault_companions.passwords import loading
 from ansible_vault_companions.passwords.labels import ANY_LABEL, Policy, make_policy
 from ansible_vault_companions.passwords.password import Password
 from ansible_vault_companions.passwords.settings import Settings
 from ansible_vault_companions.passwords.sources import ASKED, ASKING, list_sources, source_of_id, source_of_path
-from ansible_vault_companions.program import write_error
 
 ANY_LABEL_HELP = "accept a password whose label differs from the vault's"
 NO_PASSWORD = (

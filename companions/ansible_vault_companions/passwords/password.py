@@ -4,7 +4,8 @@ from __future__ import annotations
 
 from ansible_vault_companions.passwords import prompts
 from ansible_vault_companions.passwords.sources import Source
-from ansible_vault_companions.program import Refused, escape
+from ansible_vault_companions.quoting import escape
+from ansible_vault_companions.refusals import Refused
 
 # The module `typing` takes long to import.
 TYPE_CHECKING = False

@@ -10,7 +10,8 @@ from io import FileIO
 
 from ansible_vault_companions import processes
 from ansible_vault_companions.passwords.settings import ASK, PROMPT
-from ansible_vault_companions.program import Refused, escape
+from ansible_vault_companions.quoting import escape
+from ansible_vault_companions.refusals import Refused
 
 NO_TERMINAL = "there is no terminal to ask for the password; name a password file"
 DIFFER = "the two passwords differ; try again"

@@ -5,7 +5,8 @@ from __future__ import annotations
 import os
 
 from ansible_vault_companions import processes
-from ansible_vault_companions.program import Refused, escape, quote_word, reason
+from ansible_vault_companions.quoting import escape, quote_word
+from ansible_vault_companions.refusals import Refused, describe_fault
 
 # A script gets the label if its name, without the suffix, ends with this.
 CLIENT = "-client"
@@ -28,7 +29,7 @@ def run_script(path: str, label: str) -> bytes:
         done = processes.run(words, **streams)
     except OSError as fault:
         to_do = f"if it is not a script, run `chmod -x {quote_word(path)}`"
-        raise Refused(f"this script cannot be run: {reason(fault)}; {to_do}") from None
+        raise Refused(f"this script cannot be run: {describe_fault(fault)}; {to_do}") from None
     if done.returncode:
         raise Refused(_describe_failure(done.returncode, done.stderr or b""))
     password = done.stdout.strip(b"\r\n")

@@ -11,7 +11,8 @@ import os
 import stat
 from collections.abc import Callable
 
-from ansible_vault_companions.program import Refused, escape, reason
+from ansible_vault_companions.quoting import escape
+from ansible_vault_companions.refusals import Refused, describe_fault
 
 NAME = "ansible.cfg"
 SECTION = "defaults"
@@ -112,7 +113,7 @@ def _read_section(path: str) -> dict[str, str]:
     except UnicodeError:
         raise Refused(f"{escape(path)}: it is not UTF-8") from None
     except (Refused, OSError, configparser.Error) as fault:
-        raise Refused(f"{escape(path)}: {' '.join(reason(fault).split())}") from None
+        raise Refused(f"{escape(path)}: {' '.join(describe_fault(fault).split())}") from None
     return dict(parser[SECTION]) if SECTION in parser else {}
 
 

@@ -3,7 +3,7 @@
 from __future__ import annotations
 
 from ansible_vault_companions.passwords.settings import ASK, PROMPT, Settings, expand
-from ansible_vault_companions.program import Refused
+from ansible_vault_companions.refusals import Refused
 
 # The module `typing` takes long to import.
 TYPE_CHECKING = False

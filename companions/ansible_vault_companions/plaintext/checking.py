@@ -11,7 +11,8 @@ from ansible_vault_companions.git import facts
 from ansible_vault_companions.git.repository import make_pathspec
 from ansible_vault_companions.passwords.password import Password
 from ansible_vault_companions.plaintext.reports import Report, Work
-from ansible_vault_companions.program import Refused, escape
+from ansible_vault_companions.quoting import escape
+from ansible_vault_companions.refusals import Refused
 from ansible_vault_companions.tool import Decrypted
 
 RESOLVE = "resolve with ansible-vault-edit; or set up ansible-vault-merge, and run `git checkout --merge -- {}`"

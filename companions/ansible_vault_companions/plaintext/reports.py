@@ -7,13 +7,15 @@ from concurrent.futures import Future
 from dataclasses import dataclass, field
 from typing import Callable, Collection
 
-from ansible_vault_companions import program
+from ansible_vault_companions import refusals
 from ansible_vault_companions.envelopes import document
 from ansible_vault_companions.envelopes.document import Document
 from ansible_vault_companions.envelopes.envelope import Value
+from ansible_vault_companions.output import write_error, write_line
 from ansible_vault_companions.passwords.labels import Policy
 from ansible_vault_companions.passwords.password import Password
-from ansible_vault_companions.program import Refused, escape, write_error, write_line
+from ansible_vault_companions.quoting import escape
+from ansible_vault_companions.refusals import Refused
 from ansible_vault_companions.tool import Decrypted, NotDecrypted, Tool, Workers
 
 
@@ -122,7 +124,7 @@ class Reports:
         except (Refused, OSError) as fault:
             is_gone = isinstance(fault, FileNotFoundError) and not any(path in self.named for path in paths)
             refused: Future[Report] = Future()
-            refused.set_result(Report(faults=[] if is_gone else [program.refusal(paths[0], fault)]))
+            refused.set_result(Report(faults=[] if is_gone else [refusals.describe_refusal(paths[0], fault)]))
             return refused
         return workers.submit(_of_file, paths, file, work)
 
@@ -149,5 +151,5 @@ def _of_file(paths: list[str], file: Document, work: OnFile) -> Report:
     try:
         work(paths, file, report)
     except (Refused, OSError) as fault:
-        report.faults.append(program.refusal(paths[0], fault))
+        report.faults.append(refusals.describe_refusal(paths[0], fault))
     return report

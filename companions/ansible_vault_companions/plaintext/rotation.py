@@ -11,7 +11,8 @@ from ansible_vault_companions.envelopes.envelope import Value
 from ansible_vault_companions.files import replacing
 from ansible_vault_companions.passwords.password import Password
 from ansible_vault_companions.plaintext.reports import Report, Work
-from ansible_vault_companions.program import Refused, escape
+from ansible_vault_companions.quoting import escape
+from ansible_vault_companions.refusals import Refused
 
 # What is counted: envelopes that get a new password, and those that have it already.
 CHANGED, HAD_IT = "changed", "had it"

@@ -1,0 +1,69 @@
+"""Starts and ends every companion: its streams, its signals, and its exit status."""
+
+from __future__ import annotations
+
+import io
+import os
+import resource
+import sys
+from collections.abc import Callable
+from contextlib import suppress
+
+from ansible_vault_companions import processes
+from ansible_vault_companions.output import discard_stream, write_data, write_error
+from ansible_vault_companions.quoting import escape
+from ansible_vault_companions.refusals import Refused, describe_fault, describe_refusal
+
+
+def attempt_work(companion: str, path: str, work: Callable[[], None]) -> int:
+    """Works on a file. Returns the exit status, after a message if the file is refused."""
+    try:
+        work()
+    except (Refused, OSError) as fault:
+        write_error(f"{companion}: {describe_refusal(path, fault)}")
+        return fault.status if isinstance(fault, Refused) else 1
+    return 0
+
+
+def run_companion(name: str, main: Callable[[list[str]], int]) -> None:
+    """Runs a companion with the command line's words. Exits with its status, or by the signal that stopped it."""
+    _prepare_streams()
+    processes.listen()
+    # A core dump would contain plaintext and passwords.
+    resource.setrlimit(resource.RLIMIT_CORE, (0, resource.getrlimit(resource.RLIMIT_CORE)[1]))
+    try:
+        try:
+            status = main(sys.argv[1:])
+        except SystemExit as end:
+            # argparse exits after the help and after an invalid command line.
+            status = int(end.code or 0)
+        write_data(b"")
+    except processes.Stopped:
+        status = 1
+    except (Refused, OSError) as fault:
+        status = fault.status if isinstance(fault, Refused) else 1
+        where = f"{escape(fault.filename)}: " if isinstance(fault, OSError) and isinstance(fault.filename, str) else ""
+        with suppress(OSError):
+            write_error(f"{name}: {where}{escape(describe_fault(fault))}")
+    processes.end_by_signal()
+    for stream in (sys.stdout, sys.stderr):
+        try:
+            stream.flush()
+        except OSError:
+            discard_stream(stream.fileno())
+            status = status or 1
+    sys.exit(status)
+
+
+def _prepare_streams() -> None:
+    """Opens /dev/null for each closed standard stream, so that no file gets its number. Using it still fails."""
+    for number, mode in enumerate((os.O_WRONLY, os.O_RDONLY, os.O_RDONLY)):
+        try:
+            os.fstat(number)
+        except OSError:
+            os.set_inheritable(os.open(os.devnull, mode), True)
+    sys.stdout = sys.stdout or open(1, "w", closefd=False)
+    sys.stderr = sys.stderr or open(2, "w", buffering=1, closefd=False)
+    for stream in (sys.stdout, sys.stderr):
+        if isinstance(stream, io.TextIOWrapper):
+            stream.reconfigure(errors="backslashreplace")

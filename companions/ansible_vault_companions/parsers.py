@@ -1,0 +1,57 @@
+"""Parsers of command lines, with one layout of help and messages."""
+
+from __future__ import annotations
+
+import argparse
+from collections.abc import Iterable
+
+from ansible_vault_companions import VERSION
+from ansible_vault_companions.quoting import escape
+
+# The module `typing` takes long to import.
+TYPE_CHECKING = False
+if TYPE_CHECKING:
+    from typing import Any, NoReturn
+
+
+class Formatter(argparse.RawDescriptionHelpFormatter):
+    """Names the value of an option once, after all spellings, and no options in the usage, since a list follows."""
+
+    def __init__(self, prog: str) -> None:
+        super().__init__(prog, max_help_position=30, width=80)
+
+    def _format_action_invocation(self, action: argparse.Action) -> str:
+        if not action.option_strings or action.nargs == 0:
+            return super()._format_action_invocation(action)
+        return f"{', '.join(action.option_strings)} {action.metavar or action.dest.upper()}"
+
+    def _format_actions_usage(self, actions: Iterable[argparse.Action], _groups: Any) -> str:
+        arguments = [action for action in actions if not action.option_strings]
+        return f"[OPTION ...] {super()._format_actions_usage(arguments, [])}"
+
+
+class Parser(argparse.ArgumentParser):
+    """A parser whose message is one write, with the words of the command line in printable form."""
+
+    def error(self, message: str) -> NoReturn:
+        self.exit(2, f"{self.format_usage()}{self.prog}: error: {escape(message)}\n")
+
+
+def make_parser(name: str, summary: str, example: str, allow_abbrev: bool = False, usage: str | None = None) -> Parser:
+    """A parser that exits with status 2 if the command line is invalid."""
+    made = Parser(
+        name,
+        usage,
+        summary,
+        f"{example}\n\nSee `man {name}` for more. Companions are tested, not proved.",
+        formatter_class=Formatter,
+        add_help=False,
+        allow_abbrev=allow_abbrev,
+    )
+    add_common_options(made, name)
+    return made
+
+
+def add_common_options(parser: argparse.ArgumentParser, name: str) -> None:
+    parser.add_argument("-h", "--help", action="help", help="print help")
+    parser.add_argument("-V", "--version", action="version", version=f"{name} {VERSION}", help="print version")

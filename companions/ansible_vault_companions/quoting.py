@@ -1,0 +1,24 @@
+"""Puts names into messages: in printable form, or as words of a shell command, ready to type."""
+
+from __future__ import annotations
+
+import os
+import re
+import shlex
+
+# What bash and zsh read by number within `$'..'`.
+ESCAPED = re.compile(r"[^ -&(-\[\]-~]")
+
+
+def escape(name: str) -> str:
+    """A file name in printable form: line ends and terminal control characters are escaped."""
+    return name if name.isprintable() else ascii(name)
+
+
+def quote_word(text: str) -> str:
+    """A path as a word of a shell command in a message. No program takes it for an option."""
+    path = f"./{text}" if text.startswith("-") else text
+    if path.isprintable():
+        return shlex.quote(path)
+    escaped = ESCAPED.sub(lambda byte: f"\\{ord(byte[0]):03o}", os.fsencode(path).decode("latin-1"))
+    return f"$'{escaped}'"
