@@ -155,7 +155,7 @@ def test_waits(place: Place, git: None) -> None:
 IN_WORKER = """
 import signal, threading, time
 from ansible_vault_companions import processes
-from ansible_vault_companions.tool import Workers
+from ansible_vault_companions.workers import Workers
 def work():
     # The main thread waits by then.
     time.sleep(0.3)

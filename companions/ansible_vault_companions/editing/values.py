@@ -10,7 +10,8 @@ from ansible_vault_companions.envelopes.document import NOT_UTF_8, Change, Docum
 from ansible_vault_companions.envelopes.envelope import ALIAS, MAGIC, NO_SCALAR, PLAIN, TAGS, Value
 from ansible_vault_companions.passwords import prompts
 from ansible_vault_companions.refusals import Refused
-from ansible_vault_companions.tool import Decrypt, Key, Tool, at_once
+from ansible_vault_companions.tool import Decrypt, Key, Tool
+from ansible_vault_companions.workers import work_at_once
 
 NEW_TAG = "line {}: it has a tag that the file did not have, other than `!vault`, so what follows stays in plaintext"
 NO_TEXT = "is a list, a mapping or a key, not a string; put quotes around a text"
@@ -56,13 +57,13 @@ class YamlFile:
         typed = {number: value for number, value in enumerate(after.values) if _is_typed(value, closed)}
         found = find_matches([*self.opened.values()], [*typed.values()], self.choice)
         matches = dict(zip(typed, found))
-        envelopes = dict(zip(typed, at_once(lambda number: _seal(tool, typed[number], matches[number]), typed)))
+        envelopes = dict(zip(typed, work_at_once(lambda number: _seal(tool, typed[number], matches[number]), typed)))
         blocks = {number: self._block(text, typed[number], envelopes[number], matches[number]) for number in typed}
         return write_values(after, envelopes, {number: block for number, block in blocks.items() if block})
 
     def _open(self, decrypt: Decrypt) -> None:
         closed = {number: value for number, value in self.tagged.items() if value.is_envelope}
-        results = at_once(lambda value: _try_to_open(value, decrypt), closed.values())
+        results = work_at_once(lambda value: _try_to_open(value, decrypt), closed.values())
         for (number, value), result in zip(closed.items(), results):
             if isinstance(result, Opened):
                 self.opened[number] = result

@@ -11,7 +11,8 @@ from ansible_vault_companions.merging.keys import find_common_key
 from ansible_vault_companions.merging.lines import OURS, SIDES, THEIRS, Lines, Versions, merge_lines
 from ansible_vault_companions.merging.tokens import KeyAndText, Meaning, Restoration, Tokens
 from ansible_vault_companions.refusals import Refused
-from ansible_vault_companions.tool import Decrypt, Decrypted, Key, Tool, at_once
+from ansible_vault_companions.tool import Decrypt, Decrypted, Key, Tool
+from ansible_vault_companions.workers import work_at_once
 
 NOT_YAML = "git can merge its lines, but then {}"
 HAS_MARKERS = "it has lines that look like git's conflict markers"
@@ -44,7 +45,7 @@ class Values:
         """Those that not all versions have, if a password opens them that their labels allow."""
         texts = [{value.text for value in self.values[side]} for side in SIDES]
         differing = sorted(set[bytes]().union(*texts).difference(set.intersection(*texts)))
-        opened = at_once(lambda text: _try_to_open(decrypt, text), differing)
+        opened = work_at_once(lambda text: _try_to_open(decrypt, text), differing)
         return {each.envelope: each for each in opened if each}
 
     def _choose_key(self, label: str, chosen: Key | None) -> Key | None:

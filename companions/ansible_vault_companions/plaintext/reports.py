@@ -16,7 +16,8 @@ from ansible_vault_companions.passwords.labels import Policy
 from ansible_vault_companions.passwords.password import Password
 from ansible_vault_companions.quoting import escape
 from ansible_vault_companions.refusals import Refused
-from ansible_vault_companions.tool import Decrypted, NotDecrypted, Tool, Workers
+from ansible_vault_companions.tool import Decrypted, NotDecrypted, Tool
+from ansible_vault_companions.workers import Workers
 
 
 @dataclass
