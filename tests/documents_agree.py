@@ -10,7 +10,7 @@ from pathlib import Path
 import pytest
 
 from ansible_vault_companions import OLDEST
-from ansible_vault_companions.editing import private_folder
+from ansible_vault_companions.editing import private_directory
 from ansible_vault_companions.files import reading, replacing
 from contracts import CRATES, code, declared_in
 from documents import FORMATS, PAGE as VERIFICATION, REFERENCE, WRITTEN, definition_files
@@ -143,7 +143,7 @@ def test_limits() -> None:
 
 def test_files_of_companions() -> None:
     """docs/workflows.md says where to look for them after a crash."""
-    names = {f"{replacing.PREFIX}*{replacing.SUFFIX}", f"{private_folder.PREFIX}*", "~/.local/state/ansible-vault/"}
+    names = {f"{replacing.PREFIX}*{replacing.SUFFIX}", f"{private_directory.PREFIX}*", "~/.local/state/ansible-vault/"}
     end = (ROOT / "docs" / "workflows.md").read_text().partition("## Clean up after a crash")[2]
     assert names <= {*re.findall("`([^`]+)`", end)}
 

@@ -10,10 +10,10 @@ from companion_cases import CHANGE, CHANGED, EDIT, HEAD, Place, block, decrypted
 STAYS, CHANGED_MEANWHILE = {"all.yml": sealed("old")}, "another program changed it in the meantime"
 # Changes of the companion: an unexpected exception, a tool that cannot encrypt, and a tree on a full disk.
 BROKEN = """
-from ansible_vault_companions.editing.drafts import Vault
+from ansible_vault_companions.editing.drafts import VaultDraft
 def encrypt(*words):
     raise RecursionError("too deep")
-Vault.encrypt = encrypt
+VaultDraft.encrypt = encrypt
 """
 UNSEALED = """
 from ansible_vault_companions.tool import Tool

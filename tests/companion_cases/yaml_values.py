@@ -12,8 +12,8 @@ import pytest
 import yaml
 
 from ansible_vault_companions.editing.choosing import Choice
-from ansible_vault_companions.editing.values import YamlFile
-from ansible_vault_companions.editing.writing import read_nodes
+from ansible_vault_companions.editing.writing import parse_nodes
+from ansible_vault_companions.editing.yaml_draft import YamlDraft
 from ansible_vault_companions.envelopes.document import Change, apply_changes, find_column
 from ansible_vault_companions.envelopes.envelope import LINE_END, Path
 from ansible_vault_companions.passwords.labels import Policy
@@ -74,7 +74,7 @@ def test_edits(monkeypatch: pytest.MonkeyPatch) -> None:
         wanted = tagged(data)
         if wanted is None:
             continue
-        file = YamlFile("", data, data, decrypt, Choice([SECRET], None))
+        file = YamlDraft("", data, data, decrypt, Choice([SECRET], None))
         plain = [(path, shown_text(text)) for path, text in wanted]
         assert tagged(file.plaintext) == plain, data
         counts.update(values=len(wanted), shown=len(file.opened), **Counter(repr(text) for _, text in plain))
@@ -99,10 +99,10 @@ def shown_text(envelope: str) -> str:
     return envelope if text.startswith("$ANSIBLE_VAULT") or re.search(" [0-9a-f]{16}", envelope) else text
 
 
-def check_changed(file: YamlFile, generator: random.Random) -> bool:
+def check_changed(file: YamlDraft, generator: random.Random) -> bool:
     """Change a value of the shown text. Return whether there is one that PyYAML can still read."""
     text = file.plaintext
-    shown = [value for value in read_nodes(text).values if value.is_tagged and not value.is_envelope]
+    shown = [value for value in parse_nodes(text).values if value.is_tagged and not value.is_envelope]
     if not shown:
         return False
     value, typed = generator.choice(shown), generator.choice(TYPED)
@@ -117,6 +117,6 @@ def check_changed(file: YamlFile, generator: random.Random) -> bool:
     wanted = [(path, text.split()) for (path, _), text in zip(read, envelopes)]
     assert [(path, text.split()) for path, text in tagged(after) or []] == wanted, (edited, after)
     scalars_before = Counter(file.file.data[old.value.begin : old.value.end] for old in file.opened.values())
-    lost = scalars_before - Counter(after[value.begin : value.end] for value in read_nodes(after).values)
+    lost = scalars_before - Counter(after[value.begin : value.end] for value in parse_nodes(after).values)
     assert sum(lost.values()) <= 1, (edited, after)
     return True

@@ -8,9 +8,9 @@ from typing import Protocol, Union
 
 from ansible_vault_companions import processes
 from ansible_vault_companions.editing.choosing import Choice
-from ansible_vault_companions.editing.matching import place_of
+from ansible_vault_companions.editing.matching import describe_place
 from ansible_vault_companions.editing.single_value import SingleValue
-from ansible_vault_companions.editing.values import YamlFile
+from ansible_vault_companions.editing.yaml_draft import YamlDraft
 from ansible_vault_companions.envelopes import conflicts, document
 from ansible_vault_companions.envelopes.envelope import MAGIC
 from ansible_vault_companions.files import reading
@@ -58,7 +58,7 @@ class Draft(Protocol):
 
 
 @dataclass
-class Vault:
+class VaultDraft:
     """A file that is a vault, or a new one."""
 
     target: str
@@ -74,7 +74,7 @@ class Vault:
         return vault.replace(b"\n", b"\r\n") if b"\r\n" in (self.content or b"") else vault
 
 
-class Conflict:
+class ConflictDraft:
     """A file with two vaults between markers. Their texts are merged, and what is saved becomes one vault."""
 
     def __init__(self, target: str, content: bytes, vaults: Vaults, key: Key) -> None:
@@ -110,7 +110,7 @@ class Loader:
         if value is not None:
             return SingleValue(target, content, value, self.decrypt, self.chosen)
         if content is None:
-            return Vault(target, None, [self.choice.choose_key("the new vault", "the vault")])
+            return VaultDraft(target, None, [self.choice.choose_key("the new vault", "the vault")])
         sides = find_versions(target, content)
         if sides:
             return self._load_conflict(target, content, sides)
@@ -120,14 +120,14 @@ class Loader:
             return self._load_values(target, content, content)
         decrypted = self.decrypt(content)
         decrypted.require_label()
-        return Vault(target, content, [decrypted.key], decrypted.text)
+        return VaultDraft(target, content, [decrypted.key], decrypted.text)
 
     def _load_conflict(self, target: str, content: bytes, sides: Versions) -> Draft:
         key = next(iter(self.chosen.list_keys()), None) if self.chosen.label else None
         are_vaults = [side.startswith(MAGIC) for side in (sides.ours, sides.theirs)]
         if all(are_vaults):
             vaults = Vaults(self.decrypt, sides)
-            return Conflict(target, content, vaults, vaults.choose_key(key))
+            return ConflictDraft(target, content, vaults, vaults.choose_key(key))
         if any(are_vaults):
             raise Refused(ONE_SIDE.format(make_pathspec(target)))
         if not (sides.ours and sides.theirs):
@@ -136,15 +136,15 @@ class Loader:
         merged = merge_file(self.tool, self.decrypt, sides, key)
         return self._load_values(target, content, merged.content)
 
-    def _load_values(self, target: str, content: bytes, edited: bytes) -> YamlFile:
+    def _load_values(self, target: str, content: bytes, edited: bytes) -> YamlDraft:
         if not document.may_have_envelope(edited):
             raise Refused(NO_VAULT)
-        draft = YamlFile(target, content, edited, self.decrypt, self.choice)
+        draft = YamlDraft(target, content, edited, self.decrypt, self.choice)
         if not draft.tagged:
             raise Refused(NO_VAULT)
         for old in draft.opened.values():
-            old.decrypted.require_label(f"{place_of(old.value)}: ")
+            old.decrypted.require_label(f"{describe_place(old.value)}: ")
         if len(draft.faults) == len(draft.tagged) and self.choice.label is None:
             value, why = draft.faults[0]
-            raise Refused(f"{place_of(value)}: {why}{TO_ADD}")
+            raise Refused(f"{describe_place(value)}: {why}{TO_ADD}")
         return draft

@@ -9,7 +9,7 @@ from typing import NamedTuple
 from ansible_vault_companions import processes, refusals
 from ansible_vault_companions.editing.copies import save_copy
 from ansible_vault_companions.editing.drafts import Draft
-from ansible_vault_companions.editing.private_folder import PrivateFolder
+from ansible_vault_companions.editing.private_directory import PrivateDirectory
 from ansible_vault_companions.editing.single_value import A_VAULT
 from ansible_vault_companions.envelopes.envelope import MAGIC
 from ansible_vault_companions.files import reading, replacing
@@ -35,7 +35,7 @@ class Saved(NamedTuple):
 class Edit:
     """An edit of a draft: its text is in a private directory, under the name of the file."""
 
-    def __init__(self, tool: Tool, draft: Draft, path: str, folder: PrivateFolder) -> None:
+    def __init__(self, tool: Tool, draft: Draft, path: str, folder: PrivateDirectory) -> None:
         self.tool, self.draft, self.folder = tool, draft, folder
         # As on the command line.
         self.path, self.name = path, os.path.basename(path)
@@ -112,7 +112,7 @@ def describe_signal() -> str:
 
 def edit_draft(tool: Tool, draft: Draft, path: str, text: bytes | None) -> bool:
     """Edits the plaintext, starting with `text` if given. Returns whether anything was changed."""
-    with PrivateFolder() as folder:
+    with PrivateDirectory() as folder:
         edit = Edit(tool, draft, path, folder)
         folder.create(edit.name, draft.plaintext if text is None else text)
         while True:

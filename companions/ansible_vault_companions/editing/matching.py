@@ -35,13 +35,13 @@ class Match(NamedTuple):
     key: Key | None = None
 
 
-def name_of(value: Value) -> str:
+def describe_name(value: Value) -> str:
     return escape(value.name) if value.name else "this value"
 
 
-def place_of(value: Value) -> str:
+def describe_place(value: Value) -> str:
     """Where a value is, for a message."""
-    return f"line {value.line}: {name_of(value)}"
+    return f"line {value.line}: {describe_name(value)}"
 
 
 def find_matches(opened: list[Opened], typed: list[Value], choice: Choice) -> list[Match]:
@@ -55,7 +55,10 @@ def find_matches(opened: list[Opened], typed: list[Value], choice: Choice) -> li
     _keep_moved(kept, before, {at: value for at, value in after.items() if at not in changed}, lambda _: ())
     known = {at: Match(before[at], before[at].decrypted.key) for at in changed}
     known |= {at: Match(before[kept[at]]) for at in kept}
-    return [known.get(at) or Match(None, choice.choose_key(name_of(new), place_of(new))) for at, new in after.items()]
+    return [
+        known.get(at) or Match(None, choice.choose_key(describe_name(new), describe_place(new)))
+        for at, new in after.items()
+    ]
 
 
 def _keep_moved(
@@ -84,7 +87,7 @@ def _find_changed(
         if len(typed[group]) > len(vanished[group]):
             keys += choice.list_keys()
         if len({key.password.content for key in keys}) > 1 and vanished[group] != typed[group]:
-            raise Refused(UNCLEAR.format(place_of(after[min(typed[group])])))
+            raise Refused(UNCLEAR.format(describe_place(after[min(typed[group])])))
         changed |= typed[group] & before.keys()
     return changed
 

@@ -8,7 +8,7 @@ import re
 
 from ansible_vault_companions import processes
 from ansible_vault_companions.editing.choosing import Choice
-from ansible_vault_companions.editing.writing import make_sealed_block, read_nodes, write_values
+from ansible_vault_companions.editing.writing import make_sealed_block, parse_nodes, write_values
 from ansible_vault_companions.envelopes import conflicts, document
 from ansible_vault_companions.envelopes.document import NOT_ENCRYPTED, NO_TEXT, Change, Document, apply_changes
 from ansible_vault_companions.envelopes.envelope import ALIAS, MAGIC, NO_SCALAR, Path, Value, quote_key
@@ -71,7 +71,7 @@ def _tag(data: bytes, path: str, is_chosen: bool) -> Document:
         raise Refused("the whole file is a vault; edit it without --value")
     if conflicts.is_unmerged(data):
         raise Refused(f"it {conflicts.UNMERGED}")
-    file = read_nodes(data)
+    file = parse_nodes(data)
     if is_chosen and KEY.fullmatch(path) and not file.values_at(path):
         tag = _add_key(data, path)
     else:

@@ -21,10 +21,10 @@ from ansible_vault_companions.refusals import Refused
 
 NO_PLACE = "its values cannot be written where they are; write each as `NAME: !vault |`"
 # What a node of YAML says: its path and its text.
-Node = tuple[Path, bytes]
+KeyPathAndText = tuple[Path, bytes]
 
 
-def read_nodes(data: bytes) -> Document:
+def parse_nodes(data: bytes) -> Document:
     """All nodes of a YAML text, or of the sides of one with a conflict."""
     text = conflicts.read_sides(data, every=True)
     if text.fault:
@@ -52,13 +52,15 @@ def _put(text: Document, contents: dict[int, bytes], blocks: dict[int, list[Chan
     return apply_changes(text.data, changes)
 
 
-def _list_nodes(data: bytes) -> list[Node]:
+def _list_nodes(data: bytes) -> list[KeyPathAndText]:
     """What each node of a text says; empty if it is not YAML."""
     text = conflicts.read_sides(data, every=True)
     return [] if text.fault else [(value.path, value.text) for value in text.values]
 
 
-def _find_wrong(text: Document, reading: list[Node], wanted: list[Node], blocks: dict[int, list[Change]]) -> list[int]:
+def _find_wrong(
+    text: Document, reading: list[KeyPathAndText], wanted: list[KeyPathAndText], blocks: dict[int, list[Change]]
+) -> list[int]:
     """The numbers of the blocks to write in double quotes instead. Raises Refused if there are none."""
     if len(reading) == len(wanted):
         wrong = unsure = [number for number in blocks if reading[number] != wanted[number]]

@@ -13,14 +13,14 @@ from ansible_vault_companions.refusals import Refused
 PREFIX = "ansible-vault-"
 
 
-class PrivateFolder:
+class PrivateDirectory:
     """A directory that only its owner can open, in memory if possible. It is removed at the end, unless it is kept."""
 
     def __init__(self) -> None:
         self.is_kept = False
         self.path = _make()
 
-    def __enter__(self) -> PrivateFolder:
+    def __enter__(self) -> PrivateDirectory:
         return self
 
     def __exit__(self, _kind: object, fault: BaseException | None, _trace: object) -> None:

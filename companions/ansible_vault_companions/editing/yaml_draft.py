@@ -3,8 +3,8 @@
 from __future__ import annotations
 
 from ansible_vault_companions.editing.choosing import Choice
-from ansible_vault_companions.editing.matching import Match, Opened, find_matches, place_of
-from ansible_vault_companions.editing.writing import make_plain_block, make_sealed_block, read_nodes, write_values
+from ansible_vault_companions.editing.matching import Match, Opened, describe_place, find_matches
+from ansible_vault_companions.editing.writing import make_plain_block, make_sealed_block, parse_nodes, write_values
 from ansible_vault_companions.envelopes import conflicts
 from ansible_vault_companions.envelopes.document import NOT_UTF_8, Change, Document
 from ansible_vault_companions.envelopes.envelope import ALIAS, MAGIC, NO_SCALAR, PLAIN, TAGS, Value
@@ -19,14 +19,14 @@ NOTHING = 'is missing after `!vault`; write `""` for an empty one'
 LIKE_A_VAULT = "begins like a vault ($ANSIBLE_VAULT), but is not one, so ansible-vault does not encrypt it"
 
 
-class YamlFile:
+class YamlDraft:
     """A file with values that are encrypted or will be. What is edited is its content, or what was merged of a conflict
     in it."""
 
     def __init__(self, target: str, content: bytes, edited: bytes, decrypt: Decrypt, choice: Choice) -> None:
         self.target, self.choice = target, choice
         self.content: bytes | None = content
-        self.file = read_nodes(edited)
+        self.file = parse_nodes(edited)
         self.tagged = {number: value for number, value in enumerate(self.file.values) if value.is_tagged}
         # The values that are shown in plaintext; and those that stay encrypted, and why.
         self.opened: dict[int, Opened] = {}
@@ -51,7 +51,7 @@ class YamlFile:
             raise Refused("it is no longer UTF-8; save it as UTF-8")
         if conflicts.is_unmerged(text):
             raise Refused(conflicts.STILL)
-        after = read_nodes(text)
+        after = parse_nodes(text)
         _check_tags(self.file, after)
         closed = {value.text for value, _ in self.faults}
         typed = {number: value for number, value in enumerate(after.values) if _is_typed(value, closed)}
@@ -112,11 +112,11 @@ def _is_typed(value: Value, closed: set[bytes]) -> bool:
     if not value.is_tagged or is_like_a_vault and (value.is_whole or value.text in closed):
         return False
     if value.style in (NO_SCALAR, ALIAS) or value.is_key:
-        raise Refused(f"{place_of(value)} {NO_TEXT}")
+        raise Refused(f"{describe_place(value)} {NO_TEXT}")
     if value.style == PLAIN and not value.text:
-        raise Refused(f"{place_of(value)} {NOTHING}")
+        raise Refused(f"{describe_place(value)} {NOTHING}")
     if is_like_a_vault:
-        raise Refused(f"{place_of(value)} {LIKE_A_VAULT}")
+        raise Refused(f"{describe_place(value)} {LIKE_A_VAULT}")
     return True
 
 
