@@ -11,7 +11,7 @@ from contextlib import suppress
 from typing import Callable, Hashable, NamedTuple
 
 from ansible_vault_companions import processes
-from ansible_vault_companions.envelopes.envelope import label_of
+from ansible_vault_companions.envelopes.header import read_label
 from ansible_vault_companions.passwords.labels import Policy, describe_tried, order_to_try, require_label
 from ansible_vault_companions.passwords.password import Password
 from ansible_vault_companions.refusals import Refused
@@ -46,7 +46,7 @@ class Decrypted(NamedTuple):
 
     @property
     def key(self) -> Key:
-        return Key(self.password, label_of(self.envelope) or "")
+        return Key(self.password, read_label(self.envelope) or "")
 
     def require_label(self, where: str = "") -> None:
         """Refuses a text that its label does not allow to encrypt again with this password."""
@@ -90,7 +90,7 @@ class Tool:
 
     def decrypt(self, envelope: bytes, passwords: list[Password], policy: Policy) -> Decrypted:
         """Tries passwords one at a time, those with the envelope's label first, so it is certain which one works."""
-        label = label_of(envelope)
+        label = read_label(envelope)
         tried = order_to_try(passwords, label, policy)
         for password in tried:
             with suppress(NotDecrypted):

@@ -16,7 +16,7 @@ import hypothesis
 import pytest
 from hypothesis import strategies as st
 
-from ansible_vault_companions.envelopes.envelope import MAGIC
+from ansible_vault_companions.envelopes.header import MAGIC
 from ansible_vault_companions.merging.files import Merged, merge_file
 from ansible_vault_companions.merging.lines import Versions
 from ansible_vault_companions.passwords.labels import Policy

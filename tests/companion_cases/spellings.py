@@ -14,8 +14,10 @@ from typing import NamedTuple
 
 import pytest
 
-from ansible_vault_companions.envelopes import conflicts, document, envelope
-from ansible_vault_companions.envelopes.envelope import LINE_END, LOOSE, STRAY, TAGS, Path
+from ansible_vault_companions.envelopes import conflicts, content, header
+from ansible_vault_companions.envelopes.header import LINE_END
+from ansible_vault_companions.envelopes.key_paths import KeyPath
+from ansible_vault_companions.envelopes.node import LOOSE, STRAY, TAGS
 from companion_cases import BODY, CHECK, ROTATE, Place, block, ended, lines_of, sealed, summary, to_new
 from lib.needs import needs_pyyaml
 
@@ -51,9 +53,9 @@ FORMS = {
     "within a text": (b"script: |\n  x: !vault |\n" + lines_of(sealed("old"), 6) + b"\n  y: 1\n", ""),
 }
 # Unusual headers, which are read like any other.
-for header in (f"{MAGIC} ;1.2;AES256;default", f"{MAGIC}_x; 1.1 ;AES256", f"{MAGIC};1.1;\tAES256;default"):
+for first_line in (f"{MAGIC} ;1.2;AES256;default", f"{MAGIC}_x; 1.1 ;AES256", f"{MAGIC};1.1;\tAES256;default"):
     for vault in (sealed("old"), block("old")):
-        FORMS[f"{len(FORMS)} {header}"] = vault.replace(b"$ANSIBLE_VAULT;1.1;AES256", header.encode()), ""
+        FORMS[f"{len(FORMS)} {first_line}"] = vault.replace(b"$ANSIBLE_VAULT;1.1;AES256", first_line.encode()), ""
 
 
 # Text that only mentions a header is no envelope, and not reported.
@@ -75,8 +77,8 @@ def test_forms(place: Place) -> None:
     """The check names what is not rotated, and nothing else. A dry run writes nothing, but has the same status."""
     place.put("job.yml", JOB.encode())
     place.put("job.json", json.dumps(JOB).encode())
-    for name, (content, _) in FORMS.items():
-        place.put(name, content)
+    for name, (text, _) in FORMS.items():
+        place.put(name, text)
     before, left = place.files(), {name: why for name, (_, why) in FORMS.items() if why}
     rotate, check = [ROTATE, *to_new(place), "."], [CHECK, *place.by_file("old"), "."]
     rotated, failed = len(FORMS) - len(left), len(left)
@@ -89,7 +91,7 @@ def test_forms(place: Place) -> None:
         lines = {name: "".join(line for line in done.stderr.splitlines() if f"./{name}:" in line) for name in before}
         assert {name for name, line in lines.items() if line} == left.keys(), (words[0], lines)
         assert [name for name, why in left.items() if why not in lines[name]] == [], (words[0], lines)
-    assert {name for name, content in place.files().items() if content != before[name]} == FORMS.keys() - left.keys()
+    assert {name for name, text in place.files().items() if text != before[name]} == FORMS.keys() - left.keys()
     assert b"\n" not in place.get("a vault with CR LF").replace(b"\r\n", b"")
     for name in left:
         (place.tree / name).unlink()
@@ -121,10 +123,10 @@ PIECES += [b"$ANSIBLE_VAULT;1.1;AES256 # # # " + b"61" * 20 + b"\n", b"  - ", b"
 SMALL, TIMES = 1 << 15, 8
 START = b"x: !vault |\n  $ANSIBLE_VAULT;1.1;AES256\n  61\n"
 WORKS: dict[str, Callable[[bytes], object]] = {
-    "the envelopes": lambda data: document.read_document(START + data),
-    "every node": lambda data: document.read_document(START + data, every=True),
-    "a file that is no YAML": lambda data: document.read_document(b"[$ANSIBLE_VAULT;1.1;AES256" + data),
-    "a whole vault": lambda data: envelope.is_whole(b"$ANSIBLE_VAULT;1.1;AES256\n" + data),
+    "the envelopes": lambda data: content.parse_content(START + data),
+    "every node": lambda data: content.parse_content(START + data, every=True),
+    "a file that is no YAML": lambda data: content.parse_content(b"[$ANSIBLE_VAULT;1.1;AES256" + data),
+    "a whole vault": lambda data: header.is_whole_envelope(b"$ANSIBLE_VAULT;1.1;AES256\n" + data),
     "conflict markers": lambda data: (conflicts.is_unmerged(data), conflicts.split_sides(b"<<<<<<<\n" + data)),
 }
 
@@ -156,7 +158,7 @@ NEW = sealed("new", label="another")
 
 
 class Composed(NamedTuple):
-    path: Path
+    path: KeyPath
     text: str
     is_tagged: bool
 
@@ -203,8 +205,8 @@ class Generator:
         margin = " " * (column + step)
         if style in "|>":
             number = str(step) if step < 10 else ""
-            header = style + self.choice(("", "", "-", "+", number)) + self.choice(("", "", "  # why"))
-            return f"{header}\n" + "".join(f"{margin}{line}\n" for line in self.lines())
+            first_line = style + self.choice(("", "", "-", "+", number)) + self.choice(("", "", "  # why"))
+            return f"{first_line}\n" + "".join(f"{margin}{line}\n" for line in self.lines())
         if style == '"':
             return self.quoted(margin) + "\n"
         return style.strip() + f"\n{margin}".join(self.lines()) + style.strip() + "\n"
@@ -237,7 +239,7 @@ def composed(data: bytes) -> list[Composed] | None:
     return [value for node in nodes for value in walked(node, (), seen)]
 
 
-def walked(node: yaml.Node, path: Path, seen: set[int]) -> Iterator[Composed]:
+def walked(node: yaml.Node, path: KeyPath, seen: set[int]) -> Iterator[Composed]:
     if id(node) in seen:
         return
     seen.add(id(node))
@@ -254,7 +256,7 @@ def walked(node: yaml.Node, path: Path, seen: set[int]) -> Iterator[Composed]:
 
 def around(data: bytes) -> list[bytes]:
     """What is before, between and behind the envelopes."""
-    values = document.read_document(data).values
+    values = content.parse_content(data).values
     places = [0, *(place for value in values for place in (value.start, value.end)), len(data)]
     return [data[begin:end] for begin, end in zip(places[::2], places[1::2])]
 
@@ -266,12 +268,12 @@ def test_random_yaml(monkeypatch: pytest.MonkeyPatch, pytestconfig: pytest.Confi
         monkeypatch.setattr(yaml, "CSafeLoader", LOADERS[number % 2], raising=False)
         data = Generator(random).data()
         damaged = data[: random.randrange(999)] + random.randbytes(9) + data
-        for value in document.read_document(damaged, number % 3 == 0).values:
+        for value in content.parse_content(damaged, number % 3 == 0).values:
             assert 0 <= value.begin <= value.start <= value.end or value.style == STRAY, (number, value)
         wanted = composed(data)
         if wanted is None:
             continue
-        read = document.read_document(data)
+        read = content.parse_content(data)
         values = [value for value in read.values if value.style not in (STRAY, LOOSE)]
         texts = [(value.path, value.text.decode().strip()) for value in values]
         assert texts == [(value.path, value.text.strip()) for value in wanted], data
@@ -302,12 +304,12 @@ def test_valid_headers(place: Place, pytestconfig: pytest.Config) -> None:
     for number in range(300):
         random = Random(f"{pytestconfig.getoption('--seed')} {number}")
         fields = FIELDS[: random.randint(2, 5)]
-        header = ";".join(random.choice(texts) + random.choice(BLANKS) for texts in fields)
-        vault = header.encode() + b"\n" + DIGITS.encode()
+        first_line = ";".join(random.choice(texts) + random.choice(BLANKS) for texts in fields)
+        vault = first_line.encode() + b"\n" + DIGITS.encode()
         done = place.run_on(vault, "ansible-vault", "view", *place.by_file("old"))
         is_valid = done.returncode == 0
-        assert envelope.is_whole(vault) == (is_valid and len(fields) < 5), (header, done.stderr)
+        assert header.is_whole_envelope(vault) == (is_valid and len(fields) < 5), (first_line, done.stderr)
         if is_valid:
-            assert envelope.label_of(vault) == ([*header.split(";"), ""][3].strip() or "default"), header
+            assert header.read_label(vault) == ([*first_line.split(";"), ""][3].strip() or "default"), first_line
         counts[is_valid] += 1
     assert min(counts[True], counts[False]) > 20, counts

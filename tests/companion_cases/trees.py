@@ -6,8 +6,8 @@ from pathlib import Path
 
 import pytest
 
-from ansible_vault_companions.envelopes import document
-from ansible_vault_companions.envelopes.envelope import MAGIC
+from ansible_vault_companions.envelopes import detection
+from ansible_vault_companions.envelopes.header import MAGIC
 from ansible_vault_companions.files import reading
 from companion_cases import AWKWARD, CHECK, ROTATE, Place, block, ended, sealed, summary, to_new
 
@@ -80,9 +80,9 @@ def test_pieces(tmp_path: Path, monkeypatch: pytest.MonkeyPatch) -> None:
     for size, before, start in product((80, 90), range(100, 200), (MAGIC, b'"\\U00000024', b"!" + b"x" * 60 + b"%61")):
         monkeypatch.setattr(reading, "CHUNK_SIZE", size)
         path.write_bytes(b"x" * before + start + b";1.1")
-        assert document.read_content(str(path)) == path.read_bytes(), (size, before, start)
+        assert detection.read_envelope_file(str(path)) == path.read_bytes(), (size, before, start)
         path.write_bytes(b"x" * before + start[:-1])
-        assert document.read_content(str(path)) == b"x" * size, "a part of it is none"
+        assert detection.read_envelope_file(str(path)) == b"x" * size, "a part of it is none"
 
 
 FILES = {"a.yml", "b.txt", "tests/a.yml", "tests/fixtures/c.yml", "roles/tests/d.yml", "[x]/e.yml"}

@@ -14,8 +14,9 @@ import yaml
 from ansible_vault_companions.editing.choosing import Choice
 from ansible_vault_companions.editing.writing import parse_nodes
 from ansible_vault_companions.editing.yaml_draft import YamlDraft
-from ansible_vault_companions.envelopes.document import Change, apply_changes, find_column
-from ansible_vault_companions.envelopes.envelope import LINE_END, Path
+from ansible_vault_companions.envelopes.header import LINE_END
+from ansible_vault_companions.envelopes.key_paths import KeyPath
+from ansible_vault_companions.envelopes.layout import Replacement, apply_replacements, find_column
 from ansible_vault_companions.passwords.labels import Policy
 from ansible_vault_companions.passwords.password import Password
 from ansible_vault_companions.passwords.sources import source_of_path
@@ -84,7 +85,7 @@ def test_edits(monkeypatch: pytest.MonkeyPatch) -> None:
     assert min(counts[repr(text)] for text in PLAINTEXTS if not text.startswith("$")) > 10, counts
 
 
-def tagged(data: bytes) -> list[tuple[Path, str]] | None:
+def tagged(data: bytes) -> list[tuple[KeyPath, str]] | None:
     """Return the path and the text of each value with the tag; None if it is not YAML."""
     values = composed(data)
     return None if values is None else [(value.path, value.text) for value in values if value.is_tagged]
@@ -108,7 +109,9 @@ def check_changed(file: YamlDraft, generator: random.Random) -> bool:
     value, typed = generator.choice(shown), generator.choice(TYPED)
     lines = typed.format(" " * (find_column(text, value.begin) + 2)).removesuffix("\n").encode()
     ending = LINE_END.search(text)
-    edited = apply_changes(text, [Change(value.begin, value.end, lines.replace(b"\n", ending[0] if ending else b"\n"))])
+    edited = apply_replacements(
+        text, [Replacement(value.begin, value.end, lines.replace(b"\n", ending[0] if ending else b"\n"))]
+    )
     read = tagged(edited)
     if read is None:
         return False

@@ -9,7 +9,7 @@ import hashlib
 import os
 from contextlib import suppress
 
-from ansible_vault_companions.envelopes.envelope import label_of
+from ansible_vault_companions.envelopes.header import read_label
 from ansible_vault_companions.files import reading, replacing
 from ansible_vault_companions.git.repository import find_repository
 from ansible_vault_companions.quoting import escape
@@ -53,7 +53,7 @@ def read_copy(path: str, base: bytes, keys: list[Key], decrypt: Decrypt) -> byte
     """The text of a copy. The file may be under new passwords by now, but what it says, and for whom, is as before."""
     content = reading.read_existing(path)
     text = decrypt(content).text
-    if [key.label for key in keys] != [label_of(content)] or not text.startswith(_head(base)):
+    if [key.label for key in keys] != [read_label(content)] or not text.startswith(_head(base)):
         why = f"its text or its label has changed since the edit that left {escape(path)}"
         raise Refused(f"{why}; take what you need from the copy, which `ansible-vault-textconv` shows")
     return text[len(_head(base)) :]

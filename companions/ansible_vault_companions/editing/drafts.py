@@ -11,8 +11,8 @@ from ansible_vault_companions.editing.choosing import Choice
 from ansible_vault_companions.editing.matching import describe_place
 from ansible_vault_companions.editing.single_value import SingleValue
 from ansible_vault_companions.editing.yaml_draft import YamlDraft
-from ansible_vault_companions.envelopes import conflicts, document
-from ansible_vault_companions.envelopes.envelope import MAGIC
+from ansible_vault_companions.envelopes import conflicts, detection
+from ansible_vault_companions.envelopes.header import MAGIC
 from ansible_vault_companions.files import reading
 from ansible_vault_companions.git.repository import make_pathspec
 from ansible_vault_companions.merging.files import KINDS_DIFFER, find_versions, merge_file
@@ -137,7 +137,7 @@ class Loader:
         return self._load_values(target, content, merged.content)
 
     def _load_values(self, target: str, content: bytes, edited: bytes) -> YamlDraft:
-        if not document.may_have_envelope(edited):
+        if not detection.may_have_envelope(edited):
             raise Refused(NO_VAULT)
         draft = YamlDraft(target, content, edited, self.decrypt, self.choice)
         if not draft.tagged:

@@ -11,7 +11,7 @@ from ansible_vault_companions.editing.copies import save_copy
 from ansible_vault_companions.editing.drafts import Draft
 from ansible_vault_companions.editing.private_directory import PrivateDirectory
 from ansible_vault_companions.editing.single_value import A_VAULT
-from ansible_vault_companions.envelopes.envelope import MAGIC
+from ansible_vault_companions.envelopes.header import MAGIC
 from ansible_vault_companions.files import reading, replacing
 from ansible_vault_companions.passwords import prompts
 from ansible_vault_companions.quoting import escape

@@ -10,7 +10,8 @@ from collections import Counter, defaultdict
 from typing import Callable, Iterable, Iterator, NamedTuple
 
 from ansible_vault_companions.editing.choosing import Choice
-from ansible_vault_companions.envelopes.envelope import Path, Value
+from ansible_vault_companions.envelopes.key_paths import KeyPath
+from ansible_vault_companions.envelopes.node import Node
 from ansible_vault_companions.quoting import escape
 from ansible_vault_companions.refusals import Refused
 from ansible_vault_companions.tool import Decrypted, Key
@@ -18,13 +19,13 @@ from ansible_vault_companions.tool import Decrypted, Key
 UNCLEAR = "{} may be a new value or a changed one, and the password depends on which; save one change at a time"
 
 # A path, and which of the values at that path it is, since a mapping may have a key twice.
-Place = tuple[Path, int]
+Place = tuple[KeyPath, int]
 
 
 class Opened(NamedTuple):
     """A value of the file, and its plaintext."""
 
-    value: Value
+    value: Node
     decrypted: Decrypted
 
 
@@ -35,16 +36,16 @@ class Match(NamedTuple):
     key: Key | None = None
 
 
-def describe_name(value: Value) -> str:
+def describe_name(value: Node) -> str:
     return escape(value.name) if value.name else "this value"
 
 
-def describe_place(value: Value) -> str:
+def describe_place(value: Node) -> str:
     """Where a value is, for a message."""
     return f"line {value.line}: {describe_name(value)}"
 
 
-def find_matches(opened: list[Opened], typed: list[Value], choice: Choice) -> list[Match]:
+def find_matches(opened: list[Opened], typed: list[Node], choice: Choice) -> list[Match]:
     """What each typed value was before, and its key, in order."""
     before = dict(zip(_number_places(old.value for old in opened), opened))
     after = dict(zip(_number_places(typed), typed))
@@ -62,10 +63,10 @@ def find_matches(opened: list[Opened], typed: list[Value], choice: Choice) -> li
 
 
 def _keep_moved(
-    kept: dict[Place, Place], before: dict[Place, Opened], after: dict[Place, Value], group: Callable[[Place], Path]
+    kept: dict[Place, Place], before: dict[Place, Opened], after: dict[Place, Node], group: Callable[[Place], KeyPath]
 ) -> None:
     """Adds typed values whose text a single other value of the same group had, which is gone."""
-    vanished: dict[tuple[Path, bytes], list[Place]] = defaultdict(list)
+    vanished: dict[tuple[KeyPath, bytes], list[Place]] = defaultdict(list)
     for at in before.keys() - {*kept.values()}:
         vanished[group(at), before[at].decrypted.text].append(at)
     for at, value in after.items():
@@ -75,7 +76,7 @@ def _keep_moved(
 
 
 def _find_changed(
-    kept: dict[Place, Place], before: dict[Place, Opened], after: dict[Place, Value], choice: Choice
+    kept: dict[Place, Place], before: dict[Place, Opened], after: dict[Place, Node], choice: Choice
 ) -> set[Place]:
     """The places of values with a new text, which keep their password. If the items of a list might get several
     passwords, they have to be where those were that are gone."""
@@ -92,20 +93,20 @@ def _find_changed(
     return changed
 
 
-def _number_places(values: Iterable[Value]) -> Iterator[Place]:
-    seen: Counter[Path] = Counter()
+def _number_places(values: Iterable[Node]) -> Iterator[Place]:
+    seen: Counter[KeyPath] = Counter()
     for value in values:
         seen[value.path] += 1
         yield value.path, seen[value.path]
 
 
-def _group_by_list(places: Iterable[Place]) -> dict[Path, set[Place]]:
-    groups: dict[Path, set[Place]] = defaultdict(set)
+def _group_by_list(places: Iterable[Place]) -> dict[KeyPath, set[Place]]:
+    groups: dict[KeyPath, set[Place]] = defaultdict(set)
     for at in places:
         groups[_list_of(at)].add(at)
     return groups
 
 
-def _list_of(at: Place) -> Path:
+def _list_of(at: Place) -> KeyPath:
     """The path without the numbers of items."""
     return tuple(-1 if isinstance(step, int) else step for step in at[0])

@@ -9,9 +9,12 @@ import re
 from ansible_vault_companions import processes
 from ansible_vault_companions.editing.choosing import Choice
 from ansible_vault_companions.editing.writing import make_sealed_block, parse_nodes, write_values
-from ansible_vault_companions.envelopes import conflicts, document
-from ansible_vault_companions.envelopes.document import NOT_ENCRYPTED, NO_TEXT, Change, Document, apply_changes
-from ansible_vault_companions.envelopes.envelope import ALIAS, MAGIC, NO_SCALAR, Path, Value, quote_key
+from ansible_vault_companions.envelopes import conflicts, content
+from ansible_vault_companions.envelopes.content import NOT_ENCRYPTED, NO_TEXT, Content
+from ansible_vault_companions.envelopes.header import MAGIC
+from ansible_vault_companions.envelopes.key_paths import KeyPath, quote_key
+from ansible_vault_companions.envelopes.layout import Replacement, apply_replacements
+from ansible_vault_companions.envelopes.node import ALIAS, NO_SCALAR, Node
 from ansible_vault_companions.files import reading, replacing
 from ansible_vault_companions.quoting import escape
 from ansible_vault_companions.refusals import Refused
@@ -65,7 +68,7 @@ class SingleValue:
             raise Refused(NO_PLACE.format(escape(self.path))) from None
 
 
-def _tag(data: bytes, path: str, is_chosen: bool) -> Document:
+def _tag(data: bytes, path: str, is_chosen: bool) -> Content:
     """The nodes of a file, with the tag before the value, which may be a new one if its password is chosen."""
     if data.startswith(MAGIC):
         raise Refused("the whole file is a vault; edit it without --value")
@@ -81,28 +84,28 @@ def _tag(data: bytes, path: str, is_chosen: bool) -> Document:
         if not is_chosen:
             raise Refused(NOT_ENCRYPTED.format(escape(path)) + TO_ENCRYPT)
         tag = _add_tag(value, path)
-    after = document.read_document(apply_changes(data, [tag]), every=True)
+    after = content.parse_content(apply_replacements(data, [tag]), every=True)
     if after.fault or _list_others(after, path) != _list_others(file, path):
         raise Refused(NO_PLACE.format(escape(path)))
     return after
 
 
-def _add_key(data: bytes, path: str) -> Change:
+def _add_key(data: bytes, path: str) -> Replacement:
     """The change that adds a key at the end of a file, with an empty value."""
     key = path if SIMPLE_KEY.fullmatch(path) else quote_key(path)
     end = b"" if data.endswith(b"\n") or not data else b"\n"
-    return Change(len(data), len(data), b'%s%s: !vault ""\n' % (end, key.encode(errors="surrogateescape")))
+    return Replacement(len(data), len(data), b'%s%s: !vault ""\n' % (end, key.encode(errors="surrogateescape")))
 
 
-def _add_tag(value: Value, path: str) -> Change:
+def _add_tag(value: Node, path: str) -> Replacement:
     """The change that adds the tag before a text that is there, or before an empty one."""
     if value.style in (NO_SCALAR, ALIAS):
         raise Refused(NO_TEXT.format(escape(path)))
     text = b"!vault " if value.end > value.begin else b' !vault ""'
-    return Change(value.begin, value.begin, b"" if value.is_tagged else text)
+    return Replacement(value.begin, value.begin, b"" if value.is_tagged else text)
 
 
-def _list_others(file: Document, path: str) -> list[tuple[Path, str, bytes]]:
+def _list_others(file: Content, path: str) -> list[tuple[KeyPath, str, bytes]]:
     """All nodes except the value, and except the empty one of a file without any."""
     here = file.values_at(path)
     others = [value for value in file.values if (value.path or value.text) and value not in here]

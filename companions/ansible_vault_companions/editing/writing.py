@@ -6,33 +6,35 @@ What was written is read again, and what does not read as expected is refused.
 from __future__ import annotations
 
 from ansible_vault_companions.envelopes import conflicts
-from ansible_vault_companions.envelopes.document import (
-    HEADER,
-    Change,
-    Document,
-    apply_changes,
+from ansible_vault_companions.envelopes.content import Content
+from ansible_vault_companions.envelopes.header import LINE_END
+from ansible_vault_companions.envelopes.key_paths import KeyPath
+from ansible_vault_companions.envelopes.layout import (
+    BLOCK_HEADER,
+    Replacement,
+    apply_replacements,
     find_column,
-    indent,
+    indent_lines,
     put_in_quotes,
     put_plaintext,
 )
-from ansible_vault_companions.envelopes.envelope import LINE_END, LITERAL, Path, Value
+from ansible_vault_companions.envelopes.node import LITERAL, Node
 from ansible_vault_companions.refusals import Refused
 
 NO_PLACE = "its values cannot be written where they are; write each as `NAME: !vault |`"
 # What a node of YAML says: its path and its text.
-KeyPathAndText = tuple[Path, bytes]
+KeyPathAndText = tuple[KeyPath, bytes]
 
 
-def parse_nodes(data: bytes) -> Document:
+def parse_nodes(data: bytes) -> Content:
     """All nodes of a YAML text, or of the sides of one with a conflict."""
-    text = conflicts.read_sides(data, every=True)
+    text = conflicts.parse_sides(data, every=True)
     if text.fault:
         raise Refused(text.fault)
     return text
 
 
-def write_values(text: Document, contents: dict[int, bytes], blocks: dict[int, list[Change]]) -> bytes:
+def write_values(text: Content, contents: dict[int, bytes], blocks: dict[int, list[Replacement]]) -> bytes:
     """The text with these contents in place of values, by their numbers: as these blocks, or in double quotes where
     there is no block or where it does not read as expected. All other values stay."""
     wanted = [(value.path, contents.get(number, value.text)) for number, value in enumerate(text.values)]
@@ -45,21 +47,21 @@ def write_values(text: Document, contents: dict[int, bytes], blocks: dict[int, l
         blocks = {number: block for number, block in blocks.items() if number not in wrong}
 
 
-def _put(text: Document, contents: dict[int, bytes], blocks: dict[int, list[Change]]) -> bytes:
+def _put(text: Content, contents: dict[int, bytes], blocks: dict[int, list[Replacement]]) -> bytes:
     changes = [change for block in blocks.values() for change in block]
     quoted = [number for number in contents if number not in blocks]
     changes += [put_in_quotes(text.values[number], contents[number].decode()) for number in quoted]
-    return apply_changes(text.data, changes)
+    return apply_replacements(text.data, changes)
 
 
 def _list_nodes(data: bytes) -> list[KeyPathAndText]:
     """What each node of a text says; empty if it is not YAML."""
-    text = conflicts.read_sides(data, every=True)
+    text = conflicts.parse_sides(data, every=True)
     return [] if text.fault else [(value.path, value.text) for value in text.values]
 
 
 def _find_wrong(
-    text: Document, reading: list[KeyPathAndText], wanted: list[KeyPathAndText], blocks: dict[int, list[Change]]
+    text: Content, reading: list[KeyPathAndText], wanted: list[KeyPathAndText], blocks: dict[int, list[Replacement]]
 ) -> list[int]:
     """The numbers of the blocks to write in double quotes instead. Raises Refused if there are none."""
     if len(reading) == len(wanted):
@@ -72,24 +74,24 @@ def _find_wrong(
     return unsure or wrong
 
 
-def make_plain_block(data: bytes, value: Value, text: bytes) -> list[Change]:
+def make_plain_block(data: bytes, value: Node, text: bytes) -> list[Replacement]:
     """The changes that show a plaintext as a block; none unless its envelope is one and the last line tells where it
     ends."""
     has_end = text.strip() and text.rstrip() == text.removesuffix(b"\n")
     return put_plaintext(data, value, text) if value.style == LITERAL and has_end else []
 
 
-def make_sealed_block(data: bytes, value: Value, envelope: bytes, old: Value | None) -> list[Change]:
+def make_sealed_block(data: bytes, value: Node, envelope: bytes, old: Node | None) -> list[Replacement]:
     """The changes that write a new envelope as a block, as Ansible's tool does; none if neither the old one nor the
     value is one. What follows in the line of the header stays."""
     if old and LITERAL not in (value.style, old.style):
         return []
     # Ansible's tool indents by ten.
     margin = b" " * (find_column(data, value.begin) + 10)
-    lines = indent(envelope.rstrip(b"\n"), margin, value.ending)
-    header = HEADER.match(data, value.begin)
+    lines = indent_lines(envelope.rstrip(b"\n"), margin, value.ending)
+    header = BLOCK_HEADER.match(data, value.begin)
     # Empty lines above a typed text go with it: Ansible reads no envelope below one.
     end = header.end() if header else value.end
     following = LINE_END.search(data, end)
     place = following.start() if following else len(data)
-    return [Change(value.begin, end, b"|"), Change(place, max(place, value.end), value.ending + lines)]
+    return [Replacement(value.begin, end, b"|"), Replacement(place, max(place, value.end), value.ending + lines)]

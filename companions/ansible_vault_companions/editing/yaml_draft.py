@@ -6,8 +6,10 @@ from ansible_vault_companions.editing.choosing import Choice
 from ansible_vault_companions.editing.matching import Match, Opened, describe_place, find_matches
 from ansible_vault_companions.editing.writing import make_plain_block, make_sealed_block, parse_nodes, write_values
 from ansible_vault_companions.envelopes import conflicts
-from ansible_vault_companions.envelopes.document import NOT_UTF_8, Change, Document
-from ansible_vault_companions.envelopes.envelope import ALIAS, MAGIC, NO_SCALAR, PLAIN, TAGS, Value
+from ansible_vault_companions.envelopes.content import Content
+from ansible_vault_companions.envelopes.header import MAGIC
+from ansible_vault_companions.envelopes.layout import NOT_UTF_8, Replacement
+from ansible_vault_companions.envelopes.node import ALIAS, NO_SCALAR, PLAIN, TAGS, Node
 from ansible_vault_companions.passwords import prompts
 from ansible_vault_companions.refusals import Refused
 from ansible_vault_companions.tool import Decrypt, Key, Tool
@@ -30,7 +32,7 @@ class YamlDraft:
         self.tagged = {number: value for number, value in enumerate(self.file.values) if value.is_tagged}
         # The values that are shown in plaintext; and those that stay encrypted, and why.
         self.opened: dict[int, Opened] = {}
-        self.faults: list[tuple[Value, Refused]] = []
+        self.faults: list[tuple[Node, Refused]] = []
         self._open(decrypt)
         self.plaintext = self._show()
 
@@ -76,15 +78,15 @@ class YamlDraft:
         blocks = {number: make_plain_block(self.file.data, self.tagged[number], texts[number]) for number in texts}
         return write_values(self.file, texts, {number: block for number, block in blocks.items() if block})
 
-    def _block(self, text: bytes, value: Value, envelope: bytes, match: Match) -> list[Change]:
+    def _block(self, text: bytes, value: Node, envelope: bytes, match: Match) -> list[Replacement]:
         """The changes that write an envelope as a block. One that stays is written as it was."""
         old = match.before.value if match.before else None
         if old and not match.key:
-            return [Change(value.begin, value.end, self.file.data[old.begin : old.end])]
+            return [Replacement(value.begin, value.end, self.file.data[old.begin : old.end])]
         return make_sealed_block(text, value, envelope, old)
 
 
-def _try_to_open(value: Value, decrypt: Decrypt) -> Opened | Refused:
+def _try_to_open(value: Node, decrypt: Decrypt) -> Opened | Refused:
     """A value in plaintext, or why it stays encrypted."""
     try:
         decrypted = decrypt(value.readable())
@@ -98,7 +100,7 @@ def _try_to_open(value: Value, decrypt: Decrypt) -> Opened | Refused:
     return Opened(value, decrypted)
 
 
-def _seal(tool: Tool, value: Value, match: Match) -> bytes:
+def _seal(tool: Tool, value: Node, match: Match) -> bytes:
     """The envelope of a typed value: the one that it had, or a new one."""
     if match.before and not match.key:
         return match.before.value.text
@@ -106,7 +108,7 @@ def _seal(tool: Tool, value: Value, match: Match) -> bytes:
     return tool.encrypt(value.text, *match.key)
 
 
-def _is_typed(value: Value, closed: set[bytes]) -> bool:
+def _is_typed(value: Node, closed: set[bytes]) -> bool:
     """Whether a value has to be encrypted. An envelope that was not opened, or was pasted whole, stays."""
     is_like_a_vault = value.text.startswith(MAGIC)
     if not value.is_tagged or is_like_a_vault and (value.is_whole or value.text in closed):
@@ -128,7 +130,7 @@ def _is_utf_8(text: bytes) -> bool:
         return False
 
 
-def _check_tags(before: Document, after: Document) -> None:
+def _check_tags(before: Content, after: Content) -> None:
     """Refuses a new tag, which may be a misspelled one, unless the user confirms it at the terminal."""
     known = {value.tag for value in before.values} | {"", *TAGS}
     for value in after.values:

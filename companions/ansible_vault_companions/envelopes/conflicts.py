@@ -6,9 +6,9 @@ import re
 from bisect import bisect_left
 from collections import Counter
 
-from ansible_vault_companions.envelopes import document
-from ansible_vault_companions.envelopes.document import Document
-from ansible_vault_companions.envelopes.envelope import Value
+from ansible_vault_companions.envelopes import content
+from ansible_vault_companions.envelopes.content import Content
+from ansible_vault_companions.envelopes.node import Node
 
 # How each marker begins, before each side and at the end.
 OURS, BASE, THEIRS, END = b"<" * 7, b"|" * 7, b"=" * 7, b">" * 7
@@ -70,18 +70,18 @@ def join_sides(ours: bytes, theirs: bytes) -> bytes:
     return OURS + b" ours" + end + texts[0] + THEIRS + end + texts[1] + END + b" theirs" + end
 
 
-def read_sides(data: bytes, every: bool = False) -> Document:
+def parse_sides(data: bytes, every: bool = False) -> Content:
     """The envelopes of a file, or every node, on all sides. If one of its sides is no YAML, nor is the file."""
     texts = split_sides(data, is_masked=True).values()
     if not texts:
-        return document.read_document(data, every)
+        return content.parse_content(data, every)
     line_ends = [end.start() for end in re.finditer(b"\n", data)]
-    values: dict[tuple[int, int], Value] = {}
-    for side in (document.read_document(text, every) for text in texts):
+    values: dict[tuple[int, int], Node] = {}
+    for side in (content.parse_content(text, every) for text in texts):
         if side.fault:
-            return document.read_document(data, every)
+            return content.parse_content(data, every)
         for value in side.values:
             # A line of several sides may be part of a longer text on one of them.
             place = (value.end, value.start if every else 0)
             values.setdefault(place, value._replace(line=bisect_left(line_ends, value.start) + 1))
-    return Document(data, sorted(values.values(), key=lambda value: (value.start, value.end)))
+    return Content(data, sorted(values.values(), key=lambda value: (value.start, value.end)))

@@ -9,7 +9,7 @@ from contextlib import contextmanager
 from functools import cached_property
 from typing import Iterator, NamedTuple
 
-from ansible_vault_companions.envelopes.envelope import MAGIC
+from ansible_vault_companions.envelopes.header import MAGIC
 from ansible_vault_companions.files.reading import LIMIT
 from ansible_vault_companions.git.repository import build_command, build_environment, make_pathspec, read_line, run_git
 from ansible_vault_companions.limits import LONGEST, LONGEST_LINK

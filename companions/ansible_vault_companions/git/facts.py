@@ -11,10 +11,14 @@ from functools import reduce
 from typing import Callable, Iterator, NamedTuple
 
 from ansible_vault_companions import limits
-from ansible_vault_companions.envelopes import conflicts, envelope
-from ansible_vault_companions.envelopes.document import Document, find_strays, may_have_envelope
-from ansible_vault_companions.envelopes.envelope import ALIAS, JSON_KEY, LOOSE, MAGIC, NO_SCALAR, STRAY, Path, Value
-from ansible_vault_companions.envelopes.scalars import BINARY, NotYaml, read_scalars
+from ansible_vault_companions.envelopes import conflicts, header
+from ansible_vault_companions.envelopes.content import Content
+from ansible_vault_companions.envelopes.detection import may_have_envelope
+from ansible_vault_companions.envelopes.header import MAGIC
+from ansible_vault_companions.envelopes.key_paths import KeyPath
+from ansible_vault_companions.envelopes.node import ALIAS, JSON_KEY, LOOSE, NO_SCALAR, STRAY, Node
+from ansible_vault_companions.envelopes.strays import find_strays
+from ansible_vault_companions.envelopes.yaml_nodes import BINARY, NotYaml, read_nodes
 from ansible_vault_companions.limits import TooMuch
 
 HEADER = MAGIC + b";"
@@ -42,7 +46,7 @@ Keys = tuple[str, ...]
 Texts = dict[Keys, "Counter[int]"]
 NONE: Counter[int] = Counter()
 # A path, whether an envelope is there, and the number of its text.
-Leaf = tuple[Path, bool, int]
+Leaf = tuple[KeyPath, bool, int]
 
 
 class Facts(NamedTuple):
@@ -76,7 +80,7 @@ def _read_facts(data: bytes | None, needs_plain: bool) -> Facts:
     if not data.strip():
         return Facts(is_empty=True, unencrypted="")
     if data.startswith(MAGIC):
-        return Facts(is_vault=True, envelopes=1, damage=find_damage(Document(data)), unencrypted="")
+        return Facts(is_vault=True, envelopes=1, damage=find_damage(Content(data)), unencrypted="")
     if data.startswith(POINTER):
         return Facts(fault=IN_LFS, unencrypted=IN_LFS)
     if not (needs_plain or may_have_envelope(data)):
@@ -97,15 +101,15 @@ def _read_facts(data: bytes | None, needs_plain: bool) -> Facts:
     return made
 
 
-def _read_leaves(data: bytes) -> tuple[Document, list[Leaf]]:
+def _read_leaves(data: bytes) -> tuple[Content, list[Leaf]]:
     """The envelopes, and the texts at each path that leads to them, from one look at the nodes."""
-    document, leaves = Document(data), list[Leaf]()
+    document, leaves = Content(data), list[Leaf]()
     # How many keys and texts the leaves have.
     number = 0
     # For each anchor its path, and the number of its first text.
-    anchors: dict[str, tuple[Path, int]] = {}
+    anchors: dict[str, tuple[KeyPath, int]] = {}
     try:
-        for node in read_scalars(data, every=True):
+        for node in read_nodes(data, every=True):
             if node.is_value:
                 document.values.append(node)
             for leaf in _list_leaves(node, leaves, anchors):
@@ -114,13 +118,13 @@ def _read_leaves(data: bytes) -> tuple[Document, list[Leaf]]:
                     raise TooMuch(limits.TOO_MANY)
                 leaves.append(leaf)
     except NotYaml as fault:
-        document, leaves = Document(data, fault=str(fault)), []
+        document, leaves = Content(data, fault=str(fault)), []
     if BINARY not in data:
         document.values += find_strays(data, document.values)
     return document, leaves
 
 
-def _list_leaves(node: Value, leaves: list[Leaf], anchors: dict[str, tuple[Path, int]]) -> Iterator[Leaf]:
+def _list_leaves(node: Node, leaves: list[Leaf], anchors: dict[str, tuple[KeyPath, int]]) -> Iterator[Leaf]:
     """The text of a node; or of an alias, all that is at and below its anchor."""
     if node.style == ALIAS:
         base, first = anchors.get(node.anchor, ((), len(leaves)))
@@ -138,7 +142,7 @@ def _list_leaves(node: Value, leaves: list[Leaf], anchors: dict[str, tuple[Path,
         yield node.path, node.is_value and node.is_envelope, hash(own)
 
 
-def _keys(path: Path) -> Keys:
+def _keys(path: KeyPath) -> Keys:
     keys: list[str] = []
     for before, step in zip((None, *path), path):
         if step not in (MERGE, JSON_KEY) and not (isinstance(step, int) and before == MERGE):
@@ -153,29 +157,29 @@ def write_keys(keys: Keys) -> str:
     return ".".join(steps).replace(f".{ITEM}", ITEM) or "."
 
 
-def is_unmerged(document: Document) -> bool:
+def is_unmerged(document: Content) -> bool:
     """Whether git's conflict markers are in an envelope or beside one, even if git has torn it."""
     return conflicts.is_unmerged(document.data) and bool(document.values or HEADER in document.data)
 
 
-def find_damage(document: Document) -> str:
+def find_damage(document: Content) -> str:
     """What is wrong with the envelopes of a file; empty if nothing is."""
     if is_unmerged(document):
         return conflicts.UNMERGED
     if document.is_vault:
-        return "" if envelope.is_whole(document.data) else "is a damaged vault"
+        return "" if header.is_whole_envelope(document.data) else "is a damaged vault"
     envelopes = (value for value in document.values if value.is_envelope and value.style != LOOSE)
     line = next((value.line for value in envelopes if not value.is_whole), 0)
     return f"has a damaged value in line {line}" if line else ""
 
 
-def find_tagged(document: Document) -> str:
+def find_tagged(document: Content) -> str:
     """What is wrong with a text that has the tag of an envelope and is none; empty if there is no such text."""
     line = next((value.line for value in document.values if value.is_tagged and not value.is_envelope), 0)
     return TAGGED.format(line) if line else ""
 
 
-def find_unencrypted(document: Document) -> str:
+def find_unencrypted(document: Content) -> str:
     """Why a marked file that is not empty is refused; empty if it is not."""
     values = [value for value in document.values if value.style not in (STRAY, LOOSE)]
     if not document.is_vault:

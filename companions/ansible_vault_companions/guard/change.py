@@ -5,7 +5,7 @@ from __future__ import annotations
 import os
 from functools import cached_property
 
-from ansible_vault_companions.envelopes.document import PROSE, YAML
+from ansible_vault_companions.envelopes.file_kinds import PROSE, YAML
 from ansible_vault_companions.git import commits, facts
 from ansible_vault_companions.git.attributes import Attributes, read_attributes
 from ansible_vault_companions.git.commits import Blobs, Differences, File, Index

@@ -5,7 +5,7 @@ from __future__ import annotations
 import os
 from typing import Iterator
 
-from ansible_vault_companions.envelopes.envelope import MAGIC
+from ansible_vault_companions.envelopes.header import MAGIC
 from ansible_vault_companions.git import commits
 from ansible_vault_companions.git.commits import Blobs, Differences, File, Index
 from ansible_vault_companions.git.repository import read_line, run_git

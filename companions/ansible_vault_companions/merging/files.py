@@ -9,7 +9,7 @@ import os
 from typing import NamedTuple
 
 from ansible_vault_companions.envelopes import conflicts
-from ansible_vault_companions.envelopes.envelope import MAGIC
+from ansible_vault_companions.envelopes.header import MAGIC
 from ansible_vault_companions.git import repository
 from ansible_vault_companions.merging.lines import Versions
 from ansible_vault_companions.merging.values import Values

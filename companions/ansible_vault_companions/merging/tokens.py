@@ -12,8 +12,8 @@ from collections import Counter, defaultdict
 from typing import Hashable, NamedTuple, Union
 
 from ansible_vault_companions.envelopes import conflicts
-from ansible_vault_companions.envelopes.document import Change, replace_envelope
-from ansible_vault_companions.envelopes.envelope import LITERAL, STRAY, Value
+from ansible_vault_companions.envelopes.layout import Replacement, replace_envelope
+from ansible_vault_companions.envelopes.node import LITERAL, STRAY, Node
 from ansible_vault_companions.merging.lines import BASE, OURS, SIDES, THEIRS
 from ansible_vault_companions.tool import Decrypted, Key, Tool
 
@@ -36,7 +36,7 @@ class Token(NamedTuple):
 
     meaning: Meaning
     head: bytes
-    value: Value
+    value: Node
 
 
 class Tokens:
@@ -54,7 +54,7 @@ class Tokens:
         # How a version writes an envelope in the layout of a token.
         self.written: dict[tuple[bytes, int], bytes] = {}
 
-    def replace(self, side: str, data: bytes, value: Value, meaning: Meaning) -> Change:
+    def replace(self, side: str, data: bytes, value: Node, meaning: Meaning) -> Replacement:
         """Puts a token in place of an envelope of a side, which has this data."""
         begin = value.start if value.style == STRAY else value.begin
         head = data[begin : value.start]
@@ -64,7 +64,7 @@ class Tokens:
         text = b"%s-%d" % (self.mark, number)
         if value.style in (LITERAL, STRAY):
             text += b"%s%s%s" % (value.ending, self.separator, value.name.encode().hex().encode())
-        return Change(begin, value.end, text)
+        return Replacement(begin, value.end, text)
 
     def write(self, number: int, envelope: bytes) -> bytes:
         """An envelope in the layout of a token: as a version has it, if one does."""

@@ -4,9 +4,9 @@ from __future__ import annotations
 
 from collections import Counter
 
-from ansible_vault_companions.envelopes import conflicts, document
-from ansible_vault_companions.envelopes.document import apply_changes
-from ansible_vault_companions.envelopes.envelope import LOOSE, Value
+from ansible_vault_companions.envelopes import conflicts, content
+from ansible_vault_companions.envelopes.layout import apply_replacements
+from ansible_vault_companions.envelopes.node import LOOSE, Node
 from ansible_vault_companions.merging.keys import find_common_key
 from ansible_vault_companions.merging.lines import OURS, SIDES, THEIRS, Lines, Versions, merge_lines
 from ansible_vault_companions.merging.tokens import KeyAndText, Meaning, Restoration, Tokens
@@ -23,7 +23,7 @@ class Values:
     """Three versions of a file, and what their envelopes mean."""
 
     def __init__(self, decrypt: Decrypt, versions: Versions, chosen: Key | None) -> None:
-        self.documents = {side: document.read_document(data) for side, data in zip(SIDES, versions)}
+        self.documents = {side: content.parse_content(data) for side, data in zip(SIDES, versions)}
         self.values = {side: [*filter(_has_token, self.documents[side].values)] for side in SIDES}
         self.opened = self._open(decrypt)
         # The key of the result for the values with each label, unless each keeps its own.
@@ -70,11 +70,11 @@ class Values:
         changes = []
         for value in self.values[side]:
             changes.append(tokens.replace(side, data, value, self._find_meaning(value.text)))
-        return apply_changes(data, changes)
+        return apply_replacements(data, changes)
 
     def _check(self, content: bytes, envelopes: list[bytes], has_conflict: bool) -> None:
         """Refuses a result that is no YAML though both sides are, or that has other envelopes than these."""
-        result = conflicts.read_sides(content)
+        result = conflicts.parse_sides(content)
         are_yaml = not any(self.documents[side].fault for side in (OURS, THEIRS))
         if result.fault and are_yaml and not has_conflict:
             raise Refused(NOT_YAML.format(result.fault))
@@ -83,7 +83,7 @@ class Values:
             raise Refused(NEW_VALUE)
 
 
-def _has_token(value: Value) -> bool:
+def _has_token(value: Node) -> bool:
     return value.is_envelope and value.style != LOOSE
 
 

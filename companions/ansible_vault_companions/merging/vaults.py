@@ -3,7 +3,7 @@
 from __future__ import annotations
 
 from ansible_vault_companions.envelopes import conflicts
-from ansible_vault_companions.envelopes.envelope import MAGIC
+from ansible_vault_companions.envelopes.header import MAGIC
 from ansible_vault_companions.merging.keys import Keys, find_common_key
 from ansible_vault_companions.merging.lines import OURS, THEIRS, Versions, merge_lines
 from ansible_vault_companions.quoting import escape

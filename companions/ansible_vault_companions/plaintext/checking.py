@@ -4,9 +4,9 @@ from __future__ import annotations
 
 from dataclasses import dataclass
 
-from ansible_vault_companions.envelopes import conflicts, document
-from ansible_vault_companions.envelopes.document import Document
-from ansible_vault_companions.envelopes.envelope import Value
+from ansible_vault_companions.envelopes import conflicts, content, file_kinds
+from ansible_vault_companions.envelopes.content import Content
+from ansible_vault_companions.envelopes.node import Node
 from ansible_vault_companions.git import facts
 from ansible_vault_companions.git.repository import make_pathspec
 from ansible_vault_companions.passwords.password import Password
@@ -28,12 +28,12 @@ class Check(Work):
     # The paths that git's attributes mark.
     marked: set[str]
 
-    def file(self, paths: list[str], file: Document, report: Report) -> None:
+    def file(self, paths: list[str], file: Content, report: Report) -> None:
         """Checks the file to which these paths lead. It is marked if one of them is."""
         path = next((path for path in paths if path in self.marked), paths[0])
         is_marked = path in self.marked
-        is_prose = document.is_prose(path) and not (is_marked or file.is_vault)
-        why = document.find_fault(file, path)
+        is_prose = file_kinds.is_prose(path) and not (is_marked or file.is_vault)
+        why = file_kinds.find_yaml_fault(file, path)
         try:
             self.change_envelopes(file, lambda value: _name_value(value, value.place(path)), report, is_prose)
         except Refused as fault:
@@ -45,7 +45,7 @@ class Check(Work):
         if why:
             report.faults.append(f"{escape(path)}: {why}")
 
-    def envelope(self, value: Value, where: str, report: Report, is_prose: bool) -> bytes | None:
+    def envelope(self, value: Node, where: str, report: Report, is_prose: bool) -> bytes | None:
         """The envelope itself, so that it is tried to put another one in its place."""
         same, label = value.text if value.is_whole and not is_prose else None, value.label
         if label is not None and self.labels and label not in self.labels:
@@ -68,8 +68,8 @@ class Check(Work):
         if conflicts.is_unmerged(result.text):
             report.faults.append(f"{where}: its plaintext {conflicts.UNMERGED}")
         place = lambda value: _name_value(value, f"{where}: in its plaintext, line {max(value.line, 1)}")
-        self.change_envelopes(document.read_document(result.text), place, report)
+        self.change_envelopes(content.parse_content(result.text), place, report)
 
 
-def _name_value(value: Value, where: str) -> str:
+def _name_value(value: Node, where: str) -> str:
     return ": ".join([where, *(escape(name) for name in (value.name, value.label or "no label") if name)])

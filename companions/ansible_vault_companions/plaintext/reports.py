@@ -8,9 +8,9 @@ from dataclasses import dataclass, field
 from typing import Callable, Collection
 
 from ansible_vault_companions import refusals
-from ansible_vault_companions.envelopes import document
-from ansible_vault_companions.envelopes.document import Document
-from ansible_vault_companions.envelopes.envelope import Value
+from ansible_vault_companions.envelopes import content, detection
+from ansible_vault_companions.envelopes.content import Content
+from ansible_vault_companions.envelopes.node import Node
 from ansible_vault_companions.output import write_error, write_line
 from ansible_vault_companions.passwords.labels import Policy
 from ansible_vault_companions.passwords.password import Password
@@ -55,11 +55,11 @@ class Work:
     # What labels mean to the passwords.
     policy: Policy
 
-    def envelope(self, value: Value, where: str, report: Report, is_prose: bool) -> bytes | None:
+    def envelope(self, value: Node, where: str, report: Report, is_prose: bool) -> bytes | None:
         """The text that takes the place of an envelope; None if it stays."""
         raise NotImplementedError
 
-    def decrypt(self, value: Value, passwords: list[Password], is_prose: bool) -> Decrypted | None:
+    def decrypt(self, value: Node, passwords: list[Password], is_prose: bool) -> Decrypted | None:
         """An envelope in plaintext; None for an example: one in prose that is damaged or that nothing decrypts."""
         try:
             return self.tool.decrypt(value.readable(), passwords, self.policy)
@@ -69,7 +69,7 @@ class Work:
             raise
 
     def change_envelopes(
-        self, file: Document, place: Callable[[Value], str], report: Report, is_prose: bool = False
+        self, file: Content, place: Callable[[Node], str], report: Report, is_prose: bool = False
     ) -> bytes:
         """The data with the texts that take the places of envelopes. What fails stays, and is reported."""
         envelopes = file.envelopes()
@@ -81,7 +81,7 @@ class Work:
                 new[number] = text
         return file.with_envelopes(new) if new else file.data
 
-    def _result(self, value: Value, where: str, is_prose: bool) -> tuple[bytes | None, Report]:
+    def _result(self, value: Node, where: str, is_prose: bool) -> tuple[bytes | None, Report]:
         report = Report()
         try:
             return self.envelope(value, where, report, is_prose), report
@@ -93,7 +93,7 @@ class Work:
 
 
 # What is done with a file, to which these paths lead.
-OnFile = Callable[[list[str], Document, Report], None]
+OnFile = Callable[[list[str], Content, Report], None]
 # How many files are read ahead of the work on them.
 AHEAD = 32
 
@@ -121,7 +121,7 @@ class Reports:
     def _begin(self, paths: list[str], work: OnFile, workers: Workers) -> Future[Report]:
         """Reads a file and begins the work on it. A failure is in its report, so other files are still processed."""
         try:
-            file = document.read_document(document.read_content(paths[0]))
+            file = content.parse_content(detection.read_envelope_file(paths[0]))
         except (Refused, OSError) as fault:
             is_gone = isinstance(fault, FileNotFoundError) and not any(path in self.named for path in paths)
             refused: Future[Report] = Future()
@@ -147,7 +147,7 @@ class Reports:
         return bool(missing)
 
 
-def _of_file(paths: list[str], file: Document, work: OnFile) -> Report:
+def _of_file(paths: list[str], file: Content, work: OnFile) -> Report:
     report = Report()
     try:
         work(paths, file, report)

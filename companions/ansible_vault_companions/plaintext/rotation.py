@@ -5,9 +5,9 @@ from __future__ import annotations
 import os
 from dataclasses import dataclass
 
-from ansible_vault_companions.envelopes import document
-from ansible_vault_companions.envelopes.document import Document
-from ansible_vault_companions.envelopes.envelope import Value
+from ansible_vault_companions.envelopes import content, file_kinds
+from ansible_vault_companions.envelopes.content import Content
+from ansible_vault_companions.envelopes.node import Node
 from ansible_vault_companions.files import replacing
 from ansible_vault_companions.passwords.password import Password
 from ansible_vault_companions.plaintext.reports import Report, Work
@@ -30,12 +30,12 @@ class Rotation(Work):
     places: list[str]
     is_dry: bool
 
-    def file(self, paths: list[str], file: Document, report: Report) -> None:
+    def file(self, paths: list[str], file: Content, report: Report) -> None:
         """Rotates the file to which these paths lead."""
         path = paths[0]
-        if not file.values and document.find_fault(file, path):
+        if not file.values and file_kinds.find_yaml_fault(file, path):
             raise Refused(file.fault)
-        is_prose = document.is_prose(path) and not file.is_vault
+        is_prose = file_kinds.is_prose(path) and not file.is_vault
         try:
             after = self.change_envelopes(file, lambda value: value.place(path), report, is_prose)
             if after != file.data:
@@ -57,7 +57,7 @@ class Rotation(Work):
         else:
             replacing.replace(target, after, before)
 
-    def envelope(self, value: Value, where: str, report: Report, is_prose: bool) -> bytes | None:
+    def envelope(self, value: Node, where: str, report: Report, is_prose: bool) -> bytes | None:
         label = value.label
         if label is None:
             raise Refused("its first line is malformed")
@@ -84,7 +84,7 @@ class Rotation(Work):
 
     def _within(self, plaintext: bytes, where: str, report: Report) -> bytes:
         """The plaintext of an envelope, with the envelopes in it rotated."""
-        text = document.read_document(plaintext)
+        text = content.parse_content(plaintext)
         if text.is_vault:
             raise Refused("its plaintext is itself a vault, which ansible-vault does not encrypt; decrypt it first")
         return self.change_envelopes(text, lambda value: f"{where}: in its plaintext, line {value.line}", report)

@@ -1,27 +1,13 @@
-"""The grammar of an envelope: its header, its label, whether it is whole; and its place and layout in a file."""
+"""A node of YAML that is an envelope or may become one, or an envelope elsewhere: its text, place and layout."""
 
 from __future__ import annotations
 
-import binascii
-import re
-from typing import NamedTuple, Union
+from typing import NamedTuple
 
+from ansible_vault_companions.envelopes.header import JOINED_LINES, START, WITH_DIGITS, is_whole_envelope, read_label
+from ansible_vault_companions.envelopes.key_paths import KeyPath, _type_key
 from ansible_vault_companions.quoting import escape
 from ansible_vault_companions.refusals import Refused
-
-MAGIC = b"$ANSIBLE_VAULT"
-LINE_END = re.compile(rb"\r\n?|\n")
-START = re.compile(rb"\$ANSIBLE_VAULT[^;\r\n]*;")
-# A header with digits behind it, which no text has that only speaks of envelopes. In a folded scalar a space takes the
-# place of the line end, and in JSON an escape does. The lookahead and the limits keep a search linear.
-WITH_DIGITS = re.compile(
-    rb"\$ANSIBLE_VAULT[^;\r\n\\]{0,240};"
-    rb"(?:[^\r\n\\]{1,240}?[\s#]|[^\r\n\\]{1,240}(?=[\r\n\\])(?:\\[rn]|[\s#\\]){1,2000})[0-9a-fA-F]{16}"
-)
-# What docs/formats.md says of a header. The tool ignores further fields, which may be plaintext.
-VERSIONS, CIPHER, LABEL = (b"1.1", b"1.2"), b"AES256", re.compile(rb"[\x20-\x7e]{0,128}")
-MOST_FIELDS, LONGEST_HEADER, LONGEST_SALT = 4, 256, 256
-TAG_LENGTH, CIPHER_BLOCK = 32, 16
 
 # The styles of scalars; of a list or a mapping; and of an alias.
 LITERAL, FOLDED, PLAIN, NO_SCALAR, ALIAS = "|", ">", "", "none", "alias"
@@ -29,8 +15,6 @@ LITERAL, FOLDED, PLAIN, NO_SCALAR, ALIAS = "|", ">", "", "none", "alias"
 WHOLE, STRAY, LOOSE = "vault", "stray", "loose"
 # The tags of an encrypted value in YAML, and its key in JSON.
 TAGS, JSON_KEY = ("!vault", "!vault-encrypted"), "__ansible_vault"
-# A header whose line goes on with digits: a space, a comment mark or an escape is in place of the line end.
-JOINED_LINES = re.compile(rb"(?P<header>[^\r\n]{0,300}?)(?:\\[rn]|[ \t#\\]){1,80}[0-9a-fA-F]{16}")
 
 ELSEWHERE = "an envelope within other text; write it as a value (`NAME: !vault |`), or encrypt the whole file"
 JOINED = (
@@ -38,17 +22,11 @@ JOINED = (
     "vault, let the file begin with it"
 )
 
-# A key that needs no quotes in a typed path.
-UNQUOTED = re.compile(r'[^."\[\]\x00-\x1f]+')
 
-# The keys and the numbers of list items that lead to a node. A key that is no scalar is empty.
-Path = tuple[Union[str, int], ...]
-
-
-class Value(NamedTuple):
+class Node(NamedTuple):
     """An envelope, a scalar that is tagged as one, or, if all are asked for, any node."""
 
-    path: Path
+    path: KeyPath
     style: str
     # The line of its text, from 1; 0 if it is a whole file.
     line: int
@@ -93,7 +71,7 @@ class Value(NamedTuple):
     @property
     def label(self) -> str | None:
         joined = JOINED_LINES.match(self.text)
-        return label_of(joined["header"] if joined else self.text)
+        return read_label(joined["header"] if joined else self.text)
 
     @property
     def is_envelope(self) -> bool:
@@ -102,7 +80,7 @@ class Value(NamedTuple):
 
     @property
     def is_whole(self) -> bool:
-        return is_whole(self.text)
+        return is_whole_envelope(self.text)
 
     def place(self, path: str) -> str:
         """The path, with the line number if it is not the whole file, for a message."""
@@ -117,46 +95,3 @@ class Value(NamedTuple):
         if JOINED_LINES.match(self.text):
             raise Refused(JOINED)
         return self.text
-
-
-def _type_key(key: str) -> str:
-    return key if UNQUOTED.fullmatch(key) else quote_key(key)
-
-
-def quote_key(key: str) -> str:
-    """A key in double quotes, in which a backslash precedes a double quote or a backslash."""
-    return '"%s"' % re.sub(r'(["\\])', r"\\\1", key)
-
-
-def label_of(text: bytes) -> str | None:
-    """The label of an envelope; `default` if its first line has none, and None if that line is not a header."""
-    fields = _split_fields(text)
-    return (fields[3].decode() or "default") if fields else None
-
-
-def is_whole(text: bytes) -> bool:
-    """Whether a text is an envelope with a valid header and a salt, tag and ciphertext of the right form."""
-    fields, header = _split_fields(text), _first_line(text)
-    if not (fields and text.startswith(MAGIC) and header.count(b";") < MOST_FIELDS):
-        return False
-    if not (fields[1] in VERSIONS and fields[2] == CIPHER and LABEL.fullmatch(fields[3])):
-        return False
-    try:
-        inner = binascii.unhexlify(text[len(header) :].translate(None, b"\r\n"))
-        salt, tag, ciphertext = map(binascii.unhexlify, inner.split(b"\n", 2))
-    except ValueError:
-        return False
-    has_lengths = 0 < len(salt) <= LONGEST_SALT and len(tag) == TAG_LENGTH
-    return has_lengths and len(ciphertext) > 0 and len(ciphertext) % CIPHER_BLOCK == 0
-
-
-def _first_line(text: bytes) -> bytes:
-    """The first line, or a byte more than the longest header has."""
-    return LINE_END.split(text[: LONGEST_HEADER + 1], 1)[0]
-
-
-def _split_fields(text: bytes) -> list[bytes]:
-    """The fields of the first line, of which the fourth may be empty; none if that line is not a header."""
-    header = _first_line(text)
-    fields = [field.strip() for field in header.split(b";")]
-    return [*fields, b""] if len(fields) > 2 and len(header) <= LONGEST_HEADER and header.isascii() else []

@@ -12,19 +12,10 @@ from functools import lru_cache
 from typing import Any, Iterator, Union
 
 from ansible_vault_companions import limits
-from ansible_vault_companions.envelopes import envelope
-from ansible_vault_companions.envelopes.envelope import (
-    ALIAS,
-    FOLDED,
-    JSON_KEY,
-    LINE_END,
-    LITERAL,
-    NO_SCALAR,
-    PLAIN,
-    TAGS,
-    Path,
-    Value,
-)
+from ansible_vault_companions.envelopes import header
+from ansible_vault_companions.envelopes.header import LINE_END
+from ansible_vault_companions.envelopes.key_paths import KeyPath
+from ansible_vault_companions.envelopes.node import ALIAS, FOLDED, JSON_KEY, LITERAL, NO_SCALAR, PLAIN, TAGS, Node
 from ansible_vault_companions.limits import TooMuch
 from ansible_vault_companions.refusals import Refused
 
@@ -62,7 +53,7 @@ def require_pyyaml() -> Any:
     return yaml
 
 
-def read_scalars(data: bytes, every: bool = False) -> Iterator[Value]:
+def read_nodes(data: bytes, every: bool = False) -> Iterator[Node]:
     """The envelopes among the scalars; or every node, but of the keys only envelopes. Raises NotYaml, or TooMuch."""
     if BINARY in data:
         raise NotYaml(NOT_YAML.format(NULL))
@@ -134,10 +125,10 @@ def _is_envelope(steps: Steps, event: Any) -> bool:
     if text is None:
         return False
     is_tagged = event.tag in TAGS or JSON_KEY in steps[-1:]
-    return is_tagged or text.startswith("$ANSIBLE_VAULT") and bool(envelope.WITH_DIGITS.match(_remove_shadow(text)))
+    return is_tagged or text.startswith("$ANSIBLE_VAULT") and bool(header.WITH_DIGITS.match(_remove_shadow(text)))
 
 
-def _make_value(data: bytes, skipped: int, ending: bytes, steps: Steps, event: Any) -> Value:
+def _make_value(data: bytes, skipped: int, ending: bytes, steps: Steps, event: Any) -> Node:
     first, end = event.start_mark.index + skipped, event.end_mark.index + skipped
     properties = PROPERTIES.match(data, first, end)
     assert properties
@@ -153,13 +144,13 @@ def _make_value(data: bytes, skipped: int, ending: bytes, steps: Steps, event: A
             start, margin = line.start("margin"), line["margin"]
     number = event.start_mark.line + 1 + len(LINE_END.findall(data, first, start))
     text = _remove_shadow(getattr(event, "value", ""))
-    if text.strip().startswith(envelope.MAGIC):
+    if text.strip().startswith(header.MAGIC):
         text = text.strip() + b"\n"
     ending = own_ending[0] if own_ending else ending
     tag, anchor = getattr(event, "tag", None) or "", event.anchor or ""
-    return Value(_make_path(steps), style, number, begin, start, end, margin, ending, text, tag, anchor, None in steps)
+    return Node(_make_path(steps), style, number, begin, start, end, margin, ending, text, tag, anchor, None in steps)
 
 
-def _make_path(steps: Steps) -> Path:
+def _make_path(steps: Steps) -> KeyPath:
     names = ("" if step is None else step for step in steps)
     return tuple(_remove_shadow(step).decode(errors="replace") if isinstance(step, str) else step for step in names)

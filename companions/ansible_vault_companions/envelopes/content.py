@@ -1,0 +1,94 @@
+"""The envelopes of a file, or of a plaintext.
+
+A file that begins like a vault is one. Otherwise PyYAML reads it, and an envelope is a scalar with the tag `!vault` or
+below the key `__ansible_vault`, or one whose text begins with a header and digits. Whatever else has a header and
+digits is a stray.
+"""
+
+from __future__ import annotations
+
+import re
+from dataclasses import dataclass, field
+
+from ansible_vault_companions import limits
+from ansible_vault_companions.envelopes.detection import may_have_envelope
+from ansible_vault_companions.envelopes.header import MAGIC
+from ansible_vault_companions.envelopes.layout import apply_replacements, replace_envelope
+from ansible_vault_companions.envelopes.node import WHOLE, Node
+from ansible_vault_companions.envelopes.strays import find_strays
+from ansible_vault_companions.envelopes.yaml_nodes import BINARY, NotYaml, read_nodes
+from ansible_vault_companions.limits import TooMuch
+from ansible_vault_companions.quoting import escape
+from ansible_vault_companions.refusals import Refused
+
+NO_PLACE = "its values cannot be replaced where they are; write each as `NAME: !vault |`"
+
+# The number of a list item in a typed path, and how many values a message lists if such a path leads nowhere.
+NUMBER, MOST_LISTED = re.compile(r"\[\d+\]"), 20
+NO_TEXT = "{} is a list, a mapping or an alias; name a value in it"
+NOT_ENCRYPTED = "{} is not encrypted"
+
+
+@dataclass
+class Content:
+    data: bytes
+    # The envelopes and the scalars that are tagged as one; or every node.
+    values: list[Node] = field(default_factory=list)
+    # Why it cannot be read as YAML; empty if it can, or need not be.
+    fault: str = ""
+
+    @property
+    def is_vault(self) -> bool:
+        return self.data.startswith(MAGIC)
+
+    def envelopes(self) -> dict[int, Node]:
+        """The envelopes by their numbers. A value that only has the tag is none."""
+        return {n: value for n, value in enumerate(self.values) if value.style == WHOLE or value.is_envelope}
+
+    def with_envelopes(self, new: dict[int, bytes]) -> bytes:
+        """The data with other envelopes, by the numbers of their values. It is read again: only these may differ."""
+        after = apply_replacements(
+            self.data, [replace_envelope(self.values[number], text) for number, text in new.items()]
+        )
+        wanted = [(value.path, new.get(number, value.text).strip()) for number, value in enumerate(self.values)]
+        if not self.is_vault and [(value.path, value.text.strip()) for value in parse_content(after).values] != wanted:
+            raise Refused(NO_PLACE)
+        return after
+
+    def values_at(self, path: str) -> list[Node]:
+        """The encrypted values at a typed path, else all nodes there. A list item may also be written as `[]`."""
+        names = ((value, value.typed_path) for value in self.values)
+        values = [value for value, name in names if path in (name, NUMBER.sub("[]", name))]
+        return [value for value in values if value.is_value] or values
+
+    def value_at(self, path: str) -> Node:
+        """The only one of the values at a typed path."""
+        values = self.values_at(path)
+        if not values:
+            names = [escape(value.typed_path) for value in self.values if value.is_envelope]
+            listed = f"; encrypted here: {', '.join(names)}" if 0 < len(names) <= MOST_LISTED else ""
+            raise Refused(f"there is no value {escape(path)}{listed}")
+        if len(values) > 1:
+            what = "number the items of lists, as in `users[0].name`, or rename a key that is there twice"
+            raise Refused(f"{len(values)} values are at {escape(path)}; {what}")
+        return values[0]
+
+
+def parse_content(data: bytes, every: bool = False) -> Content:
+    """The envelopes of a file or of a plaintext, or every node of one that is not a vault."""
+    if data.startswith(MAGIC):
+        ending = b"\r\n" if b"\r\n" in data else b"\n"
+        return Content(data, [Node((), WHOLE, 0, 0, 0, len(data), b"", ending, data)])
+    document = Content(data)
+    if not (every or may_have_envelope(data)):
+        return document
+    try:
+        with limits.limit_work():
+            document.values = list(read_nodes(data, every))
+    except (NotYaml, TooMuch) as fault:
+        document.fault = str(fault)
+    if not every and BINARY not in data:
+        with limits.limit_work():
+            document.values += find_strays(data, document.values)
+        document.values.sort(key=lambda value: value.start)
+    return document

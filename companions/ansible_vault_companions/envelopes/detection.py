@@ -1,0 +1,32 @@
+"""Tells which files may have an envelope, and reads these whole."""
+
+from __future__ import annotations
+
+import re
+
+from ansible_vault_companions import processes
+from ansible_vault_companions.envelopes.yaml_nodes import BINARY
+from ansible_vault_companions.files.reading import open_regular, read_parts, read_whole
+
+# A file with an envelope has one of these words, or spells it with escapes, which take no more than OVERLAP bytes.
+WORDS = (b"ANSIBLE_VAULT", b"!vault", b"__ansible_vault", b"%TAG")
+ESCAPES = re.compile(rb"![^\s%]{0,64}%[0-9a-fA-F]{2}|\\(?:x|u00|U000000)(?:24|[4-7][0-9a-fA-F])")
+OVERLAP = 80
+
+
+def may_have_envelope(data: bytes) -> bool:
+    """Whether the data may have an envelope. It may be a piece of a file."""
+    return any(word in data for word in WORDS) or BINARY not in data and ESCAPES.search(data) is not None
+
+
+def read_envelope_file(path: str) -> bytes:
+    """The content of a file with envelopes; of any other, only a part, which is not blank unless the whole is. It is
+    searched in pieces, since it may be long, and no further than a vault reaches. A signal ends the search."""
+    text = before = b""
+    with open_regular(path) as file:
+        for piece in read_parts(file):
+            processes.check()
+            if may_have_envelope(before[-OVERLAP:] + piece):
+                return read_whole(file, path)
+            text, before = text if text.strip() else piece, piece
+    return text

@@ -1,0 +1,57 @@
+"""The grammar of an envelope: its header, its label, and whether it is whole."""
+
+from __future__ import annotations
+
+import binascii
+import re
+
+MAGIC = b"$ANSIBLE_VAULT"
+LINE_END = re.compile(rb"\r\n?|\n")
+START = re.compile(rb"\$ANSIBLE_VAULT[^;\r\n]*;")
+# A header with digits behind it, which no text has that only speaks of envelopes. In a folded scalar a space takes the
+# place of the line end, and in JSON an escape does. The lookahead and the limits keep a search linear.
+WITH_DIGITS = re.compile(
+    rb"\$ANSIBLE_VAULT[^;\r\n\\]{0,240};"
+    rb"(?:[^\r\n\\]{1,240}?[\s#]|[^\r\n\\]{1,240}(?=[\r\n\\])(?:\\[rn]|[\s#\\]){1,2000})[0-9a-fA-F]{16}"
+)
+# What docs/formats.md says of a header. The tool ignores further fields, which may be plaintext.
+VERSIONS, CIPHER, LABEL = (b"1.1", b"1.2"), b"AES256", re.compile(rb"[\x20-\x7e]{0,128}")
+MOST_FIELDS, LONGEST_HEADER, LONGEST_SALT = 4, 256, 256
+TAG_LENGTH, CIPHER_BLOCK = 32, 16
+
+# A header whose line goes on with digits: a space, a comment mark or an escape is in place of the line end.
+JOINED_LINES = re.compile(rb"(?P<header>[^\r\n]{0,300}?)(?:\\[rn]|[ \t#\\]){1,80}[0-9a-fA-F]{16}")
+
+
+def read_label(text: bytes) -> str | None:
+    """The label of an envelope; `default` if its first line has none, and None if that line is not a header."""
+    fields = _split_fields(text)
+    return (fields[3].decode() or "default") if fields else None
+
+
+def is_whole_envelope(text: bytes) -> bool:
+    """Whether a text is an envelope with a valid header and a salt, tag and ciphertext of the right form."""
+    fields, header = _split_fields(text), _first_line(text)
+    if not (fields and text.startswith(MAGIC) and header.count(b";") < MOST_FIELDS):
+        return False
+    if not (fields[1] in VERSIONS and fields[2] == CIPHER and LABEL.fullmatch(fields[3])):
+        return False
+    try:
+        inner = binascii.unhexlify(text[len(header) :].translate(None, b"\r\n"))
+        salt, tag, ciphertext = map(binascii.unhexlify, inner.split(b"\n", 2))
+    except ValueError:
+        return False
+    has_lengths = 0 < len(salt) <= LONGEST_SALT and len(tag) == TAG_LENGTH
+    return has_lengths and len(ciphertext) > 0 and len(ciphertext) % CIPHER_BLOCK == 0
+
+
+def _first_line(text: bytes) -> bytes:
+    """The first line, or a byte more than the longest header has."""
+    return LINE_END.split(text[: LONGEST_HEADER + 1], 1)[0]
+
+
+def _split_fields(text: bytes) -> list[bytes]:
+    """The fields of the first line, of which the fourth may be empty; none if that line is not a header."""
+    header = _first_line(text)
+    fields = [field.strip() for field in header.split(b";")]
+    return [*fields, b""] if len(fields) > 2 and len(header) <= LONGEST_HEADER and header.isascii() else []

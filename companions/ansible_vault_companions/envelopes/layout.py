@@ -1,0 +1,90 @@
+"""Replaces envelopes and plaintexts in a file, in the layout that they have there."""
+
+from __future__ import annotations
+
+import json
+import re
+from typing import Iterable, NamedTuple
+
+from ansible_vault_companions.envelopes.node import LITERAL, STRAY, WHOLE, Node
+from ansible_vault_companions.refusals import Refused
+
+# What YAML does not allow, or takes for the end of a line.
+UNSHOWN = re.compile("[^\t\n\x20-\x7e\xa0-\u2027\u202a-\ud7ff\ue000-\ufefe\uff00-\ufffd\U00010000-\U0010ffff]")
+BLOCK_HEADER = re.compile(rb"[|>][-+0-9]*")
+BEGINS_WITH_BLANK = re.compile(rb"\n*[ \t]")
+# What precedes a key or the text of an item in its line.
+DASHES = re.compile(rb" *(?:- +)*")
+NOT_UTF_8 = "it is not UTF-8"
+
+
+class Replacement(NamedTuple):
+    """The bytes from `start` to `end`, and their replacement."""
+
+    start: int
+    end: int
+    text: bytes
+
+
+def apply_replacements(data: bytes, changes: Iterable[Replacement]) -> bytes:
+    pieces, place = [], 0
+    for change in sorted(changes):
+        pieces += [data[place : change.start], change.text]
+        place = change.end
+    return b"".join([*pieces, data[place:]])
+
+
+def indent_lines(text: bytes, margin: bytes, end: bytes) -> bytes:
+    """The text with this line ending, and with a margin before each line that is not empty."""
+    return end.join(margin + line if line else b"" for line in text.split(b"\n"))
+
+
+def replace_envelope(value: Node, envelope: bytes) -> Replacement:
+    """Puts another envelope in its place, in the same layout: a block stays one, and others get double quotes."""
+    if value.style == WHOLE:
+        return Replacement(value.start, value.end, envelope.replace(b"\n", value.ending))
+    if value.style in (LITERAL, STRAY):
+        return Replacement(value.start, value.end, indent_lines(envelope.rstrip(b"\n"), value.margin, value.ending))
+    return Replacement(value.start, value.end, b'"%s"' % envelope.replace(b"\n", b"\\n"))
+
+
+def put_plaintext(data: bytes, value: Node, text: bytes) -> list[Replacement]:
+    """Puts plaintext in its place: a block becomes a literal if it can, and any other value gets double quotes."""
+    if value.style == WHOLE:
+        return [Replacement(value.start, value.end, text)]
+    if value.style == STRAY:
+        return [Replacement(value.start, value.end, indent_lines(text.removesuffix(b"\n"), value.margin, value.ending))]
+    try:
+        characters = text.decode()
+    except UnicodeDecodeError:
+        raise Refused(NOT_UTF_8) from None
+    if value.style == LITERAL and not UNSHOWN.search(characters):
+        return _put_literal(data, value, text)
+    return [put_in_quotes(value, characters)]
+
+
+def put_in_quotes(value: Node, text: str) -> Replacement:
+    """Puts a text in double quotes in its place."""
+    escaped = UNSHOWN.sub(lambda match: f"\\U{ord(match[0]):08x}", json.dumps(text, ensure_ascii=False))
+    return Replacement(value.begin, value.end, escaped.encode())
+
+
+def _put_literal(data: bytes, value: Node, text: bytes) -> list[Replacement]:
+    """The changes of the header, which tells how the text begins and ends, and of the lines."""
+    header = BLOCK_HEADER.match(data, value.begin)
+    assert header
+    indicator = b"2" if BEGINS_WITH_BLANK.match(text) else b""
+    chomping = b"-" if not text.endswith(b"\n") else b"+" if text == b"\n" or text.endswith(b"\n\n") else b""
+    margin = b" " * (find_column(data, value.begin) + 2)
+    # A text that is empty has no line.
+    start = value.start if text else value.start - len(value.ending)
+    lines = indent_lines(text.removesuffix(b"\n"), margin, value.ending)
+    return [Replacement(value.begin, header.end(), b"|" + indicator + chomping), Replacement(start, value.end, lines)]
+
+
+def find_column(data: bytes, place: int) -> int:
+    """The column of the key or dash to which a value belongs."""
+    dashes = DASHES.match(data, data.rfind(b"\n", 0, place) + 1)
+    assert dashes
+    is_item = data[dashes.end() : dashes.end() + 1] in (b"!", b"&", b"|")
+    return dashes[0].rfind(b"-") if is_item and b"-" in dashes[0] else len(dashes[0])
