@@ -12,7 +12,7 @@ import pytest
 from hypothesis import given, settings
 from hypothesis import strategies as st
 
-from ansible_vault_companions.git.commits import Blobs
+from ansible_vault_companions.git.blobs import Blobs
 from ansible_vault_companions.guard.review import Review, review_staged
 from companion_cases import lines_of
 from companion_cases.repository import AUTHOR, repository

@@ -14,7 +14,7 @@ from ansible_vault_companions.editing.yaml_draft import YamlDraft
 from ansible_vault_companions.envelopes import conflicts, detection
 from ansible_vault_companions.envelopes.header import MAGIC
 from ansible_vault_companions.files import reading
-from ansible_vault_companions.git.repository import make_pathspec
+from ansible_vault_companions.git.pathspecs import make_pathspec
 from ansible_vault_companions.merging.files import KINDS_DIFFER, find_versions, merge_file
 from ansible_vault_companions.merging.lines import Versions
 from ansible_vault_companions.merging.vaults import Vaults

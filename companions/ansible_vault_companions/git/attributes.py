@@ -6,7 +6,8 @@ import os
 import re
 from typing import Container, Iterable, NamedTuple
 
-from ansible_vault_companions.git.repository import group_by_repository, run_git
+from ansible_vault_companions.git.commands import run_git
+from ansible_vault_companions.git.repository import group_by_repository
 from ansible_vault_companions.quoting import escape
 
 # The first attribute marks a file if it has this value, the second if it is set. Unset, the second exempts a file. The

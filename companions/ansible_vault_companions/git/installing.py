@@ -8,7 +8,8 @@ from __future__ import annotations
 import os
 import shlex
 
-from ansible_vault_companions.git.repository import find_top, read_line, run_git
+from ansible_vault_companions.git.commands import read_line, run_git
+from ansible_vault_companions.git.repository import find_top
 from ansible_vault_companions.quoting import escape, quote_word
 from ansible_vault_companions.refusals import Refused
 

@@ -6,10 +6,11 @@ import os
 from functools import cached_property
 
 from ansible_vault_companions.envelopes.file_kinds import PROSE, YAML
-from ansible_vault_companions.git import commits, facts
+from ansible_vault_companions.git import facts, indexes
 from ansible_vault_companions.git.attributes import Attributes, read_attributes
-from ansible_vault_companions.git.commits import Blobs, Differences, File, Index
+from ansible_vault_companions.git.blobs import Blobs
 from ansible_vault_companions.git.facts import Facts
+from ansible_vault_companions.git.indexes import Differences, File, Index
 
 
 class Change:
@@ -38,7 +39,7 @@ class Change:
         """The attributes before the change."""
         if not self.parent:
             return {}
-        with commits.open_index_file(self.parent) as path:
+        with indexes.open_index_file(self.parent) as path:
             return read_attributes(self.attributes, path)
 
     def find_earlier(self, file: File) -> Attributes:

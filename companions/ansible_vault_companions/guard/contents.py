@@ -7,9 +7,9 @@ import os
 from ansible_vault_companions.envelopes import conflicts
 from ansible_vault_companions.files import replacing
 from ansible_vault_companions.git.attributes import VAULT, make_line
-from ansible_vault_companions.git.commits import File
 from ansible_vault_companions.git.facts import IN_LFS, NOT_READ
-from ansible_vault_companions.git.repository import make_pathspec
+from ansible_vault_companions.git.indexes import File
+from ansible_vault_companions.git.pathspecs import make_pathspec
 from ansible_vault_companions.guard.change import Change, is_yaml
 from ansible_vault_companions.guard.faults import Fault, make_fault
 

@@ -5,7 +5,7 @@ from __future__ import annotations
 from typing import NamedTuple
 
 from ansible_vault_companions.git.attributes import VAULT, make_line
-from ansible_vault_companions.git.commits import File
+from ansible_vault_companions.git.indexes import File
 from ansible_vault_companions.guard.change import Change
 
 TOO_OLD = "{}if that is intended, commit with --no-verify: .gitattributes allowed it in an earlier commit, not now"

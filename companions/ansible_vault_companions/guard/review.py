@@ -6,9 +6,10 @@ import os
 from typing import Iterator
 
 from ansible_vault_companions.envelopes.header import MAGIC
-from ansible_vault_companions.git import commits
-from ansible_vault_companions.git.commits import Blobs, Differences, File, Index
-from ansible_vault_companions.git.repository import read_line, run_git
+from ansible_vault_companions.git import history, indexes
+from ansible_vault_companions.git.blobs import Blobs
+from ansible_vault_companions.git.commands import read_line, run_git
+from ansible_vault_companions.git.indexes import Differences, File, Index
 from ansible_vault_companions.guard import contents
 from ansible_vault_companions.guard.change import Change
 from ansible_vault_companions.guard.faults import Fault
@@ -71,26 +72,26 @@ class Review:
 
 def review_staged(review: Review, paths: list[str]) -> None:
     """Reviews the staged changes, and the files at or below these paths even if they did not change."""
-    index = commits.read_staged()
+    index = indexes.read_staged()
     named = Differences("", index.at(paths) if paths else [])
     review.look_at(index, [*index.changes(), named])
 
 
 def review_since(review: Review, name: str) -> None:
     """Reviews each commit after this one, and what all of them change since the merge bases."""
-    first, last = commits.find_commit(name), commits.find_commit("HEAD")
+    first, last = history.find_commit(name), history.find_commit("HEAD")
     for commit in run_git("rev-list", "--reverse", "--topo-order", f"{first}..{last}", "--").decode().split():
-        with commits.open_index(commit) as index:
+        with indexes.open_index(commit) as index:
             review.look_at(index, index.changes(), f"{commit[:10]}: ", hint=REWRITE)
-    with commits.open_index(last) as index:
+    with indexes.open_index(last) as index:
         bases = read_line("merge-base", "--all", first, last).split()
         review.look_at(index, [index.change(base) for base in bases], f"{last[:10]}: ", hint=REWRITE)
 
 
 def review_all(review: Review) -> None:
     """Reviews all files, the changes of the last commit, and every file that was a vault in an earlier commit."""
-    commit = commits.find_commit("HEAD")
-    with commits.open_index(commit) as index:
+    commit = history.find_commit("HEAD")
+    with indexes.open_index(commit) as index:
         former = index.former(commit)
         blobs = {file.before for file in former}
         vaults = {blob for blob in blobs if review.blobs.read(blob, is_old=True) == MAGIC}

@@ -8,8 +8,8 @@ from functools import cached_property
 from typing import Iterator
 
 from ansible_vault_companions.git.attributes import PLAIN_VALUES
-from ansible_vault_companions.git.commits import File
 from ansible_vault_companions.git.facts import NONE, Facts, Keys, write_keys
+from ansible_vault_companions.git.indexes import File
 from ansible_vault_companions.guard import comparing
 from ansible_vault_companions.guard.change import Change
 from ansible_vault_companions.guard.faults import Fault, make_fault

@@ -6,8 +6,8 @@ import os
 from functools import cached_property
 from typing import Iterable, Iterator
 
-from ansible_vault_companions.git.commits import File
 from ansible_vault_companions.git.facts import ITEM
+from ansible_vault_companions.git.indexes import File
 from ansible_vault_companions.guard.change import Change, is_yaml
 from ansible_vault_companions.guard.faults import Fault, make_fault
 from ansible_vault_companions.quoting import escape

@@ -10,7 +10,7 @@ from typing import NamedTuple
 
 from ansible_vault_companions.envelopes import conflicts
 from ansible_vault_companions.envelopes.header import MAGIC
-from ansible_vault_companions.git import repository
+from ansible_vault_companions.git import commands, repository
 from ansible_vault_companions.merging.lines import Versions
 from ansible_vault_companions.merging.values import Values
 from ansible_vault_companions.merging.vaults import Vaults
@@ -72,7 +72,7 @@ def find_versions(path: str, data: bytes) -> Versions | None:
     target = os.path.realpath(path)
     folder = repository.find_repository(os.path.dirname(target))
     names = [f":{stage}:{os.path.relpath(target, folder)}" for stage in (1, 2, 3)]
-    base, *stages = (repository.try_git("cat-file", "blob", name, folder=folder) if folder else b"" for name in names)
+    base, *stages = (commands.try_git("cat-file", "blob", name, folder=folder) if folder else b"" for name in names)
     # Ends of lines may differ from those in the file.
     is_same = [stage.split() for stage in stages] == [ours.split(), theirs.split()]
     return Versions(ours, base if is_same else b"", theirs)

@@ -5,7 +5,7 @@ from __future__ import annotations
 import os
 from typing import NamedTuple
 
-from ansible_vault_companions.git import repository
+from ansible_vault_companions.git import commands
 from ansible_vault_companions.refusals import Refused
 
 # The names of the sides in git's conflict markers.
@@ -36,7 +36,7 @@ def merge_lines(versions: Versions) -> Lines:
     names = [word for side in SIDES for word in ("-L", side)]
     words = ["merge-file", "-p", *names, *(f"/proc/self/fd/{file}" for file in files)]
     try:
-        done = repository.run(*words, pass_fds=files)
+        done = commands.run_git_command(*words, pass_fds=files)
     finally:
         for file in files:
             os.close(file)

@@ -1,18 +1,17 @@
-"""What git has of commits, and of what is staged: the files, their changes, where links lead, and contents."""
+"""What git has of commits, and of what is staged: the files, their changes, and where links lead."""
 
 from __future__ import annotations
 
 import os
-import subprocess
 import tempfile
 from contextlib import contextmanager
 from functools import cached_property
 from typing import Iterator, NamedTuple
 
-from ansible_vault_companions.envelopes.header import MAGIC
-from ansible_vault_companions.files.reading import LIMIT
-from ansible_vault_companions.git.repository import build_command, build_environment, make_pathspec, read_line, run_git
-from ansible_vault_companions.limits import LONGEST, LONGEST_LINK
+from ansible_vault_companions.git.blobs import Blobs
+from ansible_vault_companions.git.commands import read_line, run_git
+from ansible_vault_companions.git.pathspecs import make_pathspec
+from ansible_vault_companions.limits import LONGEST_LINK
 from ansible_vault_companions.quoting import escape
 from ansible_vault_companions.refusals import Refused
 
@@ -28,7 +27,6 @@ RENAMES = ("--find-renames", "-l400")
 RAW = ("--raw", "-z", "--no-abbrev")
 # How many links are followed, one after another.
 MOST_LINKS = 40
-SHALLOW = "earlier commits are missing: run `git fetch --unshallow`, or set fetch-depth or GIT_DEPTH of a pipeline to 0"
 
 
 class File(NamedTuple):
@@ -156,16 +154,6 @@ def _has_commit() -> bool:
     return False
 
 
-def find_commit(name: str) -> str:
-    """The ID of the commit with this name. Raises Refused if there is none, or if the clone lacks earlier ones."""
-    if read_line("rev-parse", "--is-shallow-repository") == "true":
-        raise Refused(SHALLOW)
-    commit = read_line("rev-parse", "--verify", "--quiet", "--end-of-options", f"{name}^{{commit}}")
-    if not commit:
-        raise Refused(f"{escape(name)} is not a commit in this clone; if others have it, run `git fetch`")
-    return commit
-
-
 @contextmanager
 def open_index_file(tree: str) -> Iterator[str]:
     """A context with the path of a temporary index that contains the files of a commit or tree."""
@@ -182,37 +170,3 @@ def open_index(commit: str) -> Iterator[Index]:
     """A context with a temporary index that contains the files of a commit."""
     with open_index_file(commit) as path:
         yield Index(run_git("rev-list", "--parents", "--max-count=1", commit, "--").decode().split()[1:], path)
-
-
-class Blobs:
-    """The contents of blobs, read with a git process."""
-
-    def __enter__(self) -> Blobs:
-        pipes = {"stdin": subprocess.PIPE, "stdout": subprocess.PIPE, "stderr": subprocess.DEVNULL}
-        words = build_command(("cat-file", "--batch"))
-        self.git = subprocess.Popen(words, env=build_environment(), **pipes)  # type: ignore
-        return self
-
-    def __exit__(self, *_: object) -> None:
-        # git only reads, so it may be terminated at any point.
-        self.git.terminate()
-        self.git.communicate()
-
-    def read(self, blob: str, is_old: bool = False) -> bytes | None:
-        """The content of a blob; None if it is neither a vault nor short enough for YAML. Of an old vault, and of one
-        that is too long, only the beginning."""
-        assert self.git.stdin and self.git.stdout
-        self.git.stdin.write(blob.encode() + b"\n")
-        self.git.stdin.flush()
-        words = self.git.stdout.readline().split()
-        if len(words) != 3:
-            raise Refused("this is a partial clone, which lacks contents of files; clone again without --filter")
-        size = int(words[2])
-        content: bytes = self.git.stdout.read(min(size, len(MAGIC)))
-        if size <= (LIMIT if content == MAGIC and not is_old else LONGEST):
-            rest = self.git.stdout.read(size - len(content) + 1)[:-1]
-            return content if content == MAGIC and is_old else content + rest
-        # It is quicker to begin again than to read the rest.
-        self.__exit__()
-        self.__enter__()
-        return content if content == MAGIC else None
