@@ -4,13 +4,13 @@ from __future__ import annotations
 
 from dataclasses import dataclass
 
+from ansible_vault_companions.batch.reports import Report, Work
 from ansible_vault_companions.envelopes import conflicts, content, file_kinds
 from ansible_vault_companions.envelopes.content import Content
 from ansible_vault_companions.envelopes.node import Node
 from ansible_vault_companions.git import facts
 from ansible_vault_companions.git.pathspecs import make_pathspec
 from ansible_vault_companions.passwords.password import Password
-from ansible_vault_companions.plaintext.reports import Report, Work
 from ansible_vault_companions.quoting import escape
 from ansible_vault_companions.refusals import Refused
 from ansible_vault_companions.tool import Decrypted

@@ -5,12 +5,12 @@ from __future__ import annotations
 import os
 from dataclasses import dataclass
 
+from ansible_vault_companions.batch.reports import Report, Work
 from ansible_vault_companions.envelopes import content, file_kinds
 from ansible_vault_companions.envelopes.content import Content
 from ansible_vault_companions.envelopes.node import Node
 from ansible_vault_companions.files import replacing
 from ansible_vault_companions.passwords.password import Password
-from ansible_vault_companions.plaintext.reports import Report, Work
 from ansible_vault_companions.quoting import escape
 from ansible_vault_companions.refusals import Refused
 
