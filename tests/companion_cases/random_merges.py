@@ -17,8 +17,8 @@ import pytest
 from hypothesis import strategies as st
 
 from ansible_vault_companions.envelopes.header import MAGIC
-from ansible_vault_companions.merging.files import Merged, merge_file
-from ansible_vault_companions.merging.lines import Versions
+from ansible_vault_companions.merging.file_merge import MergedFile, merge_file
+from ansible_vault_companions.merging.line_merge import Versions
 from ansible_vault_companions.passwords.labels import Policy
 from ansible_vault_companions.passwords.password import Password
 from ansible_vault_companions.passwords.sources import source_of_id
@@ -139,7 +139,7 @@ class Model(Tool):
         self.made[value.envelope()] = value
         return value.envelope()
 
-    def merged(self, contents: list[bytes]) -> Merged:
+    def merged(self, contents: list[bytes]) -> MergedFile:
         base, ours, theirs = contents
         return merge_file(self, self.opened, Versions(ours, base, theirs), None)
 

@@ -15,9 +15,9 @@ from ansible_vault_companions.envelopes import conflicts, detection
 from ansible_vault_companions.envelopes.header import MAGIC
 from ansible_vault_companions.files import reading
 from ansible_vault_companions.git.pathspecs import make_pathspec
-from ansible_vault_companions.merging.files import KINDS_DIFFER, find_versions, merge_file
-from ansible_vault_companions.merging.lines import Versions
-from ansible_vault_companions.merging.vaults import Vaults
+from ansible_vault_companions.merging.file_merge import KINDS_DIFFER, find_versions, merge_file
+from ansible_vault_companions.merging.line_merge import Versions
+from ansible_vault_companions.merging.vault_merge import VaultMerge
 from ansible_vault_companions.passwords.labels import Policy
 from ansible_vault_companions.passwords.password import Password
 from ansible_vault_companions.refusals import Refused
@@ -77,7 +77,7 @@ class VaultDraft:
 class ConflictDraft:
     """A file with two vaults between markers. Their texts are merged, and what is saved becomes one vault."""
 
-    def __init__(self, target: str, content: bytes, vaults: Vaults, key: Key) -> None:
+    def __init__(self, target: str, content: bytes, vaults: VaultMerge, key: Key) -> None:
         self.target, self.content, self.vaults, self.keys = target, content, vaults, [key]
         self.plaintext = vaults.merge.text
 
@@ -126,7 +126,7 @@ class Loader:
         key = next(iter(self.chosen.list_keys()), None) if self.chosen.label else None
         are_vaults = [side.startswith(MAGIC) for side in (sides.ours, sides.theirs)]
         if all(are_vaults):
-            vaults = Vaults(self.decrypt, sides)
+            vaults = VaultMerge(self.decrypt, sides)
             return ConflictDraft(target, content, vaults, vaults.choose_key(key))
         if any(are_vaults):
             raise Refused(ONE_SIDE.format(make_pathspec(target)))

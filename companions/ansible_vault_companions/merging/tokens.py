@@ -14,7 +14,7 @@ from typing import Hashable, NamedTuple, Union
 from ansible_vault_companions.envelopes import conflicts
 from ansible_vault_companions.envelopes.layout import Replacement, replace_envelope
 from ansible_vault_companions.envelopes.node import LITERAL, STRAY, Node
-from ansible_vault_companions.merging.lines import BASE, OURS, SIDES, THEIRS
+from ansible_vault_companions.merging.line_merge import BASE, OURS, SIDES, THEIRS
 from ansible_vault_companions.tool import Decrypted, Key, Tool
 
 OF_MARKER = {conflicts.OURS: OURS, conflicts.BASE: BASE, conflicts.THEIRS: THEIRS}

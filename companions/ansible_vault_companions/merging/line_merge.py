@@ -22,12 +22,12 @@ class Versions(NamedTuple):
     theirs: bytes
 
 
-class Lines(NamedTuple):
+class MergedLines(NamedTuple):
     text: bytes
     conflicts: int
 
 
-def merge_lines(versions: Versions) -> Lines:
+def merge_lines(versions: Versions) -> MergedLines:
     """The result of git's merge. The texts are passed in memory, never on disk."""
     files = [os.memfd_create("version") for _ in versions]
     for file, text in zip(files, versions):
@@ -42,4 +42,4 @@ def merge_lines(versions: Versions) -> Lines:
             os.close(file)
     if not 0 <= done.returncode <= MOST_CONFLICTS:
         raise Refused("git merge-file cannot merge it; it may be binary")
-    return Lines(done.stdout, done.returncode)
+    return MergedLines(done.stdout, done.returncode)

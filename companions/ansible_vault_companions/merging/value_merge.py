@@ -7,8 +7,8 @@ from collections import Counter
 from ansible_vault_companions.envelopes import conflicts, content
 from ansible_vault_companions.envelopes.layout import apply_replacements
 from ansible_vault_companions.envelopes.node import LOOSE, Node
-from ansible_vault_companions.merging.keys import find_common_key
-from ansible_vault_companions.merging.lines import OURS, SIDES, THEIRS, Lines, Versions, merge_lines
+from ansible_vault_companions.merging.common_key import find_common_key
+from ansible_vault_companions.merging.line_merge import OURS, SIDES, THEIRS, MergedLines, Versions, merge_lines
 from ansible_vault_companions.merging.tokens import KeyAndText, Meaning, Restoration, Tokens
 from ansible_vault_companions.refusals import Refused
 from ansible_vault_companions.tool import Decrypt, Decrypted, Key, Tool
@@ -19,7 +19,7 @@ HAS_MARKERS = "it has lines that look like git's conflict markers"
 NEW_VALUE = "git can merge its lines, but the result has a value that neither side has"
 
 
-class Values:
+class ValueMerge:
     """Three versions of a file, and what their envelopes mean."""
 
     def __init__(self, decrypt: Decrypt, versions: Versions, chosen: Key | None) -> None:
@@ -30,7 +30,7 @@ class Values:
         labels = {opened.key.label for opened in self.opened.values()}
         self.keys = {label: self._choose_key(label, chosen) for label in labels}
 
-    def merge(self, tool: Tool) -> Lines:
+    def merge(self, tool: Tool) -> MergedLines:
         """The merged file."""
         tokens = Tokens()
         text, count = merge_lines(Versions(*(self._shadow(side, tokens) for side in SIDES)))
@@ -39,7 +39,7 @@ class Values:
         restoration = Restoration(tokens, self.opened, tool)
         content = restoration.restore(text, has_conflict=count > 0)
         self._check(content, restoration.envelopes, has_conflict=count > 0)
-        return Lines(content, count)
+        return MergedLines(content, count)
 
     def _open(self, decrypt: Decrypt) -> dict[bytes, Decrypted]:
         """Those that not all versions have, if a password opens them that their labels allow."""

@@ -11,9 +11,9 @@ from typing import NamedTuple
 from ansible_vault_companions.envelopes import conflicts
 from ansible_vault_companions.envelopes.header import MAGIC
 from ansible_vault_companions.git import commands, repository
-from ansible_vault_companions.merging.lines import Versions
-from ansible_vault_companions.merging.values import Values
-from ansible_vault_companions.merging.vaults import Vaults
+from ansible_vault_companions.merging.line_merge import Versions
+from ansible_vault_companions.merging.value_merge import ValueMerge
+from ansible_vault_companions.merging.vault_merge import VaultMerge
 from ansible_vault_companions.refusals import Refused
 from ansible_vault_companions.tool import Decrypt, Key, Tool
 
@@ -21,46 +21,46 @@ NOT_MERGED = "not merged, so both sides are whole in the file: {}"
 KINDS_DIFFER = "one side is a vault and the other is not"
 
 
-class Merged(NamedTuple):
+class MergedFile(NamedTuple):
     content: bytes
     # Why it has a conflict; empty if it has none.
     why: str = ""
 
 
-def merge_file(tool: Tool, decrypt: Decrypt, versions: Versions, chosen: Key | None) -> Merged:
+def merge_file(tool: Tool, decrypt: Decrypt, versions: Versions, chosen: Key | None) -> MergedFile:
     """The merged file, with markers around what could not be merged. The chosen key counts only if it is unclear which
     password a text gets."""
     ours, base, theirs = versions
     # git itself does so first, but not where it reuses a resolution, with a conflict as base and ours.
     if base in (ours, theirs) or ours == theirs:
-        return Merged(theirs if base == ours else ours)
+        return MergedFile(theirs if base == ours else ours)
     try:
         are_vaults = [text.startswith(MAGIC) for text in (ours, theirs)]
         if all(are_vaults):
-            return Merged(_merge_vaults(tool, decrypt, versions, chosen))
+            return MergedFile(_merge_vaults(tool, decrypt, versions, chosen))
         if any(are_vaults):
             raise Refused(KINDS_DIFFER)
         return _merge_values(tool, decrypt, versions, chosen)
     except Refused as fault:
-        return Merged(conflicts.join_sides(ours, theirs), NOT_MERGED.format(fault))
+        return MergedFile(conflicts.join_sides(ours, theirs), NOT_MERGED.format(fault))
 
 
 def _merge_vaults(tool: Tool, decrypt: Decrypt, versions: Versions, chosen: Key | None) -> bytes:
-    vaults = Vaults(decrypt, versions)
+    vaults = VaultMerge(decrypt, versions)
     key = vaults.choose_key(chosen)
     if vaults.merge.conflicts:
         raise Refused(vaults.why)
     return vaults.seal(tool, vaults.merge.text, key)
 
 
-def _merge_values(tool: Tool, decrypt: Decrypt, versions: Versions, chosen: Key | None) -> Merged:
+def _merge_values(tool: Tool, decrypt: Decrypt, versions: Versions, chosen: Key | None) -> MergedFile:
     if versions.base.startswith(MAGIC) or conflicts.is_unmerged(versions.base):
         # A base that was a vault has no lines for a conflict. One that is a conflict, as in a crossed history, is none.
         versions = versions._replace(base=b"")
-    content, count = Values(decrypt, versions, chosen).merge(tool)
+    content, count = ValueMerge(decrypt, versions, chosen).merge(tool)
     if count == 0:
-        return Merged(content)
-    return Merged(content, f"{count} conflict{'s' if count > 1 else ''}")
+        return MergedFile(content)
+    return MergedFile(content, f"{count} conflict{'s' if count > 1 else ''}")
 
 
 def find_versions(path: str, data: bytes) -> Versions | None:

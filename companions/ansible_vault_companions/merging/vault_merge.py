@@ -4,14 +4,14 @@ from __future__ import annotations
 
 from ansible_vault_companions.envelopes import conflicts
 from ansible_vault_companions.envelopes.header import MAGIC
-from ansible_vault_companions.merging.keys import Keys, find_common_key
-from ansible_vault_companions.merging.lines import OURS, THEIRS, Versions, merge_lines
+from ansible_vault_companions.merging.common_key import Keys, find_common_key
+from ansible_vault_companions.merging.line_merge import OURS, THEIRS, Versions, merge_lines
 from ansible_vault_companions.quoting import escape
 from ansible_vault_companions.refusals import Refused
 from ansible_vault_companions.tool import Decrypt, Decrypted, Key, NotDecrypted, Tool
 
 
-class Vaults:
+class VaultMerge:
     """The vaults of two sides, and the text of their base, which need not be a vault."""
 
     def __init__(self, decrypt: Decrypt, versions: Versions) -> None:
