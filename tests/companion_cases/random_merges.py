@@ -21,7 +21,7 @@ from ansible_vault_companions.merging.file_merge import MergedFile, merge_file
 from ansible_vault_companions.merging.line_merge import Versions
 from ansible_vault_companions.passwords.labels import Policy
 from ansible_vault_companions.passwords.password import Password
-from ansible_vault_companions.passwords.sources import source_of_id
+from ansible_vault_companions.passwords.sources import parse_vault_id
 from ansible_vault_companions.tool import Decrypted, NotDecrypted, Tool
 from companion_cases import PASSWORDS, decrypted
 from companion_cases.repository import SALTS, by_git, repository
@@ -30,7 +30,7 @@ from model.vaults import seal
 
 # The label of each named secret. Two labels have an old secret and a new one. One secret is not named.
 LABELS = {"dev": "dev", "prod": "prod", "prod2": "prod", "old": "default", "new": "default"}
-SECRETS = {name: Password(source_of_id(f"{label}@{name}"), b"", -1) for name, label in LABELS.items()}
+SECRETS = {name: Password(parse_vault_id(f"{label}@{name}"), b"", -1) for name, label in LABELS.items()}
 POLICY = Policy(requires_match=False, any_label=False, usual_label=None)
 UNNAMED = "dev2"
 TEXTS = [b"clear x", b"clear y\n", b"two\nclear lines\n"]

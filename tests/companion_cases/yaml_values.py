@@ -19,12 +19,12 @@ from ansible_vault_companions.envelopes.key_paths import KeyPath
 from ansible_vault_companions.envelopes.layout import Replacement, apply_replacements, find_column
 from ansible_vault_companions.passwords.labels import Policy
 from ansible_vault_companions.passwords.password import Password
-from ansible_vault_companions.passwords.sources import source_of_path
+from ansible_vault_companions.passwords.sources import make_path_source
 from ansible_vault_companions.refusals import Refused
 from ansible_vault_companions.tool import Decrypted, Tool
 from companion_cases.spellings import LOADERS, Generator, composed
 
-SECRET = Password(source_of_path(""), b"", -1)
+SECRET = Password(make_path_source(""), b"", -1)
 POLICY = Policy(requires_match=False, any_label=False, usual_label=None)
 # Each way in which a text can begin and end.
 PLAINTEXTS = ["", "x", "x\n", "x\n\n", "\n", "\n\n", " x", " x\ny", "\n x\n", "\tx", "x\n\ny", "x ", " ", "x\n  "]

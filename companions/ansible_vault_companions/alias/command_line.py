@@ -9,9 +9,9 @@ from argparse import Namespace
 from ansible_vault_companions import parsers
 from ansible_vault_companions.output import write_error
 from ansible_vault_companions.passwords import loading, options, prompts
-from ansible_vault_companions.passwords.labels import ANY_LABEL, choose_to_encrypt, first_with_label, make_policy
+from ansible_vault_companions.passwords.labels import ANY_LABEL, choose_to_encrypt, find_first_with_label, make_policy
 from ansible_vault_companions.passwords.password import Password
-from ansible_vault_companions.passwords.sources import ASKED, list_sources, source_of_id
+from ansible_vault_companions.passwords.sources import ASKED, list_sources, parse_vault_id
 from ansible_vault_companions.quoting import escape
 from ansible_vault_companions.refusals import Refused
 
@@ -164,7 +164,7 @@ class Call:
             if any(password.fault for password in named):
                 raise Refused("several passwords were given; choose one with --encrypt-vault-id")
             return named
-        if first_with_label(named, self.label) is None:
+        if find_first_with_label(named, self.label) is None:
             # The tool refuses the label, with its own message.
             named[0].require_usable()
             return named[:1]
@@ -197,7 +197,7 @@ class Call:
 
 def _ask_password(encrypts: bool, none: str) -> Password:
     """Asks for a password where nothing names one. Raises Refused with the text `none` if there is no terminal."""
-    password = loading.read_password(source_of_id(ASKED), encrypts)
+    password = loading.read_password(parse_vault_id(ASKED), encrypts)
     if password.fault == prompts.NO_TERMINAL:
         raise Refused(none)
     if password.fault:

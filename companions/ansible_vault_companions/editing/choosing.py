@@ -6,7 +6,7 @@ import os
 from typing import NamedTuple
 
 from ansible_vault_companions.passwords import prompts
-from ansible_vault_companions.passwords.labels import NONE_HAS_LABEL, choose_to_encrypt, first_with_label
+from ansible_vault_companions.passwords.labels import NONE_HAS_LABEL, choose_to_encrypt, find_first_with_label
 from ansible_vault_companions.passwords.password import Password
 from ansible_vault_companions.refusals import Refused
 from ansible_vault_companions.tool import Key
@@ -23,7 +23,7 @@ class Choice(NamedTuple):
         """The keys that something new may get: with a label, at most one."""
         if self.label is None:
             return [Key(password, password.label) for password in self.passwords]
-        password = first_with_label(self.passwords, self.label)
+        password = find_first_with_label(self.passwords, self.label)
         return [Key(password, self.label)] if password else []
 
     def choose_key(self, name: str, place: str) -> Key:

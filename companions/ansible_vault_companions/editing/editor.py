@@ -90,7 +90,7 @@ class Edit:
     def _opens_again(self, why: Refused) -> bool:
         """Whether the user, asked at the terminal, wants to correct the saved text."""
         try:
-            return prompts.agrees(f"{escape(self.path)}: {why}. Open the editor again?")
+            return prompts.ask_consent(f"{escape(self.path)}: {why}. Open the editor again?")
         # A signal arrived, or the terminal is gone.
         except (processes.Stopped, Refused, OSError):
             return False

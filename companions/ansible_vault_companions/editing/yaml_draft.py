@@ -136,6 +136,6 @@ def _check_tags(before: Content, after: Content) -> None:
     for value in after.values:
         if value.tag not in known:
             why = NEW_TAG.format(value.line)
-            if not prompts.agrees(f"{why}. Is that intended?"):
+            if not prompts.ask_consent(f"{why}. Is that intended?"):
                 raise Refused(why)
             known.add(value.tag)

@@ -51,7 +51,7 @@ def order_to_try(passwords: Iterable[Password], label: str | None, policy: Polic
     return same if policy.requires_match else same + others
 
 
-def first_with_label(passwords: Iterable[Password], label: str) -> Password | None:
+def find_first_with_label(passwords: Iterable[Password], label: str) -> Password | None:
     """The password that a label chooses: the first that has it, even one that was ignored."""
     return next((password for password in passwords if password.label == label), None)
 
@@ -59,7 +59,7 @@ def first_with_label(passwords: Iterable[Password], label: str) -> Password | No
 def choose_to_encrypt(passwords: Iterable[Password], label: str, none: str = NONE_HAS_LABEL) -> Password:
     """The password that a label chooses to encrypt with. Raises Refused if it cannot be used, since no other encrypts
     in its place; and, with the text `none`, if no password has the label."""
-    password = first_with_label(passwords, label)
+    password = find_first_with_label(passwords, label)
     if password is None:
         raise Refused(none)
     password.require_usable()

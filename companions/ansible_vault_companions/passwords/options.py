@@ -10,7 +10,7 @@ from ansible_vault_companions.passwords import loading
 from ansible_vault_companions.passwords.labels import ANY_LABEL, Policy, make_policy
 from ansible_vault_companions.passwords.password import Password
 from ansible_vault_companions.passwords.settings import Settings
-from ansible_vault_companions.passwords.sources import ASKED, ASKING, list_sources, source_of_id, source_of_path
+from ansible_vault_companions.passwords.sources import ASKED, ASKING, list_sources, make_path_source, parse_vault_id
 
 ANY_LABEL_HELP = "accept a password whose label differs from the vault's"
 NO_PASSWORD = (
@@ -60,8 +60,8 @@ def load_passwords(
 
 def load_new_passwords(args: argparse.Namespace) -> list[Password]:
     """The new passwords from a command line."""
-    sources = [source_of_id(text) for text in args.new_vault_id]
-    sources += [source_of_path(path) for path in args.new_vault_password_file]
+    sources = [parse_vault_id(text) for text in args.new_vault_id]
+    sources += [make_path_source(path) for path in args.new_vault_password_file]
     return [loading.load_password(source, encrypts=True) for source in sources]
 
 

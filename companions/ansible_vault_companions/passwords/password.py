@@ -47,6 +47,6 @@ class Password:
     def confirm(self) -> None:
         """Asks again for one that is in doubt, before it encrypts."""
         if self._is_doubtful:
-            if not prompts.confirms(self.source.place, self.label, self.content):
+            if not prompts.confirm_password(self.source.place, self.label, self.content):
                 raise self.refusal(prompts.DIFFER)
             self.trust()

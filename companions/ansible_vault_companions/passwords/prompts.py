@@ -34,7 +34,7 @@ def ask_password(kind: str, label: str, encrypts: bool) -> bytes:
     return typed[0]
 
 
-def confirms(kind: str, label: str, content: bytes) -> bool:
+def confirm_password(kind: str, label: str, content: bytes) -> bool:
     """Whether the user types a password again."""
     return _ask_hidden_password(TO_ENCRYPT[kind][-1].format(escape(label))) == content
 
@@ -61,7 +61,7 @@ def ask_choice(question: str, answers: list[str]) -> str:
     return typed
 
 
-def agrees(question: str) -> bool:
+def ask_consent(question: str) -> bool:
     """Whether the user says yes; False if nobody is at a terminal."""
     return os.isatty(0) and ask_choice(question, ["yes", "no"]) == "yes"
 

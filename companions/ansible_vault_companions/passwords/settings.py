@@ -33,7 +33,7 @@ TRUE = ("1", "on", "t", "true", "y", "yes")
 RELATIVE = "beside options, a path in the settings counts only if it begins with / or ~; it is ignored"
 
 
-def expand(path: str, folder: str = "") -> str:
+def expand_path(path: str, folder: str = "") -> str:
     """A path as Ansible reads it. A relative one starts from this directory, or else from the current one."""
     return os.path.join(folder, os.path.expanduser(os.path.expandvars(path)))
 
@@ -57,7 +57,7 @@ class Settings:
         path = self._read(PASSWORD_FILE)
         folder = "" if PASSWORD_FILE[0] in os.environ or not self.path else os.path.dirname(self.path)
         counts = path and self._counts(path, folder)
-        return expand(path.replace(CURRENT, os.getcwd()), folder) if counts else ""
+        return expand_path(path.replace(CURRENT, os.getcwd()), folder) if counts else ""
 
     def asks(self) -> bool:
         """Whether to ask for a password."""
@@ -86,7 +86,7 @@ class Settings:
     def _find_file(self) -> str | None:
         """The file that ANSIBLE_CONFIG names, else the first readable one, in Ansible's order of places."""
         named = os.environ.get("ANSIBLE_CONFIG", "")
-        path = os.path.join(expand(named), NAME) if os.path.isdir(expand(named)) else expand(named)
+        path = os.path.join(expand_path(named), NAME) if os.path.isdir(expand_path(named)) else expand_path(named)
         if _is_readable(path) and self._counts(named):
             return path
         places = [os.path.expanduser("~/.ansible.cfg"), "/etc/ansible/ansible.cfg"]

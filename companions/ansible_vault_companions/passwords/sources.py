@@ -2,7 +2,7 @@
 
 from __future__ import annotations
 
-from ansible_vault_companions.passwords.settings import ASK, PROMPT, Settings, expand
+from ansible_vault_companions.passwords.settings import ASK, PROMPT, Settings, expand_path
 from ansible_vault_companions.refusals import Refused
 
 # The module `typing` takes long to import.
@@ -34,30 +34,30 @@ class Source:
         self.is_setting: Final = is_setting
 
 
-def source_of_id(text: str, is_setting: bool = False) -> Source:
+def parse_vault_id(text: str, is_setting: bool = False) -> Source:
     """The source that [LABEL@]SOURCE names."""
     label, at, place = text.partition("@")
     if not at:
         label, place = "", text
     if place in (PROMPT, ASK):
         return Source(label, place, ASKING[1] if text == ASKED else text, is_prompt=True, is_setting=is_setting)
-    return Source(label, expand(place), text, is_prompt=False, is_setting=is_setting)
+    return Source(label, expand_path(place), text, is_prompt=False, is_setting=is_setting)
 
 
-def source_of_path(path: str, is_setting: bool = False) -> Source:
-    return Source(DEFAULT, expand(path), path, is_prompt=False, is_setting=is_setting)
+def make_path_source(path: str, is_setting: bool = False) -> Source:
+    return Source(DEFAULT, expand_path(path), path, is_prompt=False, is_setting=is_setting)
 
 
 def list_sources(ids: list[str], paths: list[str], settings: Settings) -> list[Source]:
     """All sources that options and settings name, in Ansible's order."""
-    sources = [source_of_id(text, is_setting=True) for text in settings.identities()]
-    sources += [source_of_id(text) for text in ids if text != ASKED]
-    sources += [source_of_path(path) for path in paths]
+    sources = [parse_vault_id(text, is_setting=True) for text in settings.identities()]
+    sources += [parse_vault_id(text) for text in ids if text != ASKED]
+    sources += [make_path_source(path) for path in paths]
     path = settings.password_file()
     if path:
-        sources.append(source_of_path(path, is_setting=True))
+        sources.append(make_path_source(path, is_setting=True))
     if ASKED in ids or settings.asks():
-        sources.append(source_of_id(ASKED))
+        sources.append(parse_vault_id(ASKED))
     if len(sources) > MOST:
         raise Refused(f"{len(sources)} passwords are named, and ansible-vault takes at most {MOST}")
     return sources
