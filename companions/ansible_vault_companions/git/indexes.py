@@ -1,4 +1,4 @@
-"""What git has of commits, and of what is staged: the files, their changes, and where links lead."""
+"""What git has of commits, and of what is staged: the files, and their changes."""
 
 from __future__ import annotations
 
@@ -8,10 +8,8 @@ from contextlib import contextmanager
 from functools import cached_property
 from typing import Iterator, NamedTuple
 
-from ansible_vault_companions.git.blobs import Blobs
 from ansible_vault_companions.git.commands import read_line, run_git
 from ansible_vault_companions.git.pathspecs import make_pathspec
-from ansible_vault_companions.limits import LONGEST_LINK
 from ansible_vault_companions.quoting import escape
 from ansible_vault_companions.refusals import Refused
 
@@ -25,8 +23,8 @@ BATCH = 1000
 # git compares each removed file with each new one, so it looks for renames only up to this many.
 RENAMES = ("--find-renames", "-l400")
 RAW = ("--raw", "-z", "--no-abbrev")
-# How many links are followed, one after another.
-MOST_LINKS = 40
+# Each change of each commit that is read from standard input.
+DIFF_TREE = ("diff-tree", "--stdin", "-r", "-m", "--root", "--no-commit-id", "--no-renames", *RAW)
 
 
 class File(NamedTuple):
@@ -48,6 +46,16 @@ class Differences(NamedTuple):
     parent: str = ""
 
 
+class Difference(NamedTuple):
+    """An entry of git's output in the format RAW. A renamed file has its new name."""
+
+    name: bytes
+    old_mode: str
+    mode: str
+    old_blob: str
+    blob: str
+
+
 class Index:
     """The files that are staged or, in an index of its own, those of a commit; and the parents of that commit."""
 
@@ -59,9 +67,13 @@ class Index:
     def at(self, paths: list[str]) -> list[File]:
         """The files and links at or below these paths. git refuses a path without any."""
         entries = run_git("ls-files", "-s", "-z", "--full-name", "--error-unmatch", "--", *paths, index=self.path)
-        halves = (entry.partition(b"\t") for entry in entries.split(b"\0")[:-1])
-        words = ((about.decode().split(), name) for about, _, name in halves)
-        return [File(name, blob, is_link=mode == LINK_MODE) for (mode, blob, _), name in words if mode in MODES]
+        files = []
+        for entry in entries.split(b"\0")[:-1]:
+            about, _, name = entry.partition(b"\t")
+            mode, blob, _ = about.decode().split()
+            if mode in MODES:
+                files.append(File(name, blob, is_link=mode == LINK_MODE))
+        return files
 
     @cached_property
     def files(self) -> dict[bytes, File]:
@@ -70,10 +82,11 @@ class Index:
     def change(self, commit: str) -> Differences:
         """The differences from a commit. A file that git calls renamed is not removed."""
         words = ("diff-index", "--cached", *RENAMES, *RAW, commit, "--")
-        files = [
-            File(name, blob if mode in MODES else "", before if old_mode in FILE_MODES else "", mode == LINK_MODE)
-            for name, old_mode, mode, before, blob in _list_differences(*words, index=self.path)
-        ]
+        files = []
+        for difference in _list_differences(*words, index=self.path):
+            blob = difference.blob if difference.mode in MODES else ""
+            before = difference.old_blob if difference.old_mode in FILE_MODES else ""
+            files.append(File(difference.name, blob, before, is_link=difference.mode == LINK_MODE))
         return Differences(commit[:10], files, commit)
 
     def changes(self) -> list[Differences]:
@@ -83,42 +96,17 @@ class Index:
     def former(self, commit: str) -> set[File]:
         """The files, each with a version that a commit in the history had of it."""
         commits = run_git("rev-list", commit, "--").splitlines(keepends=True)
-        words = ("diff-tree", "--stdin", "-r", "-m", "--root", "--no-commit-id", "--no-renames", *RAW)
         files: set[File] = set()
         for first in range(0, len(commits), BATCH):
-            for name, _, mode, _, blob in _list_differences(*words, data=b"".join(commits[first : first + BATCH])):
-                if name in self.files and mode in FILE_MODES and blob != self.files[name].blob:
-                    files.add(self.files[name]._replace(before=blob))
+            for difference in _list_differences(*DIFF_TREE, data=b"".join(commits[first : first + BATCH])):
+                file = self.files.get(difference.name)
+                if file and difference.mode in FILE_MODES and difference.blob != file.blob:
+                    files.add(file._replace(before=difference.blob))
         return files
-
-    def target(self, link: File, blobs: Blobs) -> str:
-        """The blob of the file that a link leads to, as the system follows it; empty if it is not in this index."""
-        path, steps, links, file = list[bytes](), link.name.split(b"/")[::-1], 0, None
-        while steps and links <= MOST_LINKS:
-            step = steps.pop()
-            if step == b"..":
-                if not path:
-                    return ""
-                path.pop()
-            elif step not in (b"", b"."):
-                path.append(step)
-            file = self.files.get(b"/".join(path))
-            if file and file.is_link:
-                text = blobs.read(file.blob) or b""
-                if len(text) > LONGEST_LINK:
-                    return ""
-                path = [b""] if text.startswith(b"/") else path[:-1]
-                steps += text.split(b"/")[::-1]
-                links += 1
-        return file.blob if file and not file.is_link else ""
-
-
-# A name, the old and the new mode, and the old and the new blob. A renamed file has its new name.
-Difference = tuple[bytes, str, str, str, str]
 
 
 def _list_differences(*words: str, data: bytes = b"", index: str | None = None) -> Iterator[Difference]:
-    """The entries of git's output in the format RAW."""
+    """The entries of git's output in the format RAW. Raises Refused if a file is unmerged."""
     fields = iter(run_git(*words, data=data, index=index).split(b"\0")[:-1])
     for about in fields:
         old_mode, mode, old_blob, blob, status = about.decode().removeprefix(":").split()
@@ -129,7 +117,7 @@ def _list_differences(*words: str, data: bytes = b"", index: str | None = None) 
             path = os.fsdecode(name)
             to_add = f"`git add -- {make_pathspec(path, is_below_top=True)}`"
             raise Refused(f"{escape(path)} is unmerged; resolve the conflict, and run {to_add}")
-        yield name, old_mode, mode, old_blob, blob
+        yield Difference(name, old_mode, mode, old_blob, blob)
 
 
 def read_staged() -> Index:

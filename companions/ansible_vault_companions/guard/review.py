@@ -10,6 +10,7 @@ from ansible_vault_companions.git import history, indexes
 from ansible_vault_companions.git.blobs import Blobs
 from ansible_vault_companions.git.commands import read_line, run_git
 from ansible_vault_companions.git.indexes import Differences, File, Index
+from ansible_vault_companions.git.links import find_target
 from ansible_vault_companions.guard import contents
 from ansible_vault_companions.guard.change import Change
 from ansible_vault_companions.guard.faults import Fault
@@ -58,8 +59,10 @@ class Review:
         fault's own, unless one is given. A link counts as the file that it leads to, and as none if that is not in the
         index."""
         for differences in changes:
-            blobs = {file: index.target(file, self.blobs) if file.is_link else file.blob for file in differences.files}
-            files = [file._replace(blob=blob) for file, blob in blobs.items()]
+            files = []
+            for file in differences.files:
+                blob = find_target(index, file, self.blobs) if file.is_link else file.blob
+                files.append(file._replace(blob=blob))
             for file, fault in find_faults(Change(differences._replace(files=files), index, self.blobs)):
                 if (file.name, file.blob) in self.reported:
                     continue
