@@ -50,13 +50,13 @@ def _make_attributes(diff: bytes, vault: bytes, plain: bytes) -> Attributes:
 def find_marked(paths: list[str]) -> set[str]:
     """Those that are marked in the repository that they are in, if any. A link counts by its own name, too."""
     links = [path for path in paths if os.path.islink(path)]
-    return {
-        names[name]
-        for repositories in (group_by_repository(paths), group_by_repository(links, follows=False))
-        for folder, names in repositories.items()
-        for name, attributes in read_attributes(names, folder=folder).items()
-        if attributes.is_marked
-    }
+    groups = [*group_by_repository(paths).items(), *group_by_repository(links, follows=False).items()]
+    marked = set()
+    for folder, names in groups:
+        for name, attributes in read_attributes(names, folder=folder).items():
+            if attributes.is_marked:
+                marked.add(names[name])
+    return marked
 
 
 def make_line(name: bytes, attribute: str, names: Container[bytes]) -> str:

@@ -14,4 +14,5 @@ def make_pathspec(path: str, is_below_top: bool = False) -> str:
     """A word by which git means this file alone, from the current directory or from any of its repository."""
     if SIMPLE_PATH.fullmatch(path):
         return f":/{path}" if is_below_top else path
-    return quote_word(f":({'top,' * is_below_top}literal){path}")
+    magic = "top,literal" if is_below_top else "literal"
+    return quote_word(f":({magic}){path}")
