@@ -11,7 +11,10 @@ from ansible_vault_companions.envelopes.content import Content
 from ansible_vault_companions.envelopes.node import Node
 
 # How each marker begins, before each side and at the end.
-OURS, BASE, THEIRS, END = b"<" * 7, b"|" * 7, b"=" * 7, b">" * 7
+OURS = b"<" * 7
+BASE = b"|" * 7
+THEIRS = b"=" * 7
+END = b">" * 7
 # A line that is a marker; and one that is a marker or, by the attribute `conflict-marker-size`, a longer one. A longer
 # line of equal signs is a title.
 MARKER = re.compile(rb"^(<{7}|\|{7}|={7}|>{7})(?:[ \t][^\r\n]*)?\r?$", re.MULTILINE)
@@ -36,7 +39,8 @@ def count_markers(text: bytes) -> Counter[bytes]:
 def mark_lines(text: bytes, is_unmerged: bool = True) -> list[tuple[bytes, bytes]]:
     """Each line, with the marker of its side before it: none outside of conflicts, and END for a marker itself. A text
     that git has merged may still have lines that look like markers."""
-    side, lines = b"", []
+    side = b""
+    lines: list[tuple[bytes, bytes]] = []
     for line in LINES.findall(text):
         match = MARKER.match(line)
         if match and is_unmerged and (side or match[1] == OURS):
@@ -53,14 +57,22 @@ def split_sides(text: bytes, is_masked: bool = False) -> dict[bytes, bytes]:
     if OURS not in text:
         return {}
     lines = mark_lines(text)
-    found = [line[: len(END)] for marker, line in lines if marker == END]
-    if not {OURS, THEIRS, END} <= {*found} or found[-1] != END:
+    markers = [line[: len(END)] for marker, line in lines if marker == END]
+    if not {OURS, THEIRS, END} <= {*markers} or markers[-1] != END:
         return {}
-    return {
-        side: b"".join(line if marker in (b"", side) else b"\n" * len(line) * is_masked for marker, line in lines)
-        for side in dict.fromkeys(found)
-        if side != END
-    }
+    sides = [side for side in dict.fromkeys(markers) if side != END]
+    return {side: _join_lines(lines, side, is_masked) for side in sides}
+
+
+def _join_lines(lines: list[tuple[bytes, bytes]], side: bytes, is_masked: bool) -> bytes:
+    """The lines of a side and those outside of conflicts."""
+    pieces = []
+    for marker, line in lines:
+        if marker in (b"", side):
+            pieces.append(line)
+        elif is_masked:
+            pieces.append(b"\n" * len(line))
+    return b"".join(pieces)
 
 
 def join_sides(ours: bytes, theirs: bytes) -> bytes:

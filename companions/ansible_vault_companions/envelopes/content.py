@@ -23,14 +23,18 @@ from ansible_vault_companions.refusals import Refused
 
 NO_PLACE = "its values cannot be replaced where they are; write each as `NAME: !vault |`"
 
-# The number of a list item in a typed path, and how many values a message lists if such a path leads nowhere.
-NUMBER, MOST_LISTED = re.compile(r"\[\d+\]"), 20
+# The number of a list item in a typed path.
+NUMBER = re.compile(r"\[\d+\]")
+# How many values a message lists if a typed path leads nowhere.
+MOST_LISTED = 20
 NO_TEXT = "{} is a list, a mapping or an alias; name a value in it"
 NOT_ENCRYPTED = "{} is not encrypted"
 
 
 @dataclass
 class Content:
+    """The bytes of a file or of a plaintext, and what was read of them."""
+
     data: bytes
     # The envelopes and the scalars that are tagged as one; or every node.
     values: list[Node] = field(default_factory=list)
@@ -47,12 +51,12 @@ class Content:
 
     def with_envelopes(self, new: dict[int, bytes]) -> bytes:
         """The data with other envelopes, by the numbers of their values. It is read again: only these may differ."""
-        after = apply_replacements(
-            self.data, [replace_envelope(self.values[number], text) for number, text in new.items()]
-        )
-        wanted = [(value.path, new.get(number, value.text).strip()) for number, value in enumerate(self.values)]
-        if not self.is_vault and [(value.path, value.text.strip()) for value in parse_content(after).values] != wanted:
-            raise Refused(NO_PLACE)
+        replacements = [replace_envelope(self.values[number], text) for number, text in new.items()]
+        after = apply_replacements(self.data, replacements)
+        if not self.is_vault:
+            wanted = [(value.path, new.get(number, value.text).strip()) for number, value in enumerate(self.values)]
+            if [(value.path, value.text.strip()) for value in parse_content(after).values] != wanted:
+                raise Refused(NO_PLACE)
         return after
 
     def values_at(self, path: str) -> list[Node]:
@@ -77,18 +81,23 @@ class Content:
 def parse_content(data: bytes, every: bool = False) -> Content:
     """The envelopes of a file or of a plaintext, or every node of one that is not a vault."""
     if data.startswith(MAGIC):
-        ending = b"\r\n" if b"\r\n" in data else b"\n"
-        return Content(data, [Node((), WHOLE, 0, 0, 0, len(data), b"", ending, data)])
-    document = Content(data)
+        return Content(data, [_make_vault(data)])
+    content = Content(data)
     if not (every or may_have_envelope(data)):
-        return document
+        return content
     try:
         with limits.limit_work():
-            document.values = list(read_nodes(data, every))
+            content.values = list(read_nodes(data, every))
     except (NotYaml, TooMuch) as fault:
-        document.fault = str(fault)
+        content.fault = str(fault)
     if not every and BINARY not in data:
         with limits.limit_work():
-            document.values += find_strays(data, document.values)
-        document.values.sort(key=lambda value: value.start)
-    return document
+            content.values += find_strays(data, content.values)
+        content.values.sort(key=lambda value: value.start)
+    return content
+
+
+def _make_vault(data: bytes) -> Node:
+    """The whole of a file as an envelope."""
+    ending = b"\r\n" if b"\r\n" in data else b"\n"
+    return Node(path=(), style=WHOLE, line=0, begin=0, start=0, end=len(data), margin=b"", ending=ending, text=data)

@@ -5,6 +5,7 @@ from __future__ import annotations
 import binascii
 import re
 
+# The first word of an envelope.
 MAGIC = b"$ANSIBLE_VAULT"
 LINE_END = re.compile(rb"\r\n?|\n")
 START = re.compile(rb"\$ANSIBLE_VAULT[^;\r\n]*;")
@@ -15,23 +16,34 @@ WITH_DIGITS = re.compile(
     rb"(?:[^\r\n\\]{1,240}?[\s#]|[^\r\n\\]{1,240}(?=[\r\n\\])(?:\\[rn]|[\s#\\]){1,2000})[0-9a-fA-F]{16}"
 )
 # What docs/formats.md says of a header. The tool ignores further fields, which may be plaintext.
-VERSIONS, CIPHER, LABEL = (b"1.1", b"1.2"), b"AES256", re.compile(rb"[\x20-\x7e]{0,128}")
-MOST_FIELDS, LONGEST_HEADER, LONGEST_SALT = 4, 256, 256
-TAG_LENGTH, CIPHER_BLOCK = 32, 16
+VERSIONS = (b"1.1", b"1.2")
+CIPHER = b"AES256"
+# The most characters of a label.
+LONGEST_LABEL = 128
+LABEL = re.compile(rb"[\x20-\x7e]{0,%d}" % LONGEST_LABEL)
+# What an envelope without a label has.
+DEFAULT_LABEL = "default"
+MOST_FIELDS = 4
+LONGEST_HEADER = 256
+# The lengths of what the digits say, in bytes.
+LONGEST_SALT = 256
+TAG_LENGTH = 32
+CIPHER_BLOCK = 16
 
 # A header whose line goes on with digits: a space, a comment mark or an escape is in place of the line end.
 JOINED_LINES = re.compile(rb"(?P<header>[^\r\n]{0,300}?)(?:\\[rn]|[ \t#\\]){1,80}[0-9a-fA-F]{16}")
 
 
 def read_label(text: bytes) -> str | None:
-    """The label of an envelope; `default` if its first line has none, and None if that line is not a header."""
+    """The label of an envelope; the default one if its first line has none, and None if that line is not a header."""
     fields = _split_fields(text)
-    return (fields[3].decode() or "default") if fields else None
+    return (fields[3].decode() or DEFAULT_LABEL) if fields else None
 
 
 def is_whole_envelope(text: bytes) -> bool:
     """Whether a text is an envelope with a valid header and a salt, tag and ciphertext of the right form."""
-    fields, header = _split_fields(text), _first_line(text)
+    fields = _split_fields(text)
+    header = _read_first_line(text)
     if not (fields and text.startswith(MAGIC) and header.count(b";") < MOST_FIELDS):
         return False
     if not (fields[1] in VERSIONS and fields[2] == CIPHER and LABEL.fullmatch(fields[3])):
@@ -45,13 +57,13 @@ def is_whole_envelope(text: bytes) -> bool:
     return has_lengths and len(ciphertext) > 0 and len(ciphertext) % CIPHER_BLOCK == 0
 
 
-def _first_line(text: bytes) -> bytes:
+def _read_first_line(text: bytes) -> bytes:
     """The first line, or a byte more than the longest header has."""
     return LINE_END.split(text[: LONGEST_HEADER + 1], 1)[0]
 
 
 def _split_fields(text: bytes) -> list[bytes]:
     """The fields of the first line, of which the fourth may be empty; none if that line is not a header."""
-    header = _first_line(text)
+    header = _read_first_line(text)
     fields = [field.strip() for field in header.split(b";")]
     return [*fields, b""] if len(fields) > 2 and len(header) <= LONGEST_HEADER and header.isascii() else []

@@ -70,16 +70,25 @@ def put_in_quotes(value: Node, text: str) -> Replacement:
 
 
 def _put_literal(data: bytes, value: Node, text: bytes) -> list[Replacement]:
-    """The changes of the header, which tells how the text begins and ends, and of the lines."""
+    """The replacements of the header, which tells how the text begins and ends, and of the lines."""
     header = BLOCK_HEADER.match(data, value.begin)
     assert header
     indicator = b"2" if BEGINS_WITH_BLANK.match(text) else b""
-    chomping = b"-" if not text.endswith(b"\n") else b"+" if text == b"\n" or text.endswith(b"\n\n") else b""
+    new_header = b"|" + indicator + _find_chomping(text)
     margin = b" " * (find_column(data, value.begin) + 2)
     # A text that is empty has no line.
     start = value.start if text else value.start - len(value.ending)
     lines = indent_lines(text.removesuffix(b"\n"), margin, value.ending)
-    return [Replacement(value.begin, header.end(), b"|" + indicator + chomping), Replacement(start, value.end, lines)]
+    return [Replacement(value.begin, header.end(), new_header), Replacement(start, value.end, lines)]
+
+
+def _find_chomping(text: bytes) -> bytes:
+    """The indicator that tells which line ends at the end of a literal belong to its text."""
+    if not text.endswith(b"\n"):
+        return b"-"
+    if text == b"\n" or text.endswith(b"\n\n"):
+        return b"+"
+    return b""
 
 
 def find_column(data: bytes, place: int) -> int:

@@ -1,4 +1,4 @@
-"""The scalars of a file, as PyYAML reads them. Ansible uses PyYAML as well.
+"""The nodes of a YAML file, as PyYAML reads them. Ansible uses PyYAML as well.
 
 PyYAML gets one character for each byte, so that a mark counts bytes, and so that no byte keeps it from reading a file.
 """
@@ -12,8 +12,7 @@ from functools import lru_cache
 from typing import Any, Iterator, Union
 
 from ansible_vault_companions import limits
-from ansible_vault_companions.envelopes import header
-from ansible_vault_companions.envelopes.header import LINE_END
+from ansible_vault_companions.envelopes.header import LINE_END, MAGIC, WITH_DIGITS
 from ansible_vault_companions.envelopes.key_paths import KeyPath
 from ansible_vault_companions.envelopes.node import ALIAS, FOLDED, JSON_KEY, LITERAL, NO_SCALAR, PLAIN, TAGS, Node
 from ansible_vault_companions.limits import TooMuch
@@ -31,6 +30,8 @@ SURROGATE = re.compile(rb"\\u[dD][89a-fA-F](?=[0-9a-fA-F]{2})")
 PROPERTIES = re.compile(rb"(?:[!&][^\s,\]}]*(?:\s|(?<=\s)#[^\r\n]*)*)*")
 FIRST_LINE = re.compile(rb"[^\n\r]*(?:\r\n?|\n)(?:[ \t]*(?:\r\n?|\n))*(?P<margin>[ \t]*)")
 BLANKS = b" \t\r\n"
+# The first word of an envelope, among characters.
+HEADER_WORD = MAGIC.decode()
 
 NO_PYYAML = "PyYAML, which reads YAML, is missing: install Debian's python3-yaml, or PyYAML with pip"
 NOT_YAML = "it cannot be read as YAML: {}"
@@ -65,7 +66,7 @@ def read_nodes(data: bytes, every: bool = False) -> Iterator[Node]:
     try:
         for path, is_key, event in _read_nodes(yaml, _Shadow(data[skipped:])):
             if every and not is_key or _is_envelope(path, event):
-                yield _make_value(data, skipped, ending, path, event)
+                yield _make_node(data, skipped, ending, path, event)
     except yaml.YAMLError as fault:
         mark = getattr(fault, "problem_mark", None)
         where = f"line {mark.line + 1}: " if mark else ""
@@ -99,25 +100,37 @@ def _remove_shadow(text: str) -> bytes:
 def _read_nodes(yaml: Any, text: _Shadow) -> Iterator[tuple[Steps, bool, Any]]:
     """Each scalar, alias and beginning of a collection, the steps to it, and whether it is a key."""
     steps: Steps = []
-    mapping, scalar = yaml.MappingStartEvent, yaml.ScalarEvent
-    starts, ends = (mapping, yaml.SequenceStartEvent), (yaml.MappingEndEvent, yaml.SequenceEndEvent)
+    mapping = yaml.MappingStartEvent
+    scalar = yaml.ScalarEvent
+    starts = (mapping, yaml.SequenceStartEvent)
+    ends = (yaml.MappingEndEvent, yaml.SequenceEndEvent)
     nodes = (scalar, yaml.AliasEvent, *starts)
     for event in yaml.parse(text, getattr(yaml, "CSafeLoader", yaml.SafeLoader)):
         kind = type(event)
-        if kind in ends:
-            steps.pop()
-        elif kind not in nodes:
-            continue
-        step = steps[-1] if steps else ""
-        if kind not in ends:
-            yield steps, step is None, event
+        if kind in nodes:
+            yield steps, steps[-1:] == [None], event
         if kind in starts:
             steps.append(None if kind is mapping else 0)
             if len(steps) > limits.DEEPEST:
                 raise TooMuch(limits.TOO_DEEP)
-        elif steps:
-            key = event.value if kind is scalar else ""
-            steps[-1] = step + 1 if isinstance(step, int) else key if step is None else None
+        elif kind in ends:
+            steps.pop()
+            _pass_node(steps, "")
+        elif kind in nodes:
+            _pass_node(steps, event.value if kind is scalar else "")
+
+
+def _pass_node(steps: Steps, key: str) -> None:
+    """Goes on behind a node of the innermost collection. If the node is a key, its value comes next."""
+    if not steps:
+        return
+    step = steps[-1]
+    if isinstance(step, int):
+        steps[-1] = step + 1
+    elif step is None:
+        steps[-1] = key
+    else:
+        steps[-1] = None
 
 
 def _is_envelope(steps: Steps, event: Any) -> bool:
@@ -125,30 +138,47 @@ def _is_envelope(steps: Steps, event: Any) -> bool:
     if text is None:
         return False
     is_tagged = event.tag in TAGS or JSON_KEY in steps[-1:]
-    return is_tagged or text.startswith("$ANSIBLE_VAULT") and bool(header.WITH_DIGITS.match(_remove_shadow(text)))
+    return is_tagged or text.startswith(HEADER_WORD) and bool(WITH_DIGITS.match(_remove_shadow(text)))
 
 
-def _make_value(data: bytes, skipped: int, ending: bytes, steps: Steps, event: Any) -> Node:
-    first, end = event.start_mark.index + skipped, event.end_mark.index + skipped
+def _make_node(data: bytes, skipped: int, ending: bytes, steps: Steps, event: Any) -> Node:
+    first = event.start_mark.index + skipped
+    end = event.end_mark.index + skipped
     properties = PROPERTIES.match(data, first, end)
     assert properties
-    start = begin = properties.end()
-    margin = b""
+    begin = properties.end()
     own_ending = LINE_END.search(data, begin, end)
-    style = (event.style or PLAIN) if hasattr(event, "value") else NO_SCALAR if hasattr(event, "tag") else ALIAS
+    style = _find_style(event)
     if style in (LITERAL, FOLDED):
         end = begin + len(data[begin:end].rstrip(BLANKS))
-    if style == LITERAL:
-        line = FIRST_LINE.match(data, begin, end)
-        if line:
-            start, margin = line.start("margin"), line["margin"]
-    number = event.start_mark.line + 1 + len(LINE_END.findall(data, first, start))
+    line = FIRST_LINE.match(data, begin, end) if style == LITERAL else None
+    start = line.start("margin") if line else begin
+    return Node(
+        path=_make_path(steps),
+        style=style,
+        line=event.start_mark.line + 1 + len(LINE_END.findall(data, first, start)),
+        begin=begin,
+        start=start,
+        end=end,
+        margin=line["margin"] if line else b"",
+        ending=own_ending[0] if own_ending else ending,
+        text=_read_text(event),
+        tag=getattr(event, "tag", None) or "",
+        anchor=event.anchor or "",
+        is_key=None in steps,
+    )
+
+
+def _find_style(event: Any) -> str:
+    if hasattr(event, "value"):
+        return event.style or PLAIN
+    return NO_SCALAR if hasattr(event, "tag") else ALIAS
+
+
+def _read_text(event: Any) -> bytes:
+    """The text of a scalar. White space around an envelope does not count."""
     text = _remove_shadow(getattr(event, "value", ""))
-    if text.strip().startswith(header.MAGIC):
-        text = text.strip() + b"\n"
-    ending = own_ending[0] if own_ending else ending
-    tag, anchor = getattr(event, "tag", None) or "", event.anchor or ""
-    return Node(_make_path(steps), style, number, begin, start, end, margin, ending, text, tag, anchor, None in steps)
+    return text.strip() + b"\n" if text.strip().startswith(MAGIC) else text
 
 
 def _make_path(steps: Steps) -> KeyPath:

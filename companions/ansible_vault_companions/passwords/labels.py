@@ -9,6 +9,7 @@ from __future__ import annotations
 
 from collections.abc import Iterable, Sequence
 
+from ansible_vault_companions.envelopes.header import LONGEST_LABEL
 from ansible_vault_companions.passwords.password import Password
 from ansible_vault_companions.passwords.settings import Settings
 from ansible_vault_companions.quoting import escape
@@ -19,8 +20,6 @@ TYPE_CHECKING = False
 if TYPE_CHECKING:
     from typing import Final
 
-# The most characters of a label.
-LONGEST = 128
 ANY_LABEL = "--any-label"
 NONE_HAS_LABEL = "no secret has the label of --encrypt-vault-id"
 
@@ -90,4 +89,4 @@ def describe_tried(label: str | None, passwords: Sequence[Password]) -> str:
 def is_allowed(label: str) -> bool:
     """Whether the tool accepts a label."""
     is_printable = label.isascii() and label.isprintable()
-    return is_printable and ";" not in label and label == label.strip(" ") and len(label) <= LONGEST
+    return is_printable and ";" not in label and label == label.strip(" ") and len(label) <= LONGEST_LABEL

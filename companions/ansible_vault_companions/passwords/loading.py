@@ -8,6 +8,7 @@ import stat
 
 from ansible_vault_companions import processes
 from ansible_vault_companions.output import write_error
+from ansible_vault_companions.envelopes.header import MAGIC
 from ansible_vault_companions.passwords import prompts, scripts
 from ansible_vault_companions.passwords.labels import is_allowed
 from ansible_vault_companions.passwords.password import Password
@@ -78,7 +79,7 @@ def _find_fault(label: str, content: bytes) -> str:
         return f"a password file is longer than {LIMIT} bytes"
     if content.startswith(b"#!"):
         return "a password file is a script"
-    if content.startswith(b"$ANSIBLE_VAULT"):
+    if content.startswith(MAGIC):
         return "a password file is itself a vault"
     if not content.strip():
         return "a password is empty"

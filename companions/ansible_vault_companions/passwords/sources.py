@@ -2,6 +2,7 @@
 
 from __future__ import annotations
 
+from ansible_vault_companions.envelopes.header import DEFAULT_LABEL
 from ansible_vault_companions.passwords.settings import ASK, PROMPT, Settings, expand_path
 from ansible_vault_companions.refusals import Refused
 
@@ -10,12 +11,11 @@ TYPE_CHECKING = False
 if TYPE_CHECKING:
     from typing import Final
 
-DEFAULT = "default"
 # The most passwords that the tool takes.
 MOST = 16
 # The options that ask for a password without a label, and the word for them in place of [LABEL@]SOURCE.
 ASKING = ("-J", "--ask-vault-password", "--ask-vault-pass")
-ASKED = f"{DEFAULT}@{ASK}"
+ASKED = f"{DEFAULT_LABEL}@{ASK}"
 
 
 class Source:
@@ -24,7 +24,7 @@ class Source:
     def __init__(self, label: str, place: str, text: str, is_prompt: bool, is_setting: bool) -> None:
         # The label that was written, which a script gets; empty if there is none.
         self.written_label: Final = label
-        self.label: Final = label or DEFAULT
+        self.label: Final = label or DEFAULT_LABEL
         # A path or, for a prompt, PROMPT or ASK.
         self.place: Final = place
         # How messages name it: as it was written.
@@ -45,7 +45,7 @@ def parse_vault_id(text: str, is_setting: bool = False) -> Source:
 
 
 def make_path_source(path: str, is_setting: bool = False) -> Source:
-    return Source(DEFAULT, expand_path(path), path, is_prompt=False, is_setting=is_setting)
+    return Source(DEFAULT_LABEL, expand_path(path), path, is_prompt=False, is_setting=is_setting)
 
 
 def list_sources(ids: list[str], paths: list[str], settings: Settings) -> list[Source]:
