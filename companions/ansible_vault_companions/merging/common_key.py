@@ -6,7 +6,7 @@ from typing import AbstractSet, Optional
 
 from ansible_vault_companions.tool import Key
 
-# The keys of a version's envelopes; None for one that is not opened.
+# The keys of a version's envelopes; None for one that is not decrypted.
 Keys = AbstractSet[Optional[Key]]
 
 

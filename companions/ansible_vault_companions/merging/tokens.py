@@ -21,13 +21,13 @@ OF_MARKER = {conflicts.OURS: OURS, conflicts.BASE: BASE, conflicts.THEIRS: THEIR
 
 
 class KeyAndText(NamedTuple):
-    """What an opened envelope means: the key that it has in the result, and its text."""
+    """What an envelope means that is decrypted: the key that it has in the result, and its text."""
 
     key: Key
     text: bytes
 
 
-# What any envelope means. One that is not opened means itself.
+# What any envelope means. One that is not decrypted means itself.
 Meaning = Union[KeyAndText, bytes]
 
 
@@ -52,15 +52,15 @@ class Tokens:
         # The envelopes of each side with a meaning, in order.
         self.envelopes: dict[tuple[str, Meaning], list[bytes]] = defaultdict(list)
         # How a version writes an envelope in the layout of a token.
-        self.written: dict[tuple[bytes, int], bytes] = {}
+        self.spellings: dict[tuple[bytes, int], bytes] = {}
 
     def replace(self, side: str, data: bytes, value: Node, meaning: Meaning) -> Replacement:
         """Puts a token in place of an envelope of a side, which has this data."""
         begin = value.start if value.style == STRAY else value.begin
         head = data[begin : value.start]
-        number = self._number(Token(meaning, head, value))
+        number = self._find_number(Token(meaning, head, value))
         self.envelopes[side, meaning].append(value.text)
-        self.written[value.text, number] = data[begin : value.end]
+        self.spellings[value.text, number] = data[begin : value.end]
         text = b"%s-%d" % (self.mark, number)
         if value.style in (LITERAL, STRAY):
             text += b"%s%s%s" % (value.ending, self.separator, value.name.encode().hex().encode())
@@ -69,10 +69,11 @@ class Tokens:
     def write(self, number: int, envelope: bytes) -> bytes:
         """An envelope in the layout of a token: as a version has it, if one does."""
         token = self.tokens[number]
-        return self.written.get((envelope, number)) or token.head + replace_envelope(token.value, envelope).text
+        return self.spellings.get((envelope, number)) or token.head + replace_envelope(token.value, envelope).text
 
-    def _number(self, token: Token) -> int:
-        layout = token.value.style, token.head, token.value.margin, token.value.ending
+    def _find_number(self, token: Token) -> int:
+        value = token.value
+        layout = (value.style, token.head, value.margin, value.ending)
         number = self.numbers.setdefault((token.meaning, layout), len(self.tokens))
         if number == len(self.tokens):
             self.tokens.append(token)
@@ -82,10 +83,12 @@ class Tokens:
 class Restoration:
     """Puts envelopes in place of the tokens of a merged text."""
 
-    def __init__(self, tokens: Tokens, opened: dict[bytes, Decrypted], tool: Tool) -> None:
-        self.tokens, self.opened, self.tool = tokens, opened, tool
+    def __init__(self, tokens: Tokens, decryptions: dict[bytes, Decrypted], tool: Tool) -> None:
+        self.tokens = tokens
+        self.decryptions = decryptions
+        self.tool = tool
         # How many envelopes of each side and meaning are used, and all that are, in order.
-        self.used: Counter[tuple[str, Meaning]] = Counter()
+        self.uses: Counter[tuple[str, Meaning]] = Counter()
         self.envelopes: list[bytes] = []
 
     def restore(self, text: bytes, has_conflict: bool) -> bytes:
@@ -114,8 +117,9 @@ class Restoration:
         """The next envelope with a meaning, or the last one again; a new one if there is none."""
         if isinstance(meaning, bytes):
             return meaning
-        number = self.used[side or OURS, meaning]
-        self.used.update((each, meaning) for each in ([side] if side else SIDES))
+        number = self.uses[side or OURS, meaning]
+        for each in [side] if side else SIDES:
+            self.uses[each, meaning] += 1
         for envelopes in self._list_choices(meaning, side):
             if envelopes:
                 return envelopes[min(number, len(envelopes) - 1)]
@@ -128,4 +132,6 @@ class Restoration:
             return [self.tokens.envelopes[side, meaning]]
         ours, base, theirs = (self.tokens.envelopes[each, meaning] for each in SIDES)
         by_preference = [theirs if ours == base else ours, ours, theirs]
-        return [[each for each in envelopes if self.opened[each].key == meaning.key] for envelopes in by_preference]
+        return [
+            [each for each in envelopes if self.decryptions[each].key == meaning.key] for envelopes in by_preference
+        ]

@@ -4,7 +4,8 @@ from __future__ import annotations
 
 from collections import Counter
 
-from ansible_vault_companions.envelopes import conflicts, content
+from ansible_vault_companions.envelopes import conflicts
+from ansible_vault_companions.envelopes.content import parse_content
 from ansible_vault_companions.envelopes.layout import apply_replacements
 from ansible_vault_companions.envelopes.node import LOOSE, Node
 from ansible_vault_companions.merging.common_key import find_common_key
@@ -23,30 +24,30 @@ class ValueMerge:
     """Three versions of a file, and what their envelopes mean."""
 
     def __init__(self, decrypt: Decrypt, versions: Versions, chosen: Key | None) -> None:
-        self.documents = {side: content.parse_content(data) for side, data in zip(SIDES, versions)}
-        self.values = {side: [*filter(_has_token, self.documents[side].values)] for side in SIDES}
-        self.opened = self._open(decrypt)
+        self.contents = {side: parse_content(data) for side, data in zip(SIDES, versions)}
+        self.values = {side: [*filter(_has_token, self.contents[side].values)] for side in SIDES}
+        self.decryptions = self._decrypt_all(decrypt)
         # The key of the result for the values with each label, unless each keeps its own.
-        labels = {opened.key.label for opened in self.opened.values()}
+        labels = {decryption.key.label for decryption in self.decryptions.values()}
         self.keys = {label: self._choose_key(label, chosen) for label in labels}
 
     def merge(self, tool: Tool) -> MergedLines:
         """The merged file."""
         tokens = Tokens()
         text, count = merge_lines(Versions(*(self._shadow(side, tokens) for side in SIDES)))
-        if count and any(conflicts.count_markers(self.documents[side].data) for side in SIDES):
+        if count and any(conflicts.count_markers(self.contents[side].data) for side in SIDES):
             raise Refused(HAS_MARKERS)
-        restoration = Restoration(tokens, self.opened, tool)
+        restoration = Restoration(tokens, self.decryptions, tool)
         content = restoration.restore(text, has_conflict=count > 0)
         self._check(content, restoration.envelopes, has_conflict=count > 0)
         return MergedLines(content, count)
 
-    def _open(self, decrypt: Decrypt) -> dict[bytes, Decrypted]:
+    def _decrypt_all(self, decrypt: Decrypt) -> dict[bytes, Decrypted]:
         """Those that not all versions have, if a password opens them that their labels allow."""
         texts = [{value.text for value in self.values[side]} for side in SIDES]
         differing = sorted(set[bytes]().union(*texts).difference(set.intersection(*texts)))
-        opened = work_at_once(lambda text: _try_to_open(decrypt, text), differing)
-        return {each.envelope: each for each in opened if each}
+        decryptions = work_at_once(lambda text: _try_to_decrypt(decrypt, text), differing)
+        return {each.envelope: each for each in decryptions if each}
 
     def _choose_key(self, label: str, chosen: Key | None) -> Key | None:
         ours, base, theirs = (self._list_keys(side, label) for side in SIDES)
@@ -56,17 +57,23 @@ class ValueMerge:
         return key
 
     def _list_keys(self, side: str, label: str) -> set[Key | None]:
-        """The keys of a side's envelopes with a label; None stands for those that are not opened."""
-        opened = [self.opened.get(value.text) for value in self.values[side] if value.label == label]
-        return {each.key if each else None for each in opened}
+        """The keys of a side's envelopes with a label; None stands for those that are not decrypted."""
+        keys: set[Key | None] = set()
+        for value in self.values[side]:
+            if value.label == label:
+                decryption = self.decryptions.get(value.text)
+                keys.add(decryption.key if decryption else None)
+        return keys
 
     def _find_meaning(self, text: bytes) -> Meaning:
-        opened = self.opened.get(text)
-        return KeyAndText(self.keys[opened.key.label] or opened.key, opened.text) if opened else text
+        decryption = self.decryptions.get(text)
+        if decryption is None:
+            return text
+        return KeyAndText(self.keys[decryption.key.label] or decryption.key, decryption.text)
 
     def _shadow(self, side: str, tokens: Tokens) -> bytes:
         """The data of a side, with tokens in place of its envelopes."""
-        data = self.documents[side].data
+        data = self.contents[side].data
         changes = []
         for value in self.values[side]:
             changes.append(tokens.replace(side, data, value, self._find_meaning(value.text)))
@@ -75,7 +82,7 @@ class ValueMerge:
     def _check(self, content: bytes, envelopes: list[bytes], has_conflict: bool) -> None:
         """Refuses a result that is no YAML though both sides are, or that has other envelopes than these."""
         result = conflicts.parse_sides(content)
-        are_yaml = not any(self.documents[side].fault for side in (OURS, THEIRS))
+        are_yaml = not any(self.contents[side].fault for side in (OURS, THEIRS))
         if result.fault and are_yaml and not has_conflict:
             raise Refused(NOT_YAML.format(result.fault))
         found = Counter(value.text.strip() for value in result.values if _has_token(value))
@@ -87,7 +94,7 @@ def _has_token(value: Node) -> bool:
     return value.is_envelope and value.style != LOOSE
 
 
-def _try_to_open(decrypt: Decrypt, text: bytes) -> Decrypted | None:
+def _try_to_decrypt(decrypt: Decrypt, text: bytes) -> Decrypted | None:
     try:
         decrypted = decrypt(text)
         decrypted.require_label()

@@ -73,5 +73,6 @@ def repeat_options(args: argparse.Namespace) -> list[str]:
 
 def read_settings(args: argparse.Namespace, warn: Callable[[str], None]) -> Settings:
     """The settings that apply along with these options."""
-    given = (args.vault_id, args.vault_password_file, args.new_vault_id, args.new_vault_password_file)
-    return Settings(any(given), warn)
+    old = args.vault_id or args.vault_password_file
+    new = args.new_vault_id or args.new_vault_password_file
+    return Settings(beside_options=bool(old or new), warn=warn)
