@@ -5,8 +5,8 @@ from __future__ import annotations
 from dataclasses import dataclass
 
 from ansible_vault_companions.batch.reports import Report, Work
-from ansible_vault_companions.envelopes import conflicts, content, file_kinds
-from ansible_vault_companions.envelopes.content import Content
+from ansible_vault_companions.envelopes import conflicts, file_kinds
+from ansible_vault_companions.envelopes.content import Content, parse_content
 from ansible_vault_companions.envelopes.node import Node
 from ansible_vault_companions.git import facts
 from ansible_vault_companions.git.pathspecs import make_pathspec
@@ -68,7 +68,7 @@ class Check(Work):
         if conflicts.is_unmerged(result.text):
             report.faults.append(f"{where}: its plaintext {conflicts.UNMERGED}")
         place = lambda value: _name_value(value, f"{where}: in its plaintext, line {max(value.line, 1)}")
-        self.change_envelopes(content.parse_content(result.text), place, report)
+        self.change_envelopes(parse_content(result.text), place, report)
 
 
 def _name_value(value: Node, where: str) -> str:

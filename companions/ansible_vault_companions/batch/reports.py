@@ -8,8 +8,8 @@ from dataclasses import dataclass, field
 from typing import Callable, Collection
 
 from ansible_vault_companions import refusals
-from ansible_vault_companions.envelopes import content, detection
-from ansible_vault_companions.envelopes.content import Content
+from ansible_vault_companions.envelopes import detection
+from ansible_vault_companions.envelopes.content import Content, parse_content
 from ansible_vault_companions.envelopes.node import Node
 from ansible_vault_companions.output import write_error, write_line
 from ansible_vault_companions.passwords.labels import Policy
@@ -121,7 +121,7 @@ class Reports:
     def _begin(self, paths: list[str], work: OnFile, workers: Workers) -> Future[Report]:
         """Reads a file and begins the work on it. A failure is in its report, so other files are still processed."""
         try:
-            file = content.parse_content(detection.read_envelope_file(paths[0]))
+            file = parse_content(detection.read_envelope_file(paths[0]))
         except (Refused, OSError) as fault:
             is_gone = isinstance(fault, FileNotFoundError) and not any(path in self.named for path in paths)
             refused: Future[Report] = Future()

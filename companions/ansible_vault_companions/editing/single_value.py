@@ -9,8 +9,8 @@ import re
 from ansible_vault_companions import processes
 from ansible_vault_companions.editing.choosing import Choice
 from ansible_vault_companions.editing.writing import make_sealed_block, parse_nodes, write_values
-from ansible_vault_companions.envelopes import conflicts, content
-from ansible_vault_companions.envelopes.content import NOT_ENCRYPTED, NO_TEXT, Content
+from ansible_vault_companions.envelopes import conflicts
+from ansible_vault_companions.envelopes.content import NOT_ENCRYPTED, NO_TEXT, Content, parse_content
 from ansible_vault_companions.envelopes.header import MAGIC
 from ansible_vault_companions.envelopes.key_paths import KeyPath, quote_key
 from ansible_vault_companions.envelopes.layout import Replacement, apply_replacements
@@ -84,7 +84,7 @@ def _tag(data: bytes, path: str, is_chosen: bool) -> Content:
         if not is_chosen:
             raise Refused(NOT_ENCRYPTED.format(escape(path)) + TO_ENCRYPT)
         tag = _add_tag(value, path)
-    after = content.parse_content(apply_replacements(data, [tag]), every=True)
+    after = parse_content(apply_replacements(data, [tag]), every=True)
     if after.fault or _list_others(after, path) != _list_others(file, path):
         raise Refused(NO_PLACE.format(escape(path)))
     return after

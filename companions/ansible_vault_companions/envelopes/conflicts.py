@@ -6,8 +6,7 @@ import re
 from bisect import bisect_left
 from collections import Counter
 
-from ansible_vault_companions.envelopes import content
-from ansible_vault_companions.envelopes.content import Content
+from ansible_vault_companions.envelopes.content import Content, parse_content
 from ansible_vault_companions.envelopes.node import Node
 
 # How each marker begins, before each side and at the end.
@@ -86,12 +85,12 @@ def parse_sides(data: bytes, every: bool = False) -> Content:
     """The envelopes of a file, or every node, on all sides. If one of its sides is no YAML, nor is the file."""
     texts = split_sides(data, is_masked=True).values()
     if not texts:
-        return content.parse_content(data, every)
+        return parse_content(data, every)
     line_ends = [end.start() for end in re.finditer(b"\n", data)]
     values: dict[tuple[int, int], Node] = {}
-    for side in (content.parse_content(text, every) for text in texts):
+    for side in (parse_content(text, every) for text in texts):
         if side.fault:
-            return content.parse_content(data, every)
+            return parse_content(data, every)
         for value in side.values:
             # A line of several sides may be part of a longer text on one of them.
             place = (value.end, value.start if every else 0)
