@@ -1,4 +1,4 @@
-"""The tools of the gate: failures reach the exit status and the counts, and the tests catch planted faults."""
+"""The tools of the gate: failures reach the exit status and the counts, and lints and tests catch planted faults."""
 
 import shutil
 from pathlib import Path
@@ -6,6 +6,7 @@ from pathlib import Path
 import pytest
 
 from lib.installed import run_make
+from lib.needs import needs
 from lib.paths import ROOT
 from lib.processes import run_text
 from lib.scripts import searched_first, write_script
@@ -48,6 +49,58 @@ def test_missing_packages(program: str, tmp_path: Path) -> None:
     write_script(tmp_path / "dpkg-query", REMOVED)
     done = run_make(program, "test", "PYTEST=true", "PARTIAL=no", env=searched_first(tmp_path))
     assert (done.returncode, done.stdout) == (2, "") and " zsh " in done.stderr.splitlines()[0]
+
+
+# What tools/lint runs, besides other programs.
+LINT = ("tools/lint", "tools/dead_names", "companions/ansible_vault_companions/__init__.py")
+# Files in which every lint finds a fault, and what it says of each.
+FAULTY = {
+    f"{folder}/wrong.py": ('NUMBER: int = ""\n', f"{folder}/wrong.py:1: error: Incompatible types")
+    for folder in ("bench", "companions", "testkit", "tests", "tools")
+}
+FAULTY |= {
+    "tools/layout.py": ("A = [1,2]\n", "+A = [1, 2]\n"),
+    "tools/layout": ("#!/usr/bin/env python3\nB = [1,2]\n", "+B = [1, 2]\n"),
+    "tools/unused.py": ("import os\n", "'os' imported but unused"),
+    "tools/long.py": (f"# {'a' * 119}\n", "tools/long.py:1: too long"),
+    "tools/unquoted": ("#!/bin/sh\necho $1\n", "SC2086"),
+    "man/a.1": (".Sh NAME\n", "man/a.1:1:"),
+    "crates/a/src/long.rt": (f"// {'a' * 98}\n", "crates/a/src/long.rt:1: too long"),
+    "crates/a/src/unused.rt": ("fn unused() {}\n", "crates/a/src/unused.rt: unused is mentioned nowhere else"),
+    "crates/a/must-fail/stale.edit": ("file: src/unused.rt\nold: gone\n", "stale.edit: not once in its file: gone"),
+}
+# What tools/dead_names says of nothing.
+NOTHING = ["there are no names in .rt files", "there are no names in .antt files", "there are no edits"]
+
+
+def lint(folder: Path, texts: dict[str, str]) -> str:
+    """Lint a repository with these files, and return what is printed."""
+    needs("black", "git", "mandoc", "mypy", "pyflakes3", "shellcheck")
+    for name, text in texts.items():
+        (folder / name).parent.mkdir(parents=True, exist_ok=True)
+        (folder / name).write_text(text)
+    for words in (["init", "--quiet"], ["add", "."]):
+        run_text(["git", *words], cwd=folder, check=True)
+    for name in LINT:
+        (folder / name).parent.mkdir(parents=True, exist_ok=True)
+        shutil.copy(ROOT / name, folder / name)
+    done = run_text([str(folder / "tools" / "lint")])
+    assert done.returncode == 1
+    return done.stdout + done.stderr
+
+
+def test_lint(tmp_path: Path) -> None:
+    """Each lint fails, and names each fault."""
+    printed = lint(tmp_path, {name: text for name, (text, _) in FAULTY.items()})
+    assert "\nlint: 0 passed, " in printed
+    assert [said for _, said in FAULTY.values() if said not in printed] == [], printed
+
+
+def test_lint_of_nothing(tmp_path: Path) -> None:
+    """Each lint fails if it has nothing to check."""
+    printed = lint(tmp_path, {})
+    assert "\nlint: 0 passed, " in printed
+    assert [said for said in NOTHING if f"{said}\n" not in printed] == [], printed
 
 
 @pytest.mark.planted
