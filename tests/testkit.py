@@ -97,3 +97,13 @@ WRONG = {"cat {file}": {"other plaintext", "accepted"}, "exit 1": {"refused"}, "
 def test_wrong_answers(command: str) -> None:
     *answers, _ = run("--all", "--kind", "salt", "--", "sh", "-c", command)
     assert {line.partition(": ")[2].partition(", expected: ")[0] for line in answers} == WRONG[command]
+
+
+@pytest.mark.parametrize("options", (["--kind", "pepper"], ["--form", "toml"], []), ids=" ".join)
+def test_no_vectors(tmp_path: Path, options: list[str]) -> None:
+    """Nothing is answered as expected: no vector has the kind or the form, or there is none."""
+    shutil.copy(TESTKIT / "run", tmp_path)
+    (tmp_path / "vectors").mkdir()
+    script = TESTKIT / "run" if options else tmp_path / "run"
+    done = subprocess.run([sys.executable, "-B", str(script), *options, "--", "true"], capture_output=True, text=True)
+    assert (done.returncode, done.stdout) == (2, "") and ": there are no vectors of " in done.stderr
