@@ -102,7 +102,7 @@ packages:
 		exit 1; \
 	}
 
-# The program that tests/failed_allocations_in_memory runs.
+# The program that tests/failed_allocations_in_memory.py runs.
 bin/vault_allocation_failures: $(SOURCES)
 	@$(call BUILD,vault_allocation_failures) -- drive view < /dev/null
 	@cp crates/vault_allocation_failures/out/vault_allocation_failures $@
@@ -209,7 +209,8 @@ package: portable all
 	cd bin/package/source && dpkg-buildpackage --build=binary --no-pre-clean --no-sign
 	@mv bin/package/*.deb bin/ && rm -r bin/package
 
-# Check the scripts in Python, sh and bash, the manual pages and the length of lines, and find unused names.
+# Check the scripts in Python, sh and bash, the manual pages, the length of lines, and what comments and pages refer to,
+# and find unused names.
 lint:
 	tools/lint
 

@@ -1,5 +1,5 @@
 """The documents agree with the code: the calls, clauses, definitions and tests that docs/verification*.md name, what
-tools/write_documents writes, messages, limits, options, paths, links and figures."""
+tools/write_documents writes, messages, limits, options, links and figures. tools/lint looks for paths and names."""
 
 import re
 from collections.abc import Iterator
@@ -91,23 +91,12 @@ def test_written(page: Path) -> None:
     assert "in `none.rt`" not in page.read_text()
 
 
-PAGES = [*ROOT.glob("*.md"), ROOT / "tests" / "README.md", *ROOT.glob("docs/*.md"), *ROOT.glob("man/*")]
+PAGES = [*ROOT.glob("*.md"), *ROOT.glob("*/*.md"), *ROOT.glob("man/*")]
 PAGES += [ROOT / "debian" / "control", ROOT / "debian" / "README.source"]
-# A path in quotes, or a path below a top-level directory without quotes, which may follow the packaged directory's.
-QUOTED = re.compile(r"`([\w.-]*/[\w/.-]*\.(?:rt|antt|py|md|1))`")
-PLAIN = re.compile(r"(?:/usr/share/doc/ansible-vault/|(?<![\w/.~$*`-]))((?:debian|docs|man|tests|tools)/[\w/.-]*\w)")
 
 
-def test_links_and_paths() -> None:
-    """Each path is below the page's directory, the repository, the directory `crates` or a crate."""
+def test_links() -> None:
     assert [(page.name, link) for page in PAGES for link in dead_links(page)] == []
-    named = [(page, path) for page in PAGES for path in re.findall(QUOTED, page.read_text())]
-    named += [(page, path) for page in PAGES for path in re.findall(PLAIN, page.read_text())]
-    assert len(named) > 80
-    # Some stand for several files.
-    for page, path in ((page, path) for page, path in named if not re.search(r"\b(FILE|NAME|CRATE)\b", path)):
-        folders = (page.parent, ROOT, CRATES, *CRATES.iterdir())
-        assert any((folder / path).exists() for folder in folders), f"{page.name} names {path}"
 
 
 def test_messages_and_statuses() -> None:

@@ -52,7 +52,8 @@ def test_missing_packages(program: str, tmp_path: Path) -> None:
 
 
 # What tools/lint runs, besides other programs.
-LINT = ("tools/lint", "tools/dead_names", "companions/ansible_vault_companions/__init__.py")
+LINT = ("tools/lint", "tools/references.py", "tools/dead_names", "companions/ansible_vault_companions/__init__.py")
+QUOTES = '"' * 3
 # Files in which every lint finds a fault, and what it says of each.
 FAULTY = {
     f"{folder}/wrong.py": ('NUMBER: int = ""\n', f"{folder}/wrong.py:1: error: Incompatible types")
@@ -61,7 +62,7 @@ FAULTY = {
 FAULTY |= {
     "tools/layout.py": ("A = [1,2]\n", "+A = [1, 2]\n"),
     "tools/layout": ("#!/usr/bin/env python3\nB = [1,2]\n", "+B = [1, 2]\n"),
-    "tools/unused.py": ("import os\n", "'os' imported but unused"),
+    "tools/unused.py": ("import os.path\n", "'os.path' imported but unused"),
     "tools/long.py": (f"# {'a' * 119}\n", "tools/long.py:1: too long"),
     "tools/unquoted": ("#!/bin/sh\necho $1\n", "SC2086"),
     "man/a.1": (".Sh NAME\n", "man/a.1:1:"),
@@ -69,8 +70,20 @@ FAULTY |= {
     "crates/a/src/unused.rt": ("fn unused() {}\n", "crates/a/src/unused.rt: unused is mentioned nowhere else"),
     "crates/a/must-fail/stale.edit": ("file: src/unused.rt\nold: gone\n", "stale.edit: not once in its file: gone"),
 }
-# What tools/dead_names says of nothing.
+DEAD = ": there is no "
+# The same for paths and names. Each file also has some that exist.
+FAULTY |= {
+    "README.md": ("`long` and `os.path` are in `src/unused.rt`, not in `a.rt`.\n", f"README.md{DEAD}a.rt"),
+    "tests/page.py": (f"{QUOTES}Like tools/long.py and tools/a.{QUOTES}\n", f"tests/page.py{DEAD}tools/a"),
+    "tests/module.py": ("# `tests.long` is older than `tests.wrong`.\n", f"tests/module.py{DEAD}tests.long"),
+    "tests/plain.py": ("A = 1\n# `unused` was `a_module`.\n", f"tests/plain.py{DEAD}a_module"),
+    "tools/comment": ("#!/bin/sh\n# See `must-fail/` and `b.toml`.\n", f"tools/comment{DEAD}b.toml"),
+    "crates/a/src/b.rt": ("// `unused` is no `Fault::unused`.\n", f"crates/a/src/b.rt{DEAD}Fault::unused"),
+    "crates/a/specs/B.antt": ("-- man/*.1 are pages, man/*.2 are none.\n", f"crates/a/specs/B.antt{DEAD}man/*.2"),
+}
+# What is said of nothing by the lints that look at files of several kinds.
 NOTHING = ["there are no names in .rt files", "there are no names in .antt files", "there are no edits"]
+NOTHING += ["only 0 references in pages", "only 0 references in sources"]
 
 
 def lint(folder: Path, texts: dict[str, str]) -> str:
@@ -94,13 +107,14 @@ def test_lint(tmp_path: Path) -> None:
     printed = lint(tmp_path, {name: text for name, (text, _) in FAULTY.items()})
     assert "\nlint: 0 passed, " in printed
     assert [said for _, said in FAULTY.values() if said not in printed] == [], printed
+    assert printed.count(DEAD) == sum(DEAD in said for _, said in FAULTY.values()), printed
 
 
 def test_lint_of_nothing(tmp_path: Path) -> None:
     """Each lint fails if it has nothing to check."""
     printed = lint(tmp_path, {})
     assert "\nlint: 0 passed, " in printed
-    assert [said for said in NOTHING if f"{said}\n" not in printed] == [], printed
+    assert [said for said in NOTHING if said not in printed] == [], printed
 
 
 @pytest.mark.planted
