@@ -1,6 +1,6 @@
 """Standard streams that are closed at the start: reading or writing one fails, and the output is as it was.
 
-`with_strace.py` shows that no file takes the number of a closed stream, and `faults.py` has texts whose writes fail.
+`with_strace.py` shows that each run asks which streams are closed, and `faults.py` has texts whose writes fail.
 """
 
 import itertools

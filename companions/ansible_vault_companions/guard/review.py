@@ -1,4 +1,4 @@
-"""Refuses what a commit must not do to vaults and values, by the sentences of `ansible-vault-hook --help`."""
+"""Refuses what a commit must not do to vaults and values, by the RULES of ansible-vault-hook(1)."""
 
 from __future__ import annotations
 
