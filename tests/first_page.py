@@ -1,5 +1,5 @@
 """Run the README's commands with a prompt in order, with a program as `ansible-vault` and the companions beside it, and
-compare their output. `newcomer` types the other commands.
+compare their output. `newcomer.py` types the other commands.
 
 `first_page.py PROGRAM` prints them, and fails if one prints anything other than what the README says.
 """

@@ -100,7 +100,7 @@ def test_editors(place: Place) -> None:
     assert place.get("vars.yml").startswith(block("old", name="other")), "its envelope stays"
 
 
-# What is refused if it is typed, and why. `yaml_values` has what is encrypted.
+# What is refused if it is typed, and why. `yaml_values.py` has what is encrypted.
 MISREAD = {
     "b: !vault\n": "line 1: b is missing after `!vault`",
     "b: !vault [a]\n": "line 1: b is a list, a mapping or a key, not a string",

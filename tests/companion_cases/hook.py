@@ -55,7 +55,7 @@ def test_length(place: Place) -> None:
 
 LINES = block("old").splitlines(keepends=True)
 NO_YAML = "cannot be checked: line 2: it cannot be read as YAML: found a tab character that violates indentation"
-# What a marked file has, and why it may not. `spellings` has other headers.
+# What a marked file has, and why it may not. `spellings.py` has other headers.
 CONTENTS = {
     "a vault": (sealed("old").replace(b"\n", b"\r\n"), ""),
     "blank": (b"\n", ""),

@@ -23,7 +23,7 @@ def check_asked(session: Session, *questions: str) -> None:
 
 
 def test_settings(place: Place) -> None:
-    """Settings lead to the same questions as with Ansible's tool. `guide` has the options."""
+    """Settings lead to the same questions as with Ansible's tool. `guide.py` has the options."""
     place.put("ansible.cfg", b"[defaults]\nvault_identity_list = dev@prompt\nask_vault_pass = yes\n")
     place.put("a.yml", sealed("new"))
     words, answers = ["view", "a.yml"], [*typed("dev", OF_DEV), *typed("new", ASKED)]

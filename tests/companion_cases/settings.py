@@ -16,7 +16,7 @@ LIST = "[defaults]\nvault_identity_list = {}\n"
 FILE = "[defaults]\nvault_password_file = {}\n"
 BOTH = "[defaults]\nvault_identity_list = dev@../secrets/dev\nvault_password_file = ../secrets/old\n"
 NAMED = {"CONFIG": "{}/far/away/my.cfg"}
-# Variables, files below the tree's parent directory, and the passwords that are found. `random_secrets` covers more.
+# Variables, files below the tree's parent directory, and the passwords that are found. `random_secrets.py` covers more.
 SETTINGS: dict[str, tuple[dict[str, str], dict[str, str], set[str]]] = {
     "an empty variable": ({"VAULT_IDENTITY_LIST": ""}, {"tree/ansible.cfg": BOTH}, {"old"}),
     "quotes": ({}, {"tree/ansible.cfg": LIST.format("'dev@../secrets/dev',\n  \"../secrets/old\"")}, {"dev", "old"}),
@@ -112,8 +112,8 @@ CHOSEN = {
     "the first of a label": ("prod@../secrets/none, prod@../secrets/old", "prod", "old"),
     "a label that is there": ("prod@../secrets/none, dev@../secrets/dev", "dev", "dev"),
 }
-# Command lines that encrypt. `random_secrets` has others. Without a label, rekey would ask for a password, and --value
-# takes the label from the option alone.
+# Command lines that encrypt. `random_secrets.py` has others. Without a label, rekey would ask for a password, and
+# --value takes the label from the option alone.
 SEALING = [f"{WITH} rekey --encrypt-vault-id {{}} a.yml", f"{EDIT} new.yml", f"{EDIT} values.yml"]
 SEALING.append(f"{EDIT} --value=word --encrypt-vault-id {{}} values.yml")
 
