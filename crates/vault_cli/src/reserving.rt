@@ -13,7 +13,7 @@ use vault_request::Request;
 use vault_text::CIPHERTEXT_LIMIT;
 
 /// How much of the stack a run takes below `reserve`, in bytes: nine pages of 4 KiB, four of which
-/// are the buffer for writing an envelope. `tests/cases/stack.py` shows that they are enough.
+/// are the buffer for writing an envelope. No test shows that they are enough.
 const STACK_LENGTH: usize = 9 * 4_096;
 
 /// The memory of a run: reserved before any file is opened, then filled.
