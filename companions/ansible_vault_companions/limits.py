@@ -22,6 +22,8 @@ DEEPEST = 64
 MOST_KEYS = 1_000_000
 # The bytes of YAML, as many as a plaintext has; and of a link, as many as Linux has.
 LONGEST, LONGEST_LINK = 16_777_216, 4_096
+# The characters of an ansible.cfg, and of a line in it: Python's parser takes quadratic time for the blanks of a line.
+LONGEST_SETTINGS, LONGEST_SETTING = 262_144, 2_048
 # Processor time, with more of it for the hook, since a file that it refuses cannot be committed; and memory beyond what
 # the companion has already.
 SECONDS, HOOK_SECONDS, MEGABYTES = 10, 30, 256

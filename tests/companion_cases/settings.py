@@ -95,14 +95,22 @@ def test_what_is_not_trusted(
         ran.unlink()
 
 
-MALFORMED = {b"x\n": "File contains no section headers", b"# \xff": "it is not UTF-8", b"#\0": "it has a NUL byte"}
+# What Python's parser would look at for minutes.
+BLANKS = b"x%sy\n" % (b" " * 100_000)
+MALFORMED = {
+    "no section": (b"x\n", "File contains no section headers"),
+    "Latin-1": (b"# \xff", "it is not UTF-8"),
+    "a NUL byte": (b"#\0", "it has a NUL byte"),
+    "a long line": (b"[defaults]\n" + BLANKS, "it has a line of over 2,048 characters"),
+    "many lines": (b"#\n" * 200_000, "it has over 262,144 characters"),
+}
 
 
-@pytest.mark.parametrize("content", MALFORMED)
-def test_faults(place: Place, content: bytes) -> None:
-    """Settings that cannot be read are named, and nothing is done without them."""
+@pytest.mark.parametrize("content, why", MALFORMED.values(), ids=MALFORMED)
+def test_faults(place: Place, content: bytes, why: str) -> None:
+    """Settings that cannot be read are named at once, and nothing is done without them."""
     place.put("ansible.cfg", content)
-    ended("it is refused", place.run(CHECK, "."), 1, f"{CHECK}: ansible.cfg: {MALFORMED[content]}")
+    ended("it is refused", place.run(CHECK, "."), 1, f"{CHECK}: ansible.cfg: {why}")
 
 
 # Secrets of the settings, the label to encrypt with, and the one password that is there.

@@ -16,8 +16,6 @@ from ansible_vault_companions.refusals import Refused, describe_fault
 
 NAME = "ansible.cfg"
 SECTION = "defaults"
-# Bytes read at most: the file may be a stranger's, and of any length.
-LONGEST = 1 << 20
 # In a path of the settings, this means the current directory.
 CURRENT = "{{CWD}}"
 # For each setting, the environment variable and the key in the file.
@@ -103,18 +101,31 @@ def _read_section(path: str) -> dict[str, str]:
     # Imported here, since most runs of ansible-vault-with need no file.
     import configparser
 
+    from ansible_vault_companions.limits import LONGEST_SETTINGS
+
     parser = configparser.RawConfigParser(inline_comment_prefixes=(";",))
     try:
         with open(path, encoding="utf-8") as file:
-            text = file.read(LONGEST + 1)
-        if len(text) > LONGEST or "\0" in text:
-            raise Refused(f"it has a NUL byte or more than {LONGEST:,} characters")
+            text = file.read(LONGEST_SETTINGS + 1)
+        _require_short(text)
         parser.read_string(text)
     except UnicodeError:
         raise Refused(f"{escape(path)}: it is not UTF-8") from None
     except (Refused, OSError, configparser.Error) as fault:
         raise Refused(f"{escape(path)}: {' '.join(describe_fault(fault).split())}") from None
     return dict(parser[SECTION]) if SECTION in parser else {}
+
+
+def _require_short(text: str) -> None:
+    """Refuses a text for which Python's parser would take long, or which no program writes."""
+    from ansible_vault_companions.limits import LONGEST_SETTING, LONGEST_SETTINGS, TooMuch
+
+    if "\0" in text:
+        raise Refused("it has a NUL byte")
+    if len(text) > LONGEST_SETTINGS:
+        raise TooMuch(f"it has over {LONGEST_SETTINGS:,} characters")
+    if any(len(line) > LONGEST_SETTING for line in text.splitlines()):
+        raise TooMuch(f"it has a line of over {LONGEST_SETTING:,} characters")
 
 
 def _unquote(text: str) -> str:
