@@ -140,6 +140,21 @@ def test_conflict_as_base(tmp_path: Path, monkeypatch: pytest.MonkeyPatch) -> No
     assert (merged.content.count(b"<<<<<<< ours"), merged.why) == (2, "2 conflicts")
 
 
+# Enough lines between two changes for git to take them for two conflicts.
+STAYS = b"stays: 1\n" * 5
+
+
+def test_many_conflicts(place: Place) -> None:
+    """git does not count more than 127 conflicts."""
+    base, ours, theirs = (
+        b"".join(b"k%d: %s\n%s" % (n, text, STAYS) for n in range(300)) for text in (b"a", b"b", b"c")
+    )
+    value = block("dev", b"new", "dev")
+    words = [*place.by_id("dev", "dev"), *versions(place, "a.yml", *(value + text for text in (base, ours, theirs)))]
+    ended("300 conflicts", place.run(MERGE, *words), 1, "a.yml: 127 conflicts or more")
+    assert place.get("a.yml").count(b"<<<<<<<") == 300
+
+
 # Vaults by their labels and passwords.
 VAULTS = [("prod", name) for name in ("prod", "prod2", "dev")] + [("dev", "dev")]
 VAULTS += [("", name) for name in ("prod", "prod2", "dev", "old", "new")]

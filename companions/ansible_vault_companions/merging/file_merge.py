@@ -11,7 +11,7 @@ from typing import NamedTuple
 from ansible_vault_companions.envelopes import conflicts
 from ansible_vault_companions.envelopes.header import MAGIC
 from ansible_vault_companions.git import commands, repository
-from ansible_vault_companions.merging.line_merge import Versions
+from ansible_vault_companions.merging.line_merge import MOST_CONFLICTS, Versions
 from ansible_vault_companions.merging.value_merge import ValueMerge
 from ansible_vault_companions.merging.vault_merge import VaultMerge
 from ansible_vault_companions.refusals import Refused
@@ -60,7 +60,14 @@ def _merge_values(tool: Tool, decrypt: Decrypt, versions: Versions, chosen: Key 
     content, count = ValueMerge(decrypt, versions, chosen).merge(tool)
     if count == 0:
         return MergedFile(content)
-    return MergedFile(content, f"{count} conflict{'s' if count > 1 else ''}")
+    return MergedFile(content, _describe_conflicts(count))
+
+
+def _describe_conflicts(count: int) -> str:
+    """The number of conflicts, as far as git says it."""
+    if count == MOST_CONFLICTS:
+        return f"{count} conflicts or more"
+    return f"{count} conflicts" if count > 1 else "1 conflict"
 
 
 def find_versions(path: str, data: bytes) -> Versions | None:
