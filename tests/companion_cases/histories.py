@@ -35,6 +35,9 @@ LINES = b"".join(b"line%d: %d\n" % (number, number) for number in range(80))
 
 FIXTURES: dict[str, bytes] = {".gitattributes": b"t/* -ansible-vault\n"}
 EXEMPT = {".gitattributes": b"a.yml ansible-vault-plain=pw\n"}
+# Lines that somebody has planted.
+PLANTED = b"b/* -ansible-vault\na.yml ansible-vault-plain=pw,users[].pw\n"
+IN_ADVANCE = {".gitattributes": PLANTED}
 POINTER, TAB = b"version https://git-lfs.github.com/spec/v1\noid sha256:61\nsize 5\n", b"\tx: 1\n"
 
 # What a commit has in place of what was there before.
@@ -72,6 +75,11 @@ PASSING: dict[str, tuple[Content, Content]] = {
     "fixtures": (FIXTURES, FIXTURES | {"t/a.yml": VAULT, "t/b.yml": CUT, "t/c.yml": b"pw: !vault x\n" + PW2}),
     "encrypted again": ({"a.yml": PLAIN, **EXEMPT}, {"a.yml": PW, **EXEMPT}),
     "a repaired file with as many values": (TAB + PW, PW2 + X),
+    "fixtures that change": (FIXTURES | {"t/c.yml": PW}, FIXTURES | {"t/c.yml": PW2 + b"x: !vault x\n"}),
+    "two vaults of a name for two": (
+        {"a/x.yml": VAULT, "b/x.yml": OTHER},
+        {"c/x.yml": sealed("dev"), "d/x.yml": sealed("prod"), "e/x.yml": X},
+    ),
     "meant damage": (X, {"a.txt": CONFLICT % (PW, CUT), ".gitattributes": b"*.txt -ansible-vault diff=ansible-vault"}),
 }
 pw, db, elsewhere = (IN_PART.format(key) for key in ("pw", "db.pw", "db.pw of a.yml"))
@@ -89,7 +97,7 @@ REFUSED: dict[str, tuple[Content, Content, str]] = {
     "fewer folders": ({"x/y/a.yml": VAULT}, {"y/a.yml": TEXT}, f"y/a.yml {GONE.format('x/y/a.yml')}"),
     "another suffix of main": ({"main.yml": VAULT}, {"main.json": TEXT}, f"main.json {GONE.format('main.yml')}"),
     "another directory, deeper": ({"a/x.yml": VAULT}, {"b/c/x.yml": TEXT}, f"b/c/x.yml {GONE.format('a/x.yml')}"),
-    "another name's pointer": ({"a/x.yml": VAULT}, {"b/x.yml": POINTER}, f"b/x.yml {GONE.format('a/x.yml')}"),
+    "another name's pointer": ({"a/x.yml": VAULT}, {"b/x.yml": POINTER}, f"b/x.yml {LFS}"),
     "a list by another name": ({"a.yml": VAULT}, {"a.txt": b"- plain\n"}, f"a.txt {GONE.format('a.yml')}"),
     "a list and a mapping": (
         {"a/x.yml": VAULT},
@@ -104,13 +112,53 @@ REFUSED: dict[str, tuple[Content, Content, str]] = {
         {"c/x.yml": sealed("dev"), "d/x.yml": TEXT},
         f"d/x.yml {GONE.format('b/x.yml')}",
     ),
+    "the other of two of a name": (
+        {"a/x.yml": VAULT, "b/x.yml": OTHER},
+        {"c/x.yml": sealed("dev"), "a/x.json": TEXT},
+        f"a/x.json {GONE.format('a/x.yml')}",
+    ),
+    "a directory for a file without suffix": (
+        {"g/all": VAULT},
+        {"g/all/x.yml": TEXT},
+        f"g/all/x.yml {GONE.format('g/all')}",
+    ),
+    "a file without suffix for a directory": (
+        {"g/all/x.yml": VAULT},
+        {"g/all": TEXT},
+        f"g/all {GONE.format('g/all/x.yml')}",
+    ),
     "a vault, now in git-lfs": (VAULT, POINTER, LFS),
     "values, now in git-lfs": (PW, POINTER, LFS),
     "an exempt fixture": (FIXTURES | {"t/a.yml": VAULT}, FIXTURES | {"t/a.yml": TEXT}, f"t/a.yml {WHOLE}"),
     "a value exempt in advance": ({"a.yml": PW, **EXEMPT}, {"a.yml": PLAIN, **EXEMPT}, f"a.yml {pw}"),
+    "another place exempt in advance": (
+        {"a/x.yml": VAULT, **IN_ADVANCE},
+        {"b/x.yml": TEXT, **IN_ADVANCE},
+        f"b/x.yml {GONE.format('a/x.yml')}",
+    ),
+    "a list exempt in advance": (
+        {"a.yml": users(PW, PLAIN), **IN_ADVANCE},
+        {"a.yml": users(PLAIN, b"pw: x\n"), **IN_ADVANCE},
+        f"a.yml {IN_PART.format('users[].pw')}",
+    ),
+    "a default exempt in advance": (
+        {"c.yml": PW, "a.yml": users(PLAIN) + PLAIN, **IN_ADVANCE},
+        {"a.yml": users(PLAIN) + b"pw: x\n", **IN_ADVANCE},
+        f"a.yml {IN_PART.format('pw of c.yml')}",
+    ),
     "a list, now by name": (users(PW), below(b"users", below(b"a", PLAIN)), IN_PART.format("users[].pw")),
     "by name, now a list": (below(b"users", below(b"a", PW)), users(PLAIN), IN_PART.format("users.a.pw")),
     "a list, now texts by name": (users(PW), b"users: {a: plain}\n", IN_PART.format("users[].pw")),
+    "lists within each other, now by name": (
+        users(below(b"tokens", b"-" + below(b"", PW)[2:])),
+        below(b"users", below(b"a", below(b"tokens", below(b"b", PLAIN)))),
+        IN_PART.format("users[].tokens[].pw"),
+    ),
+    "a list, by name in another file": (
+        users(PW),
+        {"b.yml": below(b"users", below(b"a", PLAIN))},
+        f"b.yml {IN_PART.format('users[].pw of a.yml')}",
+    ),
     "one of two values that were one": (PW, {"b.yml": PW2, "c.yml": PLAIN}, f"c.yml {IN_PART.format('pw of a.yml')}"),
     "a default for a value": (
         {"a.yml": PW, "c.yml": PLAIN},
@@ -119,6 +167,12 @@ REFUSED: dict[str, tuple[Content, Content, str]] = {
     ),
     "plaintext with the tag": (PW, PW + b"x: !vault plain\n", "has plaintext with the tag `!vault` in line 8"),
     "a repaired file": (TAB + PW, PLAIN, f"{FEWER}line 1: it cannot be read as YAML: {TOKEN}"),
+    "a file that is still to be repaired": (
+        TAB + PW,
+        TAB + PLAIN + b"# !vault\n",
+        f"{FEWER}line 1: it cannot be read as YAML: {TOKEN}",
+    ),
+    "a null character": (b"\0" + PW, PLAIN, f"{FEWER}it cannot be read as YAML: it has a null character"),
     "a text that begins like a value": (PW, b"pw: $ANSIBLE_VAULT_KEY\n", pw),
     "text between expressions": (PW, b'pw: "{{ x }}:{{ y }}"\n', pw),
     "a statement of Jinja": (PW, b'pw: "{% set x = 1 %}"\n', pw),

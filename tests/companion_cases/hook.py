@@ -1,5 +1,7 @@
 """ansible-vault-hook: what it refuses of what is staged, of named files and of commits, also with pre-commit."""
 
+import re
+
 import pytest
 
 from companion_cases import HOOK, TEXT, WITH, Place, block, ended, run_changed, sealed, silent
@@ -42,17 +44,26 @@ def test_leftovers(place: Place) -> None:
     [name] = place.files().keys() - {"a.yml", ".gitattributes"}
     assert place.get(name) == TEXT
     others = dict.fromkeys((".ansible-vault-abcdefgh-new", "-ansible-vault-abcdefgh.new"), TEXT)
-    assert staged(place, others) == [f"{name} was left behind by a companion, and may be plaintext"]
+    why = [f"{name} was left behind by a companion, and may be plaintext"]
+    assert staged(place, others) == why
+    assert staged(place, {".gitattributes": b"* -ansible-vault\n"}) == why, "no line exempts it"
 
 
 def test_length(place: Place) -> None:
-    """A vault counts as one, however long it is."""
+    """A vault counts as one, however long it is; and a file with values is refused, and was one, if it is too long."""
     under_git(place, "")
     committed(place, "a.yml", b"$ANSIBLE_VAULT;1.1;AES256\n" + b"0" * 17_000_000)
     assert staged(place, {"a.yml": TEXT}) == [f"a.yml {WHOLE}"]
     assert staged(place, {"a.yml": serialized(TEXT, bytes(32), bytes(5_000_000))}) == []
+    long = block("old") + b"# " + b"x" * 17_000_000 + b"\n"
+    assert staged(place, {"b.yml": long, "c.yml": long[1000:]}) == [f"b.yml cannot be checked: {TOO_LONG}"]
+    committed(place, "b.yml", long)
+    assert staged(place, {"b.yml": long[1000:]}) == [f"b.yml cannot be checked: {TOO_LONG}"]
+    assert staged(place, {"b.yml": TEXT}) == [f"b.yml {FEWER}{TOO_LONG}"]
 
 
+TOO_LONG = "it has over 16,777,216 bytes"
+FEWER = "has fewer envelopes than in HEAD, and cannot be compared with what it was there: "
 LINES = block("old").splitlines(keepends=True)
 NO_YAML = "cannot be checked: line 2: it cannot be read as YAML: found a tab character that violates indentation"
 # What a marked file has, and why it may not. `spellings.py` has other headers.
@@ -190,11 +201,17 @@ def test_history(place: Place) -> None:
     assert "deep" not in place.names()
 
 
+# Names that git takes for commits, options or patterns where it may.
+LIKE_REVISIONS = ["HEAD", "HEAD~1", "--", "--all", "-x", ":/a", "^HEAD", "*", "refs/heads/x"]
+
+
 def test_versions(place: Place) -> None:
     """Any number of versions of a vault is fine, also beside files that are named like commits. What is committed is no
     longer to be committed otherwise, so the advice is another one."""
     under_git(place, "")
-    first = committed(place, "HEAD", TEXT)
+    for name in LIKE_REVISIONS:
+        place.put(name, TEXT)
+    first = committed(place, "a.txt", TEXT)
     for text in (b"1", b"2", b"3"):
         committed(place, place.shell("git rev-parse HEAD").stdout.strip(), TEXT)
         committed(place, "a.yml", sealed("old", text))
@@ -207,9 +224,80 @@ def test_versions(place: Place) -> None:
     committed(place, "b.yml", TEXT)
     done = place.run(HOOK, "--all")
     assert told(done) == [f"a.yml {WHOLE.replace('HEAD', 'an earlier commit')}"]
-    assert "commit this line in .gitattributes: /a.yml -ansible-vault" in done.stderr
+    assert "commit this line at the end of .gitattributes: /a.yml -ansible-vault" in done.stderr
     committed(place, ".gitattributes", b"/a.yml -ansible-vault\n")
     silent("the line is committed", place.run(HOOK, "--all"))
+
+
+@pytest.mark.parametrize("name", LIKE_REVISIONS)
+def test_names_like_revisions(place: Place, name: str) -> None:
+    """A vault of such a name is guarded like any other, in each commit and in what is staged."""
+    with_hooks(place)
+    first = committed(place, "a.txt", TEXT)
+    committed(place, name, sealed("old"))
+    silent("a vault", place.run(HOOK, "--since", first))
+    assert staged(place, {name: TEXT}) == [f"{name} {WHOLE}"]
+    ended("git commit", place.shell("git commit -qm plaintext"), 1, f"{HOOK}: {name} {WHOLE}\n")
+    second, last = place.shell("git rev-parse HEAD").stdout[:10], committed(place, name, TEXT)
+    assert told(place.run(HOOK, "--all")) == [f"{name} {WHOLE.replace('HEAD', second)}"]
+    assert told(place.run(HOOK, "--since", second)) == [f"{last}: {name} {WHOLE.replace('HEAD', second)}"]
+
+
+@pytest.mark.parametrize("zeros", ["0" * 40, "0" * 64, ""])
+def test_no_commit(place: Place, zeros: str) -> None:
+    """A pipeline has zeros for a new branch, or nothing. What the message names instead checks the branch."""
+    under_git(place, "")
+    committed(place, "a.yml", sealed("old"))
+    place.shell("git update-ref refs/remotes/origin/main HEAD && git checkout -qb new")
+    last = committed(place, "a.yml", TEXT)
+    done = place.run(HOOK, "--since", zeros)
+    ended("no commit", done, 1, f"--since has {zeros or 'nothing'} in place of a commit", "a new branch")
+    [words] = re.findall("`(.*)`", done.stderr)
+    lines = told(place.run(HOOK, *words.split()))
+    assert len(lines) == 1 and lines[0].startswith(f"{last}: a.yml is not a vault")
+    assert "or use --all" in done.stderr and len(told(place.run(HOOK, "--all"))) == 1
+
+
+def test_amend(place: Place) -> None:
+    """What is amended is compared with the commit that it replaces, and that with its parent when it is checked."""
+    with_hooks(place)
+    committed(place, "a.yml", sealed("old"))
+    committed(place, "b.yml", sealed("old"))
+    amend = "git add -A && git commit -q --amend --no-edit"
+    for name, content, why in (("b.yml", sealed("new"), ""), ("b.yml", TEXT, WHOLE), ("a.yml", TEXT, WHOLE)):
+        place.put(name, content)
+        done = place.shell(amend)
+        assert told(done) == ([f"{name} {why}"] if why else []), name
+        place.shell("git reset -q --hard")
+    place.put(".gitattributes", b"/a.yml -ansible-vault\n")
+    place.put("a.yml", TEXT)
+    silent("a line of the same commit", place.shell(amend))
+    place.put("a.yml", TEXT * 2)
+    silent("and again", place.shell(amend))
+    silent("the amended commit", place.shell(f"{HOOK} --since HEAD~1 && {HOOK} --all"))
+
+
+def test_octopus(place: Place) -> None:
+    """A merge of several branches is compared with each of them."""
+    with_hooks(place)
+    committed(place, "a.txt", TEXT)
+    for name in ("one", "two"):
+        place.shell(f"git checkout -q -b {name} HEAD")
+        committed(place, f"{name}.yml", sealed("old"))
+        place.shell("git checkout -q -")
+    place.shell("git checkout -q -b three HEAD")
+    committed(place, "three.yml", TEXT)
+    merge = "git merge --no-edit one two > ../merged"
+    silent("vaults", place.shell(f"{merge} && {HOOK} --since HEAD^ && git reset -q --hard HEAD^"))
+    ids = [place.shell(f"git rev-parse {name}").stdout[:10] for name in ("one", "two")]
+    place.shell(merge.replace("--no-edit", "--no-commit"))
+    wanted = [f"{name}.yml {WHOLE.replace('HEAD', each)}" for name, each in zip(("one", "two"), ids)]
+    files = {"one.yml": TEXT, "two.yml": TEXT}
+    assert sorted(staged(place, files)) == wanted
+    place.shell("git commit -qm merge --no-verify")
+    last = place.shell("git rev-parse HEAD").stdout[:10]
+    assert place.shell("git rev-parse HEAD^3").returncode == 0, "it has three parents"
+    assert sorted(told(place.run(HOOK, "--since", "HEAD^"))) == [f"{last}: {line}" for line in wanted]
 
 
 def test_merge(place: Place) -> None:

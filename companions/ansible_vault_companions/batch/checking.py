@@ -5,10 +5,9 @@ from __future__ import annotations
 from dataclasses import dataclass
 
 from ansible_vault_companions.batch.reports import Report, Work
-from ansible_vault_companions.envelopes import conflicts, file_kinds
+from ansible_vault_companions.envelopes import conflicts, damage, file_kinds
 from ansible_vault_companions.envelopes.content import Content, parse_content
 from ansible_vault_companions.envelopes.node import Node
-from ansible_vault_companions.git import facts
 from ansible_vault_companions.git.pathspecs import make_pathspec
 from ansible_vault_companions.passwords.password import Password
 from ansible_vault_companions.quoting import escape
@@ -38,10 +37,10 @@ class Check(Work):
             self.change_envelopes(file, lambda value: _name_value(value, value.place(path)), report, is_prose)
         except Refused as fault:
             why = why or str(fault)
-        if facts.is_unmerged(file):
+        if damage.is_unmerged(file):
             why = f"{conflicts.UNMERGED}; {RESOLVE.format(make_pathspec(path))}"
         if is_marked and file.data.strip() and not (why or report.faults):
-            why = facts.find_unencrypted(file)
+            why = damage.find_unencrypted(file)
         if why:
             report.faults.append(f"{escape(path)}: {why}")
 

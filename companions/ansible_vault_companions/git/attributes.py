@@ -15,6 +15,8 @@ from ansible_vault_companions.quoting import escape
 DIFF, VAULT, PLAIN_VALUES = ATTRIBUTES = ("diff", "ansible-vault", "ansible-vault-plain")
 NAME = b"ansible-vault"
 FILE = b".gitattributes"
+# git ignores longer lines.
+LONGEST_LINE = 2_047
 # What needs no escape in a pattern, and what has a meaning there.
 PLAIN = re.compile(rb"[\w/.@+,-]+", re.ASCII)
 SPECIAL = re.compile(rb"[*?\[\\]")
@@ -60,13 +62,14 @@ def find_marked(paths: list[str]) -> set[str]:
 
 
 def make_line(name: bytes, attribute: str, names: Container[bytes]) -> str:
-    """The line that gives an attribute to this file alone, behind the path of its .gitattributes. Of those with these
-    names, git prefers the nearest one."""
+    """The line that gives an attribute to this file alone, behind the path of its .gitattributes; empty if it would be
+    too long. Of those with these names, git prefers the nearest one."""
     *folders, _ = name.split(b"/")
     while folders and b"/".join([*folders, FILE]) not in names:
         folders.pop()
     above = b"".join(folder + b"/" for folder in folders)
-    return f"{escape(os.fsdecode(above + FILE))}: {_make_pattern(name[len(above):])} {attribute}"
+    line = f"{_make_pattern(name[len(above):])} {attribute}"
+    return f"{escape(os.fsdecode(above + FILE))}: {line}" if len(os.fsencode(line)) <= LONGEST_LINE else ""
 
 
 def _make_pattern(name: bytes) -> str:

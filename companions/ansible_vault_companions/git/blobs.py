@@ -25,9 +25,9 @@ class Blobs:
         self.git.terminate()
         self.git.communicate()
 
-    def read(self, blob: str, is_old: bool = False) -> bytes | None:
-        """The content of a blob; None if it is neither a vault nor short enough for YAML. Of an old vault, and of one
-        that is too long, only the beginning."""
+    def read(self, blob: str, is_old: bool = False) -> bytes:
+        """The content of a blob. Of an old vault, and of what is too long for a vault or for YAML, only the beginning,
+        which is too long as well."""
         assert self.git.stdin and self.git.stdout
         self.git.stdin.write(blob.encode() + b"\n")
         self.git.stdin.flush()
@@ -36,10 +36,15 @@ class Blobs:
             raise Refused("this is a partial clone, which lacks contents of files; clone again without --filter")
         size = int(words[2])
         content: bytes = self.git.stdout.read(min(size, len(MAGIC)))
-        if size <= (LIMIT if content == MAGIC and not is_old else LONGEST):
-            rest = self.git.stdout.read(size - len(content) + 1)[:-1]
-            return content if content == MAGIC and is_old else content + rest
-        # It is quicker to begin again than to read the rest.
-        self.__exit__()
-        self.__enter__()
-        return content if content == MAGIC else None
+        if content != MAGIC:
+            content += self.git.stdout.read(min(size, LONGEST + 1) - len(content))
+        elif size <= LIMIT and not is_old:
+            content += self.git.stdout.read(size - len(content))
+        left = size - len(content)
+        if left <= LONGEST:
+            self.git.stdout.read(left + 1)
+        else:
+            # It is quicker to begin again than to read the rest.
+            self.__exit__()
+            self.__enter__()
+        return content

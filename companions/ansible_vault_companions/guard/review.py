@@ -1,9 +1,10 @@
-"""Refuses what a commit must not do to vaults and values, by the RULES of ansible-vault-hook(1)."""
+"""Refuses what a commit must not do to vaults and values, by the sentences of `ansible-vault-hook --help`."""
 
 from __future__ import annotations
 
 import os
-from typing import Iterator
+from functools import partial
+from typing import Callable, Iterator
 
 from ansible_vault_companions.envelopes.header import MAGIC
 from ansible_vault_companions.git import history, indexes
@@ -11,37 +12,47 @@ from ansible_vault_companions.git.blobs import Blobs
 from ansible_vault_companions.git.commands import read_line, run_git
 from ansible_vault_companions.git.indexes import Differences, File, Index
 from ansible_vault_companions.git.links import find_target
-from ansible_vault_companions.guard import contents
-from ansible_vault_companions.guard.change import Change
-from ansible_vault_companions.guard.faults import Fault
-from ansible_vault_companions.guard.values import Values
-from ansible_vault_companions.guard.vaults import Vaults
+from ansible_vault_companions.guard import (
+    advice,
+    damage_rule,
+    leftover_rule,
+    mark_rule,
+    pointer_rule,
+    tag_rule,
+    unreadable_rule,
+)
+from ansible_vault_companions.guard.advice import DIGITS, Fault
+from ansible_vault_companions.guard.evidence import Evidence
+from ansible_vault_companions.guard.value_rule import ValueRule
+from ansible_vault_companions.guard.vault_rule import VaultRule
 from ansible_vault_companions.output import write_error
 from ansible_vault_companions.quoting import escape
+from ansible_vault_companions.refusals import Refused
 
-# How to allow what is staged, and what a commit has.
-TO_STAGE = "if that is intended, commit with --no-verify, or stage this line, too, in "
-TO_COMMIT = "if that is intended, commit this line in "
-# What to do about a commit. No later one changes what the hook says of it.
-REWRITE = "rewrite the commit, for example with `git rebase -i`; if that was intended, check only those after it"
+NO_COMMIT = (
+    "--since has {} in place of a commit, as pipelines give it for a new branch: give the branch that it leaves, as in "
+    "`--since origin/main`, or use --all"
+)
 
 
-def find_faults(change: Change) -> Iterator[tuple[File, Fault]]:
+def find_faults(evidence: Evidence) -> Iterator[tuple[File, Fault]]:
     """Each refused file, with the first of its faults."""
-    vaults, values = Vaults(change), Values(change)
-    for file in change.now:
-        if file.blob:
-            fault = (
-                contents.find_damage(change, file)
-                or contents.find_pointer(change, file)
-                or vaults.find_fault(file)
-                or values.find_fault(file)
-                or contents.find_unreadable(change, file)
-                or contents.find_incomparable(change, file)
-                or contents.find_unencrypted(change, file)
-            )
-            if fault:
-                yield file, fault
+    vault_rule, value_rule = VaultRule(evidence), ValueRule(evidence)
+    for file in evidence.now:
+        if not file.blob:
+            continue
+        fault = (
+            leftover_rule.find_fault(file)
+            or damage_rule.find_fault(evidence, file)
+            or pointer_rule.find_fault(evidence, file, vault_rule)
+            or vault_rule.find_fault(file)
+            or value_rule.find_fault(file)
+            or unreadable_rule.find_fault(evidence, file)
+            or mark_rule.find_fault(evidence, file)
+            or tag_rule.find_fault(evidence, file)
+        )
+        if fault:
+            yield file, fault
 
 
 class Review:
@@ -53,53 +64,55 @@ class Review:
         self.reported: set[tuple[bytes, str]] = set()
 
     def look_at(
-        self, index: Index, changes: list[Differences], where: str = "", to_allow: str = TO_STAGE, hint: str = ""
+        self, index: Index, changes: list[Differences], advise: Callable[[Fault], str], where: str = ""
     ) -> None:
-        """Checks changes with the attributes of an index. `where` precedes each message, and a hint follows it: the
-        fault's own, unless one is given. A link counts as the file that it leads to, and as none if that is not in the
-        index."""
+        """Checks changes with the attributes of an index. `where` precedes each message, and advice follows it. A link
+        counts as the file that it leads to, and as none if that is not in the index."""
         for differences in changes:
-            files = []
-            for file in differences.files:
-                blob = find_target(index, file, self.blobs) if file.is_link else file.blob
-                files.append(file._replace(blob=blob))
-            for file, fault in find_faults(Change(differences._replace(files=files), index, self.blobs)):
-                if (file.name, file.blob) in self.reported:
-                    continue
-                self.reported.add((file.name, file.blob))
-                why = f"is a link to a file that {fault.why}" if file.is_link else fault.why
-                own = f"{fault.hint}{to_allow}{fault.line}" if fault.line else fault.hint
-                write_error(f"{self.program}: {where}{escape(os.fsdecode(file.name))} {why}")
-                write_error(f"  {hint or own}")
+            files = [self._follow(index, file) for file in differences.files]
+            for file, fault in find_faults(Evidence(differences._replace(files=files), index, self.blobs)):
+                if (file.name, file.blob) not in self.reported:
+                    self.reported.add((file.name, file.blob))
+                    why = f"is a link to a file that {fault.why}" if file.is_link else fault.why
+                    write_error(f"{self.program}: {where}{escape(os.fsdecode(file.name))} {why}")
+                    write_error(f"  {advise(fault)}")
+
+    def _follow(self, index: Index, file: File) -> File:
+        return file._replace(blob=find_target(index, file, self.blobs)) if file.is_link else file
 
 
 def review_staged(review: Review, paths: list[str]) -> None:
     """Reviews the staged changes, and the files at or below these paths even if they did not change."""
     index = indexes.read_staged()
     named = Differences("", index.at(paths) if paths else [])
-    review.look_at(index, [*index.changes(), named])
+    review.look_at(index, [*index.changes(), named], partial(advice.write_advice, words=advice.STAGED))
 
 
 def review_since(review: Review, name: str) -> None:
     """Reviews each commit after this one, and what all of them change since the merge bases."""
+    if not name.strip("0"):
+        raise Refused(NO_COMMIT.format(name or "nothing"))
     first, last = history.find_commit(name), history.find_commit("HEAD")
     for commit in run_git("rev-list", "--reverse", "--topo-order", f"{first}..{last}", "--").decode().split():
         with indexes.open_index(commit) as index:
-            review.look_at(index, index.changes(), f"{commit[:10]}: ", hint=REWRITE)
+            advise = partial(advice.advise_on_commit, commit=commit)
+            review.look_at(index, index.changes(), advise, f"{commit[:DIGITS]}: ")
     with indexes.open_index(last) as index:
-        bases = read_line("merge-base", "--all", first, last).split()
-        review.look_at(index, [index.change(base) for base in bases], f"{last[:10]}: ", hint=REWRITE)
+        for base in read_line("merge-base", "--all", first, last).split():
+            advise = partial(advice.advise_on_commits, base=base, last=last)
+            review.look_at(index, [index.change(base)], advise, f"{last[:DIGITS]}: ")
 
 
 def review_all(review: Review) -> None:
     """Reviews all files, the changes of the last commit, and every file that was a vault in an earlier commit."""
     commit = history.find_commit("HEAD")
+    advise = partial(advice.write_advice, words=advice.COMMITTED)
     with indexes.open_index(commit) as index:
         former = index.former(commit)
         blobs = {file.before for file in former}
         vaults = {blob for blob in blobs if review.blobs.read(blob, is_old=True) == MAGIC}
         # One version is enough.
         were_vaults = {file.name: file for file in sorted(former) if file.before in vaults}
-        review.look_at(index, [Differences("", index.at([]))], to_allow=TO_COMMIT)
-        review.look_at(index, index.changes(), hint=REWRITE)
-        review.look_at(index, [Differences("an earlier commit", [*were_vaults.values()])], to_allow=TO_COMMIT)
+        review.look_at(index, [Differences("", index.at([]))], advise)
+        review.look_at(index, index.changes(), partial(advice.write_advice, words=advice.LAST))
+        review.look_at(index, [Differences("an earlier commit", [*were_vaults.values()])], advise)

@@ -6,14 +6,15 @@ import os
 from functools import cached_property
 
 from ansible_vault_companions.envelopes.file_kinds import PROSE, YAML
-from ansible_vault_companions.git import facts, indexes
+from ansible_vault_companions.git import indexes
 from ansible_vault_companions.git.attributes import Attributes, read_attributes
 from ansible_vault_companions.git.blobs import Blobs
-from ansible_vault_companions.git.facts import Facts
 from ansible_vault_companions.git.indexes import Differences, File, Index
+from ansible_vault_companions.guard import facts
+from ansible_vault_companions.guard.facts import Facts
 
 
-class Change:
+class Evidence:
     """It reads each content once, and again only if a plaintext may have moved."""
 
     def __init__(self, differences: Differences, index: Index, blobs: Blobs) -> None:
@@ -29,9 +30,10 @@ class Change:
 
     def find_facts(self, blob: str, needs_plain: bool = False, is_old: bool = False) -> Facts:
         """What is known of a blob, which may be there under several names."""
-        key = blob, needs_plain, is_old
+        key = (blob, needs_plain, is_old)
         if key not in self.known:
-            self.known[key] = facts.find_facts(self.blobs.read(blob, is_old) if blob else b"", needs_plain)
+            content = self.blobs.read(blob, is_old) if blob else b""
+            self.known[key] = facts.find_facts(content, needs_plain)
         return self.known[key]
 
     @cached_property
@@ -44,11 +46,6 @@ class Change:
 
     def find_earlier(self, file: File) -> Attributes:
         return self.earlier.get(file.name, Attributes())
-
-    def is_exempt(self, file: File) -> bool:
-        """Whether a line exempts a file that the change adds. For a new file, it may be older."""
-        is_exempt = self.attributes[file.name].is_exempt
-        return is_exempt and not (file.before and self.find_earlier(file).is_exempt)
 
     def is_example(self, file: File) -> bool:
         """Whether a file is a document, which may have envelopes that are none."""

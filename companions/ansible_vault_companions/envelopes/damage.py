@@ -1,0 +1,56 @@
+"""What is wrong with the envelopes of a file: damage, conflict markers, plaintext with their tag, or that it has none."""
+
+from __future__ import annotations
+
+from ansible_vault_companions.envelopes import conflicts, header
+from ansible_vault_companions.envelopes.content import Content
+from ansible_vault_companions.envelopes.header import MAGIC
+from ansible_vault_companions.envelopes.node import LOOSE, STRAY
+
+HEADER = MAGIC + b";"
+# How the pointer begins that git-lfs stores in place of a file.
+POINTER = b"version https://git-lfs.github.com/spec/"
+
+NOT_ENCRYPTED = "is not encrypted"
+IN_LFS = "is a pointer of git-lfs, so its content cannot be checked"
+NOT_READ = "cannot be checked: {}"
+TAGGED = "has plaintext with the tag `!vault` in line {}"
+DAMAGED_VAULT = "is a damaged vault"
+DAMAGED_VALUE = "has a damaged value in line {}"
+
+
+def is_unmerged(document: Content) -> bool:
+    """Whether git's conflict markers are in an envelope or beside one, even if git has torn it."""
+    return conflicts.is_unmerged(document.data) and bool(document.values or HEADER in document.data)
+
+
+def find_damage(document: Content) -> str:
+    """What is wrong with the envelopes of a file; empty if nothing is."""
+    if is_unmerged(document):
+        return conflicts.UNMERGED
+    if document.is_vault:
+        return "" if header.is_whole_envelope(document.data) else DAMAGED_VAULT
+    for value in document.values:
+        if value.is_envelope and value.style != LOOSE and not value.is_whole:
+            return DAMAGED_VALUE.format(value.line)
+    return ""
+
+
+def find_tagged(document: Content) -> str:
+    """What is wrong with a text that has the tag of an envelope and is none; empty if there is no such text."""
+    for value in document.values:
+        if value.is_tagged and not value.is_envelope:
+            return TAGGED.format(value.line)
+    return ""
+
+
+def find_unencrypted(document: Content) -> str:
+    """Why a marked file that is not empty is refused; empty if it is not."""
+    if document.data.startswith(POINTER):
+        return IN_LFS
+    if not document.is_vault:
+        if document.fault and document.values:
+            return NOT_READ.format(document.fault)
+        if not any(value.is_envelope for value in document.values if value.style not in (STRAY, LOOSE)):
+            return NOT_ENCRYPTED
+    return find_tagged(document) or find_damage(document)

@@ -1,0 +1,126 @@
+"""What the hook has to know of a content: its envelopes and its plaintexts, by the keys that lead to them, and faults."""
+
+from __future__ import annotations
+
+from collections import Counter
+from typing import Iterator, NamedTuple
+
+from ansible_vault_companions import limits
+from ansible_vault_companions.envelopes.content import Content
+from ansible_vault_companions.envelopes.damage import (
+    HEADER,
+    IN_LFS,
+    NOT_ENCRYPTED,
+    POINTER,
+    find_damage,
+    find_tagged,
+    find_unencrypted,
+)
+from ansible_vault_companions.envelopes.detection import may_have_envelope
+from ansible_vault_companions.envelopes.header import MAGIC
+from ansible_vault_companions.envelopes.key_paths import KeyPath
+from ansible_vault_companions.envelopes.node import ALIAS, NO_SCALAR, Node
+from ansible_vault_companions.envelopes.strays import find_strays
+from ansible_vault_companions.envelopes.yaml_nodes import BINARY, NotYaml, read_nodes
+from ansible_vault_companions.guard.key_paths import Keys, make_keys
+from ansible_vault_companions.guard.placeholders import is_placeholder
+from ansible_vault_companions.limits import TooMuch
+
+# For each text at some keys, a number that stands for it, and how often it is there.
+Texts = dict[Keys, "Counter[int]"]
+NONE: Counter[int] = Counter()
+# A path, whether an envelope is there, and the number of its text.
+Leaf = tuple[KeyPath, bool, int]
+
+
+class Facts(NamedTuple):
+    is_vault: bool = False
+    is_empty: bool = False
+    is_pointer: bool = False
+    # Why it cannot be read as YAML, and whether that is because it exceeds a limit.
+    fault: str = ""
+    is_too_much: bool = False
+    # How many envelopes it has; if it cannot be read, how many headers of some.
+    envelopes: int = 0
+    # What is wrong with its envelopes, with what only has their tag, and with the whole if it is marked.
+    damage: str = ""
+    tagged: str = ""
+    unencrypted: str = NOT_ENCRYPTED
+    encrypted: Texts = {}
+    plain: Texts = {}
+
+
+def find_facts(data: bytes, needs_plain: bool = False) -> Facts:
+    """Reads a content that may have an envelope, or the plaintexts of any."""
+    try:
+        with limits.limit_work(limits.HOOK_SECONDS):
+            return _read_facts(data, needs_plain)
+    except TooMuch as fault:
+        return Facts(fault=str(fault), is_too_much=True, envelopes=data.count(HEADER))
+
+
+def _read_facts(data: bytes, needs_plain: bool) -> Facts:
+    if data.startswith(MAGIC):
+        return Facts(is_vault=True, envelopes=1, damage=find_damage(Content(data)), unencrypted="")
+    if len(data) > limits.LONGEST:
+        raise TooMuch(limits.TOO_LONG)
+    if not data.strip():
+        return Facts(is_empty=True, unencrypted="")
+    if data.startswith(POINTER):
+        return Facts(is_pointer=True, fault=IN_LFS, unencrypted=IN_LFS)
+    if not (needs_plain or may_have_envelope(data)):
+        return Facts()
+    document, leaves = _read_leaves(data)
+    found = Facts(
+        fault=document.fault,
+        envelopes=data.count(HEADER) if document.fault else sum(value.is_envelope for value in document.values),
+        damage=find_damage(document),
+        tagged=find_tagged(document),
+        unencrypted=find_unencrypted(document),
+        encrypted={},
+        plain={},
+    )
+    for path, is_encrypted, text in leaves:
+        texts = found.encrypted if is_encrypted else found.plain
+        texts.setdefault(make_keys(path), Counter())[text] += 1
+    return found
+
+
+def _read_leaves(data: bytes) -> tuple[Content, list[Leaf]]:
+    """The envelopes, and the texts at each path that leads to them, from one look at the nodes."""
+    document, leaves = Content(data), list[Leaf]()
+    # How many keys and texts the leaves have.
+    number = 0
+    # For each anchor its path, and the number of its first text.
+    anchors: dict[str, tuple[KeyPath, int]] = {}
+    try:
+        for node in read_nodes(data, every=True):
+            if node.is_value:
+                document.values.append(node)
+            for leaf in _list_leaves(node, leaves, anchors):
+                number += 1 + len(leaf[0])
+                if number > limits.MOST_KEYS:
+                    raise TooMuch(limits.TOO_MANY)
+                leaves.append(leaf)
+    except NotYaml as fault:
+        document, leaves = Content(data, fault=str(fault)), []
+    if BINARY not in data:
+        document.values += find_strays(data, document.values)
+    return document, leaves
+
+
+def _list_leaves(node: Node, leaves: list[Leaf], anchors: dict[str, tuple[KeyPath, int]]) -> Iterator[Leaf]:
+    """The text of a node; or of an alias, all that is at and below its anchor, since it counts as what it stands for."""
+    if node.style == ALIAS:
+        base, first = anchors.get(node.anchor, ((), len(leaves)))
+        for number in range(first, len(leaves)):
+            path, is_encrypted, text = leaves[number]
+            if path[: len(base)] != base:
+                break
+            if len(node.path) + len(path) - len(base) > limits.DEEPEST:
+                raise TooMuch(limits.TOO_DEEP)
+            yield node.path + path[len(base) :], is_encrypted, text
+        return
+    anchors[node.anchor] = node.path, len(leaves)
+    if node.style != NO_SCALAR and not is_placeholder(node.text):
+        yield node.path, node.is_value and node.is_envelope, hash(node.text.strip())

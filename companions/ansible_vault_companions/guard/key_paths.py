@@ -1,0 +1,59 @@
+"""The keys that lead to a text in YAML, how .gitattributes names them, and how those of two files are compared.
+
+All items of a list have the same keys, so their order does not matter.
+"""
+
+from __future__ import annotations
+
+import re
+from typing import Iterable
+
+from ansible_vault_companions.envelopes.key_paths import KeyPath
+from ansible_vault_companions.envelopes.node import JSON_KEY
+
+# The key of every list item, and the key that merges a mapping into another, which is not part of a path.
+ITEM, MERGE = "[]", "<<"
+# What the value of an attribute cannot have, or what separates keys.
+UNWRITTEN = re.compile(r"[^\w$@/:+*-]")
+
+Keys = tuple[str, ...]
+
+
+def make_keys(path: KeyPath) -> Keys:
+    keys = list[str]()
+    before: str | int | None = None
+    for step in path:
+        is_merged_item = isinstance(step, int) and before == MERGE
+        if step not in (MERGE, JSON_KEY) and not is_merged_item:
+            keys.append(ITEM if isinstance(step, int) else step)
+        before = step
+    return tuple(keys)
+
+
+def write_keys(keys: Keys) -> str:
+    """A key path as in .gitattributes, with what cannot be written there percent-encoded: `users[].password`."""
+    steps = (key if key is ITEM else UNWRITTEN.sub(_encode, key) for key in keys)
+    return ".".join(steps).replace(f".{ITEM}", ITEM) or "."
+
+
+def _encode(text: re.Match[str]) -> str:
+    return "".join(f"%{byte:02X}" for byte in text[0].encode())
+
+
+def list_branches(paths: Iterable[Keys]) -> set[Keys]:
+    """These and those above them."""
+    return {keys[:length] for keys in paths for length in range(len(keys) + 1)}
+
+
+def align_paths(paths: Iterable[Keys]) -> dict[Keys, Keys]:
+    """Each path in the form in which it is compared: a list and a mapping by name stand for each other, so where one of
+    the paths has an item, the keys of the others count as items, too."""
+    aligned: dict[Keys, Keys] = dict.fromkeys(paths, ())
+    deepest = max(map(len, aligned), default=0)
+    for depth in range(deepest):
+        deeper = [keys for keys in aligned if len(keys) > depth]
+        lists = {aligned[keys] for keys in deeper if keys[depth] == ITEM}
+        for keys in deeper:
+            above = aligned[keys]
+            aligned[keys] = (*above, ITEM if above in lists else keys[depth])
+    return aligned

@@ -1,0 +1,17 @@
+"""No file is added that a companion left behind when it was killed."""
+
+from __future__ import annotations
+
+import os
+
+from ansible_vault_companions.files import replacing
+from ansible_vault_companions.git.indexes import File
+from ansible_vault_companions.guard.advice import Fault, Remedy
+
+LEFTOVER = "was left behind by a companion, and may be plaintext"
+
+
+def find_fault(file: File) -> Fault | None:
+    if replacing.is_leftover(os.path.basename(os.fsdecode(file.name))):
+        return Fault(LEFTOVER, Remedy.REMOVE, file.name)
+    return None

@@ -1,0 +1,17 @@
+"""A marked file is empty, a vault, or YAML with a value."""
+
+from __future__ import annotations
+
+from ansible_vault_companions.git.attributes import VAULT, make_line
+from ansible_vault_companions.git.indexes import File
+from ansible_vault_companions.guard.advice import Fault, Remedy
+from ansible_vault_companions.guard.evidence import Evidence
+
+UNMARKED = f"!diff !{VAULT}"
+
+
+def find_fault(evidence: Evidence, file: File) -> Fault | None:
+    why = evidence.now[file].unencrypted
+    if not (why and evidence.attributes[file.name].is_marked):
+        return None
+    return Fault(why, Remedy.UNMARK, file.name, make_line(file.name, UNMARKED, evidence.index.files))

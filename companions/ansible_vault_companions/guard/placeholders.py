@@ -1,0 +1,28 @@
+"""Texts that may take the place of a secret: nothing, the password of a locked account, or Jinja expressions."""
+
+from __future__ import annotations
+
+import re
+
+NOTHING = (b"", b"~", b"null")
+LOCKED = (b"!", b"*")
+# A string in an expression, and how deep braces may be within its own. Nobody exceeds this.
+STRING = r"'(?:[^'\\]|\\.)*'|\"(?:[^\"\\]|\\.)*\""
+DEEPEST_BRACES = 4
+
+
+def _match_braced(depth: int) -> str:
+    """A pattern for a part of an expression, with braces up to this depth. The parts of `f({'a': '}'})` are `f`, `(`,
+    the braces, whose depth is 1, and `)`."""
+    part = rf"[^{{}}'\"]|{STRING}"
+    return part if depth == 0 else rf"{part}|\{{(?:{_match_braced(depth - 1)})*\}}"
+
+
+EXPRESSION = rf"\{{\{{(?:{_match_braced(DEEPEST_BRACES)})+\}}\}}"
+EXPRESSIONS = re.compile(rf"(?:\s|{EXPRESSION})+".encode(), re.DOTALL)
+
+
+def is_placeholder(text: bytes) -> bool:
+    """Whether a whole text is no secret."""
+    own = text.strip()
+    return own.lower() in (*NOTHING, *LOCKED) or EXPRESSIONS.fullmatch(own) is not None

@@ -1,0 +1,16 @@
+"""What has the tag `!vault` in a file that has or had an envelope is an envelope, whether the file is marked or not."""
+
+from __future__ import annotations
+
+from ansible_vault_companions.git.indexes import File
+from ansible_vault_companions.guard import exemption_rule
+from ansible_vault_companions.guard.advice import Fault, Remedy
+from ansible_vault_companions.guard.evidence import Evidence
+
+
+def find_fault(evidence: Evidence, file: File) -> Fault | None:
+    now = evidence.now[file]
+    has_or_had = now.envelopes or evidence.before[file].envelopes
+    if not (now.tagged and has_or_had) or exemption_rule.allows_damage(evidence, file):
+        return None
+    return exemption_rule.make_damage(evidence, file, now.tagged, Remedy.ENCRYPT)
