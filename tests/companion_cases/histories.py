@@ -80,6 +80,10 @@ PASSING: dict[str, tuple[Content, Content]] = {
         {"a/x.yml": VAULT, "b/x.yml": OTHER},
         {"c/x.yml": sealed("dev"), "d/x.yml": sealed("prod"), "e/x.yml": X},
     ),
+    "a text and a list without keys, and others": (
+        {"a.yml": b"- " + PW[4:], "b.yml": PW[4:]},
+        {"c.yml": PLAIN, "d.yml": b"- name: x\n", "e.txt": b"text\n"},
+    ),
     "meant damage": (X, {"a.txt": CONFLICT % (PW, CUT), ".gitattributes": b"*.txt -ansible-vault diff=ansible-vault"}),
 }
 pw, db, elsewhere = (IN_PART.format(key) for key in ("pw", "db.pw", "db.pw of a.yml"))

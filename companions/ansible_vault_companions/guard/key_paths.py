@@ -40,6 +40,11 @@ def _encode(text: re.Match[str]) -> str:
     return "".join(f"%{byte:02X}" for byte in text[0].encode())
 
 
+def has_name(keys: Keys) -> bool:
+    """Whether a key is on the path. A whole text and the items of a list at the top have none."""
+    return any(key != ITEM for key in keys)
+
+
 def list_branches(paths: Iterable[Keys]) -> set[Keys]:
     """These and those above them."""
     return {keys[:length] for keys in paths for length in range(len(keys) + 1)}

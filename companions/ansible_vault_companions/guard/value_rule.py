@@ -12,7 +12,7 @@ from ansible_vault_companions.guard import exemption_rule
 from ansible_vault_companions.guard.advice import Fault
 from ansible_vault_companions.guard.evidence import Evidence
 from ansible_vault_companions.guard.facts import NONE, Facts
-from ansible_vault_companions.guard.key_paths import ITEM, Keys, align_paths, list_branches, write_keys
+from ansible_vault_companions.guard.key_paths import ITEM, Keys, align_paths, has_name, list_branches, write_keys
 from ansible_vault_companions.quoting import escape
 
 NOW_PLAIN = "has {} in plaintext, which {} encrypted{}"
@@ -24,7 +24,8 @@ class ValueRule:
 
     @cached_property
     def removed(self) -> dict[Keys, bytes]:
-        """The keys of which a file has fewer values, if an envelope of them is gone, each with such a file."""
+        """The keys of which a file has fewer values, if an envelope of them is gone, each with such a file. Keys without
+        a name say nothing of other files."""
         before, now = self.evidence.before, self.evidence.now
         gone = count_envelopes(before.values()) - count_envelopes(now.values())
         removed = {}
@@ -34,7 +35,7 @@ class ValueRule:
             for keys, texts in before[file].encrypted.items():
                 left = now[file].encrypted.get(keys, NONE)
                 is_fewer = sum(texts.values()) > sum(left.values())
-                if is_fewer and not gone.keys().isdisjoint(texts - left):
+                if has_name(keys) and is_fewer and not gone.keys().isdisjoint(texts - left):
                     removed[keys] = file.name
         return removed
 
