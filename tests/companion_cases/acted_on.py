@@ -148,6 +148,7 @@ VALUES = KEY.encode() + block("old", name="").lstrip(b": ") + b"x:\n- " + block(
 PLAIN = f"{KEY}plain\nx: [pw: plain]\ny: 1\n".encode()
 MARKED, DRIVER = "*.yml diff=ansible-vault\n", "*.yml merge=ansible-vault\n"
 TAKE_THEIRS, TYPE = "sed -i '/^<<<</,/^====/d; /^>>>>/d' \"$1\"", "echo 'b: !vault {}' >> \"$1\""
+TAGGED, SAVE = block("old") + b"b: !vault x\ny: 1\n", "sed -i 's/y: 1/y: 2/' \"$1\""
 FAIL = f"{CHANGE}; exit 3"
 ORIGIN = "git clone -q . ../other && git -C ../other branch more && git remote add origin $PWD/../other"
 SHALLOW = """git commit -q --allow-empty -m second && git clone -q --bare . ../all && rm -rf .git
@@ -156,8 +157,9 @@ ROWS = {
     "damage": Row(staged(OLD_VAULT, OLD_VAULT[:-99]), HOOK, "`(git .*)` if it is whole", in_shell),
     "a damaged value": Row(staged(block("old"), block("old")[:-99]), HOOK, "`(git .*)` if it is whole", in_shell),
     "a leftover": Row(lambda case: case.stage(TEXT, case.name + LEFTOVER), HOOK, "remove it with `(.*)`", in_shell),
-    "plaintext": Row(staged(OLD_VAULT, TEXT), HOOK, "this line, too, in (.*)", paste, []),
-    "plain values": Row(staged(VALUES, PLAIN), HOOK, "this line, too, in (.*)", paste, []),
+    "plaintext": Row(staged(OLD_VAULT, TEXT), HOOK, "at the end of (.*)", paste, []),
+    "plain values": Row(staged(VALUES, PLAIN), HOOK, "at the end of (.*)", paste, []),
+    "a tag": Row(staged(block("old"), TAGGED), HOOK, "change with (.*?) does", resolve, [TEXT, b"x"], "", SAVE),
     "marked": Row(staged(b"", TEXT), HOOK, "at the end of (.*)", paste, [], MARKED),
     "markers": Row(merged(*VAULTS, is_added=True), HOOK, "conflict with (.*)", resolve, [THEIRS], "", TAKE_THEIRS),
     "unmerged": Row(

@@ -13,7 +13,7 @@ class Remedy(Enum):
     """What to do, with words that depend on the command in braces."""
 
     ALLOW = "{allow}"
-    ENCRYPT = "encrypt the value, or remove the tag"
+    ENCRYPT = "encrypt it, as each change with ansible-vault-edit does, or remove the tag"
     OUT_OF_LFS = (
         "run `git add --renormalize -- {path}` with this line, which keeps it out of git-lfs, at the end of {line}"
     )

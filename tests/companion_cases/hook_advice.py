@@ -1,0 +1,199 @@
+"""ansible-vault-hook: what it advises is typed as it stands, for files and keys with awkward names, in the command that
+says so, and then nothing is refused."""
+
+import json
+import os
+import re
+from collections.abc import Callable, Iterable
+from typing import NamedTuple
+
+import pytest
+
+from companion_cases import HOOK, TEXT, Place, block, lines_of, sealed
+from companion_cases.repository import add_and_commit, committed, told, under_git
+from lib.needs import needs
+
+pytestmark = pytest.mark.usefixtures("git")
+
+# What has a meaning in a shell, a pattern, an option, a revision, a message or YAML, or is no character.
+SIGNS = [*" '\"#!?*[]{}()<>|&;$`\\~^:%,=@+-\t\n\r\x1b\xa0ü\u2028日", os.fsdecode(b"\xff")]
+NAMES = [f"{sign}a{sign}{number}.yml{sign}" for number, sign in enumerate(SIGNS)]
+NAMES += [f"in {sign} it/{number}.yml" for number, sign in enumerate(SIGNS)]
+NAMES += ["--", "-rf", "HEAD", "!a.yml", "#a.yml", '"a.yml"', ":/a.yml", ":(top)a.yml", "\\x61.yml", ".a.yml"]
+# Keys as YAML has them, also those that are no strings.
+KEYS = [json.dumps(f"{sign}a{sign}{number}") for number, sign in enumerate(SIGNS[:-1])]
+KEYS += [f'"{number} {os.fsdecode(bytes([number]))}"' for number in (0x80, 0xC3, 0xFF)]
+KEYS += ['""', '"[]"', '"a.b"', '"a[].b"', "{a: b}", "[a]", "1", "null", "true", "2001-01-01", "!x y", "<<", '"<<"']
+VAULT, VALUE = sealed("old"), block("old", name="pw")
+POINTER, TAB = b"version https://git-lfs.github.com/spec/v1\noid sha256:61\nsize 5\n", b"\tx: 1\n"
+LEFTOVER = ".ansible-vault-abcdefgh.new"
+
+Act = Callable[[Place, str], None]
+
+
+def paste(place: Place, advice: str) -> None:
+    """Add the line to the file that is named before it."""
+    [(path, line)] = re.findall("at the end of (.*?gitattributes): (.*)", advice)
+    with open(place.tree / path, "ab") as file:
+        file.write(os.fsencode(line) + b"\n")
+
+
+def type_it(place: Place, advice: str) -> None:
+    """Run the command."""
+    [command] = re.findall("with `(git .*)`(?: if it is whole there;.*)?$", advice)
+    done = place.shell(command, "bash")
+    assert done.returncode == 0, (command, done)
+
+
+def restore(place: Place, advice: str) -> None:
+    """Take the first version of those that the command lists."""
+    [(command, path)] = re.findall("`(git log --oneline -- (.*))` lists", advice)
+    *_, first = place.shell(command, "bash").stdout.splitlines()
+    done = place.shell(f"git checkout {first.split()[0]} -- {path}", "bash")
+    assert done.returncode == 0, (command, done)
+
+
+def paste_and_type(place: Place, advice: str) -> None:
+    """What is in the directory is what git-lfs would put there."""
+    paste(place, advice)
+    [command] = re.findall("run `(.*)` with this line", advice)
+    for name in place.files():
+        if place.get(name) == POINTER:
+            place.put(name, VAULT)
+    done = place.shell(command, "bash")
+    assert done.returncode == 0, (command, done)
+
+
+class Row(NamedTuple):
+    """Contents before and after a commit, and what acts on the advice for what is staged, and for what is committed."""
+
+    before: bytes
+    after: bytes
+    staged: Act
+    committed: Act
+    # What marks the files.
+    attributes: str = ""
+    # Where the files are before and after, by their names.
+    old: str = "{}"
+    new: str = "{}"
+
+
+# Only its suffix says that a file is YAML.
+YAML = "{}.yml"
+ROWS = {
+    "a vault": Row(VAULT, TEXT, paste, paste),
+    "a removed vault": Row(VAULT, TEXT, paste, paste, old="old/{}"),
+    "a value": Row(VALUE, b"pw: plain\n", paste, paste),
+    "no YAML any more": Row(VALUE, TAB, paste, paste, "", YAML, YAML),
+    "no YAML before": Row(TAB + VALUE, TEXT, paste, paste, "", YAML, YAML),
+    "damage": Row(VAULT, VAULT[:-100], type_it, restore),
+    "damage that is meant": Row(VAULT, VAULT[:-100], paste, paste),
+    "a leftover": Row(TEXT, TEXT, type_it, type_it, "", "{}.d/x", "{}.d/" + LEFTOVER),
+    "marked": Row(b"", TEXT, paste, paste, "* diff=ansible-vault\n.gitattributes !diff\n"),
+    "a pointer": Row(VAULT, POINTER, paste_and_type, paste_and_type),
+}
+
+
+def list_advice(place: Place, *words: str) -> list[str]:
+    """Run the hook, and return its advice on each file."""
+    done = place.run(HOOK, *words)
+    advice = [line for line in done.stderr.splitlines() if line.startswith("  ")]
+    assert len(advice) == len(told(done)) and all(line.isprintable() for line in advice)
+    return advice
+
+
+def put_change(place: Place, row: Row) -> None:
+    """Commit what was before, and stage what comes after in its place."""
+    needs("bash")
+    under_git(place, row.attributes)
+    for name in NAMES:
+        place.put(row.old.format(name), row.before)
+    add_and_commit(place)
+    place.shell("git rm -rq . && git checkout -q HEAD .gitattributes")
+    for name in NAMES:
+        place.put(row.new.format(name), row.after)
+    place.shell("git add -A")
+
+
+@pytest.mark.parametrize("row", ROWS.values(), ids=ROWS)
+def test_staged(place: Place, row: Row) -> None:
+    """A line has to be staged, too."""
+    put_change(place, row)
+    advice = list_advice(place)
+    assert len(advice) == len(NAMES)
+    for line in advice:
+        row.staged(place, line)
+    left = list_advice(place)
+    assert len(left) == (len(NAMES) if row.staged is paste else 0)
+    place.shell("git add .gitattributes")
+    assert list_advice(place) == []
+
+
+@pytest.mark.parametrize("row", ROWS.values(), ids=ROWS)
+def test_committed(place: Place, row: Row) -> None:
+    """A later commit repairs what --all refuses. For --since, only another beginning helps, or another history."""
+    put_change(place, row)
+    place.shell("git commit -qm after --no-verify")
+    advice = list_advice(place, "--since", "HEAD~1")
+    assert len(advice) == len(NAMES) and len({*advice}) == 1
+    [(base, later)] = re.findall("rewrite the commit, .*`git rebase -i (.*)`; .* begin later: (--since .*)", advice[0])
+    assert list_advice(place, *later.split()) == []
+    assert place.shell(f"git rev-parse {base}").stdout == place.shell("git rev-parse HEAD~1").stdout
+    advice = list_advice(place, "--all")
+    assert len(advice) == len(NAMES)
+    for line in advice:
+        row.committed(place, line)
+    place.shell("git add -A && git commit -qm repair --no-verify")
+    assert list_advice(place, "--all") == []
+
+
+def test_keys(place: Place) -> None:
+    """Each in a file of its own, at the top, in a mapping and in a list, since git ignores long lines."""
+    under_git(place, "")
+    forms = [b"%s: %s\n", b"m:\n  ? %s\n  : %s\n", b"l:\n- ? %s\n  : %s\n"]
+    envelope = b'!vault "%s"' % VAULT.replace(b"\n", b"\\n")
+    for is_plain in (False, True):
+        for number, (key, form) in enumerate((key, form) for form in forms for key in KEYS):
+            place.put(f"{number}.yml", form % (os.fsencode(key), b"plain" if is_plain else envelope))
+        place.shell("git add -A" if is_plain else "git add -A && git commit -qm before")
+    advice = list_advice(place)
+    assert len(advice) == len(KEYS) * len(forms)
+    for line in advice:
+        paste(place, line)
+    place.shell("git add .gitattributes")
+    assert list_advice(place) == []
+
+
+def test_no_line(place: Place) -> None:
+    """If no line helps, no line is shown."""
+    names = [f"a_long_name_{number}" for number in range(150)]
+    under_git(place, "b.yml -ansible-vault\nc.yml ansible-vault-plain=pw\n")
+    files = {"a.yml": b"".join(block("old", name=name) for name in names), "b.yml": VAULT, "c.yml": VALUE}
+    for name, content in files.items():
+        place.put(name, content)
+    add_and_commit(place)
+    plain = {"a.yml": b"".join(f"{name}: x\n".encode() for name in names), "b.yml": TEXT, "c.yml": b"pw: x\n"}
+    for name, content in plain.items():
+        place.put(name, content)
+    place.shell("git add -A")
+    no_verify = "  if that is intended, commit with --no-verify: "
+    reasons = ["a line for it in .gitattributes would be too long for git"]
+    reasons += ["a line in .gitattributes counts only in the commit that adds it"] * 2
+    assert list_advice(place) == [no_verify + reason for reason in reasons]
+    place.shell("git commit -qm after --no-verify")
+    later = "do nothing: only the last commit is compared with the one before"
+    assert [line.endswith(later) for line in list_advice(place, "--all")] == [True] * 3
+    committed(place, "x", b"")
+    assert list_advice(place, "--all") == []
+
+
+def test_combined_change(place: Place) -> None:
+    """What one commit removes and another adds is advised on as their combined change."""
+    under_git(place, "")
+    first = committed(place, "a.yml", VAULT)
+    place.shell("git rm -q a.yml && git commit -qm removed")
+    last = committed(place, "a.yml", TEXT)
+    [advice] = list_advice(place, "--since", first)
+    assert f"rewrite the commits, for example with `git rebase -i {first}`; " in advice
+    [later] = re.findall("begin later: (--since .*)", advice)
+    assert later.endswith(last) and list_advice(place, *later.split()) == []
