@@ -84,6 +84,11 @@ PASSING: dict[str, tuple[Content, Content]] = {
         {"a.yml": b"- " + PW[4:], "b.yml": PW[4:]},
         {"c.yml": PLAIN, "d.yml": b"- name: x\n", "e.txt": b"text\n"},
     ),
+    "a value, and a play": (
+        {"a.yml": PW + X, "p.yml": b"- hosts: x\n"},
+        {"a.yml": X, "p.yml": b"- hosts: y\n  name: z\n"},
+    ),
+    "a value, and a list of another name": ({"a.yml": DB, "y": X}, {"b.yml": b"db: [{name: x}]\n", "y": X}),
     "meant damage": (X, {"a.txt": CONFLICT % (PW, CUT), ".gitattributes": b"*.txt -ansible-vault diff=ansible-vault"}),
 }
 pw, db, elsewhere = (IN_PART.format(key) for key in ("pw", "db.pw", "db.pw of a.yml"))

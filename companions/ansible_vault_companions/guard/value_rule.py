@@ -74,12 +74,13 @@ class ValueRule:
         return self._find_at_or_below(find_new_plaintext(before, now)) - changeable
 
     def _find_at_or_below(self, paths: Iterable[Keys]) -> set[Keys]:
-        """The keys of removed values at or below which one of these paths is."""
+        """The keys of removed values at or below which one of these paths of another file is. Files have nothing in
+        common but names, so the first key and the value's own are to be the same."""
         if not self.removed:
             return set()
-        aligned = align_paths([*self.removed, *paths])
+        aligned = align_paths([*self.removed, *paths], same=1)
         branches = list_branches(aligned[keys] for keys in paths)
-        return {keys for keys in self.removed if aligned[keys] in branches}
+        return {keys for keys in self.removed if aligned[keys][-1] == keys[-1] and aligned[keys] in branches}
 
 
 def find_new_plaintext(before: Facts, after: Facts) -> set[Keys]:
