@@ -18,15 +18,17 @@ def test_marked_files(place: Place) -> None:
         place.put(name, TEXT)
     place.put("one/.gitattributes", ATTRIBUTES.encode())
     place.put("one/secrets/ok", sealed("old", MERGE))
+    place.put("one/in_lfs.vault.yml", b"version https://git-lfs.github.com/spec/v1\noid sha256:61\nsize 5\n")
     place.put("one/d.yml", MERGE + block("old"))
     (place.tree / "one/link.vault.yml").symlink_to("a.yml")
     done = place.run(CHECK, *place.by_file("old"), "one", "two", "outside.vault.yml")
     wanted = [f"one/{name}: is not encrypted" for name in ("b.vault.yml", "link.vault.yml", "secrets/deep/vars.yml")]
+    wanted.append("one/in_lfs.vault.yml: is a pointer of git-lfs, so its content cannot be checked")
     wanted += [f"one/{what} has git's conflict markers" for what in ("d.yml:", "secrets/ok: default: its plaintext")]
     assert sorted(line.partition(";")[0] for line in done.stderr.splitlines()) == sorted(
         f"{CHECK}: {each}" for each in wanted
     )
-    ended("the check", done, 1, "2 decrypted, 5 not\n")
+    ended("the check", done, 1, "2 decrypted, 6 not\n")
     (place.tree / "link.yml").symlink_to("one/b.vault.yml")
     ended("a link to one", place.run(CHECK, *place.by_file("old"), "link.yml"), 1, "link.yml: is not encrypted\n")
 

@@ -57,7 +57,7 @@ COMMITTED = Words(
     add="commit",
     restore=FROM_EARLIER,
     allow="if that is intended, commit this line at the end of {line}",
-    allow_all="nothing else helps: {no_line}",
+    allow_all="it cannot be allowed: {no_line}",
 )
 # Of the last commit alone, which may still be changed.
 LAST = Words(

@@ -4,8 +4,8 @@ from __future__ import annotations
 
 import re
 
-NOTHING = (b"", b"~", b"null")
-LOCKED = (b"!", b"*")
+NOTHING = [b"", b"~", b"null"]
+LOCKED = [b"!", b"*"]
 # A string in an expression, and how deep braces may be within its own. Nobody exceeds this.
 STRING = r"'(?:[^'\\]|\\.)*'|\"(?:[^\"\\]|\\.)*\""
 DEEPEST_BRACES = 4
@@ -25,4 +25,4 @@ EXPRESSIONS = re.compile(rf"(?:\s|{EXPRESSION})+".encode(), re.DOTALL)
 def is_placeholder(text: bytes) -> bool:
     """Whether a whole text is no secret."""
     own = text.strip()
-    return own.lower() in (*NOTHING, *LOCKED) or EXPRESSIONS.fullmatch(own) is not None
+    return own.lower() in [*NOTHING, *LOCKED] or EXPRESSIONS.fullmatch(own) is not None

@@ -5,7 +5,7 @@ from __future__ import annotations
 import os
 from collections import Counter
 from functools import cached_property
-from typing import Iterable
+from typing import Collection, Iterable
 
 from ansible_vault_companions.git.indexes import File
 from ansible_vault_companions.guard import exemption_rule
@@ -67,20 +67,23 @@ class ValueRule:
         """The keys of removed values at or below which there is new plaintext. If there are as many values elsewhere,
         a plaintext that was there may change."""
         now = self.evidence.now[file]
-        if not self._find_at_or_below(now.plain):
+        if not (self.removed and self._find_at_or_below(now.plain)):
             return set()
         before = self.evidence.find_facts(file.before, needs_plain=True)
         changeable = self._find_at_or_below(before.plain) - self.fewer.keys()
         return self._find_at_or_below(find_new_plaintext(before, now)) - changeable
 
-    def _find_at_or_below(self, paths: Iterable[Keys]) -> set[Keys]:
+    def _find_at_or_below(self, paths: Collection[Keys]) -> set[Keys]:
         """The keys of removed values at or below which one of these paths of another file is. Files have nothing in
         common but names, so the first key and the value's own are to be the same."""
-        if not self.removed:
+        first_keys = {key for keys in paths for key in keys[:1]}
+        all_keys = {key for keys in paths for key in keys}
+        removed = [keys for keys in self.removed if keys[0] in first_keys and keys[-1] in all_keys]
+        if not removed:
             return set()
-        aligned = align_paths([*self.removed, *paths], same=1)
+        aligned = align_paths([*removed, *paths], same=1)
         branches = list_branches(aligned[keys] for keys in paths)
-        return {keys for keys in self.removed if aligned[keys][-1] == keys[-1] and aligned[keys] in branches}
+        return {keys for keys in removed if aligned[keys][-1] == keys[-1] and aligned[keys] in branches}
 
 
 def find_new_plaintext(before: Facts, after: Facts) -> set[Keys]:

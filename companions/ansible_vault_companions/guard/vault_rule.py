@@ -33,19 +33,22 @@ class VaultRule:
         return None if file.before else self.removed.find_replaced(file.name)
 
     def find_fault(self, file: File) -> Fault | None:
-        before, now, since = self.evidence.before[file], self.evidence.now[file], self.evidence.since
+        now = self.evidence.now[file]
         if now.is_vault or now.is_empty:
             return None
-        if before.is_vault:
-            why = NO_VAULT.format(since)
-        else:
-            replaced = self.find_replaced(file)
-            if replaced is None or not self._has_plaintext(file):
-                return None
-            why = SUCCESSOR.format(escape(os.fsdecode(replaced)), since)
-        if exemption_rule.allows_loss(self.evidence, file):
+        why = self._find_loss(file)
+        if not why or exemption_rule.allows_loss(self.evidence, file):
             return None
         return exemption_rule.make_loss(self.evidence, file, why)
+
+    def _find_loss(self, file: File) -> str:
+        """Which vault a file that is none was, or replaces; empty if there is none."""
+        if self.evidence.before[file].is_vault:
+            return NO_VAULT.format(self.evidence.since)
+        replaced = self.find_replaced(file)
+        if replaced is None or not self._has_plaintext(file):
+            return ""
+        return SUCCESSOR.format(escape(os.fsdecode(replaced)), self.evidence.since)
 
     def _has_plaintext(self, file: File) -> bool:
         """Whether a file has plaintext that is in no YAML list. Tasks and plays are lists, and variables are none."""
