@@ -300,6 +300,31 @@ def test_octopus(place: Place) -> None:
     assert sorted(told(place.run(HOOK, "--since", "HEAD^"))) == [f"{last}: {line}" for line in wanted]
 
 
+PAGE = (ROOT / "man" / f"{HOOK}.1").read_text()
+# Before a commit and after it, files with their contents; and what the hook says.
+EXAMPLES = re.findall(r"\.Bd .*\n(before (?:.*\n)+?)(after (?:.*\n)+?)hook ((?:.*\n)+?)\.Ed", PAGE)
+
+
+def put_example(place: Place, lines: str) -> None:
+    envelope = sealed("old").replace(b"\n", b"\\n")
+    for line in lines.splitlines():
+        name, content = re.split("  +", line[8:], maxsplit=1)
+        text = content.encode().replace(b"...", b'"%s"' % envelope)
+        place.put(name, sealed("old") if content == "a vault" else text)
+
+
+@pytest.mark.parametrize("before, after, says", EXAMPLES)
+def test_examples(place: Place, before: str, after: str, says: str) -> None:
+    """The examples of the manual page. A file that is not named again is removed, but for attributes."""
+    under_git(place, "")
+    put_example(place, before)
+    add_and_commit(place)
+    place.shell("git rm -q '*.yml'")
+    put_example(place, after)
+    assert staged(place, {}) == [" ".join(says.split())]
+    assert len(EXAMPLES) == PAGE.count("\nhook ") == 4
+
+
 def test_merge(place: Place) -> None:
     """What a merge puts in plaintext is compared with each branch, before the commit and after it."""
     under_git(place, "")
