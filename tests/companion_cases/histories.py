@@ -88,7 +88,10 @@ PASSING: dict[str, tuple[Content, Content]] = {
         {"a.yml": PW + X, "p.yml": b"- hosts: x\n"},
         {"a.yml": X, "p.yml": b"- hosts: y\n  name: z\n"},
     ),
-    "a value, and a list of another name": ({"a.yml": DB, "y": X}, {"b.yml": b"db: [{name: x}]\n", "y": X}),
+    "a value, and a list of another name": (
+        {"a.yml": DB, "y": X},
+        {"b.yml": b"db: [{name: x}]\nx: {pw: x}\n", "y": X},
+    ),
     "meant damage": (X, {"a.txt": CONFLICT % (PW, CUT), ".gitattributes": b"*.txt -ansible-vault diff=ansible-vault"}),
 }
 pw, db, elsewhere = (IN_PART.format(key) for key in ("pw", "db.pw", "db.pw of a.yml"))
@@ -162,6 +165,11 @@ REFUSED: dict[str, tuple[Content, Content, str]] = {
         users(below(b"tokens", b"-" + below(b"", PW)[2:])),
         below(b"users", below(b"a", below(b"tokens", below(b"b", PLAIN)))),
         IN_PART.format("users[].tokens[].pw"),
+    ),
+    "a list in a mapping, now the reverse": (
+        below(b"users", below(b"a", below(b"tokens", b"-" + below(b"", PW)[2:]))),
+        users(below(b"tokens", below(b"b", PLAIN))),
+        IN_PART.format("users.a.tokens[].pw"),
     ),
     "a list, by name in another file": (
         users(PW),

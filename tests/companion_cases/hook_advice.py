@@ -4,12 +4,12 @@ says so, and then nothing is refused."""
 import json
 import os
 import re
-from collections.abc import Callable, Iterable
+from collections.abc import Callable
 from typing import NamedTuple
 
 import pytest
 
-from companion_cases import HOOK, TEXT, Place, block, lines_of, sealed
+from companion_cases import HOOK, TEXT, Place, block, sealed
 from companion_cases.repository import add_and_commit, committed, told, under_git
 from lib.needs import needs
 

@@ -1,4 +1,4 @@
-"""What is wrong with the envelopes of a file: damage, conflict markers, plaintext with their tag, or that it has none."""
+"""What is wrong with the envelopes of a file: damage, conflict markers, plaintext with their tag, or there are none."""
 
 from __future__ import annotations
 

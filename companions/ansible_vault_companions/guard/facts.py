@@ -1,4 +1,4 @@
-"""What the hook has to know of a content: its envelopes and its plaintexts, by the keys that lead to them, and faults."""
+"""What the hook knows of a content: its envelopes and its plaintexts, by the keys that lead to them, and its faults."""
 
 from __future__ import annotations
 
@@ -110,7 +110,7 @@ def _read_leaves(data: bytes) -> tuple[Content, list[Leaf]]:
 
 
 def _list_leaves(node: Node, leaves: list[Leaf], anchors: dict[str, tuple[KeyPath, int]]) -> Iterator[Leaf]:
-    """The text of a node; or of an alias, all that is at and below its anchor, since it counts as what it stands for."""
+    """The text of a node. An alias counts as what it stands for: all that is at and below its anchor."""
     if node.style == ALIAS:
         base, first = anchors.get(node.anchor, ((), len(leaves)))
         for number in range(first, len(leaves)):

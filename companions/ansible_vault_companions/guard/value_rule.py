@@ -24,8 +24,8 @@ class ValueRule:
 
     @cached_property
     def removed(self) -> dict[Keys, bytes]:
-        """The keys of which a file has fewer values, if an envelope of them is gone, each with such a file. Keys without
-        a name say nothing of other files."""
+        """The keys of which a file has fewer values, if an envelope of them is gone, each with such a file. Keys
+        without a name say nothing of other files."""
         before, now = self.evidence.before, self.evidence.now
         gone = count_envelopes(before.values()) - count_envelopes(now.values())
         removed = {}
