@@ -50,12 +50,12 @@ def list_branches(paths: Iterable[Keys]) -> set[Keys]:
     return {keys[:length] for keys in paths for length in range(len(keys) + 1)}
 
 
-def align_paths(paths: Iterable[Keys], same: int = 0) -> dict[Keys, Keys]:
+def align_paths(paths: Iterable[Keys]) -> dict[Keys, Keys]:
     """Each path in the form in which it is compared: a list and a mapping by name stand for each other, so where one of
-    the paths has an item, the keys of the others count as items, too. Only the first ones have to be the same."""
-    aligned = {keys: keys[:same] for keys in paths}
+    the paths has an item, the keys of the others count as items, too."""
+    aligned: dict[Keys, Keys] = dict.fromkeys(paths, ())
     deepest = max(map(len, aligned), default=0)
-    for depth in range(same, deepest):
+    for depth in range(deepest):
         deeper = [keys for keys in aligned if len(keys) > depth]
         lists = {aligned[keys] for keys in deeper if keys[depth] == ITEM}
         for keys in deeper:

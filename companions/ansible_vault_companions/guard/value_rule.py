@@ -81,7 +81,7 @@ class ValueRule:
         removed = [keys for keys in self.removed if keys[0] in first_keys and keys[-1] in all_keys]
         if not removed:
             return set()
-        aligned = align_paths([*removed, *paths], same=1)
+        aligned = align_paths([*removed, *paths])
         branches = list_branches(aligned[keys] for keys in paths)
         return {keys for keys in removed if aligned[keys][-1] == keys[-1] and aligned[keys] in branches}
 
