@@ -85,8 +85,8 @@ PASSING: dict[str, tuple[Content, Content]] = {
         {"c.yml": PLAIN, "d.yml": b"- name: x\n", "e.txt": b"text\n"},
     ),
     "a value, and a play": (
-        {"a.yml": PW + X, "p.yml": b"- hosts: x\n"},
-        {"a.yml": X, "p.yml": b"- hosts: y\n  name: z\n"},
+        {"a.yml": PW + DB + X, "p.yml": b"- hosts: x\n"},
+        {"a.yml": X, "p.yml": b"- hosts: y\n  pw: z\n"},
     ),
     "a value, and a list of another name": (
         {"a.yml": DB, "y": X},
