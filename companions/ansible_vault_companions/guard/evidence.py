@@ -22,7 +22,7 @@ class Evidence:
         self.blobs = blobs
         self.parent = differences.parent
         self.since = f" in {differences.since}" if differences.since else ""
-        self.known: dict[tuple[str, bool, bool], Facts] = {}
+        self.facts_by_blob: dict[tuple[str, bool, bool], Facts] = {}
         self.attributes = read_attributes([file.name for file in differences.files], index.path)
         self.before = {file: self.find_facts(file.before, is_old=True) for file in differences.files}
         has_values = any(before.encrypted for before in self.before.values())
@@ -31,10 +31,10 @@ class Evidence:
     def find_facts(self, blob: str, needs_plain: bool = False, is_old: bool = False) -> Facts:
         """What is known of a blob, which may be there under several names."""
         key = (blob, needs_plain, is_old)
-        if key not in self.known:
+        if key not in self.facts_by_blob:
             content = self.blobs.read(blob, is_old) if blob else b""
-            self.known[key] = facts.find_facts(content, needs_plain)
-        return self.known[key]
+            self.facts_by_blob[key] = facts.find_facts(content, needs_plain)
+        return self.facts_by_blob[key]
 
     @cached_property
     def earlier(self) -> dict[bytes, Attributes]:

@@ -22,7 +22,7 @@ from ansible_vault_companions.envelopes.key_paths import KeyPath
 from ansible_vault_companions.envelopes.node import ALIAS, NO_SCALAR, Node
 from ansible_vault_companions.envelopes.strays import find_strays
 from ansible_vault_companions.envelopes.yaml_nodes import BINARY, NotYaml, read_nodes
-from ansible_vault_companions.guard.key_paths import Keys, make_keys
+from ansible_vault_companions.guard.key_names import Keys, make_keys
 from ansible_vault_companions.guard.placeholders import is_placeholder
 from ansible_vault_companions.limits import TooMuch
 

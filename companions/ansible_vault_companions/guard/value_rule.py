@@ -12,7 +12,7 @@ from ansible_vault_companions.guard import exemption_rule
 from ansible_vault_companions.guard.advice import Fault
 from ansible_vault_companions.guard.evidence import Evidence
 from ansible_vault_companions.guard.facts import NONE, Facts
-from ansible_vault_companions.guard.key_paths import ITEM, Keys, align_paths, has_name, list_branches, write_keys
+from ansible_vault_companions.guard.key_names import ITEM, Keys, align_paths, has_name, list_branches, write_keys
 from ansible_vault_companions.quoting import escape
 
 NOW_PLAIN = "has {} in plaintext, which {} encrypted{}"

@@ -10,7 +10,7 @@ from ansible_vault_companions.git.indexes import File
 from ansible_vault_companions.guard import exemption_rule
 from ansible_vault_companions.guard.advice import Fault
 from ansible_vault_companions.guard.evidence import Evidence, is_yaml
-from ansible_vault_companions.guard.key_paths import ITEM
+from ansible_vault_companions.guard.key_names import ITEM
 from ansible_vault_companions.quoting import escape
 
 NO_VAULT = "is not a vault, but was one{}"
