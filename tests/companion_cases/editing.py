@@ -23,13 +23,13 @@ def test_what_changes(place: Place, name: str) -> None:
 
 @pytest.mark.parametrize("folder", ("{}/runtime", "../runtime", "{}/repository/runtime", "/nowhere"))
 def test_where_the_plaintext_lies(place: Place, folder: str) -> None:
-    """What is relative, or in a repository, may belong to a stranger."""
+    """What is relative may belong to a stranger. `own_folders` has other directories."""
     place.put("all.yml", sealed("old"))
     for name in (".git", "runtime"):
         (place.path / "repository" / name).mkdir(parents=True)
     look = 'stat -c "%a %n" "${1%/*}" "$1" > ../seen'
     edit(place, look, *place.by_file("old"), "all.yml", XDG_RUNTIME_DIR=folder.format(place.path))
-    wanted = place.runtime if folder == "{}/runtime" else "/dev/shm"
+    wanted = folder.format(place.path) if folder.startswith("{}") else "/dev/shm"
     lines = (place.path / "seen").read_text().splitlines()
     private = lines[0].removeprefix("700 ")
     assert (lines[1:], os.path.dirname(private)) == ([f"600 {private}/all.yml"], str(wanted)), "both are private"

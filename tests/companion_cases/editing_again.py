@@ -105,15 +105,19 @@ def test_changed_meanwhile(place: Place, before: bytes, changed: bytes, why: str
 
 
 def test_copies_of_strangers(place: Place) -> None:
-    """What a repository contains, or a directory that others may open, is never taken for a copy."""
+    """A directory that others may open is never searched for copies. git makes each like that."""
+    needs("git")
     place.put("a.yml", sealed("old"))
     words, state = [*place.by_file("old"), "a.yml"], place.tree / "state"
     place.environment["XDG_STATE_HOME"] = str(state)
     ended("a failed edit", edit(place, f"{CHANGE}; exit 3", *words), 1, f"is encrypted in {state}/ansible-vault/")
-    for change, why in (("mkdir .git", "is in a git repository"), ("rmdir .git; chmod 750 state/*", "only you can")):
-        place.shell(change)
-        ended(change, edit(place, "touch ../started", "--resume", *words), 1, f"{state}/ansible-vault is ", why)
+    for change in ("chmod 750 state/*", "git init -q . && git add state && rm -r state && git checkout -q -- state"):
+        assert place.shell(change).returncode == 0
+        why = f"({state}/ansible-vault is not a directory that only you can open); set XDG_STATE_HOME to "
+        ended(change, edit(place, "touch ../started", "--resume", *words), 1, why)
     assert not (place.path / "started").exists()
+    place.shell("chmod 700 state/*")
+    silent("with the right mode, it is", edit(place, "true", "--resume", *words))
 
 
 @pytest.mark.parametrize("codec", ["utf-16", "utf-16-le", "latin-1"])

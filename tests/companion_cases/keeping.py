@@ -38,7 +38,7 @@ STOPS = {
     "an exception": (CHANGE, BROKEN, "too deep", SEALED, STAYS),
     "a full disk": (CHANGE, FULL, "no space", SEALED, STAYS),
     "no vault": (CHANGE, UNSEALED, "no memory", PLAIN, STAYS),
-    "a repository for copies": (f"{CHANGE}; rm all.yml", "", CHANGED_MEANWHILE, PLAIN, {}),
+    "no directory for copies": (f"{CHANGE}; rm all.yml", "", CHANGED_MEANWHILE, PLAIN, {}),
 }
 
 
@@ -47,8 +47,8 @@ def test_stops(place: Place, what: str) -> None:
     """A text that cannot be put back is kept encrypted. If that fails, too, the private directory stays."""
     editor, change, why, how, stays = STOPS[what]
     place.put("all.yml", sealed("old"), 0o600)
-    if what == "a repository for copies":
-        (place.tree / ".git").mkdir()
+    if what == "no directory for copies":
+        place.tree.chmod(0o777)
         place.environment["XDG_STATE_HOME"] = str(place.tree)
     words = [*place.by_file("old"), "all.yml"]
     done = run_changed(place, EDIT, change, words, EDITOR=place.script(editor, "editor"))

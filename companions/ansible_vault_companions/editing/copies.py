@@ -1,17 +1,14 @@
-"""Rescue copies: what an edit saved and could not put into the file is kept encrypted in a directory of the user.
-
-It is never in a repository, which others may fill.
-"""
+"""Rescue copies: what an edit saved and could not put into the file is kept encrypted in a directory of the user's own."""
 
 from __future__ import annotations
 
 import hashlib
 import os
-from contextlib import suppress
 
+from ansible_vault_companions import refusals
+from ansible_vault_companions.editing.own_folder import require_own_folder
 from ansible_vault_companions.envelopes.header import read_label
 from ansible_vault_companions.files import reading, replacing
-from ansible_vault_companions.git.repository import find_repository
 from ansible_vault_companions.quoting import escape
 from ansible_vault_companions.refusals import Refused
 from ansible_vault_companions.tool import Decrypt, Key, Tool
@@ -19,19 +16,27 @@ from ansible_vault_companions.tool import Decrypt, Key, Tool
 # Precedes the text of a copy, so that no text begins like a vault, which ansible-vault would not encrypt. The digest is
 # that of the text that the edit began with.
 HEAD = b"# ansible-vault-edit %s: what was saved begins below.\n"
+NO_FOLDER = "{} cannot have copies ({}); set XDG_STATE_HOME to a directory that only you can open"
 
 
 def find_folder() -> str:
-    """The directory of copies, which may be missing. Refuses one that somebody else may have filled."""
+    """The directory of copies, which may be missing. Refuses one that is not the user's own."""
     state = os.environ.get("XDG_STATE_HOME", "")
-    path = os.path.join(state if os.path.isabs(state) else os.path.expanduser("~/.local/state"), "ansible-vault")
-    if not os.path.isabs(path) or find_repository(os.path.realpath(path)):
-        raise Refused(f"{escape(path)} is in a git repository")
-    with suppress(FileNotFoundError):
-        about = os.lstat(path)
-        if about.st_uid != os.geteuid() or about.st_mode & 0o077:
-            raise Refused(f"{escape(path)} is not a directory that only you can open")
+    state = state if os.path.isabs(state) else os.path.expanduser("~/.local/state")
+    if not os.path.isabs(state):
+        raise Refused(f"{escape(state)} is relative; set XDG_STATE_HOME to an absolute path")
+    path = os.path.join(os.path.realpath(state), "ansible-vault")
+    try:
+        require_own_folder(path)
+    except FileNotFoundError:
+        pass
+    except OSError as fault:
+        raise _make_refusal(path, fault) from None
     return path
+
+
+def _make_refusal(path: str, fault: OSError) -> Refused:
+    return Refused(NO_FOLDER.format(escape(path), refusals.describe_fault(fault)))
 
 
 def list_copies(target: str) -> list[str]:
@@ -44,9 +49,15 @@ def list_copies(target: str) -> list[str]:
 
 def save_copy(tool: Tool, key: Key, target: str, base: bytes, text: bytes) -> str:
     """Writes the copy of a text, and returns its path. The edit began with `base`."""
+    envelope = tool.encrypt(_head(base) + text, *key)
     path = find_folder()
-    os.makedirs(path, 0o700, exist_ok=True)
-    return replacing.write_new(path, tool.encrypt(_head(base) + text, *key), prefix=_prefix(target))
+    try:
+        os.makedirs(path, 0o700, exist_ok=True)
+        # Nothing of the path is missing any more.
+        require_own_folder(path)
+        return replacing.write_new(path, envelope, prefix=_prefix(target))
+    except OSError as fault:
+        raise _make_refusal(path, fault) from None
 
 
 def read_copy(path: str, base: bytes, keys: list[Key], decrypt: Decrypt) -> bytes:

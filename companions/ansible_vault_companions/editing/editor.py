@@ -19,6 +19,8 @@ from ansible_vault_companions.refusals import Refused
 from ansible_vault_companions.tool import Tool
 
 NO_FILE = "the editor left no file"
+NO_COPY = "an encrypted copy cannot be kept"
+SEVERAL = "its text has several passwords, and none of them may read all of it"
 RESCUED = "{}; what you saved is encrypted in {}\n--resume reopens it, unless the file has changed."
 # With these, a command is more than the name of a program and its arguments.
 SHELL_WORDS = frozenset("=;&|()<>{}`\n")
@@ -36,17 +38,19 @@ class Edit:
     """An edit of a draft: its text is in a private directory, under the name of the file."""
 
     def __init__(self, tool: Tool, draft: Draft, path: str, folder: PrivateDirectory) -> None:
-        self.tool, self.draft, self.folder = tool, draft, folder
+        self.tool = tool
+        self.draft = draft
         # As on the command line.
-        self.path, self.name = path, os.path.basename(path)
+        self.path = path
+        self.folder = folder
 
     def run_editor(self) -> Saved:
         editor = os.environ.get("VISUAL") or os.environ.get("EDITOR") or "vi"
         status = self._run(editor)
         try:
-            text = reading.read(os.path.join(self.folder.path, self.name))
+            text = reading.read(self.folder.file)
         except (Refused, OSError) as unread:
-            raise self.folder.keep(refusals.describe_fault(unread), self.name) from None
+            raise self.folder.keep(refusals.describe_fault(unread)) from None
         if status:
             return Saved(text, f"the editor failed ({editor}, status {status})")
         # Even the directory may be gone: logging out removes files in memory.
@@ -54,12 +58,11 @@ class Edit:
 
     def _run(self, editor: str) -> int:
         """Runs the editor, and returns its status."""
-        path = os.path.join(self.folder.path, self.name)
         # Without a shell between, signals reach the editor, unless its command needs one.
         command = editor if SHELL_WORDS.intersection(editor) else f"exec {editor}"
         # A signal may come before the editor is opened again, and then the text that was saved first is still there.
         with suppress(processes.Stopped):
-            return processes.run_on_terminal(["sh", "-c", f'{command} "$@"', editor, path])
+            return processes.run_on_terminal(["sh", "-c", f'{command} "$@"', editor, self.folder.file])
         return 0
 
     def put_back(self, text: bytes, fault: str) -> bool:
@@ -98,12 +101,16 @@ class Edit:
     def _rescue(self, text: bytes, why: str) -> Refused:
         """Keeps a text that is not put back. Returns the exception that says where it is, and how to go on."""
         try:
-            # A text with several passwords has no copy, since no password may read all of it.
-            [key] = self.draft.keys
-            copy = save_copy(self.tool, key, self.draft.target, self.draft.plaintext, text)
-        except Exception:
-            return self.folder.keep(why, self.name, text)
+            copy = self._save_copy(text)
+        except Exception as failed:
+            return self.folder.keep(f"{why}; {NO_COPY}: {refusals.describe_fault(failed) or describe_signal()}", text)
         return Refused(RESCUED.format(why, escape(copy)))
+
+    def _save_copy(self, text: bytes) -> str:
+        keys = self.draft.keys
+        if len(keys) > 1:
+            raise Refused(SEVERAL)
+        return save_copy(self.tool, keys[0], self.draft.target, self.draft.plaintext, text)
 
 
 def describe_signal() -> str:
@@ -112,9 +119,8 @@ def describe_signal() -> str:
 
 def edit_draft(tool: Tool, draft: Draft, path: str, text: bytes | None) -> bool:
     """Edits the plaintext, starting with `text` if given. Returns whether anything was changed."""
-    with PrivateDirectory() as folder:
+    with PrivateDirectory(os.path.basename(path), draft.plaintext if text is None else text) as folder:
         edit = Edit(tool, draft, path, folder)
-        folder.create(edit.name, draft.plaintext if text is None else text)
         while True:
             saved = edit.run_editor()
             with processes.postponed():

@@ -1,0 +1,272 @@
+"""Where an edit puts plaintext and rescue copies: into directories that nobody else can read, fill or exchange."""
+
+import grp
+import os
+import pwd
+import re
+import shutil
+from collections import Counter
+from collections.abc import Callable
+from functools import partial
+from pathlib import Path
+from typing import NamedTuple
+
+import hypothesis
+import pytest
+from hypothesis import strategies as st
+
+from ansible_vault_companions.editing.own_folder import require_own_folder
+from ansible_vault_companions.editing.private_directory import PREFIX
+from companion_cases import CHANGE, CHANGED, EDIT, NOBODY, Place, decrypted, ended, run_changed, sealed
+from lib.needs import needs, needs_root
+
+# Another user, and a group that this one is in.
+OTHER, SHARED = 65_533, 65_532
+EXAMPLES = 200
+
+
+class User(NamedTuple):
+    number: int
+    groups: list[int]
+
+
+class Folder(NamedTuple):
+    owner: int
+    group: int
+    mode: int
+
+
+def find_user_with_group() -> User:
+    """Return a user with a group of the same name, which has no other member."""
+    groups = {group.gr_name: group for group in grp.getgrall()}
+    for user in pwd.getpwall():
+        group = groups.get(user.pw_name)
+        if user.pw_uid and group and group.gr_gid == user.pw_gid and not group.gr_mem:
+            return User(user.pw_uid, [user.pw_gid])
+    pytest.skip("no user has a group of the same name")
+
+
+def succeeds(user: User, work: Callable[[], object]) -> bool:
+    """Return whether some work of another user raises no OSError."""
+    child = os.fork()
+    if child == 0:
+        status = 2
+        try:
+            os.setgroups(user.groups)
+            os.setgid(user.groups[0])
+            os.setuid(user.number)
+            work()
+            status = 0
+        except OSError:
+            status = 1
+        finally:
+            os._exit(status)
+    status = os.waitstatus_to_exitcode(os.waitpid(child, 0)[1])
+    assert status in (0, 1), "the work fails otherwise"
+    return status == 0
+
+
+def make_chain(top: Path, folders: list[Folder]) -> list[Path]:
+    """Make directories, each in the one before."""
+    paths = []
+    for folder in folders:
+        top /= "folder"
+        top.mkdir()
+        os.chown(top, folder.owner, folder.group)
+        top.chmod(folder.mode)
+        paths.append(top)
+    return paths
+
+
+def attack(paths: list[Path]) -> None:
+    """Do to the last directory what only its user may: enter, read, fill or exchange it. Fails if nothing of that works.
+    An owner may allow it first."""
+    own = paths[-1]
+    ways: list[Callable[[], object]] = [
+        lambda: os.lstat(own / "a"),
+        lambda: os.listdir(own),
+        lambda: os.mkdir(own / "b"),
+    ]
+    for path in paths:
+        ways += [partial(path.chmod, 0o777), partial(path.rename, path.with_name("away"))]
+    if not any([works(way) for way in ways]):
+        raise PermissionError
+
+
+def works(way: Callable[[], object]) -> bool:
+    try:
+        way()
+    except OSError:
+        return False
+    return True
+
+
+MODES = [0o700, 0o700, 0o700, 0o755, 0o750, 0o711, 0o775, 0o770, 0o777, 0o1777, 0o1775]
+
+
+def test_nobody_else(tmp_path: Path, request: pytest.FixtureRequest) -> None:
+    """What counts as the user's own, the system lets nobody else touch."""
+    needs_root()
+    user, other = find_user_with_group(), User(OTHER, [SHARED])
+    owners, groups = [user.number] * 3 + [0, OTHER], [*user.groups, SHARED]
+    folders = st.builds(Folder, st.sampled_from(owners), st.sampled_from(groups), st.sampled_from(MODES))
+    counts: Counter[bool] = Counter()
+
+    @hypothesis.seed(request.config.getoption("--seed"))
+    @hypothesis.settings(max_examples=EXAMPLES, deadline=None, database=None)
+    @hypothesis.given(st.lists(folders, max_size=2), folders)
+    def check(above: list[Folder], own: Folder) -> None:
+        top = tmp_path / "top"
+        top.mkdir()
+        paths = make_chain(top, [*above, own])
+        (paths[-1] / "a").touch()
+        is_own = succeeds(user, lambda: require_own_folder(str(paths[-1])))
+        is_open = succeeds(other, lambda: attack(paths))
+        shutil.rmtree(top)
+        counts[is_own] += 1
+        assert not (is_own and is_open)
+
+    check()
+    assert min(counts[True], counts[False]) > 15, counts
+
+
+def test_group_of_the_user(tmp_path: Path, monkeypatch: pytest.MonkeyPatch) -> None:
+    """With a umask of 002, directories are writable for a group, which has to be the user's alone."""
+    needs_root()
+    user = find_user_with_group()
+    own = Folder(user.number, user.groups[0], 0o700)
+    for number, (group, is_own) in enumerate(((user.groups[0], True), (SHARED, False), (0, False))):
+        (tmp_path / str(number)).mkdir()
+        path = make_chain(tmp_path / str(number), [own._replace(group=group, mode=0o775), own])[-1]
+        assert succeeds(user, lambda: require_own_folder(str(path))) == is_own, group
+    members = grp.struct_group((*grp.getgrgid(user.groups[0])[:3], ["another"]))
+    monkeypatch.setattr(grp, "getgrgid", lambda _: members)
+    assert not succeeds(user, lambda: require_own_folder(str(tmp_path / "0/folder/folder")))
+
+
+# Directories by owner and mode; and whether plaintext and copies are put there, and below, where one is the user's own.
+KINDS = {
+    "mine": (NOBODY, 0o700, True, True),
+    "mine, readable": (NOBODY, 0o755, True, True),
+    "mine, writable": (NOBODY, 0o777, False, False),
+    "mine, writable for a group": (NOBODY, 0o770, False, False),
+    "mine, sticky": (NOBODY, 0o1777, True, True),
+    "another's": (OTHER, 0o777, False, False),
+    "another's, sticky": (OTHER, 0o1777, False, False),
+    "root's": (0, 0o755, False, True),
+    "root's, writable": (0, 0o777, False, False),
+    "root's, sticky": (0, 0o1777, True, True),
+}
+
+
+@pytest.fixture
+def of_nobody(place: Place) -> Place:
+    """A place of a user who is not root, with a vault."""
+    needs_root()
+    place.put("all.yml", sealed("old"))
+    for path in (place.path, *place.path.rglob("*")):
+        os.chown(path, NOBODY, NOBODY, follow_symlinks=False)
+    return place
+
+
+# Notes the place of the plaintext, changes it, and fails.
+FAIL = f'dirname "${{1%/*}}" > ../seen; {CHANGE}; exit 3'
+NO_COPY = "set XDG_STATE_HOME to a directory that only you can open; what you saved is left in plaintext in "
+AS_NOBODY = ["setpriv", f"--reuid={NOBODY}", f"--regid={NOBODY}", "--clear-groups"]
+
+
+def are_used(place: Place, where: Path | str, runner: list[str]) -> tuple[bool, bool]:
+    """Return whether an edit that fails has its plaintext and its copy in this directory. What is not there is in a
+    usual one, and only the user can open it."""
+    place.environment |= {"XDG_RUNTIME_DIR": str(where), "XDG_STATE_HOME": str(where)}
+    words = [*runner, EDIT, *place.by_file("old"), "all.yml"]
+    done = place.run(*words, EDITOR=place.script(FAIL, "editor"))
+    ended("the edit", done, 1, "all.yml: the editor failed")
+    [(how, path)] = re.findall(r"; what you saved is (encrypted|left in plaintext) in (.+)\n", done.stderr)
+    kept, seen = Path(path), (place.path / "seen").read_text().strip()
+    file = kept if how == "encrypted" else kept / "all.yml"
+    text = file.read_bytes()
+    assert (file.stat().st_mode & 0o777, file.parent.stat().st_mode & 0o777) == (0o600, 0o700)
+    if how == "encrypted":
+        text = decrypted("old", text) or b""
+    else:
+        assert NO_COPY in done.stderr
+        shutil.rmtree(kept)
+    assert text.endswith(CHANGED)
+    real = os.path.realpath(where)
+    assert seen in (real, "/dev/shm")
+    return seen == real, str(kept).startswith(f"{real}/ansible-vault/")
+
+
+@pytest.mark.parametrize("position", ("itself", "above", "link", "repository"))
+@pytest.mark.parametrize("owner, mode, is_used, is_used_below", KINDS.values(), ids=KINDS)
+def test_kinds(of_nobody: Place, owner: int, mode: int, is_used: bool, is_used_below: bool, position: str) -> None:
+    real, link = of_nobody.path / "real", of_nobody.path / "link"
+    own = real / "own"
+    own.mkdir(parents=True)
+    own.chmod(0o700)
+    os.chown(own, NOBODY, NOBODY)
+    if position == "repository":
+        (real / ".git").mkdir()
+    link.symlink_to(real)
+    os.chown(real, owner, SHARED)
+    real.chmod(mode)
+    where, is_wanted = {"above": (own, is_used_below), "link": (link, is_used)}.get(position, (real, is_used))
+    assert are_used(of_nobody, where, AS_NOBODY) == (is_wanted, is_wanted)
+    assert [*real.rglob(f"{PREFIX}*")] == [], "nothing else is left"
+
+
+# What is no directory for them, or is missing, so that one is made for a copy; the umask; and which of them are there.
+OTHERS = {
+    "missing": ("022", False, True),
+    "missing/too": ("000", False, False),
+    "all.yml": ("022", False, False),
+    "../runtime": ("022", False, False),
+}
+
+
+@pytest.mark.parametrize("name", OTHERS)
+def test_others(place: Place, name: str) -> None:
+    """With a umask of 000, others can write to the directories that are made."""
+    place.put("all.yml", sealed("old"))
+    umask, *wanted = OTHERS[name]
+    where = name if name.startswith(".") else place.tree / name
+    assert [*are_used(place, where, ["sh", "-c", f'umask {umask}; exec "$@"', "sh"])] == wanted
+    assert len(place.copies()) == (name == "../runtime"), "the usual directory has the copy"
+
+
+# Mounts a file system, and fills it.
+MOUNTS = {
+    "full": ("size=64k", "head -c 99k /dev/zero > ../runtime/full"),
+    "no room for files": ("nr_inodes=2", "touch ../runtime/full"),
+    "read-only": ("ro", "false"),
+}
+
+
+@pytest.mark.parametrize("options, fill", MOUNTS.values(), ids=MOUNTS)
+def test_mounts(place: Place, options: str, fill: str) -> None:
+    """The next place is taken, and nothing is left in this one."""
+    needs_root()
+    needs("unshare")
+    place.put("all.yml", sealed("old"))
+    lines = f'mount -t tmpfs -o mode=700,{options} tmpfs ../runtime && ! {fill} 2> ../why; "$@"; status=$?'
+    runner = ["unshare", "--mount", "sh", "-c", f"{lines}; ls ../runtime > ../left; exit $status", "sh"]
+    assert are_used(place, place.runtime, runner) == (False, False)
+    assert {*place.get("../left").split()} <= {b"full", b"ansible-vault"}
+
+
+NO_PLACE = """
+from ansible_vault_companions.editing import private_folder
+private_folder._list_places = lambda: ["/proc", os.environ["HOME"]]
+"""
+
+
+def test_no_place(place: Place) -> None:
+    """The message names each place, why it cannot be used, and what to do."""
+    place.put("all.yml", sealed("old"))
+    place.path.chmod(0o777)
+    words = [*place.by_file("old"), "all.yml"]
+    done = run_changed(place, EDIT, NO_PLACE, words, EDITOR=place.script("touch ../started", "editor"))
+    why = rf"\(/proc: .+; {place.path}: others can write to {place.path}\); set TMPDIR to a directory that only you can open"
+    assert re.fullmatch(rf"{EDIT}: all.yml: no private directory .+ {why}\n", done.stderr), done.stderr
+    assert not (place.path / "started").exists() and [*place.path.glob(f"{PREFIX}*")] == []
