@@ -61,6 +61,7 @@ REFUSED = {
     "closed.yml": "line 2: secret: no secret decrypts this vault (label default; tried prod@../secrets/dev, dev@",
     "vault.yml": OF_ANOTHER,
     "values.yml": f"line 2: secret: {OF_ANOTHER}",
+    "tags.yml": "line 2: `%TAG` may make `!vault` another tag",
 }
 
 
@@ -70,6 +71,7 @@ def test_labels(place: Place) -> None:
     place.put("closed.yml", block("old"))
     place.put("vault.yml", sealed("prod", label="prod"))
     place.put("values.yml", block("prod", label="prod"))
+    place.put("tags.yml", b"# x\r%TAG ! !x\n---\n" + block("dev", label="prod"))
     before = place.files()
     whys = [f"{EDIT}: {name}: {why}" for name, why in REFUSED.items()]
     ended("the edit", edit(place, "touch ../started", *BOTH.split(), *REFUSED), 1, *whys)
@@ -106,6 +108,9 @@ MISREAD = {
     "b: !vault [a]\n": "line 1: b is a list, a mapping or a key, not a string",
     "b: 'x\n": "line 2: it cannot be read as YAML: found unexpected end of stream",
     "b: !vault |-\n  x\ny\n": "line 4: it cannot be read as YAML: could not find expected ':'",
+    "b: !vault x\n# c: !vault y\n": "line 2: no value follows `!vault` here",
+    "b: !vault x #y\n": "line 1: a text without quotes ends within the line",
+    "\ufeff%TAG ! !x\n---\nb: !vault x\n": "line 1: `%TAG` may make `!vault` another tag",
     "b: !vault $ANSIBLE_VAULT_TOKEN x\n": "line 1: b begins like a vault ($ANSIBLE_VAULT), but is not one",
 }
 

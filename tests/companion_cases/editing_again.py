@@ -6,7 +6,7 @@ from companion_cases import CHANGE, CHANGED, EDIT, TEXT, Place, block, edit, end
 from companion_cases.terminal import READING, ask
 from lib.needs import needs, needs_pyyaml
 
-AGAIN, INTENDED = "Open the editor again? (yes, no): ", "Is that intended? (yes, no): "
+AGAIN = "Open the editor again? (yes, no): "
 SHOWN = f"secret: !vault |\n  {TEXT.decode()}"
 TYPO = 'new: !vault "more'
 TYPED = f"{SHOWN}{TYPO}\n".encode()
@@ -17,7 +17,7 @@ cat "$1" >> ../seen
 if grep -q '^new' "$1"; then {{}}; else echo '{TYPO}' >> "$1"; fi
 """
 NO_YAML = "vars.yml: line 4: it cannot be read as YAML: "
-NO, YES = b"no\n", b"yes\n"
+YES = b"yes\n"
 # What the editor does when it opens again, what is typed at each question, the status, and a part of the message.
 ENDS = {
     "mended": (MEND, [YES], 0, ""),
@@ -42,18 +42,6 @@ def test_opened_again(place: Place, later: str, typed: list[bytes], status: int,
     assert ("what you saved is encrypted in" in session.stderr, why in session.stderr) == (status != 0, True), session
     after = place.get("vars.yml")
     assert (after.startswith(block("old")), texts(after, "old")[1:]) == (True, [] if why else [b"more"])
-
-
-def test_intended_tags(place: Place) -> None:
-    """At a terminal, the user may confirm that a new tag is intended."""
-    needs("stty")
-    needs_pyyaml()
-    place.put("vars.yml", block("old"))
-    editor = place.script('grep -q new "$1" || echo "new: !Vault word" >> "$1"', "editor")
-    answers = [(INTENDED, NO), (AGAIN, YES), (INTENDED, YES)]
-    session = ask(place, *READING, EDIT, *place.by_file("old"), "vars.yml", answers=answers, EDITOR=editor)
-    assert (session.returncode, session.stderr) == (0, ""), session
-    assert place.get("vars.yml") == block("old") + b"new: !Vault word\n"
 
 
 def test_resumed(place: Place) -> None:
@@ -133,7 +121,7 @@ def test_saved_in_another(place: Place, codec: str) -> None:
     assert (place.kept(), place.get("vars.yml"), place.left()) == ([typed], before, []), "no plaintext is left"
 
 
-# Values after a tag that the file did not have; those with a known tag or none, about which there is no question.
+# Values after a tag that the file did not have; and those with a known tag or none, which are not refused.
 MISSPELT = ["!Vault x", "! vault x", "!!vault x", "!vault: x", "!<vault> x", "!vualt [x]"]
 OTHERS = "a: !other y\nb: 'wow! Vault'\nc: x != vault\nd: vault x\n"
 

@@ -14,7 +14,9 @@ from typing import NamedTuple
 
 import pytest
 
+from ansible_vault_companions.editing.typed_tags import check_tags
 from ansible_vault_companions.envelopes import conflicts, content, header
+from ansible_vault_companions.envelopes.content import Content
 from ansible_vault_companions.envelopes.header import LINE_END
 from ansible_vault_companions.envelopes.key_paths import KeyPath
 from ansible_vault_companions.envelopes.node import LOOSE, STRAY, TAGS
@@ -117,7 +119,13 @@ def test_yaml_that_cannot_be_read(place: Place) -> None:
 PIECES = [b"$ANSIBLE_VAULT", b"$ANSIBLE_VAULT;1.1;AES256", b'"\\x24ANSIBLE_VAULT']
 PIECES += [b"  $ANSIBLE_VAULT;1.1;AES256\n  6162\n", b'"$ANSIBLE_VAULT;1.1;AES256\\n' + b"61" * 40 + b'", ']
 PIECES += [b"a: !vault |\n  $ANSIBLE_VAULT;1.1;AES256\n  6162\n", b" " * 4000 + b"$ANSIBLE_VAULT;1.1;AES256\n"]
-PIECES += [b"!vault &" + b"x" * 4000 + b"\n$ANSIBLE_VAULT;1.1;AES256\n", b"!vault | ", b"!vault &a ", b"# \\n"]
+PIECES += [
+    b"!vault &" + b"x" * 4000 + b"\n$ANSIBLE_VAULT;1.1;AES256\n",
+    b"!vault | ",
+    b"!vault &a ",
+    b"!vault",
+    b"# \\n",
+]
 PIECES += [b" ", b"\t", b"\n", b"- ", b"61", b"<<<<<<< ", b"<<<<<<< a\n", b"[", b"{a: ", b"? ", b"&a ", b"%TAG ! !"]
 PIECES += [b"$ANSIBLE_VAULT;1.1;AES256 # # # " + b"61" * 20 + b"\n", b"  - ", b"\r", b"'"]
 SMALL, TIMES = 1 << 15, 8
@@ -127,6 +135,7 @@ WORKS: dict[str, Callable[[bytes], object]] = {
     "every node": lambda data: content.parse_content(START + data, every=True),
     "a file that is no YAML": lambda data: content.parse_content(b"[$ANSIBLE_VAULT;1.1;AES256" + data),
     "a whole vault": lambda data: header.is_whole_envelope(b"$ANSIBLE_VAULT;1.1;AES256\n" + data),
+    "typed tags": lambda data: check_tags(Content(data), Content(data)),
     "conflict markers": lambda data: (conflicts.is_unmerged(data), conflicts.split_sides(b"<<<<<<<\n" + data)),
 }
 

@@ -75,6 +75,10 @@ def test_edits(monkeypatch: pytest.MonkeyPatch) -> None:
         wanted = tagged(data)
         if wanted is None:
             continue
+        if b"%TAG" in data:
+            with pytest.raises(Refused, match="^line 1: `%TAG`"):
+                YamlDraft("", data, data, decrypt, Choice([SECRET], None))
+            continue
         file = YamlDraft("", data, data, decrypt, Choice([SECRET], None))
         plain = [(path, shown_text(text)) for path, text in wanted]
         assert tagged(file.plaintext) == plain, data
@@ -115,6 +119,12 @@ def check_changed(file: YamlDraft, generator: random.Random) -> bool:
     read = tagged(edited)
     if read is None:
         return False
+    rest = re.compile(rb"[^\r\n]*").match(edited, value.begin + len(lines))
+    assert rest
+    if typed == "neu" and rest[0].strip(b" ,]}"):
+        with pytest.raises(Refused, match="a text without quotes ends within the line"):
+            file.encrypt(Hexadecimal(), edited)
+        return True
     after = file.encrypt(Hexadecimal(), edited)
     envelopes = [text if text.startswith("$ANSIBLE") else envelope(text.encode()).decode() for _, text in read]
     wanted = [(path, text.split()) for (path, _), text in zip(read, envelopes)]

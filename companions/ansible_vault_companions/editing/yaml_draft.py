@@ -4,18 +4,16 @@ from __future__ import annotations
 
 from ansible_vault_companions.editing.choosing import Choice
 from ansible_vault_companions.editing.matching import Match, Opened, describe_place, find_matches
+from ansible_vault_companions.editing.typed_tags import check_tags, refuse_directive
 from ansible_vault_companions.editing.writing import make_plain_block, make_sealed_block, parse_nodes, write_values
 from ansible_vault_companions.envelopes import conflicts
-from ansible_vault_companions.envelopes.content import Content
 from ansible_vault_companions.envelopes.header import MAGIC
 from ansible_vault_companions.envelopes.layout import NOT_UTF_8, Replacement
-from ansible_vault_companions.envelopes.node import ALIAS, NO_SCALAR, PLAIN, TAGS, Node
-from ansible_vault_companions.passwords import prompts
+from ansible_vault_companions.envelopes.node import ALIAS, NO_SCALAR, PLAIN, Node
 from ansible_vault_companions.refusals import Refused
 from ansible_vault_companions.tool import Decrypt, Key, Tool
 from ansible_vault_companions.workers import work_at_once
 
-NEW_TAG = "line {}: it has a tag that the file did not have, other than `!vault`, so what follows stays in plaintext"
 NO_TEXT = "is a list, a mapping or a key, not a string; put quotes around a text"
 NOTHING = 'is missing after `!vault`; write `""` for an empty one'
 LIKE_A_VAULT = "begins like a vault ($ANSIBLE_VAULT), but is not one, so ansible-vault does not encrypt it"
@@ -26,6 +24,7 @@ class YamlDraft:
     in it."""
 
     def __init__(self, target: str, content: bytes, edited: bytes, decrypt: Decrypt, choice: Choice) -> None:
+        refuse_directive(edited)
         self.target, self.choice = target, choice
         self.content: bytes | None = content
         self.file = parse_nodes(edited)
@@ -53,10 +52,11 @@ class YamlDraft:
             raise Refused("it is no longer UTF-8; save it as UTF-8")
         if conflicts.is_unmerged(text):
             raise Refused(conflicts.STILL)
+        refuse_directive(text)
         after = parse_nodes(text)
-        _check_tags(self.file, after)
         closed = {value.text for value, _ in self.faults}
         typed = {number: value for number, value in enumerate(after.values) if _is_typed(value, closed)}
+        check_tags(parse_nodes(self.plaintext), after)
         found = find_matches([*self.opened.values()], [*typed.values()], self.choice)
         matches = dict(zip(typed, found))
         envelopes = dict(zip(typed, work_at_once(lambda number: _seal(tool, typed[number], matches[number]), typed)))
@@ -128,14 +128,3 @@ def _is_utf_8(text: bytes) -> bool:
         return "\0" not in text.decode()
     except UnicodeDecodeError:
         return False
-
-
-def _check_tags(before: Content, after: Content) -> None:
-    """Refuses a new tag, which may be a misspelled one, unless the user confirms it at the terminal."""
-    known = {value.tag for value in before.values} | {"", *TAGS}
-    for value in after.values:
-        if value.tag not in known:
-            why = NEW_TAG.format(value.line)
-            if not prompts.ask_consent(f"{why}. Is that intended?"):
-                raise Refused(why)
-            known.add(value.tag)

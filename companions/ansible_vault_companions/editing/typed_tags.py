@@ -1,0 +1,79 @@
+"""Makes sure that what a user types behind `!vault` is encrypted, whatever is around it.
+
+The text around it may be a stranger's: a string that begins above and ends below takes it in, and the directive `%TAG`
+makes `!vault` another tag. So it is not enough to encrypt the values that YAML says there are. Each `!vault` in what was
+saved has to be the tag of one of them, unless it was shown, with what follows it.
+"""
+
+from __future__ import annotations
+
+import re
+from bisect import bisect_right
+from collections import Counter
+from typing import Iterator
+
+from ansible_vault_companions.envelopes.content import Content
+from ansible_vault_companions.envelopes.header import LINE_END
+from ansible_vault_companions.envelopes.node import PLAIN, TAGS
+from ansible_vault_companions.refusals import Refused
+
+DIRECTIVE = re.compile(rb"(?:\A(?:\xef\xbb\xbf)?|[\r\n])%TAG")
+# The word with what follows it, up to the next one or the end of the line; and as a tag, up to its text. Neither goes
+# beyond the next word, so that a search is linear.
+WORD = re.compile(rb"!vault(?:(?!!vault)[^\r\n])*")
+TAG = re.compile(rb"!vault(?:(?!!vault)[^\s,\[\]{}])*(?:\s+&(?:(?!!vault)\S)+)?\s*")
+# What may follow a text without quotes in its line.
+REST = re.compile(rb"[ \t,\]}]*(?:[\r\n]|\Z)")
+
+HAS_DIRECTIVE = (
+    "line {}: `%TAG` may make `!vault` another tag; remove that line with another editor, or set a value with --value"
+)
+NEW_TAG = (
+    "line {}: it has a tag that the file did not have, other than `!vault`; correct it, or add it with another editor"
+)
+STRAY = (
+    "line {}: no value follows `!vault` here, so nothing would be encrypted, as in a comment or a string; correct it, or "
+    "add it with another editor"
+)
+CUT = "line {}: a text without quotes ends within the line, so the rest would stay in plaintext; put it in quotes"
+
+
+def refuse_directive(data: bytes) -> None:
+    """Refuses a text with `%TAG`, even if that is within a string."""
+    found = DIRECTIVE.search(data)
+    if found:
+        raise Refused(HAS_DIRECTIVE.format(_find_line(data, found.end())))
+
+
+def check_tags(shown: Content, saved: Content) -> None:
+    """Refuses a tag that was not shown, which may be a misspelled one, a `!vault` that encrypts nothing, and a text
+    that is cut short."""
+    known = {value.tag for value in shown.values} | {"", *TAGS}
+    for value in saved.values:
+        if value.tag not in known:
+            raise Refused(NEW_TAG.format(value.line))
+        is_unquoted = value.is_tagged and value.style == PLAIN and not value.is_envelope
+        if is_unquoted and not REST.match(saved.data, value.end):
+            raise Refused(CUT.format(value.line))
+    before = Counter(word[0] for word in _find_strays(shown))
+    for word in _find_strays(saved):
+        if not before[word[0]]:
+            raise Refused(STRAY.format(_find_line(saved.data, word.start())))
+        before[word[0]] -= 1
+
+
+def _find_strays(text: Content) -> Iterator[re.Match[bytes]]:
+    """Each `!vault` that is neither the tag of a value nor within the quotes or the block of one, with what follows."""
+    values = sorted((value for value in text.values if value.is_tagged), key=lambda value: value.begin)
+    begins = [value.begin for value in values]
+    behind_tags = {*begins}
+    for word in WORD.finditer(text.data):
+        number = bisect_right(begins, word.start())
+        is_within = number > 0 and word.start() < values[number - 1].end and values[number - 1].style != PLAIN
+        tag = TAG.match(text.data, word.start())
+        if not is_within and not (tag and tag.end() in behind_tags):
+            yield word
+
+
+def _find_line(data: bytes, place: int) -> int:
+    return len(LINE_END.findall(data, 0, place)) + 1

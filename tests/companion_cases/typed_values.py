@@ -1,0 +1,108 @@
+"""What is typed behind `!vault` is encrypted, or the edit is refused, whatever YAML is around it. Envelopes contain the
+digits of their plaintexts."""
+
+from __future__ import annotations
+
+import random
+from collections import Counter
+from typing import NamedTuple
+
+import hypothesis
+import pytest
+from hypothesis import strategies as st
+
+from ansible_vault_companions.editing.choosing import Choice
+from ansible_vault_companions.editing.yaml_draft import YamlDraft
+from ansible_vault_companions.refusals import Refused
+from companion_cases.yaml_values import SECRET, Hexadecimal, Plaintexts, decrypt
+
+EXAMPLES = 1000
+STRAY = "no value follows `!vault` here"
+# The words of what is typed.
+SECRETS = [b"hunter2", b"staple"]
+TEXTS = ["hunter2", "hunter2 staple", "hunter2, staple", "hunter2 #staple", "hunter2: staple", "hunter2]staple"]
+TEXTS += ["#hunter2", "!hunter2", "*hunter2", "[hunter2, staple]", "{hunter2: staple}", "hunter2\n    staple"]
+TEXTS += ["'hunter2'", '"hunter2"', "|\n    hunter2\n    staple", ">-\n    hunter2", "|\n    hunter2\n    # staple"]
+LINES = ["new: !vault {}", "new: !vault {}", "new: &b !vault {}", "new: !vault &b {}", "new: {{x: !vault {}, y: 1}}"]
+LINES += ["- !vault {}", "!vault {}", "[!vault {}]", "? !vault {}", "new: !vault\n    {}", "new: !<!vault> {}"]
+LINES += ["# new: !vault {}", "new: 'so !vault {}'", "new: x # !vault {}", "!vault {}: x", "new: !vault # {}\n    x"]
+LINES += ["new: !vault-encrypted {}", "new: !!vault {}", "new: !vault:{}"]
+# Lines that somebody may put above and below what is typed, and that can be read without it.
+AROUND = [
+    ('notes{}: "', '  "'),
+    ("notes{}: '", "  '"),
+    ("notes{}: |", "  x"),
+    ("notes{}: >2", "  x"),
+    ("l{}: [", "  ]"),
+]
+AROUND += [
+    ("m{}: {{", "  }}"),
+    ("# {}", ""),
+    ("l{}:", "- x"),
+    ("m{}:", "  y: 1"),
+    ("notes{}: x", "  y"),
+    ("---", "# {}"),
+]
+AROUND += [
+    ("...", "--- # {}"),
+    ("? [x, {}]", ": y"),
+    ("# new: !vault hunter2", ""),
+    ("# !vault hunter2", "t{}: !valt x"),
+]
+AROUND += [("%TAG ! !{}", "---"), ("z{}: &a !vault x", "z: *a"), ("m{}: !vault 'x'", "")]
+
+
+class Edit(NamedTuple):
+    """The lines of a file, and those that are saved above one of its plaintext."""
+
+    content: list[str]
+    place: int
+    added: list[str]
+
+
+@st.composite
+def edits(draw: st.DrawFn) -> Edit:
+    generator = Plaintexts(random.Random(draw(st.integers(0, 1 << 32))))
+    content = ["first: !vault |", *(f"  {line}" for line in generator.lines())]
+    for number in range(draw(st.integers(1, 3))):
+        if draw(st.booleans()):
+            above, below = draw(st.sampled_from(AROUND))
+            content += [above.format(number), below.format(number)]
+        else:
+            content += [f"deep{number}:", *generator.collection(2, 2).splitlines()]
+    above, below = draw(st.sampled_from([("", "")] * len(AROUND) + AROUND))
+    margin = draw(st.sampled_from(["", "", "  "]))
+    typed = margin + draw(st.sampled_from(LINES)).format(draw(st.sampled_from(TEXTS)))
+    return Edit(content, draw(st.integers(0, 40)), [above.format("new"), typed, below.format("new")])
+
+
+def save(edit: Edit) -> bytes:
+    """Return the file after an edit."""
+    content = "".join(f"{line}\n" for line in edit.content).encode(errors="surrogateescape")
+    file = YamlDraft("", content, content, decrypt, Choice([SECRET], None))
+    lines = file.plaintext.splitlines(keepends=True)
+    place = edit.place % (len(lines) + 1)
+    lines[place:place] = [f"{line}\n".encode() for line in edit.added if line]
+    return file.encrypt(Hexadecimal(), b"".join(lines))
+
+
+def test_typed_values(request: pytest.FixtureRequest) -> None:
+    counts: Counter[str] = Counter()
+
+    @hypothesis.seed(request.config.getoption("--seed"))
+    @hypothesis.settings(
+        max_examples=EXAMPLES, deadline=None, database=None, suppress_health_check=list(hypothesis.HealthCheck)
+    )
+    @hypothesis.given(edits())
+    def check(edit: Edit) -> None:
+        try:
+            after = save(edit)
+        except Refused as fault:
+            counts[str(fault).partition(": ")[2][: len(STRAY)]] += 1
+            return
+        counts["encrypted"] += 1
+        before = "".join(edit.content).encode(errors="surrogateescape")
+        assert [secret for secret in SECRETS if after.count(secret) > before.count(secret)] == []
+
+    check()
+    assert min(counts["encrypted"], counts[STRAY]) > 30, counts
