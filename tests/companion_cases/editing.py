@@ -109,6 +109,7 @@ MISREAD = {
     "b: 'x\n": "line 2: it cannot be read as YAML: found unexpected end of stream",
     "b: !vault |-\n  x\ny\n": "line 4: it cannot be read as YAML: could not find expected ':'",
     "b: !vault x\n# c: !vault y\n": "line 2: no value follows `!vault` here",
+    "b: !vault x\n  - !vault |\n  y\n  # z\n": "line 2: no value follows `!vault` here",
     "b: !vault x #y\n": "line 1: a text without quotes ends within the line",
     "\ufeff%TAG ! !x\n---\nb: !vault x\n": "line 1: `%TAG` may make `!vault` another tag",
     "b: !vault $ANSIBLE_VAULT_TOKEN x\n": "line 1: b begins like a vault ($ANSIBLE_VAULT), but is not one",

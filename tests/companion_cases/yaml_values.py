@@ -62,7 +62,7 @@ class Plaintexts(Generator):
 
 # What may be typed for a value, with the indentation of its lines.
 TYPED = ['"neu\\n"', "neu", "'n''eu'", "|-\n{0}neu\n{0}eu\n", "|+\n{0}neu\n\n\n", ">\n{0}neu\n{0}eu\n", "|2\n{0} neu\n"]
-TYPED.append('"n\\x00\\u2028"')
+TYPED += ['"n\\x00\\u2028"', "|-\n{0}# !vault\n{0}x: !vault neu\n"]
 
 
 def test_edits(monkeypatch: pytest.MonkeyPatch) -> None:
