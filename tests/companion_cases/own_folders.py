@@ -79,8 +79,8 @@ def make_chain(top: Path, folders: list[Folder]) -> list[Path]:
 
 
 def attack(paths: list[Path]) -> None:
-    """Do to the last directory what only its user may: enter, read, fill or exchange it. Fails if nothing of that works.
-    An owner may allow it first."""
+    """Do to the last directory what only its user may: enter, read, fill or exchange it. Fails if nothing of that
+    works. An owner may allow it first."""
     own = paths[-1]
     ways: list[Callable[[], object]] = [
         lambda: os.lstat(own / "a"),
@@ -175,10 +175,10 @@ NO_COPY = "set XDG_STATE_HOME to a directory that only you can open; what you sa
 AS_NOBODY = ["setpriv", f"--reuid={NOBODY}", f"--regid={NOBODY}", "--clear-groups"]
 
 
-def are_used(place: Place, where: Path | str, runner: list[str]) -> tuple[bool, bool]:
+def are_used(place: Place, where: str, runner: list[str]) -> tuple[bool, bool]:
     """Return whether an edit that fails has its plaintext and its copy in this directory. What is not there is in a
     usual one, and only the user can open it."""
-    place.environment |= {"XDG_RUNTIME_DIR": str(where), "XDG_STATE_HOME": str(where)}
+    place.environment |= {"XDG_RUNTIME_DIR": where, "XDG_STATE_HOME": where}
     words = [*runner, EDIT, *place.by_file("old"), "all.yml"]
     done = place.run(*words, EDITOR=place.script(FAIL, "editor"))
     ended("the edit", done, 1, "all.yml: the editor failed")
@@ -212,16 +212,16 @@ def test_kinds(of_nobody: Place, owner: int, mode: int, is_used: bool, is_used_b
     os.chown(real, owner, SHARED)
     real.chmod(mode)
     where, is_wanted = {"above": (own, is_used_below), "link": (link, is_used)}.get(position, (real, is_used))
-    assert are_used(of_nobody, where, AS_NOBODY) == (is_wanted, is_wanted)
+    assert are_used(of_nobody, str(where), AS_NOBODY) == (is_wanted, is_wanted)
     assert [*real.rglob(f"{PREFIX}*")] == [], "nothing else is left"
 
 
 # What is no directory for them, or is missing, so that one is made for a copy; the umask; and which of them are there.
 OTHERS = {
-    "missing": ("022", False, True),
-    "missing/too": ("000", False, False),
-    "all.yml": ("022", False, False),
-    "../runtime": ("022", False, False),
+    "missing": ("022", (False, True)),
+    "missing/too": ("000", (False, False)),
+    "all.yml": ("022", (False, False)),
+    "../runtime": ("022", (False, False)),
 }
 
 
@@ -229,9 +229,9 @@ OTHERS = {
 def test_others(place: Place, name: str) -> None:
     """With a umask of 000, others can write to the directories that are made."""
     place.put("all.yml", sealed("old"))
-    umask, *wanted = OTHERS[name]
-    where = name if name.startswith(".") else place.tree / name
-    assert [*are_used(place, where, ["sh", "-c", f'umask {umask}; exec "$@"', "sh"])] == wanted
+    umask, wanted = OTHERS[name]
+    where = name if name.startswith(".") else str(place.tree / name)
+    assert are_used(place, where, ["sh", "-c", f'umask {umask}; exec "$@"', "sh"]) == wanted
     assert len(place.copies()) == (name == "../runtime"), "the usual directory has the copy"
 
 
@@ -251,7 +251,7 @@ def test_mounts(place: Place, options: str, fill: str) -> None:
     place.put("all.yml", sealed("old"))
     lines = f'mount -t tmpfs -o mode=700,{options} tmpfs ../runtime && ! {fill} 2> ../why; "$@"; status=$?'
     runner = ["unshare", "--mount", "sh", "-c", f"{lines}; ls ../runtime > ../left; exit $status", "sh"]
-    assert are_used(place, place.runtime, runner) == (False, False)
+    assert are_used(place, str(place.runtime), runner) == (False, False)
     assert {*place.get("../left").split()} <= {b"full", b"ansible-vault"}
 
 
@@ -267,6 +267,6 @@ def test_no_place(place: Place) -> None:
     place.path.chmod(0o777)
     words = [*place.by_file("old"), "all.yml"]
     done = run_changed(place, EDIT, NO_PLACE, words, EDITOR=place.script("touch ../started", "editor"))
-    why = rf"\(/proc: .+; {place.path}: others can write to {place.path}\); set TMPDIR to a directory that only you can open"
-    assert re.fullmatch(rf"{EDIT}: all.yml: no private directory .+ {why}\n", done.stderr), done.stderr
+    why = rf"\(/proc: .+; {place.path}: others can write to {place.path}\); set TMPDIR to a directory that only you can"
+    assert re.fullmatch(rf"{EDIT}: all.yml: no private directory .+ {why} open\n", done.stderr), done.stderr
     assert not (place.path / "started").exists() and [*place.path.glob(f"{PREFIX}*")] == []

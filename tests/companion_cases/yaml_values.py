@@ -119,17 +119,26 @@ def check_changed(file: YamlDraft, generator: random.Random) -> bool:
     read = tagged(edited)
     if read is None:
         return False
-    rest = re.compile(rb"[^\r\n]*").match(edited, value.begin + len(lines))
-    assert rest
-    if typed == "neu" and rest[0].strip(b" ,]}"):
+    if typed == "neu" and is_followed(edited, value.begin + len(lines)):
         with pytest.raises(Refused, match="a text without quotes ends within the line"):
             file.encrypt(Hexadecimal(), edited)
         return True
     after = file.encrypt(Hexadecimal(), edited)
+    check_after(file, edited, after, read)
+    return True
+
+
+def is_followed(data: bytes, place: int) -> bool:
+    """Return whether more than the ends of collections follows in the line."""
+    rest = re.compile(rb"[^\r\n]*").match(data, place)
+    return rest is not None and rest[0].strip(b" ,]}") != b""
+
+
+def check_after(file: YamlDraft, edited: bytes, after: bytes, read: list[tuple[KeyPath, str]]) -> None:
+    """Check that an edited text is read as before, with envelopes, and that at most one scalar has changed."""
     envelopes = [text if text.startswith("$ANSIBLE") else envelope(text.encode()).decode() for _, text in read]
     wanted = [(path, text.split()) for (path, _), text in zip(read, envelopes)]
     assert [(path, text.split()) for path, text in tagged(after) or []] == wanted, (edited, after)
     scalars_before = Counter(file.file.data[old.value.begin : old.value.end] for old in file.opened.values())
     lost = scalars_before - Counter(after[value.begin : value.end] for value in parse_nodes(after).values)
     assert sum(lost.values()) <= 1, (edited, after)
-    return True

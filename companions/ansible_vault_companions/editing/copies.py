@@ -1,4 +1,5 @@
-"""Rescue copies: what an edit saved and could not put into the file is kept encrypted in a directory of the user's own."""
+"""Rescue copies: what an edit saved and could not put into the file is kept encrypted, in a directory of the user's
+own."""
 
 from __future__ import annotations
 

@@ -78,7 +78,10 @@ class ConflictDraft:
     """A file with two vaults between markers. Their texts are merged, and what is saved becomes one vault."""
 
     def __init__(self, target: str, content: bytes, vaults: VaultMerge, key: Key) -> None:
-        self.target, self.content, self.vaults, self.keys = target, content, vaults, [key]
+        self.target = target
+        self.content = content
+        self.vaults = vaults
+        self.keys = [key]
         self.plaintext = vaults.merge.text
 
     def is_as_it_was(self, text: bytes) -> bool:

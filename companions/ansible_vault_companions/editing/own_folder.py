@@ -15,13 +15,13 @@ from ansible_vault_companions.quoting import escape
 
 def require_own_folder(path: str) -> None:
     """Refuses a directory, by its real path, unless it is the user's own: it belongs to the user, and others have no
-    access. Each directory above it belongs to the user or to root, and others cannot write to it, or it is sticky. In a
-    sticky directory, only the owners of it and of a thing in it can rename or remove that thing. So nobody else but root
-    can put another directory in the place of this one. Those at the top come first: what has passed stays. None is a
+    access. Each directory above it belongs to the user or to root, and others cannot write to it, or it is sticky:
+    then, only its owner can rename or remove what belongs to somebody else. So nobody but root can put another
+    directory in the place of this one. Those at the top come first, so that what has passed stays as it is. None is a
     link, since everybody may write to those.
 
-    git records no modes of directories, so one that it makes is open to others, unless a umask prevents that. Even then,
-    a stranger could only commit a copy that the team has made, of the very text that the edit begins with.
+    git records no modes of directories, so one that it makes is open to others, unless a umask prevents that. Even
+    then, a stranger could only commit a copy that the team has made, of the very text that the edit begins with.
     """
     for above in reversed(PurePath(path).parents):
         _require_safe(str(above))

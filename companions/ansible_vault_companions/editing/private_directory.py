@@ -34,7 +34,7 @@ class PrivateDirectory:
             _remove(self.path, fault)
 
     def keep(self, why: str, text: bytes | None = None) -> Refused:
-        """Keeps the directory, or another one if this text is no longer in it. Returns the exception that says where."""
+        """Keeps the directory, or another one if this text is not in it. Returns the exception that says where."""
         self.is_kept = True
         if text is not None and not os.path.lexists(self.file):
             self.path = _make(self.name, text)
@@ -54,8 +54,9 @@ def _make(name: str, text: bytes) -> str:
 
 def _list_places() -> list[str]:
     """The directories in which to try it. A relative path may lead to a stranger's."""
-    places = (os.environ.get("XDG_RUNTIME_DIR", ""), "/dev/shm", os.environ.get("TMPDIR", ""), "/tmp")
-    return [os.path.realpath(place) for place in places if os.path.isabs(place)]
+    in_memory = [os.environ.get("XDG_RUNTIME_DIR", ""), "/dev/shm"]
+    on_disk = [os.environ.get("TMPDIR", ""), "/tmp"]
+    return [os.path.realpath(place) for place in in_memory + on_disk if os.path.isabs(place)]
 
 
 def _make_in(place: str, name: str, text: bytes) -> str:

@@ -34,7 +34,9 @@ class SingleValue:
     """A value at a path in a file. Its new text gets its own password, or a chosen one."""
 
     def __init__(self, target: str, content: bytes | None, path: str, decrypt: Decrypt, choice: Choice) -> None:
-        self.target, self.content, self.path = target, content, path
+        self.target = target
+        self.content = content
+        self.path = path
         is_chosen = choice.label is not None
         if content is None and not is_chosen:
             raise FileNotFoundError(errno.ENOENT, os.strerror(errno.ENOENT), target)

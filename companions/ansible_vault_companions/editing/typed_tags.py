@@ -1,8 +1,8 @@
 """Makes sure that what a user types behind `!vault` is encrypted, whatever is around it.
 
 The text around it may be a stranger's: a string that begins above and ends below takes it in, and the directive `%TAG`
-makes `!vault` another tag. So it is not enough to encrypt the values that YAML says there are. Each `!vault` in what was
-saved has to be the tag of one of them, unless it was shown, with what follows it.
+makes `!vault` another tag. So it is not enough to encrypt the values that YAML says there are. Each `!vault` in what
+was saved has to be the tag of one of them, unless it was shown, with what follows it.
 """
 
 from __future__ import annotations
@@ -32,8 +32,8 @@ NEW_TAG = (
     "line {}: it has a tag that the file did not have, other than `!vault`; correct it, or add it with another editor"
 )
 STRAY = (
-    "line {}: no value follows `!vault` here, so nothing would be encrypted, as in a comment or a string; correct it, or "
-    "add it with another editor"
+    "line {}: no value follows `!vault` here, so nothing would be encrypted, as in a comment or a string; correct it, "
+    "or add it with another editor"
 )
 CUT = "line {}: a text without quotes ends within the line, so the rest would stay in plaintext; put it in quotes"
 
