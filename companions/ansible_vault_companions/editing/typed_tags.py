@@ -25,9 +25,7 @@ TAG = re.compile(rb"!vault(?:(?!!vault)[^\s,\[\]{}])*(?:\s+&(?:(?!!vault)\S)+)?\
 # What may follow a text without quotes in its line.
 REST = re.compile(rb"[ \t,\]}]*(?:[\r\n]|\Z)")
 
-HAS_DIRECTIVE = (
-    "line {}: `%TAG` may make `!vault` another tag; remove that line with another editor, or set a value with --value"
-)
+HAS_DIRECTIVE = "line {}: `%TAG` may make `!vault` another tag; remove that line with another editor"
 NEW_TAG = (
     "line {}: it has a tag that the file did not have, other than `!vault`; correct it, or add it with another editor"
 )
