@@ -4,11 +4,12 @@ from __future__ import annotations
 
 import os
 import re
-from typing import Container, Iterable, NamedTuple
+from typing import Collection, Container, NamedTuple
 
-from ansible_vault_companions.git.commands import run_git
+from ansible_vault_companions.git.commands import CUT, list_records
 from ansible_vault_companions.git.repository import group_by_repository
 from ansible_vault_companions.quoting import escape
+from ansible_vault_companions.refusals import Refused
 
 # The first attribute marks a file if it has this value, the second if it is set. Unset, the second exempts a file. The
 # third exempts the values at these key paths.
@@ -29,14 +30,16 @@ class Attributes(NamedTuple):
 
 
 def read_attributes(
-    names: Iterable[bytes], index: str | None = None, folder: str | None = None
+    names: Collection[bytes], index: str | None = None, folder: str | None = None
 ) -> dict[bytes, Attributes]:
     """The attributes of each file, from the index or, if a directory is given, from its files."""
     options = [] if folder else ["--cached"]
     data = b"".join(name + b"\0" for name in names)
-    fields = run_git("check-attr", *options, "-z", "--stdin", *ATTRIBUTES, data=data, index=index, folder=folder)
+    fields = list_records("check-attr", *options, "-z", "--stdin", *ATTRIBUTES, data=data, index=index, folder=folder)
+    if len(fields) != 3 * len(ATTRIBUTES) * len(names):
+        raise Refused(CUT.format("check-attr"))
     values: dict[bytes, dict[bytes, bytes]] = {}
-    triples = iter(fields.split(b"\0")[:-1])
+    triples = iter(fields)
     for name, attribute, value in zip(triples, triples, triples):
         values.setdefault(name, {})[attribute] = value
     return {name: _make_attributes(*given.values()) for name, given in values.items()}

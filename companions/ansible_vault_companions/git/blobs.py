@@ -3,12 +3,15 @@
 from __future__ import annotations
 
 import subprocess
+from contextlib import suppress
 
 from ansible_vault_companions.envelopes.header import MAGIC
 from ansible_vault_companions.files.reading import LIMIT
-from ansible_vault_companions.git.commands import build_command, build_environment
+from ansible_vault_companions.git.commands import CUT, build_command, build_environment
 from ansible_vault_companions.limits import LONGEST
 from ansible_vault_companions.refusals import Refused
+
+NOT_PARTIAL = "if this is a partial clone, clone again without --filter"
 
 
 class Blobs:
@@ -28,23 +31,35 @@ class Blobs:
     def read(self, blob: str, is_old: bool = False) -> bytes:
         """The content of a blob. Of an old vault, and of what is too long for a vault or for YAML, only the beginning,
         which is too long as well."""
-        assert self.git.stdin and self.git.stdout
-        self.git.stdin.write(blob.encode() + b"\n")
-        self.git.stdin.flush()
-        words = self.git.stdout.readline().split()
-        if len(words) != 3:
-            raise Refused("this is a partial clone, which lacks contents of files; clone again without --filter")
-        size = int(words[2])
-        content: bytes = self.git.stdout.read(min(size, len(MAGIC)))
+        size = self._ask(blob)
+        content = self._take(min(size, len(MAGIC)))
         if content != MAGIC:
-            content += self.git.stdout.read(min(size, LONGEST + 1) - len(content))
+            content += self._take(min(size, LONGEST + 1) - len(content))
         elif size <= LIMIT and not is_old:
-            content += self.git.stdout.read(size - len(content))
+            content += self._take(size - len(content))
         left = size - len(content)
         if left <= LONGEST:
-            self.git.stdout.read(left + 1)
+            self._take(left + 1)
         else:
             # It is quicker to begin again than to read the rest.
             self.__exit__()
             self.__enter__()
+        return content
+
+    def _ask(self, blob: str) -> int:
+        """The size of a blob, whose content comes next, and then the end of a line."""
+        assert self.git.stdin and self.git.stdout
+        with suppress(BrokenPipeError):
+            self.git.stdin.write(blob.encode() + b"\n")
+            self.git.stdin.flush()
+        words = self.git.stdout.readline().split()
+        if len(words) != 3:
+            raise Refused(f"git cat-file failed: it does not give the content of {blob}; {NOT_PARTIAL}")
+        return int(words[2])
+
+    def _take(self, size: int) -> bytes:
+        assert self.git.stdout
+        content: bytes = self.git.stdout.read(size)
+        if len(content) < size:
+            raise Refused(CUT.format("cat-file"))
         return content

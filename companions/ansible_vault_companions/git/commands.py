@@ -19,6 +19,7 @@ OFF = ("core.fsmonitor=false", "submodule.recurse=false", "core.sparseCheckout=f
 NO_HOOKS = f"core.hooksPath={os.devnull}"
 # These commands run no hook, and need the real setting to say where the hooks are.
 OF_HOOKS = ("rev-parse", "config")
+CUT = "git {} failed: its output is cut"
 
 NO_TRANSPORT = {"GIT_NO_LAZY_FETCH": "1", "GIT_ALLOW_PROTOCOL": "none"}
 
@@ -47,22 +48,38 @@ def run_git_command(
 def run_git(
     *words: str, data: bytes = b"", index: str | None = None, folder: str | None = None, may_be_none: bool = False
 ) -> bytes:
-    """The output of a git command. If it fails, so does this, with git's own message. Warnings are left out. Some
-    commands have the status 1 if there is none of what they look for."""
+    """The output of a git command. If it fails, so does this, with git's own message. Warnings are left out. With the
+    status 1, some commands say that there is none of what they look for."""
     done = run_git_command(*words, data=data, index=index, cwd=folder)
-    if done.returncode != 0 and not (may_be_none and done.returncode == 1):
-        raise Refused(f"git {words[0]} failed: {' '.join(done.stderr.decode(errors='replace').split())}")
+    if may_be_none and done.returncode == 1:
+        return b""
+    if done.returncode != 0:
+        text = " ".join(done.stderr.decode(errors="replace").split())
+        raise Refused(f"git {words[0]} failed: {text or _describe_end(done.returncode)}")
     return done.stdout
 
 
-def try_git(*words: str, folder: str | None = None) -> bytes:
-    """The output of a git command, or nothing if it fails, for what is better than nothing, but not needed."""
-    try:
-        return run_git(*words, folder=folder)
-    except Refused:
-        return b""
+def _describe_end(status: int) -> str:
+    return f"signal {-status} ended it" if status < 0 else f"it ended with status {status}"
 
 
 def read_line(*words: str) -> str:
-    """The one line that a git command prints, or nothing if there is none of what it looks for."""
-    return os.fsdecode(run_git(*words, may_be_none=True).removesuffix(b"\n"))
+    """The line that a git command prints. A path may contain line ends of its own."""
+    output = run_git(*words)
+    if not output.endswith(b"\n"):
+        raise Refused(CUT.format(words[0]))
+    return os.fsdecode(output[:-1])
+
+
+def list_records(*words: str, data: bytes = b"", index: str | None = None, folder: str | None = None) -> list[bytes]:
+    """The records that a git command prints: with -z, each ends with a null character; otherwise, it is a line."""
+    output = run_git(*words, data=data, index=index, folder=folder)
+    *records, rest = output.split(b"\0" if "-z" in words else b"\n")
+    if rest:
+        raise Refused(CUT.format(words[0]))
+    return records
+
+
+def find_object(*name: str) -> str:
+    """The ID of the object that git knows by this name, perhaps with an option; empty if there is none."""
+    return run_git("rev-parse", "--verify", "--quiet", *name, may_be_none=True).decode().strip()

@@ -2,7 +2,7 @@
 
 from __future__ import annotations
 
-from ansible_vault_companions.git.commands import read_line
+from ansible_vault_companions.git.commands import CUT, find_object, list_records, read_line
 from ansible_vault_companions.quoting import escape
 from ansible_vault_companions.refusals import Refused
 
@@ -13,7 +13,21 @@ def find_commit(name: str) -> str:
     """The ID of the commit with this name. Raises Refused if there is none, or if the clone lacks earlier ones."""
     if read_line("rev-parse", "--is-shallow-repository") == "true":
         raise Refused(SHALLOW)
-    commit = read_line("rev-parse", "--verify", "--quiet", "--end-of-options", f"{name}^{{commit}}")
+    commit = find_object("--end-of-options", f"{name}^{{commit}}")
     if not commit:
         raise Refused(f"{escape(name)} is not a commit in this clone; if others have it, run `git fetch`")
     return commit
+
+
+def list_parents(commit: str) -> list[str]:
+    """The parents of a commit. git prints them behind the commit itself."""
+    return read_line("rev-list", "--parents", "--max-count=1", commit, "--").split()[1:]
+
+
+def list_merge_bases(one: str, other: str) -> list[str]:
+    """The merge bases of two commits. `git merge-base` has the same status if there are none and if it fails; this
+    prints both commits first."""
+    ids = list_records("rev-parse", f"{one}...{other}")
+    if len(ids) < 2:
+        raise Refused(CUT.format("rev-parse"))
+    return [base.decode().removeprefix("^") for base in ids[2:]]

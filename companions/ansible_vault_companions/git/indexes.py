@@ -8,7 +8,8 @@ from contextlib import contextmanager
 from functools import cached_property
 from typing import Iterator, NamedTuple
 
-from ansible_vault_companions.git.commands import read_line, run_git
+from ansible_vault_companions.git.commands import CUT, find_object, list_records, read_line, run_git
+from ansible_vault_companions.git.history import list_parents
 from ansible_vault_companions.git.pathspecs import make_pathspec
 from ansible_vault_companions.quoting import escape
 from ansible_vault_companions.refusals import Refused
@@ -61,14 +62,14 @@ class Index:
 
     def __init__(self, parents: list[str], path: str | None = None) -> None:
         # The parent of a first commit is the empty tree.
-        self.parents = parents or [run_git("hash-object", "-t", "tree", "--stdin").decode().strip()]
+        self.parents = parents or [read_line("hash-object", "-t", "tree", "--stdin")]
         self.path = path
 
     def at(self, paths: list[str]) -> list[File]:
         """The files and links at or below these paths. git refuses a path without any."""
-        entries = run_git("ls-files", "-s", "-z", "--full-name", "--error-unmatch", "--", *paths, index=self.path)
+        words = ("ls-files", "-s", "-z", "--full-name", "--error-unmatch", "--", *paths)
         files = []
-        for entry in entries.split(b"\0")[:-1]:
+        for entry in list_records(*words, index=self.path):
             about, _, name = entry.partition(b"\t")
             mode, blob, _ = about.decode().split()
             if mode in MODES:
@@ -95,7 +96,7 @@ class Index:
 
     def former(self, commit: str) -> set[File]:
         """The files, each with a version that a commit in the history had of it."""
-        commits = run_git("rev-list", commit, "--").splitlines(keepends=True)
+        commits = [line + b"\n" for line in list_records("rev-list", commit, "--")]
         files: set[File] = set()
         for first in range(0, len(commits), BATCH):
             for difference in _list_differences(*DIFF_TREE, data=b"".join(commits[first : first + BATCH])):
@@ -107,12 +108,14 @@ class Index:
 
 def _list_differences(*words: str, data: bytes = b"", index: str | None = None) -> Iterator[Difference]:
     """The entries of git's output in the format RAW. Raises Refused if a file is unmerged."""
-    fields = iter(run_git(*words, data=data, index=index).split(b"\0")[:-1])
+    fields = iter(list_records(*words, data=data, index=index))
     for about in fields:
         old_mode, mode, old_blob, blob, status = about.decode().removeprefix(":").split()
-        name = next(fields)
+        name = next(fields, b"")
         if status.startswith("R"):
-            name = next(fields)
+            name = next(fields, b"")
+        if not name:
+            raise Refused(CUT.format(words[0]))
         if status == "U":
             path = os.fsdecode(name)
             to_add = f"`git add -- {make_pathspec(path, is_below_top=True)}`"
@@ -133,10 +136,10 @@ def read_staged() -> Index:
 
 def _has_commit() -> bool:
     """Whether HEAD is a commit, and not a branch that has none yet. Raises Refused if it is neither."""
-    if read_line("rev-parse", "--verify", "--quiet", "HEAD"):
+    if find_object("HEAD"):
         return True
     # git also says so if it cannot read the branch. If it still cannot, the first of these fails.
-    branch = os.fsdecode(run_git("symbolic-ref", "HEAD").removesuffix(b"\n"))
+    branch = read_line("symbolic-ref", "HEAD")
     if run_git("for-each-ref", branch):
         raise Refused(f"git cannot read {escape(branch)}")
     return False
@@ -157,4 +160,4 @@ def open_index_file(tree: str) -> Iterator[str]:
 def open_index(commit: str) -> Iterator[Index]:
     """A context with a temporary index that contains the files of a commit."""
     with open_index_file(commit) as path:
-        yield Index(run_git("rev-list", "--parents", "--max-count=1", commit, "--").decode().split()[1:], path)
+        yield Index(list_parents(commit), path)

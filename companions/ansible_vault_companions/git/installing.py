@@ -29,7 +29,7 @@ git diff and git merge recognize vaults by .gitattributes; for the whole team, a
 def list_hooks() -> list[str]:
     """The paths of this repository's hooks. Changes to its top, where a relative core.hooksPath starts."""
     os.chdir(find_top())
-    folder = os.path.abspath(os.fsdecode(run_git("rev-parse", "--git-path", "hooks").removesuffix(b"\n")))
+    folder = os.path.abspath(read_line("rev-parse", "--git-path", "hooks"))
     return [os.path.join(folder, name) for name in ("pre-commit", "pre-merge-commit")]
 
 
@@ -64,8 +64,13 @@ def make_setting(setting: str, program: str, passwords: list[str]) -> str:
     return (words.replace("%", "%%") if "%" in rest else words) + rest
 
 
+def read_setting(setting: str, *options: str) -> str:
+    """The value of a setting; empty if it is not set. Without a default, git has the same status then and if it fails."""
+    return read_line("config", *options, "--default", "", "--get", setting)
+
+
 def install_setting(setting: str, value: str) -> str:
-    old = read_line("config", "--get", setting)
+    old = read_setting(setting)
     if old and SETTINGS[setting][0] not in old:
         raise Refused(f"is already `{escape(old)}`; to change it, unset it with git config and run this again")
     run_git("config", "--local", "--replace-all", setting, value)
@@ -73,7 +78,7 @@ def install_setting(setting: str, value: str) -> str:
 
 
 def uninstall_setting(setting: str) -> str:
-    value = read_line("config", "--local", "--get", setting)
+    value = read_setting(setting, "--local")
     if value and SETTINGS[setting][0] in value:
         run_git("config", "--local", "--unset-all", setting)
         return "removed"

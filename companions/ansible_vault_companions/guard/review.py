@@ -9,7 +9,7 @@ from typing import Callable, Iterator
 from ansible_vault_companions.envelopes.header import MAGIC
 from ansible_vault_companions.git import history, indexes
 from ansible_vault_companions.git.blobs import Blobs
-from ansible_vault_companions.git.commands import read_line, run_git
+from ansible_vault_companions.git.commands import list_records
 from ansible_vault_companions.git.indexes import Differences, File, Index
 from ansible_vault_companions.git.links import find_target
 from ansible_vault_companions.guard import (
@@ -93,12 +93,13 @@ def review_since(review: Review, name: str) -> None:
     if not name.strip("0"):
         raise Refused(NO_COMMIT.format(name or "nothing"))
     first, last = history.find_commit(name), history.find_commit("HEAD")
-    for commit in run_git("rev-list", "--reverse", "--topo-order", f"{first}..{last}", "--").decode().split():
+    for line in list_records("rev-list", "--reverse", "--topo-order", f"{first}..{last}", "--"):
+        commit = line.decode()
         with indexes.open_index(commit) as index:
             advise = partial(advice.advise_on_commit, commit=commit)
             review.look_at(index, index.changes(), advise, f"{commit[:DIGITS]}: ")
     with indexes.open_index(last) as index:
-        for base in read_line("merge-base", "--all", first, last).split():
+        for base in history.list_merge_bases(first, last):
             advise = partial(advice.advise_on_commits, base=base, last=last)
             review.look_at(index, [index.change(base)], advise, f"{last[:DIGITS]}: ")
 

@@ -76,10 +76,21 @@ def find_versions(path: str, data: bytes) -> Versions | None:
     if not sides:
         return None
     ours, theirs = sides[conflicts.OURS], sides[conflicts.THEIRS]
-    target = os.path.realpath(path)
-    folder = repository.find_repository(os.path.dirname(target))
-    names = [f":{stage}:{os.path.relpath(target, folder)}" for stage in (1, 2, 3)]
-    base, *stages = (commands.try_git("cat-file", "blob", name, folder=folder) if folder else b"" for name in names)
+    base, *stages = _read_stages(os.path.realpath(path))
     # Ends of lines may differ from those in the file.
     is_same = [stage.split() for stage in stages] == [ours.split(), theirs.split()]
     return Versions(ours, base if is_same else b"", theirs)
+
+
+def _read_stages(target: str) -> list[bytes]:
+    """Base, ours and theirs of a file in the index, each empty if the index has none."""
+    contents = [b"", b"", b""]
+    folder = repository.find_repository(os.path.dirname(target))
+    if folder:
+        name = os.path.relpath(target, folder)
+        for record in commands.list_records("ls-files", "--unmerged", "-z", "--", name, folder=folder):
+            about, _, found = record.partition(b"\t")
+            if found == os.fsencode(name):
+                _, blob, stage = about.decode().split()
+                contents[int(stage) - 1] = commands.run_git("cat-file", "blob", blob, folder=folder)
+    return contents

@@ -10,8 +10,9 @@ from ansible_vault_companions.refusals import Refused
 
 # The names of the sides in git's conflict markers.
 SIDES = OURS, BASE, THEIRS = ("ours", "base", "theirs")
-# The status of `git merge-file` is the number of conflicts, up to this. A greater status means failure.
-MOST_CONFLICTS = 127
+# The status of `git merge-file` is the number of conflicts, up to this. A greater status means failure. So does one
+# without as many conflicts in the text.
+MOST_CONFLICTS, END_OF_CONFLICT = 127, f"{'>' * 7} {THEIRS}".encode()
 
 
 class Versions(NamedTuple):
@@ -40,6 +41,6 @@ def merge_lines(versions: Versions) -> MergedLines:
     finally:
         for file in files:
             os.close(file)
-    if not 0 <= done.returncode <= MOST_CONFLICTS:
+    if not 0 <= done.returncode <= min(MOST_CONFLICTS, done.stdout.count(END_OF_CONFLICT)):
         raise Refused("git merge-file cannot merge it; it may be binary")
     return MergedLines(done.stdout, done.returncode)
