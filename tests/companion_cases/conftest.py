@@ -10,6 +10,7 @@ from pathlib import Path
 import pytest
 
 from companion_cases import COMPANIONS, Companions, Place
+from companion_cases.forks import Forks
 from lib.ansible_runs import AnsibleRuns
 from lib.needs import needs, needs_ansible
 
@@ -23,6 +24,12 @@ def copies(program: str) -> Iterator[Path]:
         shutil.copy(program, f"{folder}/ansible-vault")
         subprocess.run(["chmod", "-R", "go=rX", folder], check=True)
         yield Path(folder)
+
+
+@pytest.fixture(scope="session")
+def forks(copies: Path) -> Iterator[Forks]:
+    with Forks(copies / "companions") as server:
+        yield server
 
 
 @pytest.fixture

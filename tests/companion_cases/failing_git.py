@@ -1,0 +1,301 @@
+"""Calls of git that fail. A failure is no answer: the hook accepts no plaintext because it could not ask git.
+
+A stand-in for git passes on each call but one, or but those of a kind. That call prints nothing, a part of its answer
+or the whole, and then ends with some status or by a signal. A run is fine if its result is what it is without a failure
+(the answer was not needed), or if it names the failed call and has the status 1.
+
+git ends with status 0 only after it has written its whole answer. A cut answer with this status is refused all the same
+if it has another form than a whole one; `looks_whole` has those that have not.
+"""
+
+import os
+import shutil
+from collections import Counter
+from collections.abc import Callable
+from random import Random
+from typing import NamedTuple
+
+import pytest
+
+from companion_cases import CHECK, EDIT, HOOK, TEXT, Described, Place, block, described, sealed
+from companion_cases.forks import Forks
+from companion_cases.repository import under_git
+
+pytestmark = [pytest.mark.usefixtures("git"), pytest.mark.faults]
+
+NOTHING, RECORD, HALF, SHORT, ALL = "nothing", "the first record", "half", "all but the last byte", "all"
+# A call with a status reads its input first.
+ENDS = {f"status {status}": f"cat > /dev/null; exit {status}" for status in (0, 1, 128)} | {"a signal": "kill -KILL $$"}
+# What a failing call prints, and how it ends.
+Way = tuple[str, str]
+WAYS: list[Way] = [
+    *((part, "status 0") for part in (NOTHING, RECORD, HALF, SHORT)),
+    *((NOTHING, end) for end in ("status 1", "status 128", "a signal")),
+    (HALF, "a signal"),
+    (ALL, "status 1"),
+    (ALL, "a signal"),
+]
+WHOLE: Way = (ALL, "status 0")
+# Kinds of calls whose answer would also be whole, and say something else, without its last records; and those whose
+# answer is a text, which has no form.
+FEWER_RECORDS = {
+    "diff-index --cached": "nothing differs",
+    "diff-tree --stdin": "no commit changes a file",
+    "ls-files -s": "there is no other file",
+    "ls-files --unmerged": "the file has no conflict",
+    "rev-list": "there is no earlier commit",
+    "rev-list --reverse": "there is no later commit",
+}
+TEXTS = ("cat-file", "merge-file -p")
+# The kind of a call is its command and the first option; calls of a kind are numbered. Without FAILS, git answers, and
+# its answers are noted. A call that fails prints so many BYTES of the noted answer.
+STAND_IN = """
+find_kind() {
+    skips=
+    while case $skips$1 in -c) skips=yes ;; yes*) skips= ;; -*) ;; *) false ;; esac do shift; done
+    kind=$1
+    case $2 in -*) kind="$1 $2" ;; esac
+}
+real_git() { PATH=${PATH#*:} command git "$@"; }
+find_kind "$@"
+number=1
+while read -r each; do [ "$each" != "$kind" ] || number=$((number + 1)); done < "$CALLS/kinds"
+echo "$kind" >> "$CALLS/kinds"
+answer="$CALLS/$kind $number"
+case $FAILS in
+    "$kind $number" | "$kind")
+        echo "$number" >> "$CALLS/failed"
+        head -c "$BYTES" "$answer"
+        exec > /dev/null
+        eval "$END" ;;
+    '')
+        case $* in
+            *--batch) real_git "$@" | tee "$answer"; exit ;;
+        esac
+        real_git "$@" > "$answer"
+        status=$?
+        cat "$answer"
+        exit $status ;;
+esac
+"""
+
+# Files to stage, of which one without content is removed; or shell text to run.
+Files = dict[str, bytes | None]
+Steps = list[Files | str]
+
+VAULT, PW, PLAIN = sealed("old"), block("old", name="pw"), b"pw: plain\n"
+LINES = b"".join(b"line%d: %d\n" % (number, number) for number in range(40))
+# Names that begin with m have to be encrypted, and old.yml need not be.
+MARKS: Files = {".gitattributes": b"m*.yml diff=ansible-vault\nold.yml -ansible-vault\n"}
+# Files, and what takes their place: plaintext in the same file, in a renamed one, in one that is marked, and in one that
+# an older line of .gitattributes exempts.
+ENCRYPTED: Files = {**MARKS, "a.yml": VAULT, "b.yml": PW, "c.yml": LINES + PW, "old.yml": VAULT}
+PLAINTEXT: Files = {
+    "a.yml": TEXT,
+    "b.yml": PLAIN,
+    "c.yml": None,
+    "d.yml": LINES + PLAIN,
+    "old.yml": TEXT,
+    "m.yml": TEXT,
+}
+LINK, COMMIT = "ln -s a.yml mark.yml && git add mark.yml", "git commit -qm change --no-verify"
+LEAKS: Steps = [PLAINTEXT, LINK]
+REMOVAL: Files = dict.fromkeys((*PLAINTEXT, "mark.yml"))
+BRANCHES: Steps = [
+    {"a.yml": TEXT, "b.yml": PLAIN},
+    COMMIT,
+    "git checkout -qb theirs",
+    ENCRYPTED,
+    COMMIT,
+    "git checkout -q -",
+]
+OLD = "--vault-password-file ~/secrets/old"
+MERGE = "git commit -qm ours --allow-empty && git merge -q --no-commit -s ours theirs"
+SHALLOW = "git clone -q --depth 1 file://$PWD ../clone && rm -rf .git && mv ../clone/.git ."
+CONFLICT: Steps = [
+    {"a.yml": sealed("old", b"1\n\n2\n")},
+    COMMIT,
+    "git checkout -qb theirs",
+    {"a.yml": sealed("old", b"1\n\n3\n")},
+]
+CONFLICT += [COMMIT, "git checkout -q -", {"a.yml": sealed("old", b"4\n\n2\n")}, COMMIT, "! git merge -q theirs"]
+
+
+class Scenario(NamedTuple):
+    """What happens, the line to run then, the status that it has if git does not fail, and the files that it refuses
+    then, or other words of its messages."""
+
+    steps: Steps
+    line: str
+    status: int
+    words: str = ""
+
+
+SCENARIOS = {
+    "staged": Scenario([ENCRYPTED, COMMIT, *LEAKS], HOOK, 1, "a.yml b.yml d.yml m.yml mark.yml old.yml"),
+    "first commit": Scenario([MARKS, {"m.yml": TEXT}], HOOK, 1, "m.yml"),
+    "named file": Scenario([MARKS, {"m.yml": TEXT}, COMMIT], f"{HOOK} m.yml", 1, "m.yml"),
+    "merge": Scenario([*BRANCHES, MERGE], HOOK, 1, "a.yml b.yml"),
+    "leaks of one commit": Scenario(
+        [ENCRYPTED, COMMIT, *LEAKS, COMMIT, ENCRYPTED, COMMIT], f"{HOOK} --since HEAD~2", 1, "a.yml b.yml d.yml m.yml"
+    ),
+    "leak of two commits": Scenario(
+        [ENCRYPTED, COMMIT, REMOVAL, COMMIT, {"a.yml": TEXT}, COMMIT], f"{HOOK} --since HEAD~2", 1, "a.yml"
+    ),
+    "leaks of a merge": Scenario([*BRANCHES, MERGE, COMMIT], f"{HOOK} --since HEAD~1", 1, "a.yml b.yml"),
+    "leaks of the last commit, and of an earlier one": Scenario(
+        [ENCRYPTED, COMMIT, {"a.yml": TEXT}, COMMIT, *LEAKS, COMMIT], f"{HOOK} --all", 1, "a.yml b.yml d.yml m.yml"
+    ),
+    "shallow clone": Scenario([ENCRYPTED, COMMIT, *LEAKS, COMMIT, SHALLOW], f"{HOOK} --all", 1, "are missing"),
+    "check": Scenario([MARKS, {"m.yml": TEXT}], f"{CHECK} {OLD} .", 1, "m.yml"),
+    "edit of a conflict": Scenario(CONFLICT, f"{EDIT} {OLD} a.yml", 0),
+    "install": Scenario([], f"{HOOK} --install {OLD}", 0),
+}
+
+
+def stage(place: Place, files: Files) -> None:
+    for name, content in files.items():
+        if content is None:
+            (place.tree / name).unlink(missing_ok=True)
+        else:
+            place.put(name, content)
+    place.shell("git add -A")
+
+
+def prepare(place: Place, scenario: Scenario) -> None:
+    """Make the repository, and put the stand-in before git."""
+    place.environment |= {"CALLS": str(place.path), "EDITOR": "true"}
+    under_git(place, "")
+    for step in scenario.steps:
+        if isinstance(step, str):
+            assert place.shell(step).returncode == 0, step
+        else:
+            stage(place, step)
+    place.wrap_tool(STAND_IN, "git")
+    shutil.copytree(place.tree, place.path / "prepared", symlinks=True)
+
+
+class Call(NamedTuple):
+    kind: str
+    # Among those of its kind, from 1.
+    number: int
+    answer: bytes
+
+    def length(self, part: str) -> int:
+        """Return how many bytes this part of the answer has. A record ends with a null character or with its line."""
+        whole, end = len(self.answer), b"\0" if b"\0" in self.answer else b"\n"
+        lengths = {
+            NOTHING: 0,
+            RECORD: self.answer.find(end) + 1,
+            HALF: whole // 2,
+            SHORT: max(0, whole - 1),
+            ALL: whole,
+        }
+        return lengths[part]
+
+
+class Result(NamedTuple):
+    """What is left of a run: status, messages, and files and settings, if it may change them."""
+
+    status: int
+    output: str
+    errors: str
+    files: dict[str, Described]
+    settings: tuple[bytes, list[str]]
+
+    def __str__(self) -> str:
+        return f"the status {self.status}, {sorted(self.files)}, and the messages\n{self.errors}"
+
+
+class Failing(NamedTuple):
+    """Runs a line while a call of git fails."""
+
+    place: Place
+    forks: Forks
+    line: str
+
+    def run(self, call: Call | None = None, way: Way = WHOLE, alike: bool = False) -> tuple[Result, bool]:
+        """Return the result of a run in the prepared repository, and whether the call has failed, or all of its kind."""
+        for name in ("kinds", "failed"):
+            (self.place.path / name).write_text("")
+        fails = {}
+        if call:
+            part, end = way
+            name = call.kind if alike else f"{call.kind} {call.number}"
+            fails = {"FAILS": name, "BYTES": str(call.length(part)), "END": ENDS[end]}
+        changes = EDIT in self.line or "--install" in self.line
+        if changes:
+            shutil.rmtree(self.place.tree)
+            shutil.copytree(self.place.path / "prepared", self.place.tree, symlinks=True)
+        run = self.forks.run(self.place, *self.line.split(), **fails)
+        result = Result(run.status, run.output, run.errors, {}, (b"", []))
+        if changes:
+            contents = self.place.files().items()
+            files = {name: (text, None) if b"<<<" in text else described(text) for name, text in contents}
+            settings = self.place.get(".git/config"), sorted(os.listdir(self.place.tree / ".git" / "hooks"))
+            result = result._replace(files=files, settings=settings)
+        return result, (self.place.path / "failed").read_text() != ""
+
+    def calls(self) -> list[Call]:
+        """Return the calls of the last run, in which none failed."""
+        counts, calls = Counter[str](), []
+        for kind in (self.place.path / "kinds").read_text().splitlines():
+            counts[kind] += 1
+            answer = (self.place.path / f"{kind} {counts[kind]}").read_bytes()
+            calls.append(Call(kind, counts[kind], answer))
+        return calls
+
+
+def names_call(result: Result, call: Call) -> bool:
+    """Return whether a run has failed, and says that this call did."""
+    messages = [f"git {call.kind.split()[0]} failed"]
+    if call.kind == "rev-parse --verify":
+        # It also has the status 1 if there is no such commit.
+        messages += ["git cannot read refs/heads/", "is not a commit in this clone"]
+    if call.kind == "merge-file -p":
+        messages += ["git merge-file cannot merge it"]
+    return result.status == 1 and any(message in result.errors for message in messages)
+
+
+def is_failure(call: Call, way: Way) -> bool:
+    part, end = way
+    return end != "status 0" or call.length(part) < len(call.answer)
+
+
+def looks_whole(result: Result, call: Call, way: Way) -> bool:
+    """Return whether there is a result because a companion cannot tell that the answer is cut."""
+    part, end = way
+    cut = call.answer[: call.length(part)]
+    has_records = call.kind in FEWER_RECORDS and cut[-1:] in (b"", b"\0", b"\n")
+    return end == "status 0" and (has_records or call.kind in TEXTS) and "Traceback" not in result.errors
+
+
+@pytest.mark.parametrize("scenario", SCENARIOS.values(), ids=SCENARIOS)
+def test_failures(
+    place: Place,
+    forks: Forks,
+    scenario: Scenario,
+    pytestconfig: pytest.Config,
+    record_property: Callable[[str, object], None],
+) -> None:
+    share, random = int(pytestconfig.getoption("--share")), Random(int(pytestconfig.getoption("--seed")))
+    prepare(place, scenario)
+    failing = Failing(place, forks, scenario.line)
+    whole, _ = failing.run()
+    missing = [word for word in scenario.words.split(" ") if word not in whole.errors]
+    assert (whole.status, missing) == (scenario.status, []), whole
+    every = [(call, way) for call in failing.calls() for way in WAYS if is_failure(call, way)]
+    kinds, reached, wrong = set[tuple[str, Way]](), 0, []
+    for call, way in random.sample(every, len(every)):
+        if (call.kind, way) in kinds and random.randrange(share) > 0:
+            continue
+        kinds.add((call.kind, way))
+        alike = random.random() < 0.3
+        result, failed = failing.run(call, way, alike)
+        reached += failed
+        if not failed or not (result == whole or names_call(result, call) or looks_whole(result, call, way)):
+            part, end = way
+            what = f"{'each call' if alike else f'call {call.number}'} of git {call.kind}"
+            wrong.append(f"If {what} prints {part} and ends with {end}, {scenario.line} has {result}")
+    assert not wrong, "\n".join(wrong)
+    record_property("failing calls of git", (reached, len(every)))
