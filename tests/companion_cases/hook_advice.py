@@ -167,20 +167,21 @@ def test_keys(place: Place) -> None:
 def test_no_line(place: Place) -> None:
     """If no line helps, no line is shown."""
     names = [f"a_long_name_{number}" for number in range(150)]
-    under_git(place, "b.yml -ansible-vault\nc.yml ansible-vault-plain=pw\n")
+    under_git(place, "b.yml -ansible-vault\nc.yml ansible-vault-plain=pw\n*.vault diff=ansible-vault\n")
+    long = "/".join(["d" * 200] * 11) + "/d.vault"
     files = {"a.yml": b"".join(block("old", name=name) for name in names), "b.yml": VAULT, "c.yml": VALUE}
     for name, content in files.items():
         place.put(name, content)
     add_and_commit(place)
     plain = {"a.yml": b"".join(f"{name}: x\n".encode() for name in names), "b.yml": TEXT, "c.yml": b"pw: x\n"}
-    for name, content in plain.items():
+    for name, content in (plain | {long: TEXT}).items():
         place.put(name, content)
     place.shell("git add -A")
     no_verify = "  if that is intended, commit with --no-verify: "
     reasons = ["a line for it in .gitattributes would be too long for git"]
-    reasons += ["a line in .gitattributes counts only in the commit that adds it"] * 2
+    reasons += ["a line in .gitattributes counts only in the commit that adds it"] * 2 + reasons
     assert list_advice(place) == [no_verify + reason for reason in reasons]
-    place.shell("git commit -qm after --no-verify")
+    place.shell(f"git rm -q --cached {long} && rm {long} && git commit -qm after --no-verify")
     later = "do nothing: only the last commit is compared with the one before"
     assert [line.endswith(later) for line in list_advice(place, "--all")] == [True] * 3
     committed(place, "x", b"")

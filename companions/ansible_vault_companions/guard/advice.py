@@ -78,7 +78,10 @@ def write_advice(fault: Fault, words: Words) -> str:
     path = make_pathspec(os.fsdecode(fault.name), is_below_top=True)
     allow = words.allow.format(line=fault.line) if fault.line else words.allow_all.format(no_line=fault.no_line)
     restore = words.restore.format(path=path)
-    advice = fault.remedy.value.format(allow=allow, restore=restore, add=words.add, path=path, line=fault.line)
+    remedy = fault.remedy.value
+    if "{line}" in remedy and not fault.line:
+        remedy = Remedy.ALLOW.value
+    advice = remedy.format(allow=allow, restore=restore, add=words.add, path=path, line=fault.line)
     return words.before + advice
 
 
