@@ -9,7 +9,7 @@ import sys
 from collections.abc import Callable
 from contextlib import suppress
 
-from ansible_vault_companions import processes
+from ansible_vault_companions import signals
 from ansible_vault_companions.output import discard_stream, write_data, write_error
 from ansible_vault_companions.quoting import escape
 from ansible_vault_companions.refusals import Refused, describe_fault, describe_refusal
@@ -28,7 +28,7 @@ def attempt_work(companion: str, path: str, work: Callable[[], None]) -> int:
 def run_companion(name: str, main: Callable[[list[str]], int]) -> None:
     """Runs a companion with the command line's words. Exits with its status, or by the signal that stopped it."""
     _prepare_streams()
-    processes.listen()
+    signals.listen()
     # A core dump would contain plaintext and passwords.
     resource.setrlimit(resource.RLIMIT_CORE, (0, resource.getrlimit(resource.RLIMIT_CORE)[1]))
     try:
@@ -38,14 +38,14 @@ def run_companion(name: str, main: Callable[[list[str]], int]) -> None:
             # argparse exits after the help and after an invalid command line.
             status = int(end.code or 0)
         write_data(b"")
-    except processes.Stopped:
+    except signals.Stopped:
         status = 1
     except (Refused, OSError) as fault:
         status = fault.status if isinstance(fault, Refused) else 1
         where = f"{escape(fault.filename)}: " if isinstance(fault, OSError) and isinstance(fault.filename, str) else ""
         with suppress(OSError):
             write_error(f"{name}: {where}{escape(describe_fault(fault))}")
-    processes.end_by_signal()
+    signals.end_by_signal()
     for stream in (sys.stdout, sys.stderr):
         try:
             stream.flush()

@@ -12,9 +12,9 @@ import threading
 from contextlib import contextmanager
 from typing import Iterator
 
-from ansible_vault_companions import processes
-from ansible_vault_companions.processes import state
+from ansible_vault_companions import signals
 from ansible_vault_companions.refusals import Refused
+from ansible_vault_companions.signals import state
 
 # The levels of YAML, with those of an alias at its place. libyaml takes quadratic time for brackets.
 DEEPEST = 64
@@ -56,11 +56,11 @@ def limit_work(seconds: int = SECONDS) -> Iterator[None]:
     _signal.setitimer(_signal.ITIMER_PROF, seconds)
     try:
         try:
-            with processes.interruptible():
+            with signals.interruptible():
                 yield
         finally:
             _signal.setitimer(_signal.ITIMER_PROF, 0)
-    except processes.TimeOver:
+    except signals.TimeOver:
         raise TooMuch(TOO_SLOW.format(seconds)) from None
     except MemoryError:
         raise TooMuch(TOO_MUCH) from None

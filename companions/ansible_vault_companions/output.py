@@ -5,14 +5,14 @@ from __future__ import annotations
 import os
 import sys
 
-from ansible_vault_companions import processes
+from ansible_vault_companions import signals
 from ansible_vault_companions.refusals import Refused, describe_fault
 
 
 def write_data(data: bytes) -> None:
     """Writes to standard output. A signal ends the wait for a slow reader."""
     try:
-        with processes.interruptible():
+        with signals.interruptible():
             sys.stdout.buffer.write(data)
             sys.stdout.flush()
     except OSError as fault:

@@ -6,7 +6,7 @@ import os
 from concurrent.futures import Future, ThreadPoolExecutor, wait
 from typing import Callable, Iterable, Sequence, TypeVar
 
-from ansible_vault_companions import processes
+from ansible_vault_companions import signals
 
 Item = TypeVar("Item")
 Result = TypeVar("Result")
@@ -30,7 +30,7 @@ class Workers(ThreadPoolExecutor):
         """The result of some work. A signal ends the wait: the system may give it to another thread, and Python handles
         it only when the main thread wakes up."""
         while not wait([future], LONGEST_WAIT).done:
-            processes.check()
+            signals.check()
         return future.result()
 
     def share(self, work: Callable[[Item], Result], items: Sequence[Item]) -> list[Result]:

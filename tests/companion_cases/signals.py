@@ -154,20 +154,20 @@ def test_waits(place: Place, git: None) -> None:
 
 IN_WORKER = """
 import signal, threading, time
-from ansible_vault_companions import processes
+from ansible_vault_companions import signals
 from ansible_vault_companions.workers import Workers
 def work():
     # The main thread waits by then.
     time.sleep(0.3)
     signal.pthread_kill(threading.get_ident(), signal.SIGTERM)
-    while processes.state.noted is None:
+    while signals.state.noted is None:
         time.sleep(0.01)
     time.sleep(1)
-processes.listen()
+signals.listen()
 with Workers() as workers:
     try:
         workers.wait_for(workers.submit(work))
-    except processes.Stopped:
+    except signals.Stopped:
         print("stopped")
 """
 

@@ -6,7 +6,7 @@ import os
 from dataclasses import dataclass
 from typing import Protocol, Union
 
-from ansible_vault_companions import processes
+from ansible_vault_companions import signals
 from ansible_vault_companions.editing.choosing import Choice
 from ansible_vault_companions.editing.matching import describe_place
 from ansible_vault_companions.editing.single_value import SingleValue
@@ -108,7 +108,7 @@ class Loader:
     def load(self, path: str, value: str | None) -> Union[Draft, SingleValue]:
         """The draft for the file at a path, or for a single value in it. A signal ends the reading."""
         target = os.path.realpath(path)
-        with processes.interruptible():
+        with signals.interruptible():
             content = reading.read(target)
         if value is not None:
             return SingleValue(target, content, value, self.decrypt, self.chosen)

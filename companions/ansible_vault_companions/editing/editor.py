@@ -6,7 +6,7 @@ import os
 from contextlib import suppress
 from typing import NamedTuple
 
-from ansible_vault_companions import processes, refusals
+from ansible_vault_companions import processes, refusals, signals
 from ansible_vault_companions.editing.copies import save_copy
 from ansible_vault_companions.editing.drafts import Draft
 from ansible_vault_companions.editing.private_directory import PrivateDirectory
@@ -61,7 +61,7 @@ class Edit:
         # Without a shell between, signals reach the editor, unless its command needs one.
         command = editor if SHELL_WORDS.intersection(editor) else f"exec {editor}"
         # A signal may come before the editor is opened again, and then the text that was saved first is still there.
-        with suppress(processes.Stopped):
+        with suppress(signals.Stopped):
             return processes.run_on_terminal(["sh", "-c", f'{command} "$@"', editor, self.folder.file])
         return 0
 
@@ -85,7 +85,7 @@ class Edit:
         return True
 
     def _replace(self, content: bytes) -> None:
-        if processes.ending_signal():
+        if signals.ending_signal():
             raise Refused(describe_signal())
         if content != self.draft.content:
             replacing.replace(self.draft.target, content, self.draft.content)
@@ -95,7 +95,7 @@ class Edit:
         try:
             return prompts.ask_consent(f"{escape(self.path)}: {why}. Open the editor again?")
         # A signal arrived, or the terminal is gone.
-        except (processes.Stopped, Refused, OSError):
+        except (signals.Stopped, Refused, OSError):
             return False
 
     def _rescue(self, text: bytes, why: str) -> Refused:
@@ -114,7 +114,7 @@ class Edit:
 
 
 def describe_signal() -> str:
-    return f"signal {processes.ending_signal()} ended the edit"
+    return f"signal {signals.ending_signal()} ended the edit"
 
 
 def edit_draft(tool: Tool, draft: Draft, path: str, text: bytes | None) -> bool:
@@ -123,8 +123,8 @@ def edit_draft(tool: Tool, draft: Draft, path: str, text: bytes | None) -> bool:
         edit = Edit(tool, draft, path, folder)
         while True:
             saved = edit.run_editor()
-            with processes.postponed():
-                if processes.ending_signal():
+            with signals.postponed():
+                if signals.ending_signal():
                     saved = saved._replace(fault=describe_signal())
                 if saved.text is None or draft.is_as_it_was(saved.text):
                     break

@@ -4,7 +4,7 @@ from __future__ import annotations
 
 import re
 
-from ansible_vault_companions import processes
+from ansible_vault_companions import signals
 from ansible_vault_companions.envelopes.yaml_nodes import BINARY
 from ansible_vault_companions.files.reading import open_regular, read_parts, read_whole
 
@@ -25,7 +25,7 @@ def read_envelope_file(path: str) -> bytes:
     text = before = b""
     with open_regular(path) as file:
         for piece in read_parts(file):
-            processes.check()
+            signals.check()
             if may_have_envelope(before[-OVERLAP:] + piece):
                 return read_whole(file, path)
             text, before = text if text.strip() else piece, piece

@@ -8,7 +8,7 @@ from collections.abc import Iterator
 from contextlib import contextmanager
 from io import FileIO
 
-from ansible_vault_companions import processes
+from ansible_vault_companions import signals
 from ansible_vault_companions.passwords.settings import ASK, PROMPT
 from ansible_vault_companions.quoting import escape
 from ansible_vault_companions.refusals import Refused
@@ -100,7 +100,7 @@ def _terminal() -> Iterator[FileIO]:
         terminal = open("/dev/tty", "r+b", buffering=0)
     except OSError:
         raise Refused(NO_TERMINAL) from None
-    with terminal, processes.interruptible():
+    with terminal, signals.interruptible():
         yield terminal
 
 
