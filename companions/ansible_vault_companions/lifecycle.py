@@ -15,20 +15,19 @@ from ansible_vault_companions.quoting import escape
 from ansible_vault_companions.refusals import Refused, describe_fault, describe_refusal
 
 
-def attempt_work(companion: str, path: str, work: Callable[[], None]) -> int:
-    """Works on a file. Returns the exit status, after a message if the file is refused."""
+def attempt_work(companion: str, path: str, work: Callable[[], int | None]) -> int:
+    """Works on a file. Returns the exit status that the work returns, if any, or that of a failure, after a message."""
     try:
-        work()
+        return work() or 0
     except (Refused, OSError) as fault:
         write_error(f"{companion}: {describe_refusal(path, fault)}")
         return fault.status if isinstance(fault, Refused) else 1
-    return 0
 
 
 def run_companion(name: str, main: Callable[[list[str]], int]) -> None:
-    """Runs a companion with the command line's words. Exits with its status, or by the signal that stopped it."""
+    """Runs a companion with the command line's words, and exits with its status."""
+    signals.restore_defaults()
     _prepare_streams()
-    signals.listen()
     # A core dump would contain plaintext and passwords.
     resource.setrlimit(resource.RLIMIT_CORE, (0, resource.getrlimit(resource.RLIMIT_CORE)[1]))
     try:
@@ -38,14 +37,11 @@ def run_companion(name: str, main: Callable[[list[str]], int]) -> None:
             # argparse exits after the help and after an invalid command line.
             status = int(end.code or 0)
         write_data(b"")
-    except signals.Stopped:
-        status = 1
     except (Refused, OSError) as fault:
         status = fault.status if isinstance(fault, Refused) else 1
         where = f"{escape(fault.filename)}: " if isinstance(fault, OSError) and isinstance(fault.filename, str) else ""
         with suppress(OSError):
             write_error(f"{name}: {where}{escape(describe_fault(fault))}")
-    signals.end_by_signal()
     for stream in (sys.stdout, sys.stderr):
         try:
             stream.flush()

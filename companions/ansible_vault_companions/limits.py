@@ -12,9 +12,7 @@ import threading
 from contextlib import contextmanager
 from typing import Iterator
 
-from ansible_vault_companions import signals
 from ansible_vault_companions.refusals import Refused
-from ansible_vault_companions.signals import state
 
 # The levels of YAML, with those of an alias at its place. libyaml takes quadratic time for brackets.
 DEEPEST = 64
@@ -39,34 +37,54 @@ class TooMuch(Refused):
     """A file exceeds a limit."""
 
 
+class TimeOver(Exception):
+    """The limit of processor time is reached."""
+
+
+def _end_time(_number: int, _frame: object) -> None:
+    raise TimeOver
+
+
 @contextmanager
 def limit_work(seconds: int = SECONDS) -> Iterator[None]:
-    """A context for work on what a file contains, in which nothing is written. A signal ends it at once, even within a
-    search, and so do the limits of time and memory: they raise TooMuch. Python handles signals only in the main thread,
-    so in others, which read only what a password has opened, there is no limit. Nor is there one of memory while others
-    run, since it would be theirs as well."""
-    if state.is_timed or threading.current_thread() is not threading.main_thread():
+    """A context for work on what a file contains, in which nothing is written. The limits of time and memory end it,
+    even within a search: they raise TooMuch. Python handles signals only in the main thread, so in others, which read
+    only what a password has opened, there is no limit. Nor is there one of memory while others run, since it would be
+    theirs as well."""
+    is_limited = _signal.getsignal(_signal.SIGPROF) == _end_time
+    if is_limited or threading.current_thread() is not threading.main_thread():
         yield
         return
     before = resource.getrlimit(resource.RLIMIT_DATA)
     if threading.active_count() == 1:
         most = _measure_memory() + (MEGABYTES << 20)
         resource.setrlimit(resource.RLIMIT_DATA, (min(most, before[0]) if before[0] > 0 else most, before[1]))
-    state.is_timed = True
-    _signal.setitimer(_signal.ITIMER_PROF, seconds)
     try:
-        try:
-            with signals.interruptible():
-                yield
-        finally:
-            _signal.setitimer(_signal.ITIMER_PROF, 0)
-    except signals.TimeOver:
+        with _limit_time(seconds):
+            yield
+    except TimeOver:
         raise TooMuch(TOO_SLOW.format(seconds)) from None
     except MemoryError:
         raise TooMuch(TOO_MUCH) from None
     finally:
-        state.is_timed = False
         resource.setrlimit(resource.RLIMIT_DATA, before)
+
+
+@contextmanager
+def _limit_time(seconds: int) -> Iterator[None]:
+    """A context that raises TimeOver after this much processor time, even where signals are postponed."""
+    action = _signal.signal(_signal.SIGPROF, _end_time)
+    mask = _signal.pthread_sigmask(_signal.SIG_BLOCK, ())
+    try:
+        try:
+            _signal.pthread_sigmask(_signal.SIG_UNBLOCK, {_signal.SIGPROF})
+            _signal.setitimer(_signal.ITIMER_PROF, seconds)
+            yield
+        finally:
+            _signal.setitimer(_signal.ITIMER_PROF, 0)
+    finally:
+        _signal.pthread_sigmask(_signal.SIG_SETMASK, mask)
+        _signal.signal(_signal.SIGPROF, action)
 
 
 def _measure_memory() -> int:

@@ -5,16 +5,14 @@ from __future__ import annotations
 import os
 import sys
 
-from ansible_vault_companions import signals
 from ansible_vault_companions.refusals import Refused, describe_fault
 
 
 def write_data(data: bytes) -> None:
-    """Writes to standard output. A signal ends the wait for a slow reader."""
+    """Writes to standard output."""
     try:
-        with signals.interruptible():
-            sys.stdout.buffer.write(data)
-            sys.stdout.flush()
+        sys.stdout.buffer.write(data)
+        sys.stdout.flush()
     except OSError as fault:
         discard_stream(sys.stdout.fileno())
         raise Refused(f"standard output cannot be written: {describe_fault(fault)}") from None

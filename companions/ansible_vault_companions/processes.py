@@ -1,4 +1,8 @@
-"""Finds programs and runs them."""
+"""Finds programs and runs them.
+
+git and ansible-vault only read and write pipes, which close when a signal ends the companion, so they end by themselves.
+An editor and a password script may wait for a person, so a signal is passed on to them.
+"""
 
 from __future__ import annotations
 
@@ -8,46 +12,55 @@ import os
 from collections.abc import Iterable
 
 from ansible_vault_companions import signals
-from ansible_vault_companions.signals import state
 
 # The module `typing` takes long to import, and so does `subprocess`, which most runs of ansible-vault-with do not need.
 TYPE_CHECKING = False
 if TYPE_CHECKING:
-    from subprocess import CompletedProcess
+    from subprocess import CompletedProcess, Popen
     from typing import Any, NoReturn
 
 
-def run(words: list[str], data: bytes | None = None, **options: Any) -> CompletedProcess[bytes]:
-    """Runs a program to its end, and keeps its output. A signal before or during the run raises Stopped."""
-    signals.check()
-    done = _run(words, data, **options)
-    signals.check()
-    return done
+def run(words: list[str], data: bytes = b"", **options: Any) -> CompletedProcess[bytes]:
+    """Runs a program that reads this data, to its end, and keeps its output."""
+    import subprocess
+
+    return subprocess.run(words, input=data, stdout=subprocess.PIPE, stderr=subprocess.PIPE, **options)
+
+
+def run_script(words: list[str], **streams: Any) -> CompletedProcess[bytes]:
+    """Runs a program that may wait for a person, and keeps its output, except that of streams that it shares with the
+    companion. A signal is passed on, and ends the companion even if the program goes on."""
+    from subprocess import DEVNULL, PIPE, CompletedProcess, Popen
+
+    options: dict[str, Any] = {"stdin": DEVNULL, "stdout": PIPE, "stderr": PIPE, **streams}
+    with signals.postponed():
+        program = Popen(words, preexec_fn=signals.let_through, **options)
+        output, errors = _communicate(program)
+    return CompletedProcess(words, program.returncode, output, errors)
+
+
+def _communicate(program: Popen[bytes]) -> tuple[bytes, bytes]:
+    from subprocess import TimeoutExpired
+
+    while True:
+        try:
+            return program.communicate(timeout=signals.INTERVAL)
+        except TimeoutExpired:
+            number = signals.find_postponed()
+            if number is not None:
+                signals.pass_on(number, program)
+                raise signals.Stopped from None
 
 
 def run_on_terminal(words: list[str]) -> int:
-    """Runs a program that owns the terminal, and so handles Ctrl-C itself. A signal meanwhile raises nothing."""
+    """Runs a program that owns the terminal, and waits for it, whatever arrives. Signals must be postponed. Raises
+    Stopped if one has arrived before."""
+    from subprocess import Popen
+
     signals.check()
-    state.leaves_keys = True
-    try:
-        return _run(words, None, stdin=None, stdout=None, stderr=None).returncode
-    finally:
-        state.leaves_keys = False
-
-
-def _run(words: list[str], data: bytes | None, **options: Any) -> CompletedProcess[bytes]:
-    from subprocess import DEVNULL, PIPE, CompletedProcess, Popen
-
-    streams: dict[str, Any] = {"stdin": DEVNULL if data is None else PIPE, "stdout": PIPE, "stderr": PIPE}
-    with Popen(words, **streams | options) as program:
-        state.programs.add(program)
-        try:
-            if state.noted is not None and not state.is_postponed:
-                signals.send(state.noted, {program})
-            output, errors = program.communicate(data)
-        finally:
-            state.programs.discard(program)
-    return CompletedProcess(words, program.returncode, output, errors)
+    program = Popen(words, preexec_fn=signals.let_through)
+    signals.pass_on_until_end(program)
+    return program.returncode
 
 
 def find_beside(companion: str, name: str) -> str | None:

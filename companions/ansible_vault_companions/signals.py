@@ -1,8 +1,6 @@
-"""Ends a companion when a signal arrives: only between its steps, and with nothing left behind.
-
-The handler notes the first signal and passes it on to the running programs. It raises an exception only before or after
-the run of a program, or during a wait, so it never interrupts a `finally` block. Code that must not lose anything
-postpones signals.
+"""A signal ends a companion at once, by its default action, for which nothing of Python has to run. Code that has
+something to finish or to clean up postpones signals, but while it waits for a person or a program, it looks whether one
+has arrived. Only the main thread takes signals, so it does all that has to postpone them.
 """
 
 from __future__ import annotations
@@ -12,112 +10,93 @@ import _signal  # type: ignore
 import os
 from collections.abc import Iterator
 from contextlib import contextmanager
+from select import select
 
 # The module `typing` takes long to import, and so does `subprocess`, which most runs of ansible-vault-with do not need.
 TYPE_CHECKING = False
 if TYPE_CHECKING:
     from subprocess import Popen
 
-# Signals that cannot be caught, that do not end a program by default, or that a crash of Python itself would raise
-# again at once.
-NOT_NOTED = ("KILL", "STOP", "CHLD", "CONT", "URG", "WINCH", "TSTP", "TTIN", "TTOU", "SEGV", "BUS", "FPE", "ILL")
-# All others, including real-time signals.
-ENDING: list[int] = sorted(_signal.valid_signals() - {getattr(_signal, f"SIG{name}") for name in NOT_NOTED})
+# Signals that cannot be blocked, that do not end a program by default, or that a crash of Python itself would raise.
+NOT_POSTPONED = ("KILL", "STOP", "CHLD", "CONT", "URG", "WINCH", "TSTP", "TTIN", "TTOU", "SEGV", "BUS", "FPE", "ILL")
+# All others that this process does not ignore, including real-time signals. The system would keep one that is ignored,
+# too, if it were blocked.
+ENDING: set[int] = {
+    number
+    for number in _signal.valid_signals() - {getattr(_signal, f"SIG{name}") for name in NOT_POSTPONED}
+    if _signal.getsignal(number) != _signal.SIG_IGN
+}
+# Those that keys of a terminal send to all its programs.
+OF_KEYS = {_signal.SIGINT, _signal.SIGQUIT}
+# Seconds after which a wait looks whether a signal has arrived.
+INTERVAL = 0.1
 
 
 class Stopped(Exception):
     """A signal has asked the companion to end."""
 
 
-class TimeOver(Exception):
-    """The limit of processor time is reached."""
-
-
-class State:
-    """The first signal received, and how the next one is handled."""
-
-    # Whether SIGPROF means that the time is over.
-    is_timed = False
-    noted: int | None = None
-    # Whether keyboard signals are left to the running program.
-    leaves_keys = False
-    is_interruptible = False
-    is_postponed = False
-    programs: set[Popen[bytes]] = set()
-
-
-state = State()
-
-
-def listen() -> None:
-    """Starts noting signals. Signals that are already ignored stay ignored."""
+def restore_defaults() -> None:
+    """Gives signals their default actions, except those that are ignored, and lets them through."""
     # If SIGCHLD is ignored, the system keeps no exit statuses of child processes.
     _signal.signal(_signal.SIGCHLD, _signal.SIG_DFL)
-    for number in ENDING:
-        if _signal.getsignal(number) != _signal.SIG_IGN:
-            _signal.signal(number, _note)
+    # Python has a handler of its own.
+    if _signal.SIGINT in ENDING:
+        _signal.signal(_signal.SIGINT, _signal.SIG_DFL)
+    let_through()
 
 
-def _note(number: int, _frame: object) -> None:
-    if state.is_timed and number == _signal.SIGPROF:
-        state.is_timed = False
-        raise TimeOver
-    # Only the first signal counts, so that nothing interrupts the restoring of the terminal.
-    if state.noted is not None or state.leaves_keys and number in (_signal.SIGINT, _signal.SIGQUIT):
-        return
-    state.noted = number
-    send(number, state.programs)
-    if state.is_interruptible:
-        raise Stopped
-
-
-def send(number: int, programs: set[Popen[bytes]]) -> None:
-    """Sends a signal, which also ends a program that is stopped. What it has started is its own concern."""
-    for program in [*programs]:
-        program.send_signal(number)
-        program.send_signal(_signal.SIGCONT)
-
-
-def check() -> None:
-    if state.noted is not None and not state.is_postponed:
-        raise Stopped
+def let_through() -> None:
+    _signal.pthread_sigmask(_signal.SIG_UNBLOCK, ENDING)
 
 
 @contextmanager
 def postponed() -> Iterator[None]:
-    """A context in which signals wait until its end. Programs started in it inherit this. A signal that arrived before
-    does not end it either."""
+    """A context at whose end signals arrive. Programs that are started in it block them as well, and threads do so
+    for good."""
     mask = _signal.pthread_sigmask(_signal.SIG_BLOCK, ENDING)
-    state.is_postponed = True
     try:
         yield
     finally:
-        state.is_postponed = False
         _signal.pthread_sigmask(_signal.SIG_SETMASK, mask)
 
 
-@contextmanager
-def interruptible() -> Iterator[None]:
-    """A context for a wait, which a signal ends at once, even where signals are postponed."""
-    mask = _signal.pthread_sigmask(_signal.SIG_UNBLOCK, ENDING if state.is_postponed else ())
-    before, state.is_interruptible = state.is_interruptible, True
-    try:
-        if state.noted is not None:
-            raise Stopped
-        yield
-    finally:
-        state.is_interruptible = before
-        _signal.pthread_sigmask(_signal.SIG_SETMASK, mask)
+def find_postponed() -> int | None:
+    """A signal that has asked the companion to end, and will."""
+    return min(ENDING.intersection(_signal.sigpending()), default=None)
 
 
-def ending_signal() -> int | None:
-    """The signal that asked the companion to end, even if it is postponed."""
-    return state.noted or next(iter(sorted(_signal.sigpending().intersection(ENDING))), None)
+def check() -> None:
+    """Raises Stopped if a signal has been postponed."""
+    if find_postponed() is not None:
+        raise Stopped
 
 
-def end_by_signal() -> None:
-    """If a signal was noted, dies of that signal, so that the shell sees the cause."""
-    if state.noted is not None:
-        _signal.signal(state.noted, _signal.SIG_DFL)
-        os.kill(os.getpid(), state.noted)
-        raise SystemExit(128 + state.noted)
+def wait_for_input(descriptor: int) -> None:
+    """Waits until there is something to read."""
+    while not select([descriptor], [], [], INTERVAL)[0]:
+        check()
+
+
+def pass_on(number: int, program: Popen[bytes]) -> None:
+    """Sends a signal to a program, even if it is stopped. What it has started is its own concern."""
+    program.send_signal(number)
+    program.send_signal(_signal.SIGCONT)
+
+
+def pass_on_until_end(program: Popen[bytes]) -> None:
+    """Waits for a program that owns the terminal, and so gets the signals of keys itself. Others are passed on to it,
+    and remain postponed."""
+    received = set()
+    # A signal that is not blocked cannot be waited for.
+    mask = _signal.pthread_sigmask(_signal.SIG_BLOCK, {_signal.SIGCHLD})
+    while program.poll() is None:
+        number = _signal.sigwait(ENDING | {_signal.SIGCHLD})
+        if number in ENDING - OF_KEYS:
+            pass_on(number, program)
+            received.add(number)
+    while _signal.sigtimedwait(OF_KEYS, 0):
+        pass
+    for number in received:
+        os.kill(os.getpid(), number)
+    _signal.pthread_sigmask(_signal.SIG_SETMASK, mask)

@@ -3,21 +3,19 @@
 from __future__ import annotations
 
 import os
-from concurrent.futures import Future, ThreadPoolExecutor, wait
+from concurrent.futures import Future, ThreadPoolExecutor
 from typing import Callable, Iterable, Sequence, TypeVar
 
 from ansible_vault_companions import signals
+from ansible_vault_companions.refusals import Refused
 
 Item = TypeVar("Item")
 Result = TypeVar("Result")
 
-# Seconds until the main thread looks whether a signal has arrived.
-LONGEST_WAIT = 0.2
-
 
 class Workers(ThreadPoolExecutor):
     """Threads for all work of a companion: twice as many as there are processors, so that each has a program to run
-    while a worker reads or writes. If the caller stops early, no new items are begun."""
+    while a worker reads. If the caller stops early, no new items are begun."""
 
     def __init__(self) -> None:
         super().__init__(2 * len(os.sched_getaffinity(0)))
@@ -25,19 +23,19 @@ class Workers(ThreadPoolExecutor):
     def __exit__(self, *_: object) -> None:
         self.shutdown(cancel_futures=True)
 
-    @staticmethod
-    def wait_for(future: Future[Result]) -> Result:
-        """The result of some work. A signal ends the wait: the system may give it to another thread, and Python handles
-        it only when the main thread wakes up."""
-        while not wait([future], LONGEST_WAIT).done:
-            signals.check()
-        return future.result()
+    def begin(self, work: Callable[..., Result], *items: object) -> Future[Result]:
+        """Begins some work. Signals are postponed for a new thread, so the main one takes them all."""
+        try:
+            with signals.postponed():
+                return self.submit(work, *items)
+        except RuntimeError as fault:
+            raise Refused(f"{fault}: there are too many processes, or too little memory") from None
 
     def share(self, work: Callable[[Item], Result], items: Sequence[Item]) -> list[Result]:
         """The results for the parts of a worker's own work. It does itself what no other worker has begun."""
-        others = [(item, self.submit(work, item)) for item in items[1:]]
+        others = [(item, self.begin(work, item)) for item in items[1:]]
         first = [work(item) for item in items[:1]]
-        rest = [work(item) if future.cancel() else self.wait_for(future) for item, future in reversed(others)]
+        rest = [work(item) if future.cancel() else future.result() for item, future in reversed(others)]
         return first + rest[::-1]
 
 

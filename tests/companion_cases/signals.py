@@ -2,17 +2,18 @@
 
 import os
 import re
+import shutil
 import signal
 import subprocess
-import sys
+import time
 from collections.abc import Callable
 from pathlib import Path
+from random import Random
 
 import pytest
 
-from companion_cases import CHANGE, CHANGED, EDIT, MERGE, ROTATE, TEXT, Companions, Place, block, decrypted
-from companion_cases import edit, run_changed, sealed, silent, texts, to_new, versions, wait_until
-from lib.paths import ROOT
+from companion_cases import CHANGE, CHANGED, CHECK, EDIT, HOOK, MERGE, ROTATE, TEXT, TEXTCONV, WITH, Companions, Place
+from companion_cases import block, decrypted, edit, run_changed, sealed, silent, texts, to_new, versions, wait_until
 from lib.processes import SECONDS, started
 from lib.subtests import SubTests
 
@@ -52,13 +53,14 @@ def check_edit(place: Place, errors: str, wanted: bytes = CHANGED) -> None:
 
 
 # Signals the companion, or its whole process group, at a step: before or after a call that creates, replaces or removes
-# a file, or that waits for a program.
+# a file, that waits for a program, or that postpones signals or lets them through.
 AT_STEP = """
-import itertools, shutil, subprocess, tempfile
+import _signal, itertools, shutil, subprocess, tempfile
 os.setsid()
+companion = os.getpid()
 steps = itertools.count()
 def step():
-    if next(steps) == {number}:
+    if os.getpid() == companion and next(steps) == {number}:
         os.mkdir("../sent")
         os.kill({receiver}, signal.SIGTERM)
 def stepping(call):
@@ -68,7 +70,8 @@ def stepping(call):
         step()
         return done
     return made
-for owner, names in ((tempfile, "mkdtemp mkstemp"), (os, "replace unlink"), (shutil, "rmtree")):
+files = (tempfile, "mkdtemp mkstemp"), (os, "replace unlink open"), (shutil, "rmtree")
+for owner, names in (*files, (_signal, "pthread_sigmask sigwait")):
     for name in names.split():
         setattr(owner, name, stepping(getattr(owner, name)))
 subprocess.Popen.communicate = stepping(subprocess.Popen.communicate)
@@ -96,17 +99,41 @@ def test_at_each_step(cases: Companions, subtests: SubTests, name: str) -> None:
     assert 7 < number < 99, "there were such steps"
 
 
-def test_noted_signals(place: Place) -> None:
-    """Every signal that would end a program is caught. Those of a terminal's keys are left to the editor."""
-    # Some cannot be caught, a fault of Python itself would raise others again at once, and Python ignores the last two.
+def blocked(status: Path) -> set[int]:
+    """Return the signals that a thread blocks, from its status or a copy of that."""
+    bits = int(status.read_text().split("SigBlk:")[1].split()[0], 16)
+    return {number for number in signal.valid_signals() if bits >> (number - 1) & 1}
+
+
+def test_postponed_signals(place: Place) -> None:
+    """Every signal that would end a program is postponed, but not for the editor, to which a terminal's keys belong."""
+    # Some cannot be blocked, a fault of Python itself would raise others again at once, and Python ignores the last two.
     others = "CHLD CONT URG WINCH TSTP TTIN TTOU KILL STOP SEGV BUS FPE ILL PIPE XFSZ"
     wanted = signal.valid_signals() - {getattr(signal, f"SIG{name}") for name in others.split()}
     tree(place)
-    editor = f"kill -INT $PPID; kill -QUIT $PPID; grep SigCgt /proc/$PPID/status > ../noted; {CHANGE}"
+    # The companion starts a program with all signals blocked, and then waits in poll.
+    waits = "until grep -q '^7 ' /proc/$PPID/syscall; do :; done"
+    place.wrap_tool(f'[ "$1" != encrypt ] || {{ {waits}; cat /proc/$PPID/status > ../encrypting; }}')
+    keys = "kill -INT $PPID; kill -QUIT $PPID"
+    editor = f"cat /proc/self/status > ../editing; {keys}; {CHANGE}"
     silent("the edit", edit(place, editor, *place.by_file("old"), "a.yml"))
-    mask = int((place.path / "noted").read_text().split()[1], 16)
-    assert {number for number in signal.valid_signals() if mask >> (number - 1) & 1} == wanted
+    assert (blocked(place.path / "encrypting"), blocked(place.path / "editing")) == (wanted, set())
     assert decrypted("old", place.get("a.yml")) == CHANGED
+    check_whole(place)
+
+
+IGNORED = ("HUP", "INT", "QUIT", "TERM", "USR1")
+
+
+@pytest.mark.parametrize("name", IGNORED)
+def test_ignored_signals(place: Place, name: str) -> None:
+    """What is ignored when an edit begins does not end it, while the editor runs or the text is encrypted."""
+    tree(place)
+    place.wrap_tool(f"kill -{name} $PPID")
+    line = " ".join([EDIT, *place.by_file("old"), "a.yml"])
+    editor = place.script(f"kill -{name} $PPID; {CHANGE}", "editor")
+    silent("the edit", place.shell(f"trap '' {name}; {line}", EDITOR=editor))
+    assert (decrypted("old", place.get("a.yml")), place.kept()) == (CHANGED, [])
     check_whole(place)
 
 
@@ -128,51 +155,216 @@ def test_last_words(place: Place) -> None:
     check_edit(place, done.stderr, b"last")
 
 
-def test_waits(place: Place, git: None) -> None:
-    """A signal ends a companion that waits for its input or for git, without a word."""
-    merge, noted = tree(place)[MERGE], place.path / "noted"
-    place.put("../b.yml", block("old"))
-    waits = f": > {noted}; exec sleep {SECONDS} 2> /dev/null"
-    place.wrap_tool(f'case " $* " in *" merge-file "*) {waits};; esac', "git")
-    runs: list[tuple[list[str], Callable[[int], object]]] = [
-        # Its system call is read(0, ..).
-        (
-            [EDIT, *place.by_file("old"), "--value", "secret", "../b.yml"],
-            lambda number: Path(f"/proc/{number}/syscall").read_text().startswith("0 0x0 "),
-        ),
-        (merge, lambda _: noted.exists()),
-    ]
-    for words, is_waiting in runs:
-        streams = {"stdin": subprocess.PIPE, "stderr": subprocess.PIPE}
-        with started(words, cwd=place.tree, env=place.environment, text=True, **streams) as process:
-            wait_until(lambda: is_waiting(process.pid), "the wait")
-            process.terminate()
-            assert process.communicate(timeout=SECONDS)[1] == "", "without a word"
-            assert process.returncode == -signal.SIGTERM, "it ends by the signal"
-        assert (os.listdir(place.temporary), place.left()) == ([], []), "nothing is left"
+def sleeping(place: Place, before: str = "") -> str:
+    """Write a password script that never ends, and return the path of the file that gets its process number."""
+    place.script(f"{before} echo $$ > ../pid.new; mv ../pid.new ../pid; while :; do sleep 0.05; done")
+    return str(place.path / "pid")
 
 
-IN_WORKER = """
-import signal, threading, time
-from ansible_vault_companions import signals
-from ansible_vault_companions.workers import Workers
-def work():
-    # The main thread waits by then.
-    time.sleep(0.3)
-    signal.pthread_kill(threading.get_ident(), signal.SIGTERM)
-    while signals.state.noted is None:
-        time.sleep(0.01)
-    time.sleep(1)
-signals.listen()
-with Workers() as workers:
-    try:
-        workers.wait_for(workers.submit(work))
-    except signals.Stopped:
-        print("stopped")
+def is_running(number: str) -> bool:
+    # A zombie has no command line.
+    line = Path("/proc", number, "cmdline")
+    return line.exists() and line.read_bytes() != b""
+
+
+SCRIPTS = {"": False, "kill -STOP $$;": False, "trap '' TERM;": True}
+
+
+@pytest.mark.parametrize("before", SCRIPTS)
+def test_password_script(place: Place, before: str) -> None:
+    """A password script gets the signal, even if it is stopped. If it ignores the signal, only the companion ends."""
+    tree(place)
+    file = Path(sleeping(place, "" if "STOP" in before else before))
+    with started([CHECK, "--vault-id", "../script", "a.yml"], cwd=place.tree, env=place.environment) as process:
+        wait_until(file.exists, "the script")
+        number = file.read_text().strip()
+        if "STOP" in before:
+            os.kill(int(number), signal.SIGSTOP)
+        process.terminate()
+        assert process.wait(SECONDS) == -signal.SIGTERM
+    if not SCRIPTS[before]:
+        wait_until(lambda: not is_running(number), "the end of the script")
+    else:
+        assert is_running(number)
+        os.kill(int(number), signal.SIGKILL)
+
+
+EDITORS = {"it is stopped": "kill -STOP $$", "it ignores the signal": "trap '' TERM; sleep 0.3; : > ../waited"}
+
+
+@pytest.mark.parametrize("what", EDITORS)
+def test_editor(place: Place, what: str) -> None:
+    """The companion waits for an editor that ignores a signal, and one that is stopped goes on to be ended by it."""
+    tree(place)
+    kill = "(trap '' TERM; sleep 0.1; kill -TERM $PPID) > /dev/null 2>&1 &"
+    done = edit(place, f"{CHANGE}; : > ../saved; {kill} {EDITORS[what]}", *place.by_file("old"), "a.yml")
+    assert done.returncode == -signal.SIGTERM
+    assert (place.path / "waited").exists() == ("ignores" in what)
+    assert "a.yml: signal 15 ended the edit; " in done.stderr, "the reason"
+    check_edit(place, done.stderr)
+
+
+# Seconds within which a signal ends a companion, whose work would take longer than that.
+AT_ONCE = 2
+# Takes the place of a program: it goes on until nobody reads its output.
+ENDLESS = ": > ../noted; while echo; do sleep 0.05; done; exit"
+# The options of a password, which each command line is to have.
+OLD = "--vault-password-file ../secrets/old"
+PIPE = "--vault-password-file ../pipe"
+# A companion that waits, with the numbers of its system call and of the descriptor, if there is one.
+WAITS = {
+    "standard input": (f"{EDIT} {OLD} --value secret b.yml", "0 0x0 "),
+    "a pipe with a password": (f"{CHECK} {PIPE} a.yml", "257 "),
+    "a pipe with a password of the alias": (f"{WITH} view {PIPE} a.yml", "257 "),
+    "a reader": (f"{TEXTCONV} {OLD} long.yml", "1 0x1 "),
+    "a reader of the alias": (f"{WITH} view {OLD} long.yml long.yml", "1 0x1 "),
+}
+# A companion that works, or that waits for git or for workers, whose programs are endless.
+WORKS = {
+    "a check": f"{CHECK} {OLD} many.yml",
+    "a check of many files": f"{CHECK} {OLD} .",
+    "a rotation": f"{ROTATE} {OLD} --new-vault-password-file ../secrets/new .",
+    "values in a diff": f"{TEXTCONV} {OLD} many.yml",
+    "files of the alias": f"{WITH} decrypt {OLD} a.yml many.yml",
+    "the loading of an edit": f"{EDIT} {OLD} a.yml",
+}
+OF_GIT = {
+    "a merge": f"{MERGE} {OLD} --vault-password-file ../secrets/new",
+    "the hook": HOOK,
+    "the hook of a pipeline": f"{HOOK} --since HEAD",
+}
+PARSES = {
+    "a check": f"{CHECK} {OLD} large.yml",
+    "the hook": HOOK,
+    "a diff": f"{TEXTCONV} {OLD} large.yml",
+    "an edit": f"{EDIT} {OLD} large.yml",
+}
+
+
+def check_ended(place: Place, line: str, condition: Callable[[int], object], number: int = signal.SIGTERM) -> None:
+    """Check that a signal ends a companion at once after this is true, without a word, and that nothing is left."""
+    streams = {"stdin": subprocess.PIPE, "stdout": subprocess.PIPE, "stderr": subprocess.PIPE}
+    words = ["sh", "-c", f"exec {line}"]
+    with started(words, cwd=place.tree, env=place.environment, text=True, **streams) as process:
+        wait_until(lambda: condition(process.pid), line)
+        process.send_signal(number)
+        assert process.wait(AT_ONCE) == -number, "it ends by the signal"
+        assert process.stderr and process.stderr.read() == "", "without a word"
+    assert (os.listdir(place.temporary), place.left()) == ([], []), "nothing is left"
+
+
+@pytest.mark.parametrize("line, call", WAITS.values(), ids=WAITS)
+def test_waits(place: Place, line: str, call: str) -> None:
+    tree(place)
+    place.put("b.yml", block("old"))
+    place.put("long.yml", sealed("old", b"text\n" * 100_000))
+    os.mkfifo(place.path / "pipe")
+
+    def is_waiting(number: int) -> bool:
+        calls = [Path(f"/proc/{number}/syscall").read_text() for _ in range(2) if not time.sleep(0.05)]
+        return calls[0] == calls[1] and calls[0].startswith(call)
+
+    check_ended(place, line, is_waiting)
+
+
+@pytest.mark.parametrize("line", WORKS.values(), ids=WORKS)
+def test_workers(place: Place, line: str) -> None:
+    """The main thread takes all signals, so that it may postpone them while workers go on."""
+    tree(place)
+    place.put("many.yml", b"".join(block("old", b"%d" % number, name=f"key{number}") for number in range(100)))
+    place.wrap_tool(f'[ "$1" = --version ] || {{ {ENDLESS}; }}')
+    masks: list[set[int]] = []
+
+    def is_working(number: int) -> bool:
+        main, *others = sorted(Path(f"/proc/{number}/task").glob("*/status"), key=lambda path: int(path.parent.name))
+        masks[:] = [blocked(path) for path in (main, *others)]
+        # The main thread blocks signals for a moment while it starts a thread.
+        return (place.path / "noted").exists() and masks[0] == set()
+
+    for number in (signal.SIGTERM, signal.SIGINT):
+        check_ended(place, line, is_working, number)
+        (place.path / "noted").unlink()
+        assert all({number, signal.SIGHUP} <= each for each in masks[1:])
+
+
+@pytest.mark.parametrize("line", OF_GIT.values(), ids=OF_GIT)
+def test_git(place: Place, git: None, line: str) -> None:
+    place.shell("git init -q && git add . && git -c user.name=a -c user.email=b commit -qm c --allow-empty")
+    words = tree(place)[MERGE] if MERGE in line else []
+    command = "merge-file" if MERGE in line else "diff-index"
+    place.wrap_tool(f'case " $* " in *" {command} "*) {ENDLESS};; esac', "git")
+    check_ended(place, " ".join([line, *words[-4:]]), lambda _: (place.path / "noted").exists())
+
+
+@pytest.mark.parametrize("line", PARSES.values(), ids=PARSES)
+def test_slow_parse(place: Place, git: None, line: str) -> None:
+    """A signal ends a parse, which would take several seconds."""
+    place.put("large.yml", block("old") + b"x: [%s]\n" % b", ".join([b"1"] * 900_000))
+    place.shell("git init -q && git add .")
+
+    def is_parsing(number: int) -> bool:
+        ticks = Path(f"/proc/{number}/stat").read_text().rpartition(")")[2].split()[11]
+        return int(ticks) > 0.5 * os.sysconf("SC_CLK_TCK")
+
+    check_ended(place, line, is_parsing)
+
+
+def test_later_edits(place: Place) -> None:
+    """A signal ends the second edit of a command, and a resumed one. What was saved is kept each time."""
+    tree(place)
+    place.put("b.yml", sealed("old"))
+    kill = 'case "$1" in */b.yml) touch ../saved; kill -TERM $PPID; sleep 0.1;; esac'
+    for number, words in enumerate((["a.yml", "b.yml"], ["--resume", "b.yml"], ["--resume", "b.yml"]), 1):
+        done = edit(place, f"{CHANGE}; {kill}", *place.by_file("old"), *words)
+        assert (done.returncode, place.kept()) == (-signal.SIGTERM, [CHANGED] * number), done.stderr
+        assert "b.yml: signal 15 ended the edit; what you saved is encrypted in " in done.stderr
+        assert [decrypted("old", place.get(name)) for name in ("a.yml", "b.yml")] == [CHANGED, TEXT]
+    assert (place.left(), os.listdir(place.temporary)) == ([], [])
+
+
+def test_time_of_an_edit(place: Place) -> None:
+    """What was saved is parsed for a limited time, though signals are postponed."""
+    place.put("vars.yml", block("old") + b"x: [%s]\n" % b", ".join([b"1"] * 20_000))
+    # The editor has saved before a time limit that nothing meets applies.
+    change = """
+from ansible_vault_companions import limits
+limited = limits._limit_time
+limits._limit_time = lambda seconds: limited(1e-6 if os.path.exists("../saved") else seconds)
 """
+    editor = place.script('echo "a: !vault more" >> "$1"; : > ../saved', "editor")
+    done = run_changed(place, EDIT, change, [*place.by_file("old"), "vars.yml"], EDITOR=editor)
+    assert done.returncode == 1 and "it takes over 10 s of processor time; what you saved is " in done.stderr, done
+    assert len(place.kept()) == 1
 
 
-def test_signal_to_a_worker(place: Place) -> None:
-    """The system may give a signal to a thread that is not the main one, which is to end its wait."""
-    done = place.run(sys.executable, "-c", IN_WORKER, PYTHONPATH=str(ROOT / "companions"))
-    assert (done.returncode, done.stdout, done.stderr) == (0, "stopped\n", "")
+MOMENTS = 12
+
+
+@pytest.mark.parametrize("name", (EDIT, ROTATE, MERGE, CHECK, TEXTCONV, HOOK, WITH))
+def test_random_moments(cases: Companions, git: None, pytestconfig: pytest.Config, name: str) -> None:
+    """From the first millisecond on, a signal ends a run by its default action, or comes too late; never with words of
+    Python, and with nothing torn or left."""
+    random = Random(f"{pytestconfig.getoption('--seed')} {name}")
+    longest = 0.0
+    for attempt in range(MOMENTS + 1):
+        place = cases.place()
+        place.shell("git init -q && git -c user.name=a -c user.email=b commit -qm c --allow-empty")
+        lines = {CHECK: [CHECK, *place.by_file("old"), "."], TEXTCONV: [TEXTCONV, *place.by_file("old"), "a.yml"]}
+        lines |= {HOOK: [HOOK, "--since", "HEAD"], WITH: [WITH, "rekey", *to_new(place), "a.yml"]} | tree(place)
+        number = random.choice((signal.SIGTERM, signal.SIGHUP))
+        begin = time.monotonic()
+        streams = {"stdout": subprocess.DEVNULL, "stderr": subprocess.PIPE}
+        with started(lines[name], cwd=place.tree, env=place.environment, text=True, **streams) as process:
+            if attempt == 0:
+                process.wait(SECONDS)
+                longest = time.monotonic() - begin
+            else:
+                time.sleep(random.uniform(0.001, longest))
+                process.send_signal(number)
+            errors = process.communicate(timeout=SECONDS)[1]
+            assert process.returncode in (0, -number) and "Traceback" not in errors, (attempt, errors)
+        shutil.rmtree(place.tree / ".git")
+        if name == EDIT:
+            check_edit(place, errors)
+        else:
+            check_whole(place)

@@ -28,7 +28,7 @@ class Check(Work):
     marked: set[str]
 
     def file(self, paths: list[str], file: Content, report: Report) -> None:
-        """Checks the file to which these paths lead. It is marked if one of them is."""
+        """Checks a file. It is marked if one of its paths is."""
         path = next((path for path in paths if path in self.marked), paths[0])
         is_marked = path in self.marked
         is_prose = file_kinds.is_prose(path) and not (is_marked or file.is_vault)

@@ -5,7 +5,7 @@ from __future__ import annotations
 from collections import Counter, deque
 from concurrent.futures import Future
 from dataclasses import dataclass, field
-from typing import Callable, Collection
+from typing import Callable, Collection, NamedTuple
 
 from ansible_vault_companions import refusals
 from ansible_vault_companions.envelopes import detection
@@ -55,6 +55,14 @@ class Work:
     # What labels mean to the passwords.
     policy: Policy
 
+    def file(self, paths: list[str], file: Content, report: Report) -> bytes | None:
+        """Works on the file to which these paths lead, in a thread. Returns its new content; None if it stays."""
+        raise NotImplementedError
+
+    def put(self, path: str, after: bytes, before: bytes, report: Report) -> None:
+        """Puts new content into a file, in the main thread, where signals can be postponed."""
+        raise NotImplementedError
+
     def envelope(self, value: Node, where: str, report: Report, is_prose: bool) -> bytes | None:
         """The text that takes the place of an envelope; None if it stays."""
         raise NotImplementedError
@@ -92,10 +100,20 @@ class Work:
             return None, report
 
 
-# What is done with a file, to which these paths lead.
-OnFile = Callable[[list[str], Content, Report], None]
 # How many files are read ahead of the work on them.
 AHEAD = 32
+
+
+class Outcome(NamedTuple):
+    """The report on a file, to which these paths lead, and what is to replace its content; None if it stays."""
+
+    paths: list[str]
+    report: Report
+    before: bytes = b""
+    after: bytes | None = None
+
+    def fail(self, fault: Exception) -> None:
+        self.report.faults.append(refusals.describe_refusal(self.paths[0], fault))
 
 
 class Reports:
@@ -107,29 +125,38 @@ class Reports:
         self.named = named
         self.total = Report()
 
-    def take_all(self, files: list[list[str]], work: OnFile, workers: Workers) -> None:
+    def take_all(self, files: list[list[str]], work: Work) -> None:
         """Works on each file, to which one or more paths lead, and reports on it. The files are read here, in the main
         thread, where limits hold."""
-        begun: deque[Future[Report]] = deque()
+        begun: deque[Future[Outcome]] = deque()
         for paths in files:
-            begun.append(self._begin(paths, work, workers))
+            begun.append(self._begin(paths, work))
             if len(begun) > AHEAD:
-                self._take(workers.wait_for(begun.popleft()))
+                self._take(begun.popleft().result(), work)
         while begun:
-            self._take(workers.wait_for(begun.popleft()))
+            self._take(begun.popleft().result(), work)
 
-    def _begin(self, paths: list[str], work: OnFile, workers: Workers) -> Future[Report]:
+    def _begin(self, paths: list[str], work: Work) -> Future[Outcome]:
         """Reads a file and begins the work on it. A failure is in its report, so other files are still processed."""
         try:
             file = parse_content(detection.read_envelope_file(paths[0]))
         except (Refused, OSError) as fault:
             is_gone = isinstance(fault, FileNotFoundError) and not any(path in self.named for path in paths)
-            refused: Future[Report] = Future()
-            refused.set_result(Report(faults=[] if is_gone else [refusals.describe_refusal(paths[0], fault)]))
+            outcome = Outcome(paths, Report())
+            if not is_gone:
+                outcome.fail(fault)
+            refused: Future[Outcome] = Future()
+            refused.set_result(outcome)
             return refused
-        return workers.submit(_of_file, paths, file, work)
+        return work.workers.begin(_work_on, paths, file, work)
 
-    def _take(self, report: Report) -> None:
+    def _take(self, outcome: Outcome, work: Work) -> None:
+        report = outcome.report
+        if outcome.after is not None:
+            try:
+                work.put(outcome.paths[0], outcome.after, outcome.before, report)
+            except (Refused, OSError) as fault:
+                outcome.fail(fault)
         self.total.add(report)
         for line in report.lines:
             write_line(line)
@@ -147,10 +174,10 @@ class Reports:
         return bool(missing)
 
 
-def _of_file(paths: list[str], file: Content, work: OnFile) -> Report:
-    report = Report()
+def _work_on(paths: list[str], file: Content, work: Work) -> Outcome:
+    outcome = Outcome(paths, Report(), file.data)
     try:
-        work(paths, file, report)
+        return outcome._replace(after=work.file(paths, file, outcome.report))
     except (Refused, OSError) as fault:
-        report.faults.append(refusals.describe_refusal(paths[0], fault))
-    return report
+        outcome.fail(fault)
+        return outcome

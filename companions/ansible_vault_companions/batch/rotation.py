@@ -30,16 +30,21 @@ class Rotation(Work):
     places: list[str]
     is_dry: bool
 
-    def file(self, paths: list[str], file: Content, report: Report) -> None:
-        """Rotates the file to which these paths lead."""
+    def file(self, paths: list[str], file: Content, report: Report) -> bytes | None:
         path = paths[0]
         if not file.values and file_kinds.find_yaml_fault(file, path):
             raise Refused(file.fault)
         is_prose = file_kinds.is_prose(path) and not file.is_vault
         try:
             after = self.change_envelopes(file, lambda value: value.place(path), report, is_prose)
-            if after != file.data:
-                self._put(os.path.realpath(path), after, file.data)
+        except Refused:
+            report.counts[CHANGED] = 0
+            raise
+        return after if after != file.data else None
+
+    def put(self, path: str, after: bytes, before: bytes, report: Report) -> None:
+        try:
+            self._replace(os.path.realpath(path), after, before)
         except (Refused, OSError):
             report.counts[CHANGED] = 0
             raise
@@ -49,7 +54,7 @@ class Rotation(Work):
             what = f"{count} " if count > 1 else ""
             report.lines.append(f"{escape(path)}{target}: {what}{'would be ' if self.is_dry else ''}rotated")
 
-    def _put(self, target: str, after: bytes, before: bytes) -> None:
+    def _replace(self, target: str, after: bytes, before: bytes) -> None:
         if not any(target == place or target.startswith(os.path.join(place, "")) for place in self.places):
             raise Refused(f"it points to {escape(target)}, outside the paths you named; name that file to rotate it")
         if self.is_dry:

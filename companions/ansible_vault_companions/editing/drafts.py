@@ -6,7 +6,6 @@ import os
 from dataclasses import dataclass
 from typing import Protocol, Union
 
-from ansible_vault_companions import signals
 from ansible_vault_companions.editing.choosing import Choice
 from ansible_vault_companions.editing.matching import describe_place
 from ansible_vault_companions.editing.single_value import SingleValue
@@ -106,10 +105,9 @@ class Loader:
         self.choice = Choice(passwords, label or policy.usual_label)
 
     def load(self, path: str, value: str | None) -> Union[Draft, SingleValue]:
-        """The draft for the file at a path, or for a single value in it. A signal ends the reading."""
+        """The draft for the file at a path, or for a single value in it."""
         target = os.path.realpath(path)
-        with signals.interruptible():
-            content = reading.read(target)
+        content = reading.read(target)
         if value is not None:
             return SingleValue(target, content, value, self.decrypt, self.chosen)
         if content is None:

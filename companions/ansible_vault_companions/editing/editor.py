@@ -60,7 +60,7 @@ class Edit:
         """Runs the editor, and returns its status."""
         # Without a shell between, signals reach the editor, unless its command needs one.
         command = editor if SHELL_WORDS.intersection(editor) else f"exec {editor}"
-        # A signal may come before the editor is opened again, and then the text that was saved first is still there.
+        # If a signal came before the editor is opened again, the text that was saved first is still there.
         with suppress(signals.Stopped):
             return processes.run_on_terminal(["sh", "-c", f'{command} "$@"', editor, self.folder.file])
         return 0
@@ -85,8 +85,6 @@ class Edit:
         return True
 
     def _replace(self, content: bytes) -> None:
-        if signals.ending_signal():
-            raise Refused(describe_signal())
         if content != self.draft.content:
             replacing.replace(self.draft.target, content, self.draft.content)
 
@@ -114,22 +112,22 @@ class Edit:
 
 
 def describe_signal() -> str:
-    return f"signal {signals.ending_signal()} ended the edit"
+    return f"signal {signals.find_postponed()} ended the edit"
 
 
 def edit_draft(tool: Tool, draft: Draft, path: str, text: bytes | None) -> bool:
-    """Edits the plaintext, starting with `text` if given. Returns whether anything was changed."""
+    """Edits the plaintext, starting with `text` if given. Returns whether anything was changed. Signals must be
+    postponed, until a message has said what became of what was saved."""
     with PrivateDirectory(os.path.basename(path), draft.plaintext if text is None else text) as folder:
         edit = Edit(tool, draft, path, folder)
         while True:
             saved = edit.run_editor()
-            with signals.postponed():
-                if signals.ending_signal():
-                    saved = saved._replace(fault=describe_signal())
-                if saved.text is None or draft.is_as_it_was(saved.text):
-                    break
-                if edit.put_back(saved.text, saved.fault):
-                    return True
+            if signals.find_postponed() is not None:
+                saved = saved._replace(fault=describe_signal())
+            if saved.text is None or draft.is_as_it_was(saved.text):
+                break
+            if edit.put_back(saved.text, saved.fault):
+                return True
         if saved.fault:
             raise Refused(f"{saved.fault}; nothing was changed")
     return False

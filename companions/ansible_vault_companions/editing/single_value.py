@@ -6,7 +6,6 @@ import errno
 import os
 import re
 
-from ansible_vault_companions import signals
 from ansible_vault_companions.editing.choosing import Choice
 from ansible_vault_companions.editing.writing import make_sealed_block, parse_nodes, write_values
 from ansible_vault_companions.envelopes import conflicts
@@ -56,8 +55,7 @@ class SingleValue:
         """Sets it to standard input."""
         text = _read_input()
         if text != self.before:
-            with signals.postponed():
-                replacing.replace(self.target, self._encrypt(tool, text), self.content)
+            replacing.replace(self.target, self._encrypt(tool, text), self.content)
 
     def _encrypt(self, tool: Tool, text: bytes) -> bytes:
         """The file with the value encrypted."""

@@ -4,7 +4,6 @@ from __future__ import annotations
 
 import re
 
-from ansible_vault_companions import signals
 from ansible_vault_companions.envelopes.yaml_nodes import BINARY
 from ansible_vault_companions.files.reading import open_regular, read_parts, read_whole
 
@@ -21,11 +20,10 @@ def may_have_envelope(data: bytes) -> bool:
 
 def read_envelope_file(path: str) -> bytes:
     """The content of a file with envelopes; of any other, only a part, which is not blank unless the whole is. It is
-    searched in pieces, since it may be long, and no further than a vault reaches. A signal ends the search."""
+    searched in pieces, since it may be long, and no further than a vault reaches."""
     text = before = b""
     with open_regular(path) as file:
         for piece in read_parts(file):
-            signals.check()
             if may_have_envelope(before[-OVERLAP:] + piece):
                 return read_whole(file, path)
             text, before = text if text.strip() else piece, piece

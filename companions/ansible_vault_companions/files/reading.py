@@ -9,7 +9,6 @@ import stat
 from fnmatch import fnmatchcase
 from typing import BinaryIO, Collection, Iterator
 
-from ansible_vault_companions import signals
 from ansible_vault_companions.refusals import Refused
 
 # Bytes to read at once, since a file may be huge. Some files in /proc refuse reads of an odd size.
@@ -33,7 +32,7 @@ def add_paths(parser: argparse.ArgumentParser) -> None:
 
 def list_files(paths: list[str], excluded: Collection[str] = ()) -> list[list[str]]:
     """All paths that lead to each file. A path that is no file, and a directory that cannot be read, are among them, so
-    that reading them says why. A signal ends the search."""
+    that reading them says why."""
     files: dict[str, list[str]] = {}
     for path in paths:
         named = [] if _is_excluded(os.path.normpath(path), excluded) else [path]
@@ -45,7 +44,6 @@ def list_files(paths: list[str], excluded: Collection[str] = ()) -> list[list[st
 def _list_files_in(top: str, excluded: Collection[str]) -> Iterator[str]:
     unread: list[str] = []
     for folder, folders, names in os.walk(top, onerror=lambda fault: unread.append(fault.filename)):
-        signals.check()
         below = os.path.relpath(folder, top)
         left = {name for name in [*folders, *names] if not _is_excluded(os.path.normpath(f"{below}/{name}"), excluded)}
         folders[:] = sorted(name for name in folders if name in left and name != ".git")
@@ -77,14 +75,14 @@ def read(path: str) -> bytes | None:
 
 
 def read_existing(path: str) -> bytes:
-    """The content of a file that must exist. A signal ends the reading at once."""
-    with signals.interruptible(), open_regular(path) as file:
+    """The content of a file that must exist."""
+    with open_regular(path) as file:
         return read_whole(file, path)
 
 
 def read_input(file: str | int) -> bytes:
-    """The whole of an input such as standard input, or a bit more than any vault has. A signal ends the wait for it."""
-    with signals.interruptible(), open(file, "rb", closefd=file != 0) as opened_file:
+    """The whole of an input such as standard input, or a bit more than any vault has."""
+    with open(file, "rb", closefd=file != 0) as opened_file:
         return opened_file.read(LIMIT + 1)
 
 

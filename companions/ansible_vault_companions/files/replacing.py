@@ -9,6 +9,7 @@ import stat
 import tempfile
 from contextlib import suppress
 
+from ansible_vault_companions import signals
 from ansible_vault_companions.files import reading
 from ansible_vault_companions.refusals import Refused
 
@@ -20,20 +21,22 @@ def replace(path: str, content: bytes, before: bytes | None, is_private: bool = 
     readable only by its owner, whatever its mode was. The directory is synced, so that the old content does not come
     back after a power failure."""
     target = os.path.realpath(path)
-    beside = _write_beside(target, content, is_private)
-    try:
-        if reading.read(target) != before:
-            raise Refused("another program changed it in the meantime")
-        os.replace(beside, target)
-    except BaseException:
-        os.unlink(beside)
-        raise
-    _sync(os.path.dirname(target))
+    with signals.postponed():
+        beside = _write_beside(target, content, is_private)
+        try:
+            if reading.read(target) != before:
+                raise Refused("another program changed it in the meantime")
+            os.replace(beside, target)
+        except BaseException:
+            os.unlink(beside)
+            raise
+        _sync(os.path.dirname(target))
 
 
 def check_replaceable(target: str) -> None:
     """Refuses in advance a file that `replace` could not replace."""
-    os.unlink(_write_beside(target, b""))
+    with signals.postponed():
+        os.unlink(_write_beside(target, b""))
 
 
 def is_leftover(name: str) -> bool:

@@ -8,6 +8,7 @@ from contextlib import contextmanager
 from functools import cached_property
 from typing import Iterator, NamedTuple
 
+from ansible_vault_companions import signals
 from ansible_vault_companions.git.commands import CUT, find_object, list_records, read_line, run_git
 from ansible_vault_companions.git.history import list_parents
 from ansible_vault_companions.git.pathspecs import make_pathspec
@@ -145,15 +146,28 @@ def _has_commit() -> bool:
     return False
 
 
-@contextmanager
-def open_index_file(tree: str) -> Iterator[str]:
-    """A context with the path of a temporary index that contains the files of a commit or tree."""
+def _open_index_of(tree: str) -> int:
+    """The descriptor of an index that git has written, which it only does in a directory."""
     # If none is named, `tempfile` might choose another directory, even the current one.
     above = os.path.abspath(os.environ.get("TMPDIR") or "/tmp")
-    with tempfile.TemporaryDirectory(prefix="ansible-vault-", dir=above) as folder:
+    with signals.postponed(), tempfile.TemporaryDirectory(prefix="ansible-vault-", dir=above) as folder:
         path = os.path.join(folder, "index")
         run_git("read-tree", tree, index=path)
+        return os.open(path, os.O_RDONLY)
+
+
+@contextmanager
+def open_index_file(tree: str) -> Iterator[str]:
+    """A context with the path of an index that contains the files of a commit or tree. It is open, but in no directory,
+    so nothing is left, however the companion ends."""
+    number = _open_index_of(tree)
+    try:
+        path = f"/proc/{os.getpid()}/fd/{number}"
+        # To git, an index that is missing is empty.
+        os.stat(path)
         yield path
+    finally:
+        os.close(number)
 
 
 @contextmanager

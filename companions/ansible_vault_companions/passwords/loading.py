@@ -6,7 +6,6 @@ from __future__ import annotations
 import os
 import stat
 
-from ansible_vault_companions import signals
 from ansible_vault_companions.output import write_error
 from ansible_vault_companions.envelopes.header import MAGIC
 from ansible_vault_companions.passwords import prompts, scripts
@@ -68,8 +67,7 @@ def _read(source: Source, encrypts: bool) -> bytes:
     mode = os.stat(source.place).st_mode
     if stat.S_ISREG(mode) and mode & 0o111:
         return scripts.run_script(source.place, source.written_label)[: LIMIT + 1]
-    # A pipe may block until something is written to it.
-    with signals.interruptible(), open(source.place, "rb") as file:
+    with open(source.place, "rb") as file:
         return file.read(LIMIT + 1)
 
 

@@ -76,7 +76,7 @@ def _ask_hidden_password(question: str) -> bytes:
 def _ask_hidden(question: str) -> bytes:
     """A line that is not shown. It must be UTF-8, so that the same keys give the same password in every locale."""
     with _terminal() as terminal:
-        with _without_echo(terminal):
+        with signals.postponed(), _without_echo(terminal):
             text = _read_answer(terminal, question).replace(SUSPEND, b"")
         terminal.write(b"\n")
     try:
@@ -88,7 +88,14 @@ def _ask_hidden(question: str) -> bytes:
 
 def _read_answer(terminal: FileIO, question: str) -> bytes:
     terminal.write(question.encode())
-    text = terminal.readline()
+    text = b""
+    while not text.endswith(b"\n"):
+        signals.wait_for_input(terminal.fileno())
+        typed = terminal.read(1)
+        # Ctrl-D ends the line, too.
+        if not typed:
+            break
+        text += typed
     if not text:
         raise Refused("you typed nothing; try again")
     return text.removesuffix(b"\n")
@@ -100,7 +107,7 @@ def _terminal() -> Iterator[FileIO]:
         terminal = open("/dev/tty", "r+b", buffering=0)
     except OSError:
         raise Refused(NO_TERMINAL) from None
-    with terminal, signals.interruptible():
+    with terminal:
         yield terminal
 
 

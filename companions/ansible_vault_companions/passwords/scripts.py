@@ -26,7 +26,7 @@ def run_script(path: str, label: str) -> bytes:
     if not is_client:
         streams["stderr"] = None
     try:
-        done = processes.run(words, **streams)
+        done = processes.run_script(words, **streams)
     except OSError as fault:
         to_do = f"if it is not a script, run `chmod -x {quote_word(path)}`"
         raise Refused(f"this script cannot be run: {describe_fault(fault)}; {to_do}") from None
