@@ -21,3 +21,15 @@ if sys.version_info < OLDEST:
         f"{os.path.basename(sys.argv[0])}: Python {OLDEST[0]}.{OLDEST[1]} or newer is needed, and {sys.executable} is "
         f"{sys.version.split()[0]}"
     )
+
+
+def report_failure(kind, fault, trace):  # type: ignore
+    """Says in one line what the system refused, such as memory for a module. Anything else is a bug: the traceback goes
+    into a report."""
+    if not issubclass(kind, (MemoryError, ImportError, OSError)):
+        sys.__excepthook__(kind, fault, trace)
+        return
+    sys.stderr.write(f"{os.path.basename(sys.argv[0])}: {str(fault) or 'out of memory'}\n")
+
+
+sys.excepthook = report_failure

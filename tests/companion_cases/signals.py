@@ -351,7 +351,7 @@ def test_random_moments(cases: Companions, git: None, pytestconfig: pytest.Confi
         place.shell("git init -q && git -c user.name=a -c user.email=b commit -qm c --allow-empty")
         lines = {CHECK: [CHECK, *place.by_file("old"), "."], TEXTCONV: [TEXTCONV, *place.by_file("old"), "a.yml"]}
         lines |= {HOOK: [HOOK, "--since", "HEAD"], WITH: [WITH, "rekey", *to_new(place), "a.yml"]} | tree(place)
-        number = random.choice((signal.SIGTERM, signal.SIGHUP))
+        number = random.choice((signal.SIGINT, signal.SIGTERM, signal.SIGHUP))
         begin = time.monotonic()
         streams = {"stdout": subprocess.DEVNULL, "stderr": subprocess.PIPE}
         with started(lines[name], cwd=place.tree, env=place.environment, text=True, **streams) as process:

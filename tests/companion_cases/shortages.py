@@ -1,0 +1,69 @@
+"""Too few processes, or too little memory: a companion says so in a line, or does its work. No file is torn."""
+
+from random import Random
+
+import pytest
+
+from companion_cases import CHANGE, CHANGED, CHECK, COMPANIONS, EDIT, HOOK, MERGE, ROTATE, TEXT, TEXTCONV, WITH
+from companion_cases import Companions, Done, Place, sealed, texts, to_new, versions
+from lib.needs import needs
+
+NAMES = (EDIT, ROTATE, MERGE, CHECK, TEXTCONV, HOOK, WITH)
+LIMITS = 8
+# In kilobytes: from less than Python needs to more than any companion does.
+LEAST, MOST = 8_000, 120_000
+START = f"import sys; sys.path.insert(0, {str(COMPANIONS)!r}); import ansible_vault_companions"
+
+
+def prepare(place: Place, name: str) -> list[str]:
+    """Write some vaults that anybody may replace, and return a command line of the companion."""
+    for number in range(3):
+        place.put(f"folder/{number}.yml", sealed("old"), 0o666)
+    merge = versions(place, "a.yml", sealed("old"), sealed("old", CHANGED), sealed("old", TEXT + b"more: 1\n"))
+    place.environment["EDITOR"] = place.script(CHANGE, "editor")
+    place.shell("git init -q && git add . && git -c user.name=a -c user.email=b commit -qm c; chmod -R a+rwX ..")
+    place.environment |= {"GIT_CONFIG_COUNT": "1", "GIT_CONFIG_KEY_0": "safe.directory", "GIT_CONFIG_VALUE_0": "*"}
+    lines = {
+        EDIT: [EDIT, *place.by_file("old"), "a.yml"],
+        ROTATE: [ROTATE, *to_new(place), "."],
+        MERGE: [MERGE, *place.by_file("old"), *merge],
+        CHECK: [CHECK, *place.by_file("old"), "."],
+        TEXTCONV: [TEXTCONV, *place.by_file("old"), "a.yml"],
+        HOOK: [HOOK, "--since", "HEAD"],
+        WITH: [WITH, "rekey", *to_new(place), "a.yml"],
+    }
+    return lines[name]
+
+
+def check(place: Place, name: str, done: Done, limit: int) -> None:
+    """Check that a run says why it failed, if it did, and that the vaults are whole."""
+    lines = done.stderr.splitlines()
+    assert "Traceback" not in done.stderr and (done.returncode == 0 or lines), (limit, done)
+    # git and the editor are programs of their own.
+    assert all(line.startswith((name, "git", "fatal: ", "error: ", "sh: ", "--resume ", "  ")) for line in lines), done
+    vaults = [place.get(path) for path in ("a.yml", "folder/0.yml", "folder/1.yml", "folder/2.yml")]
+    whole = [pair for vault in vaults for pair in zip(texts(vault, "old"), texts(vault, "new"))]
+    assert len(whole) >= len(vaults) and all(any(pair) for pair in whole), (limit, vaults)
+    assert [path for path in place.names() if ".new" in path] == [], limit
+
+
+@pytest.mark.parametrize("name", NAMES)
+def test_processes(cases: Companions, git: None, name: str) -> None:
+    needs("prlimit", "setpriv")
+    for limit in range(1, LIMITS):
+        place = cases.place()
+        words = prepare(place, name)
+        check(place, name, place.as_nobody("prlimit", f"--nproc={limit}", *words), limit)
+
+
+@pytest.mark.parametrize("name", NAMES)
+def test_memory(cases: Companions, git: None, pytestconfig: pytest.Config, name: str) -> None:
+    """Once Python itself can start, and read the package."""
+    needs("prlimit")
+    random = Random(f"{pytestconfig.getoption('--seed')} {name}")
+    for limit in [random.randrange(LEAST, MOST) for _ in range(2 * LIMITS)]:
+        place = cases.place()
+        words, limiting = prepare(place, name), ["prlimit", f"--as={1024 * limit}"]
+        start = place.run(*limiting, "python3", "-IBc", START)
+        if (start.returncode, start.stderr) == (0, ""):
+            check(place, name, place.run(*limiting, *words), limit)
