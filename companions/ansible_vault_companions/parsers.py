@@ -3,10 +3,11 @@
 from __future__ import annotations
 
 import argparse
+import os
 from collections.abc import Iterable
 
 from ansible_vault_companions import VERSION
-from ansible_vault_companions.quoting import escape
+from ansible_vault_companions.quoting import escape, quote_word
 
 # The module `typing` takes long to import.
 TYPE_CHECKING = False
@@ -32,6 +33,15 @@ class Formatter(argparse.RawDescriptionHelpFormatter):
 
 class Parser(argparse.ArgumentParser):
     """A parser whose message is one write, with the words of the command line in printable form."""
+
+    def parse_args(self, words: list[str]) -> argparse.Namespace:  # type: ignore[override]
+        """Refuses a word that may be an option or the name of a file: where a stranger has named a file like an option,
+        a pattern of the shell such as `*` gives it among the others."""
+        for word in words[: words.index("--")] if "--" in words else words:
+            if word.startswith("-") and word != "-" and os.path.lexists(word):
+                to_do = f"write {quote_word(word)} for the file, or rename it to use the option"
+                self.error(f"{word}: a file has this name; {to_do}")
+        return super().parse_args(words)
 
     def error(self, message: str) -> NoReturn:
         self.exit(2, f"{self.format_usage()}{self.prog}: error: {escape(message)}\n")
