@@ -9,7 +9,7 @@ import pytest
 from ansible_vault_companions.envelopes import detection
 from ansible_vault_companions.envelopes.header import MAGIC
 from ansible_vault_companions.files import reading
-from companion_cases import AWKWARD, CHECK, ROTATE, Place, block, ended, sealed, summary, to_new
+from companion_cases import AWKWARD, CHECK, ROTATE, TEXT, Place, block, ended, sealed, summary, to_new
 
 
 def found(place: Place, *paths: str) -> list[str]:
@@ -30,33 +30,76 @@ def test_awkward_names(place: Place) -> None:
     ended("named one by one", done, 0, summary(len(AWKWARD)))
 
 
-def test_links(place: Place) -> None:
-    """Links to files are followed, but a rotation writes only within the paths, so not in a directory whose name begins
-    with the one that was named. A link to a directory is followed only if it is a path. Each file is named once."""
+LINKS = {
+    "inside.yml": "all.yml",
+    "outside.yml": "../shared/vault.yml",
+    "chain.yml": "outside.yml",
+    "sibling.yml": "../tree-old/vault.yml",
+    "plain.yml": "../shared/plain.yml",
+    "folder": "../elsewhere",
+    "deep/above": "..",
+    "dangling.yml": "nowhere",
+    "dangling-out.yml": "../nowhere",
+    "loop.yml": "loop.yml",
+}
+
+
+@pytest.mark.usefixtures("git")
+@pytest.mark.parametrize("is_repository", (True, False))
+def test_links(place: Place, is_repository: bool) -> None:
+    """A link to a file is followed within the repository or, outside of git, within the paths, and so not into a
+    directory whose name begins with the one that was named. Any other is named, and fails if there is an envelope in
+    its file. A link to a directory is followed only if it is a path. Each file is named once."""
     for name in ("tree/all.yml", "shared/vault.yml", "elsewhere/deep.yml", "tree-old/vault.yml"):
         place.put(name, sealed("old"))
-    targets = {
-        "inside.yml": "all.yml",
-        "outside.yml": "../shared/vault.yml",
-        "chain.yml": "outside.yml",
-        "sibling.yml": "../tree-old/vault.yml",
-        "folder": "../elsewhere",
-        "dangling.yml": "nowhere",
-        "loop.yml": "loop.yml",
-    }
-    for name, target in targets.items():
+    place.put("shared/plain.yml", TEXT)
+    place.shell("mkdir tree/deep" + "; git init -q tree" * is_repository)
+    for name, target in LINKS.items():
         (place.tree / "tree" / name).symlink_to(target)
-    shared, before = str(place.tree / "shared/vault.yml"), place.files()
-    assert found(place, "tree", "tree/all.yml") == ["tree/all.yml", "tree/chain.yml", "tree/sibling.yml"]
-    done = place.run(ROTATE, *to_new(place), "tree")
-    why = f"tree/chain.yml: it points to {shared}, outside the paths you named; name that file to rotate it\n"
-    ended("links out of the folder", done, 1, why, "1 rotated, 0 under", "2 failed")
+    shared, before = f"{place.tree}/shared/vault.yml", place.files()
+    out = f"a link leads out of {place.tree}/tree; name {{}} instead"
+    chain, sibling = (out.format(path) for path in (shared, f"{place.tree}/tree-old/vault.yml"))
+    folder = f"it is a link to a directory, which is not searched; name {place.tree}/elsewhere as well"
+    failed = {"chain.yml": chain, "sibling.yml": sibling}
+    told = {**failed, "plain.yml": out.format(f"{place.tree}/shared/plain.yml"), "folder": folder}
+    check, rotate = [CHECK, *place.by_file("old")], [ROTATE, *to_new(place)]
+    done = place.run(*check, "tree", "tree/all.yml")
+    wanted = sorted(f"{CHECK}: tree/{name}: {why}" for name, why in told.items())
+    assert (done.returncode, sorted(done.stderr.splitlines())) == (1, wanted)
+    assert done.stdout.splitlines()[1:] == ["1 decrypted, 2 not"] and done.stdout.startswith("tree/all.yml: ")
+    ended("links out", place.run(*rotate, "tree"), 1, f"tree/chain.yml: {chain}\n", "1 rotated, 0 under", "2 failed")
     changed = {name for name, content in place.files().items() if content != before[name]}
     assert changed == {"tree/all.yml", "tree/inside.yml"}
-    done = place.run(ROTATE, *to_new(place), "tree", shared, "tree-old")
-    ended("their files are named", done, 0, f"tree/chain.yml ({shared}): rotated\n", summary(2, 1))
-    assert {name: os.readlink(place.tree / "tree" / name) for name in targets} == targets, "links stay links"
-    ended("a link that is the path", place.run(ROTATE, *to_new(place), "tree/folder"), 0, summary(1))
+    quiet = [f"--exclude={name}" for name in told]
+    done = place.run(CHECK, *place.by_file("new"), *quiet, "--exclude=outside.yml", "tree")
+    assert (done.returncode, done.stderr) == (0, ""), "those that are left out are not named"
+    paths = ["tree", shared, "tree-old", "shared/plain.yml", f"{place.tree}/elsewhere"]
+    done = place.run(*rotate, *paths)
+    ended("their files are named", done, 0, f"tree/chain.yml ({shared}): rotated\n", summary(3, 1))
+    assert done.stderr == "", "and so are their directories"
+    assert {name: os.readlink(place.tree / "tree" / name) for name in LINKS} == LINKS, "links stay links"
+
+
+@pytest.mark.usefixtures("git")
+def test_paths_that_are_links(place: Place) -> None:
+    """A link to a directory is followed if it is a path, but not out of a repository."""
+    place.put("elsewhere/below/deep.yml", sealed("old"))
+    (place.tree / "tree").mkdir()
+    (place.tree / "tree/folder").symlink_to("../elsewhere")
+    rotate = [ROTATE, *to_new(place)]
+    ended("outside of git", place.run(*rotate, "tree/folder"), 0, "tree/folder/below/deep.yml: rotated\n", summary(1))
+    place.shell("git init -q tree")
+    check = [CHECK, *place.by_file("new")]
+    for name in ("folder", "folder/below"):
+        path = f"{place.tree}/elsewhere{name.removeprefix('folder')}"
+        why = f"tree/{name}: a link leads out of {place.tree}/tree; name {path} instead\n"
+        done = place.run(*check, f"tree/{name}")
+        assert (done.returncode, done.stdout, done.stderr) == (1, "0 decrypted, 1 not\n", f"{CHECK}: {why}")
+        done = place.run(*check, f"--exclude=tree/{name}", f"tree/{name}", path)
+        assert (done.returncode, done.stderr) == (0, ""), "it is left out, and its target is a path"
+    place.shell("mv tree/.git .git")
+    done = place.run(*check, "tree/folder")
+    ended("within the repository", done, 0, "tree/folder/below/deep.yml: ", "1 decrypted, 0 not\n")
 
 
 def test_what_is_looked_at(place: Place) -> None:

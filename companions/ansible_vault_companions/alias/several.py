@@ -9,7 +9,7 @@ from typing import NamedTuple
 
 from ansible_vault_companions import lifecycle, output, quoting
 from ansible_vault_companions.alias.command_line import DECRYPT, ENCRYPT_STRING, NAME, STANDARD_INPUT, VIEW, Call
-from ansible_vault_companions.files import reading, replacing
+from ansible_vault_companions.files import reading, replacing, resolving
 from ansible_vault_companions.output import write_error
 from ansible_vault_companions.passwords import prompts
 from ansible_vault_companions.tool import Tool
@@ -33,13 +33,14 @@ def handle(companion: str, call: Call) -> int:
     def work(path: str) -> None:
         """If a text that is shown does not end with a newline, the next one still begins on a new line."""
         nonlocal end
-        before = reading.read_existing(path)
+        target = resolving.resolve_file(path)
+        before = reading.read_existing(target)
         after = tool.run(call.words(), before, [*call.passwords, *call.new])
         if call.args.command == VIEW:
             output.write_data(end + after)
             end = b"\n" if after and not after.endswith(b"\n") else b""
         else:
-            replacing.replace(path, after, before, call.args.command == DECRYPT)
+            replacing.replace(target, after, before, call.args.command == DECRYPT)
 
     return max(lifecycle.attempt_work(NAME, path, partial(work, path)) for path in call.args.arguments)
 
@@ -58,7 +59,8 @@ def _encrypt_strings(tool: Tool, call: Call) -> int:
     if path is None or path == STANDARD_INPUT:
         output.write_data(b"".join(values))
     else:
-        replacing.replace(path, b"".join(values), reading.read(path))
+        target = resolving.resolve_file(path)
+        replacing.replace(target, b"".join(values), reading.read(target))
     return 0
 
 

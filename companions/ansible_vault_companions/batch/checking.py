@@ -8,6 +8,7 @@ from ansible_vault_companions.batch.reports import Report, Work
 from ansible_vault_companions.envelopes import conflicts, damage, file_kinds
 from ansible_vault_companions.envelopes.content import Content, parse_content
 from ansible_vault_companions.envelopes.node import Node
+from ansible_vault_companions.files.searching import FoundFile
 from ansible_vault_companions.git.pathspecs import make_pathspec
 from ansible_vault_companions.passwords.password import Password
 from ansible_vault_companions.quoting import escape
@@ -27,12 +28,12 @@ class Check(Work):
     # The paths that git's attributes mark.
     marked: set[str]
 
-    def file(self, paths: list[str], file: Content, report: Report) -> None:
+    def file(self, found: FoundFile, file: Content, report: Report) -> None:
         """Checks a file. It is marked if one of its paths is."""
-        path = next((path for path in paths if path in self.marked), paths[0])
+        path = next((path for path in found.paths if path in self.marked), found.paths[0])
         is_marked = path in self.marked
-        is_prose = file_kinds.is_prose(path) and not (is_marked or file.is_vault)
-        why = file_kinds.find_yaml_fault(file, path)
+        is_prose = file_kinds.is_prose(found.target) and not (is_marked or file.is_vault)
+        why = file_kinds.find_yaml_fault(file, path, found.target)
         try:
             self.change_envelopes(file, lambda value: _name_value(value, value.place(path)), report, is_prose)
         except Refused as fault:

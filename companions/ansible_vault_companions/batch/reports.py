@@ -8,9 +8,10 @@ from dataclasses import dataclass, field
 from typing import Callable, Collection, NamedTuple
 
 from ansible_vault_companions import refusals
-from ansible_vault_companions.envelopes import detection
+from ansible_vault_companions.envelopes import detection, file_kinds
 from ansible_vault_companions.envelopes.content import Content, parse_content
 from ansible_vault_companions.envelopes.node import Node
+from ansible_vault_companions.files.searching import FoundFile, Search
 from ansible_vault_companions.output import write_error, write_line
 from ansible_vault_companions.passwords.labels import Policy
 from ansible_vault_companions.passwords.password import Password
@@ -24,8 +25,9 @@ from ansible_vault_companions.workers import Workers
 class Report:
     """The results for an envelope, a file or all files."""
 
-    # Lines for standard output, and failures.
+    # Lines for standard output and for standard error, and failures.
     lines: list[str] = field(default_factory=list)
+    notes: list[str] = field(default_factory=list)
     faults: list[str] = field(default_factory=list)
     # The numbers of envelopes, by what was done with them.
     counts: Counter[str] = field(default_factory=Counter)
@@ -35,6 +37,7 @@ class Report:
 
     def add(self, other: Report) -> None:
         self.lines += other.lines
+        self.notes += other.notes
         self.faults += other.faults
         self.counts += other.counts
         self.labels |= other.labels
@@ -55,11 +58,11 @@ class Work:
     # What labels mean to the passwords.
     policy: Policy
 
-    def file(self, paths: list[str], file: Content, report: Report) -> bytes | None:
-        """Works on the file to which these paths lead, in a thread. Returns its new content; None if it stays."""
+    def file(self, found: FoundFile, file: Content, report: Report) -> bytes | None:
+        """Works on a file, in a thread. Returns its new content; None if it stays."""
         raise NotImplementedError
 
-    def put(self, path: str, after: bytes, before: bytes, report: Report) -> None:
+    def put(self, found: FoundFile, after: bytes, before: bytes, report: Report) -> None:
         """Puts new content into a file, in the main thread, where signals can be postponed."""
         raise NotImplementedError
 
@@ -105,66 +108,86 @@ AHEAD = 32
 
 
 class Outcome(NamedTuple):
-    """The report on a file, to which these paths lead, and what is to replace its content; None if it stays."""
+    """The report on a file, and what is to replace its content; None if it stays."""
 
-    paths: list[str]
+    file: FoundFile
     report: Report
     before: bytes = b""
     after: bytes | None = None
 
     def fail(self, fault: Exception) -> None:
-        self.report.faults.append(refusals.describe_refusal(self.paths[0], fault))
+        self.report.faults.append(refusals.describe_refusal(self.file.paths[0], fault))
 
 
 class Reports:
     """Prints a companion's reports, and adds them up."""
 
-    def __init__(self, companion: str, named: list[str]) -> None:
+    def __init__(self, companion: str, named: list[str], marked: Collection[str] = ()) -> None:
         self.companion = companion
         # The paths of the command line. Files that are found below them may vanish.
         self.named = named
+        # The paths of files that must be encrypted.
+        self.marked = marked
         self.total = Report()
 
-    def take_all(self, files: list[list[str]], work: Work) -> None:
-        """Works on each file, to which one or more paths lead, and reports on it. The files are read here, in the main
-        thread, where limits hold."""
+    def take_all(self, files: list[FoundFile], work: Work) -> None:
+        """Works on each file, and reports on it. The files are read here, in the main thread, where limits hold."""
         begun: deque[Future[Outcome]] = deque()
-        for paths in files:
-            begun.append(self._begin(paths, work))
+        for found in files:
+            begun.append(self._begin(found, work))
             if len(begun) > AHEAD:
                 self._take(begun.popleft().result(), work)
         while begun:
             self._take(begun.popleft().result(), work)
 
-    def _begin(self, paths: list[str], work: Work) -> Future[Outcome]:
+    def _begin(self, found: FoundFile, work: Work) -> Future[Outcome]:
         """Reads a file and begins the work on it. A failure is in its report, so other files are still processed."""
         try:
-            file = parse_content(detection.read_envelope_file(paths[0]))
+            file = parse_content(detection.read_envelope_file(found.target))
         except (Refused, OSError) as fault:
-            is_gone = isinstance(fault, FileNotFoundError) and not any(path in self.named for path in paths)
-            outcome = Outcome(paths, Report())
-            if not is_gone:
-                outcome.fail(fault)
-            refused: Future[Outcome] = Future()
-            refused.set_result(outcome)
-            return refused
-        return work.workers.begin(_work_on, paths, file, work)
+            return _finish(found, self._report_unread(found, fault))
+        if found.refusal:
+            return _finish(found, self._report_refused(found, file))
+        return work.workers.begin(_work_on, found, file, work)
+
+    def _report_unread(self, found: FoundFile, fault: Exception) -> Report:
+        """The report on a file that cannot be read. One that was found, and is gone, is no failure."""
+        path = found.paths[0]
+        why = found.refusal or refusals.describe_fault(fault)
+        is_gone = isinstance(fault, FileNotFoundError) and not any(path in self.named for path in found.paths)
+        if not is_gone:
+            return Report(faults=[f"{escape(path)}: {why}"])
+        return Report(notes=[f"{escape(path)}: {why}"] if found.refusal else [])
+
+    def _report_refused(self, found: FoundFile, file: Content) -> Report:
+        """The report on a link that leads out: a failure if there is something to do in its file."""
+        path = found.paths[0]
+        text = f"{escape(path)}: {found.refusal}"
+        is_marked = any(path in self.marked for path in found.paths)
+        if is_marked or file.envelopes() or file_kinds.find_yaml_fault(file, path, found.target):
+            return Report(faults=[text])
+        return Report(notes=[text])
 
     def _take(self, outcome: Outcome, work: Work) -> None:
         report = outcome.report
         if outcome.after is not None:
             try:
-                work.put(outcome.paths[0], outcome.after, outcome.before, report)
+                work.put(outcome.file, outcome.after, outcome.before, report)
             except (Refused, OSError) as fault:
                 outcome.fail(fault)
         self.total.add(report)
         for line in report.lines:
             write_line(line)
-        for text in report.faults:
+        for text in [*report.notes, *report.faults]:
             self.report_fault(text)
 
     def report_fault(self, text: str) -> None:
         write_error(f"{self.companion}: {text}")
+
+    def report_unsearched(self, search: Search) -> None:
+        """Names each link to a directory that is not searched. That is no failure."""
+        for path, why in search.list_unsearched().items():
+            self.report_fault(f"{escape(path)}: {why}")
 
     def report_missing(self, labels: Collection[str]) -> bool:
         """Whether no envelope has one of these labels. Names each of these."""
@@ -174,10 +197,16 @@ class Reports:
         return bool(missing)
 
 
-def _work_on(paths: list[str], file: Content, work: Work) -> Outcome:
-    outcome = Outcome(paths, Report(), file.data)
+def _finish(found: FoundFile, report: Report) -> Future[Outcome]:
+    done: Future[Outcome] = Future()
+    done.set_result(Outcome(found, report))
+    return done
+
+
+def _work_on(found: FoundFile, file: Content, work: Work) -> Outcome:
+    outcome = Outcome(found, Report(), file.data)
     try:
-        return outcome._replace(after=work.file(paths, file, outcome.report))
+        return outcome._replace(after=work.file(found, file, outcome.report))
     except (Refused, OSError) as fault:
         outcome.fail(fault)
         return outcome

@@ -10,6 +10,7 @@ from ansible_vault_companions.envelopes import file_kinds
 from ansible_vault_companions.envelopes.content import Content, parse_content
 from ansible_vault_companions.envelopes.node import Node
 from ansible_vault_companions.files import replacing
+from ansible_vault_companions.files.searching import FoundFile
 from ansible_vault_companions.passwords.password import Password
 from ansible_vault_companions.quoting import escape
 from ansible_vault_companions.refusals import Refused
@@ -26,15 +27,13 @@ class Rotation(Work):
 
     old: list[Password]
     new: dict[str, Password]
-    # The real paths of the files and directories that the user named.
-    places: list[str]
     is_dry: bool
 
-    def file(self, paths: list[str], file: Content, report: Report) -> bytes | None:
-        path = paths[0]
-        if not file.values and file_kinds.find_yaml_fault(file, path):
+    def file(self, found: FoundFile, file: Content, report: Report) -> bytes | None:
+        path = found.paths[0]
+        if not file.values and file_kinds.find_yaml_fault(file, path, found.target):
             raise Refused(file.fault)
-        is_prose = file_kinds.is_prose(path) and not file.is_vault
+        is_prose = file_kinds.is_prose(found.target) and not file.is_vault
         try:
             after = self.change_envelopes(file, lambda value: value.place(path), report, is_prose)
         except Refused:
@@ -42,21 +41,20 @@ class Rotation(Work):
             raise
         return after if after != file.data else None
 
-    def put(self, path: str, after: bytes, before: bytes, report: Report) -> None:
+    def put(self, found: FoundFile, after: bytes, before: bytes, report: Report) -> None:
+        path = found.paths[0]
         try:
-            self._replace(os.path.realpath(path), after, before)
+            self._replace(found.target, after, before)
         except (Refused, OSError):
             report.counts[CHANGED] = 0
             raise
         count = report.counts[CHANGED]
         if count:
-            target = f" ({escape(os.path.realpath(path))})" if os.path.islink(path) else ""
+            target = f" ({escape(found.target)})" if os.path.islink(path) else ""
             what = f"{count} " if count > 1 else ""
             report.lines.append(f"{escape(path)}{target}: {what}{'would be ' if self.is_dry else ''}rotated")
 
     def _replace(self, target: str, after: bytes, before: bytes) -> None:
-        if not any(target == place or target.startswith(os.path.join(place, "")) for place in self.places):
-            raise Refused(f"it points to {escape(target)}, outside the paths you named; name that file to rotate it")
         if self.is_dry:
             replacing.check_replaceable(target)
         else:

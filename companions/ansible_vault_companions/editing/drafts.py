@@ -2,7 +2,6 @@
 
 from __future__ import annotations
 
-import os
 from dataclasses import dataclass
 from typing import Protocol, Union
 
@@ -12,7 +11,7 @@ from ansible_vault_companions.editing.single_value import SingleValue
 from ansible_vault_companions.editing.yaml_draft import YamlDraft
 from ansible_vault_companions.envelopes import conflicts, detection
 from ansible_vault_companions.envelopes.header import MAGIC
-from ansible_vault_companions.files import reading
+from ansible_vault_companions.files import reading, resolving
 from ansible_vault_companions.git.pathspecs import make_pathspec
 from ansible_vault_companions.merging.file_merge import KINDS_DIFFER, find_versions, merge_file
 from ansible_vault_companions.merging.line_merge import Versions
@@ -106,7 +105,7 @@ class Loader:
 
     def load(self, path: str, value: str | None) -> Union[Draft, SingleValue]:
         """The draft for the file at a path, or for a single value in it."""
-        target = os.path.realpath(path)
+        target = resolving.resolve_file(path)
         content = reading.read(target)
         if value is not None:
             return SingleValue(target, content, value, self.decrypt, self.chosen)

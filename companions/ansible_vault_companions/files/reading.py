@@ -1,13 +1,11 @@
-"""Finds the files below the paths of a command line, and reads files, up to a limit."""
+"""Reads files, up to a limit."""
 
 from __future__ import annotations
 
-import argparse
 import errno
 import os
 import stat
-from fnmatch import fnmatchcase
-from typing import BinaryIO, Collection, Iterator
+from typing import BinaryIO, Iterator
 
 from ansible_vault_companions.refusals import Refused
 
@@ -17,52 +15,11 @@ CHUNK_SIZE = 1 << 20
 # /proc, no more than LIMIT is read.
 LONGEST_PLAINTEXT = 16_777_216
 LIMIT = 6 * LONGEST_PLAINTEXT + 8_192
+NOT_REGULAR = "it is not a regular file"
 
 
 class TooLong(OSError):
     """A file is longer than the limit."""
-
-
-def add_paths(parser: argparse.ArgumentParser) -> None:
-    """Adds the paths to search, and the option that leaves out files."""
-    about = "skip files whose name or path matches PATTERN; may be repeated"
-    parser.add_argument("--exclude", action="append", default=[], metavar="PATTERN", help=about)
-    parser.add_argument("paths", metavar="PATH", nargs="+", help="a file or directory to search")
-
-
-def list_files(paths: list[str], excluded: Collection[str] = ()) -> list[list[str]]:
-    """All paths that lead to each file. A path that is no file, and a directory that cannot be read, are among them, so
-    that reading them says why."""
-    files: dict[str, list[str]] = {}
-    for path in paths:
-        named = [] if _is_excluded(os.path.normpath(path), excluded) else [path]
-        for file in _list_files_in(path, excluded) if os.path.isdir(path) else named:
-            files.setdefault(os.path.realpath(file), []).append(file)
-    return [*files.values()]
-
-
-def _list_files_in(top: str, excluded: Collection[str]) -> Iterator[str]:
-    unread: list[str] = []
-    for folder, folders, names in os.walk(top, onerror=lambda fault: unread.append(fault.filename)):
-        below = os.path.relpath(folder, top)
-        left = {name for name in [*folders, *names] if not _is_excluded(os.path.normpath(f"{below}/{name}"), excluded)}
-        folders[:] = sorted(name for name in folders if name in left and name != ".git")
-        yield from filter(_is_file, (os.path.join(folder, name) for name in sorted(left.intersection(names))))
-    yield from unread
-
-
-def _is_file(path: str) -> bool:
-    """Whether to read this, which a directory contains: a file, or what cannot be looked at, but no link to nothing."""
-    try:
-        return stat.S_ISREG(os.stat(path).st_mode)
-    except OSError as fault:
-        return fault.errno not in (errno.ENOENT, errno.ELOOP)
-
-
-def _is_excluded(path: str, patterns: Collection[str]) -> bool:
-    """Whether a pattern matches a path below the searched directory, or just its name if the pattern has no slash."""
-    normal = [os.path.normpath(pattern) for pattern in patterns]
-    return any(fnmatchcase(path if "/" in pattern else os.path.basename(path), pattern) for pattern in normal)
 
 
 def read(path: str) -> bytes | None:
@@ -110,12 +67,18 @@ def read_parts(file: BinaryIO, limit: int = LIMIT) -> Iterator[bytes]:
 
 
 def open_regular(path: str) -> BinaryIO:
-    """Opens a regular file for reading. Refuses anything else: opening a pipe might wait forever."""
-    descriptor = os.open(path, os.O_RDONLY | os.O_NONBLOCK | os.O_NOCTTY)
+    """Opens a regular file for reading. Refuses anything else: opening a pipe might wait forever, and a link may have
+    taken the place of the file since its path was resolved."""
+    try:
+        descriptor = os.open(path, os.O_RDONLY | os.O_NOFOLLOW | os.O_NONBLOCK | os.O_NOCTTY)
+    except OSError as fault:
+        if fault.errno == errno.ELOOP:
+            raise Refused(NOT_REGULAR) from None
+        raise
     mode = os.fstat(descriptor).st_mode
     if stat.S_ISREG(mode):
         return open(descriptor, "rb", buffering=0)
     os.close(descriptor)
     if stat.S_ISDIR(mode):
         raise IsADirectoryError(errno.EISDIR, os.strerror(errno.EISDIR), path)
-    raise Refused("it is not a regular file")
+    raise Refused(NOT_REGULAR)

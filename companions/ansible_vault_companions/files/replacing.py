@@ -16,15 +16,14 @@ from ansible_vault_companions.refusals import Refused
 PREFIX, SUFFIX = ".ansible-vault-", ".new"
 
 
-def replace(path: str, content: bytes, before: bytes | None, is_private: bool = False) -> None:
-    """Replaces the content of a file, following links. Refuses if the content is no longer `before`. A private file is
-    readable only by its owner, whatever its mode was. The directory is synced, so that the old content does not come
-    back after a power failure."""
-    target = os.path.realpath(path)
+def replace(target: str, content: bytes, before: bytes | None, is_private: bool = False) -> None:
+    """Replaces the content of a file with this real path. Refuses if the content is no longer `before`, or if a link is
+    in its path by now. A private file is readable only by its owner, whatever its mode was. The directory is synced, so
+    that the old content does not come back after a power failure."""
     with signals.postponed():
         beside = _write_beside(target, content, is_private)
         try:
-            if reading.read(target) != before:
+            if os.path.realpath(target) != target or reading.read(target) != before:
                 raise Refused("another program changed it in the meantime")
             os.replace(beside, target)
         except BaseException:

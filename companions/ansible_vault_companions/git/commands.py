@@ -3,12 +3,15 @@
 from __future__ import annotations
 
 import os
-import subprocess
-from typing import Any
 
 from ansible_vault_companions import processes
 from ansible_vault_companions.refusals import Refused
 
+# The module `typing` takes long to import.
+TYPE_CHECKING = False
+if TYPE_CHECKING:
+    from subprocess import CompletedProcess
+    from typing import Any
 # A stranger's repository has its own settings, hooks and attributes, which name programs. git would start the program
 # in core.fsmonitor to read an index, the hook post-index-change to write one, and a transport (and so core.sshCommand
 # or a credential helper) to fetch an object that a partial clone lacks. These are switched off. Filters, pagers, and
@@ -37,7 +40,7 @@ def build_environment(index: str | None = None) -> dict[str, str]:
 
 def run_git_command(
     *words: str, data: bytes = b"", index: str | None = None, **options: Any
-) -> subprocess.CompletedProcess[bytes]:
+) -> CompletedProcess[bytes]:
     """Runs a git command to its end, whatever its status."""
     try:
         return processes.run(build_command(words), data, env=build_environment(index), **options)

@@ -2,12 +2,10 @@
 
 from __future__ import annotations
 
+from ansible_vault_companions.files.resolving import MOST_LINKS
 from ansible_vault_companions.git.blobs import Blobs
 from ansible_vault_companions.git.indexes import File, Index
 from ansible_vault_companions.limits import LONGEST_LINK
-
-# How many links are followed, one after another.
-MOST_LINKS = 40
 
 
 def find_target(index: Index, link: File, blobs: Blobs) -> str:

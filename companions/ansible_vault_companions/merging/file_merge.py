@@ -70,13 +70,13 @@ def _describe_conflicts(count: int) -> str:
     return f"{count} conflicts" if count > 1 else "1 conflict"
 
 
-def find_versions(path: str, data: bytes) -> Versions | None:
+def find_versions(target: str, data: bytes) -> Versions | None:
     """The sides of a file with a conflict, and their base if the index has this conflict; None if there is none."""
     sides = conflicts.split_sides(data)
     if not sides:
         return None
     ours, theirs = sides[conflicts.OURS], sides[conflicts.THEIRS]
-    base, *stages = _read_stages(os.path.realpath(path))
+    base, *stages = _read_stages(target)
     # Ends of lines may differ from those in the file.
     is_same = [stage.split() for stage in stages] == [ours.split(), theirs.split()]
     return Versions(ours, base if is_same else b"", theirs)

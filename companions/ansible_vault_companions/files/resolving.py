@@ -1,0 +1,91 @@
+"""Where a path leads. A link in a repository is followed only within it; outside of git, only within what was named.
+
+A repository may come from a stranger, who could otherwise have the user read, show or replace any of the user's files.
+The directories of a typed path are the user's choice until they enter a repository.
+"""
+
+from __future__ import annotations
+
+import errno
+import os
+import re
+
+from ansible_vault_companions.git.repository import find_repository
+from ansible_vault_companions.quoting import escape, quote_word
+from ansible_vault_companions.refusals import Refused
+
+# How many links are followed on the way to one file, as by Linux.
+MOST_LINKS = 40
+# Directories of names for open files and devices, such as /dev/stdin. Only the system can follow the links there.
+OF_OPEN_FILES = re.compile("/dev|/proc/[0-9]+/fd")
+GIT = ".git"
+
+
+class LeadsOut(Refused):
+    """A path leads out of a repository, or out of a directory that was named, through a link."""
+
+    def __init__(self, bound: str, target: str) -> None:
+        super().__init__(f"a link leads out of {escape(bound)}; name {quote_word(target)} instead")
+
+
+def is_within(path: str, folder: str) -> bool:
+    """Whether a real path is that of a directory or below it, but not in git's own directory."""
+    below = os.path.join(folder, "")
+    return path == folder or path.startswith(below) and GIT not in path[len(below) :].split(os.sep)
+
+
+def resolve_folder(path: str) -> str:
+    """The real path of a typed directory. Refuses a link that leads out of its repository."""
+    return _Walk(path).follow(os.getcwd(), path)
+
+
+def resolve_file(path: str) -> str:
+    """The real path of a typed file. Refuses a link that leads out of its repository or, outside of git, out of its
+    directory. A name of an open file or of a device stays as it is."""
+    folder, name = os.path.split(path)
+    named = _Walk(path).follow(os.getcwd(), folder)
+    return path if OF_OPEN_FILES.fullmatch(named) else _Walk(path, named).follow(named, name)
+
+
+def resolve_link(path: str, named: str) -> str:
+    """The real path of a link that was found below a directory with this real path. Refuses one that leads out of its
+    repository or, outside of git, out of this directory."""
+    return _Walk(path, named).follow(named, path)
+
+
+class _Walk:
+    """The way of a path to its file, link by link."""
+
+    def __init__(self, path: str, named: str | None = None) -> None:
+        self.path = path
+        # The directory that bounds links outside of git.
+        self.named = named
+        self.links = 0
+
+    def follow(self, folder: str, text: str) -> str:
+        """The real path to which a path, or the text of a link, leads from a directory."""
+        here = os.sep if os.path.isabs(text) else folder
+        for name in text.split(os.sep):
+            if name == os.pardir:
+                here = os.path.dirname(here)
+            elif name not in ("", os.curdir):
+                here = self._enter(here, name)
+        return here
+
+    def _enter(self, folder: str, name: str) -> str:
+        """The real path of what has this name in a directory."""
+        path = os.path.join(folder, name)
+        if not os.path.islink(path):
+            return path
+        self.links += 1
+        if self.links > MOST_LINKS:
+            raise OSError(errno.ELOOP, os.strerror(errno.ELOOP), self.path)
+        target = self.follow(folder, os.readlink(path))
+        bound = find_repository(folder) or self._bound_outside(folder)
+        if bound and not is_within(target, bound):
+            raise LeadsOut(bound, os.path.realpath(self.path))
+        return target
+
+    def _bound_outside(self, folder: str) -> str | None:
+        """What bounds a link outside of git: the directory that was named, if the link is in it or below it."""
+        return self.named if self.named and is_within(folder, self.named) else None

@@ -1,0 +1,127 @@
+"""Finds the files below the paths of a command line."""
+
+from __future__ import annotations
+
+import argparse
+import errno
+import os
+import stat
+from fnmatch import fnmatchcase
+from typing import Callable, Collection, NamedTuple
+
+from ansible_vault_companions.files import resolving
+from ansible_vault_companions.quoting import quote_word
+from ansible_vault_companions.refusals import Refused, describe_fault
+
+NOT_SEARCHED = "it is a link to a directory, which is not searched; name {} as well"
+
+
+class FoundFile(NamedTuple):
+    """A file, and the paths that lead to it."""
+
+    target: str
+    paths: list[str]
+    # Why it must not be read or replaced through them; empty if it may.
+    refusal: str
+
+
+def add_paths(parser: argparse.ArgumentParser) -> None:
+    """Adds the paths to search, and the option that leaves out files."""
+    about = "skip files whose name or path matches PATTERN; may be repeated"
+    parser.add_argument("--exclude", action="append", default=[], metavar="PATTERN", help=about)
+    parser.add_argument("paths", metavar="PATH", nargs="+", help="a file or directory to search")
+
+
+class Search:
+    """Finds each file once. A path that is no file, and a directory that cannot be read, are among the files, so that
+    reading them says why."""
+
+    def __init__(self, paths: list[str], excluded: Collection[str]) -> None:
+        self.excluded = [os.path.normpath(pattern) for pattern in excluded]
+        # The real paths of the directories that are searched.
+        self.tops: list[str] = []
+        # The paths that lead to each file, each with the reason to refuse it.
+        self.found: dict[str, list[tuple[str, str]]] = {}
+        # Links to directories, and where they lead.
+        self.folders: dict[str, str] = {}
+        for path in paths:
+            self._search(path)
+
+    def list_files(self) -> list[FoundFile]:
+        """Each file. It is refused only if each of its paths is."""
+        files = []
+        for target, found in self.found.items():
+            refusals = [refusal for _, refusal in found]
+            files.append(FoundFile(target, [path for path, _ in found], "" if "" in refusals else refusals[0]))
+        return files
+
+    def list_unsearched(self) -> dict[str, str]:
+        """The links to directories outside of those that are searched, each with a message."""
+        return {
+            path: NOT_SEARCHED.format(quote_word(target))
+            for path, target in self.folders.items()
+            if not any(resolving.is_within(target, top) for top in self.tops)
+        }
+
+    def _search(self, path: str) -> None:
+        """Finds what a path of the command line leads to."""
+        is_folder = os.path.isdir(path)
+        target, refusal = _resolve(path, resolving.resolve_folder if is_folder else resolving.resolve_file)
+        if is_folder and not refusal:
+            self.tops.append(target)
+            self._search_folder(path, target)
+        elif not self._is_excluded(os.path.normpath(path)):
+            self._add(path, target, refusal)
+
+    def _search_folder(self, path: str, top: str) -> None:
+        """Finds the files below a directory with this typed and this real path."""
+        unread: list[str] = []
+        for folder, folders, names in os.walk(top, onerror=lambda fault: unread.append(fault.filename)):
+            below = os.path.relpath(folder, top)
+            left = {name for name in [*folders, *names] if not self._is_left_out(os.path.join(below, name))}
+            folders[:] = sorted(left.intersection(folders))
+            for name in sorted(left):
+                self._add_found(os.path.join(_join(path, below), name), os.path.join(folder, name), top)
+        for folder in unread:
+            self._add(_join(path, os.path.relpath(folder, top)), folder, "")
+
+    def _add_found(self, path: str, own: str, top: str) -> None:
+        """Adds what is in a directory, if it is a file or a link to one or to a directory."""
+        is_link = os.path.islink(own)
+        if is_link and os.path.isdir(own):
+            self.folders[path] = os.path.realpath(own)
+        elif is_link and _is_file(own):
+            self._add(path, *_resolve(own, lambda link: resolving.resolve_link(link, top)))
+        elif _is_file(own):
+            self._add(path, own, "")
+
+    def _is_left_out(self, path: str) -> bool:
+        return os.path.basename(path) == resolving.GIT or self._is_excluded(os.path.normpath(path))
+
+    def _add(self, path: str, target: str, refusal: str) -> None:
+        self.found.setdefault(target, []).append((path, refusal))
+
+    def _is_excluded(self, path: str) -> bool:
+        """Whether a pattern matches a path below a searched directory, or just its name if the pattern has no slash."""
+        name = os.path.basename(path)
+        return any(fnmatchcase(path if "/" in pattern else name, pattern) for pattern in self.excluded)
+
+
+def _join(path: str, below: str) -> str:
+    return path if below == os.curdir else os.path.join(path, below)
+
+
+def _resolve(path: str, resolve: Callable[[str], str]) -> tuple[str, str]:
+    """The real path of a typed path or of a link, and the reason to refuse it, if there is one."""
+    try:
+        return resolve(path), ""
+    except (Refused, OSError) as fault:
+        return os.path.realpath(path), describe_fault(fault)
+
+
+def _is_file(path: str) -> bool:
+    """Whether to read this, which a directory contains: a file, or what cannot be looked at, but no link to nothing."""
+    try:
+        return stat.S_ISREG(os.stat(path).st_mode)
+    except OSError as fault:
+        return fault.errno not in (errno.ENOENT, errno.ELOOP)

@@ -1,0 +1,302 @@
+"""Links that lead out of a repository, or out of what was named: no companion reads or writes through them.
+
+The links are in a directory `project`, which is a repository or not. Each companion gets each kind of link, and
+`expected` says what happens, by the rule in the manual page of ansible-vault-with.
+"""
+
+import os
+from pathlib import Path
+from typing import NamedTuple
+
+import pytest
+
+from companion_cases import CHECK, EDIT, HOOK, ROTATE, TEXT, TEXTCONV, WITH, Place, block, ended, sealed, to_new
+from companion_cases.repository import committed, under_git
+from lib.needs import needs
+from lib.subtests import SubTests
+
+LOOP, MISSING = "Too many levels of symbolic links", "No such file or directory"
+
+
+class Kind(NamedTuple):
+    """Links in the project and where they lead, the path that is named, and its file, from the tree."""
+
+    links: dict[str, str]
+    path: str
+    file: str
+
+
+# Files are at project/a.yml, project/vars/b.yml and outside/a.yml.
+KINDS = {
+    "no link": Kind({}, "vars/b.yml", "project/vars/b.yml"),
+    "a file out": Kind({"vars/l.yml": "../../outside/a.yml"}, "vars/l.yml", "outside/a.yml"),
+    "a file out, absolute": Kind({"vars/l.yml": "{tree}/outside/a.yml"}, "vars/l.yml", "outside/a.yml"),
+    "a folder out": Kind({"vars/l": "../../outside"}, "vars/l/a.yml", "outside/a.yml"),
+    "a folder above": Kind({"vars/l": "../.."}, "vars/l/outside/a.yml", "outside/a.yml"),
+    "a folder out and back": Kind({"vars/l": "../.."}, "vars/l/project/a.yml", "project/a.yml"),
+    "dangling out": Kind({"vars/l.yml": "../../outside/new.yml"}, "vars/l.yml", "outside/new.yml"),
+    "git's own files": Kind({"vars/l.yml": "../.git/new.yml"}, "vars/l.yml", "project/.git/new.yml"),
+    "a descriptor": Kind({"vars/l.yml": "/proc/self/fd/9"}, "vars/l.yml", "/proc/"),
+    "in and then out": Kind(
+        {"vars/l.yml": "m.yml", "vars/m.yml": "../n", "n": "../outside/a.yml"}, "vars/l.yml", "outside/a.yml"
+    ),
+    "relative": Kind({"vars/l.yml": "b.yml"}, "vars/l.yml", "project/vars/b.yml"),
+    "absolute": Kind({"vars/l.yml": "{tree}/project/vars/b.yml"}, "vars/l.yml", "project/vars/b.yml"),
+    "to the directory above": Kind({"vars/l.yml": "../a.yml"}, "vars/l.yml", "project/a.yml"),
+    "out and in again": Kind({"vars/l.yml": "../../project/vars/b.yml"}, "vars/l.yml", "project/vars/b.yml"),
+    "to a link": Kind({"vars/l.yml": "m.yml", "vars/m.yml": "b.yml"}, "vars/l.yml", "project/vars/b.yml"),
+    "out and in again by a link": Kind(
+        {"vars/l.yml": "../../outside/back.yml", "../outside/back.yml": "../project/vars/b.yml"},
+        "vars/l.yml",
+        "project/vars/b.yml",
+    ),
+    "a folder within": Kind({"l": "vars"}, "l/b.yml", "project/vars/b.yml"),
+    "a way to the project": Kind({"../way": "project"}, "../way/vars/b.yml", "project/vars/b.yml"),
+    "a way to a link": Kind(
+        {"../way": "project", "vars/l.yml": "../../outside/a.yml"}, "../way/vars/l.yml", "outside/a.yml"
+    ),
+    "dangling within": Kind({"vars/l.yml": "new.yml"}, "vars/l.yml", "project/vars/new.yml"),
+    "a loop": Kind({"vars/l.yml": "m.yml", "vars/m.yml": "l.yml"}, "vars/l.yml", ""),
+    "a loop of folders": Kind({"vars/l": "l"}, "vars/l/a.yml", ""),
+}
+FILES = ("project/a.yml", "project/vars/b.yml", "outside/a.yml")
+
+
+class Command(NamedTuple):
+    """A companion's words before the path, the content of each file, whether it writes, and its status if it may."""
+
+    words: list[str]
+    content: bytes
+    writes: bool
+    status: int = 0
+
+
+VAULT = sealed("old")
+COMMANDS = {
+    "edit": Command([EDIT, "{old}"], VAULT, True),
+    "edit a value": Command([EDIT, "{old}", "--value", "secret"], block("old"), True),
+    "view": Command([WITH, "view", "{old}"], VAULT, False),
+    "several views": Command([WITH, "view", "{old}", "../good.yml"], VAULT, False),
+    "decrypt": Command([WITH, "decrypt", "{old}"], VAULT, True),
+    "decrypt to a stream": Command([WITH, "decrypt", "{old}", "--output=-"], VAULT, False),
+    "encrypt": Command([WITH, "encrypt", "{old}"], TEXT, True),
+    "rekey": Command([WITH, "rekey", "{old}", "{new}"], VAULT, True),
+    "textconv": Command([TEXTCONV, "{old}"], VAULT, False),
+    "textconv of a value": Command([TEXTCONV, "{old}", "--value", "secret"], block("old"), False),
+    "check": Command([CHECK, "{old}"], VAULT, False),
+    "rotate": Command([ROTATE, "{old}", "{new}"], VAULT, True),
+    "a dry run": Command([ROTATE, "{old}", "{new}", "--dry-run"], VAULT, False, 1),
+}
+# Those whose file the program itself opens.
+BY_PROGRAM = ("view", "decrypt to a stream")
+# What a companion that writes nothing prints of a file that it may read.
+SHOWN = {"check": "decrypted by", "a dry run": "would be rotated"}
+
+
+def expected(kind: Kind, is_repository: bool, tree: Path) -> str:
+    """Return the reason to refuse the path; empty if it may be followed.
+
+    A link in a repository has to lead into it, and not to git's own files. Outside of git, the directories of a typed
+    path are the user's, and the file may be a link within its directory.
+    """
+    if not kind.file:
+        return LOOP
+    if not is_repository and not kind.path.endswith("/l.yml"):
+        return ""
+    bound = "project" if is_repository else "project/vars"
+    crosses = [link for link, target in kind.links.items() if target in ("../..", "../../outside")]
+    leads_out = not kind.file.startswith(f"{bound}/") or "/.git/" in kind.file or crosses
+    target = kind.file if kind.file.startswith("/") else f"{tree}/{kind.file}"
+    return f"a link leads out of {tree}/{bound}; name {target}" if leads_out else ""
+
+
+def prepare(place: Place, kind: Kind, content: bytes) -> None:
+    """Put all as it was before the first command."""
+    for path in list_contents(place):
+        (place.tree / path).unlink()
+    for path in (*FILES, "good.yml"):
+        place.put(path, content)
+    for path, target in kind.links.items():
+        (place.tree / "project" / path).unlink(missing_ok=True)
+        (place.tree / "project" / path).symlink_to(target.format(tree=place.tree))
+
+
+def run_command(place: Place, words: list[str], path: str) -> tuple[int, str, str]:
+    secrets = {"{old}": place.by_file("old"), "{new}": place.by_file("new", "new-")}
+    full = [part for word in words for part in secrets.get(word, [word])]
+    editor = place.script('echo "more: text" >> "$1"', "editor")
+    done = place.run_on(b"a new text", "env", "-C", "project", *full, path, EDITOR=editor)
+    return done.returncode, done.stdout.decode(), done.stderr.decode()
+
+
+def list_contents(place: Place) -> dict[str, bytes]:
+    """Return the content of each file, except the repository's own, but not of links."""
+    names = {str(Path(folder, name)) for folder, _, names in os.walk(place.tree) for name in names}
+    paths = {os.path.relpath(name, place.tree): Path(name) for name in names if not os.path.islink(name)}
+    return {name: path.read_bytes() for name, path in paths.items() if "/.git/" not in name or name.endswith(".yml")}
+
+
+@pytest.mark.usefixtures("git")
+@pytest.mark.parametrize("is_repository", (True, False))
+@pytest.mark.parametrize("name", KINDS)
+def test_each_link(place: Place, name: str, is_repository: bool, subtests: SubTests) -> None:
+    """A path that may be followed leads to its file. Any other is refused, and nothing changes."""
+    kind = KINDS[name]
+    place.shell("git init -q project" if is_repository else "mkdir project")
+    for command, (words, content, writes, status) in COMMANDS.items():
+        prepare(place, kind, content)
+        before = list_contents(place)
+        result, shown, message = run_command(place, words, kind.path)
+        after = list_contents(place)
+        changed = {each for each in after if before.get(each) != after[each]}
+        is_shown = SHOWN.get(command, "correct horse") in shown
+        why = expected(kind, is_repository, place.tree)
+        if not why and kind.file not in FILES and command != "edit":
+            why, status = MISSING, 3 if command in BY_PROGRAM else 1
+        with subtests.test(command):
+            if why:
+                wanted = (status or 1, True, set[str](), command == "several views")
+                assert (result, f": {kind.path}: {why}" in message, changed, is_shown) == wanted, message
+            else:
+                assert (result, message, changed, is_shown) == (
+                    status,
+                    "",
+                    {kind.file} if writes else set(),
+                    not writes,
+                )
+
+
+@pytest.mark.usefixtures("git")
+@pytest.mark.parametrize("name", KINDS)
+def test_hook(place: Place, name: str) -> None:
+    """What is outside of the repository makes no difference to the hook."""
+    kind = KINDS[name]
+    place.shell("git init -q project")
+    results = []
+    for content in (TEXT, sealed("old")):
+        prepare(place, kind, TEXT)
+        place.put("outside/a.yml", content)
+        place.put("project/.gitattributes", b"*.yml ansible-vault\n")
+        place.shell("git add -A", folder="project")
+        done = place.run(HOOK, kind.path, folder="project")
+        results.append((done.returncode, done.stderr))
+    assert results[0] == results[1]
+    assert results[0][0] == 1, "the files of the project are plaintext"
+
+
+# The content of a file outside of the repository, and whether a link to it makes a search fail.
+LINKED = {
+    "plaintext": (TEXT, False),
+    "a value": (block("old"), True),
+    "a comment": (b"# $ANSIBLE_VAULT is a variable\n", False),
+    "a comment in broken YAML": (b"# $ANSIBLE_VAULT is a variable\n[\n", False),
+    "a value in what is no text": (block("old") + b"\0", True),
+}
+
+
+@pytest.mark.usefixtures("git")
+@pytest.mark.parametrize("content, fails", LINKED.values(), ids=LINKED)
+def test_found_link(place: Place, content: bytes, fails: bool) -> None:
+    """A search fails at a link out only if there may be something to do in its file, or if the link is marked."""
+    place.shell("git init -q project")
+    place.put("project/a.yml", sealed("old"))
+    place.put("outside.yml", content)
+    (place.tree / "project/l.yml").symlink_to("../outside.yml")
+    check, rotate = [CHECK, *place.by_file("old"), "."], [ROTATE, *to_new(place), "."]
+    told = f"./l.yml: a link leads out of {place.tree}/project; name {place.tree}/outside.yml instead\n"
+    for words in (check, rotate):
+        done = place.run(*words, folder="project")
+        assert (done.returncode, done.stderr) == (int(fails), f"{words[0]}: {told}")
+    place.put("project/.gitattributes", b"l.yml ansible-vault\n")
+    ended("a marked one", place.run(CHECK, *place.by_file("new"), ".", folder="project"), 1, told, "1 decrypted, 1 not")
+    assert place.get("outside.yml") == content
+    os.truncate(place.tree / "outside.yml", 1 << 27)
+    status = int(b"vault" in content.lower())
+    ended("one too long to be read whole", place.run(*rotate, folder="project"), status, told)
+
+
+@pytest.mark.usefixtures("git")
+def test_descriptor_of_a_password(place: Place) -> None:
+    """Companions have passwords in open files, to which a link could lead."""
+    for number in range(3, 12):
+        (place.tree / f"{number}.yml").symlink_to(f"/proc/self/fd/{number}")
+    secrets = [*place.by_file("old"), *place.by_file("new")]
+    for number in range(3, 12):
+        for path in (f"{number}.yml", f"/proc/self/fd/{number}", f"/dev/fd/{number}"):
+            done = place.run(TEXTCONV, *secrets, path)
+            assert (done.returncode, done.stdout) == (1, ""), path
+            assert "leads out of" in done.stderr or "it is not a regular file" in done.stderr or MISSING in done.stderr
+    done = place.run(CHECK, *secrets, ".")
+    assert "the password" not in done.stdout + done.stderr
+
+
+# What a shell makes of a file, as words of the alias, and what is printed.
+STREAMS = [
+    "view <(cat a.yml)",
+    "view /dev/stdin < a.yml",
+    "view /dev/stdin < <(cat a.yml)",
+    'decrypt /dev/stdin --output=/dev/stdout <<< "$(cat a.yml)"',
+    "decrypt --output=/dev/stdout a.yml > out; cat out",
+    "decrypt --output=/dev/fd/3 a.yml 3>&1",
+]
+
+
+@pytest.mark.parametrize("line", STREAMS)
+def test_streams(place: Place, line: str) -> None:
+    """A name that the system has for an open file is no link of a stranger."""
+    needs("bash")
+    place.put("a.yml", sealed("old"))
+    done = place.shell(f"{WITH} --vault-password-file {place.secret('old')} {line}", "bash")
+    assert (done.returncode, done.stdout, done.stderr) == (0, TEXT.decode(), "")
+
+
+def test_streams_that_are_no_files(place: Place) -> None:
+    """A companion that reads the file itself refuses them."""
+    needs("bash")
+    place.put("a.yml", sealed("old"))
+    for companion in (TEXTCONV, EDIT, CHECK):
+        for path in ("/dev/stdin < a.yml", "<(cat a.yml)", "/dev/null", "/proc/self/fd/0 < a.yml"):
+            done = place.shell(f"{companion} --vault-password-file {place.secret('old')} {path}", "bash")
+            ended(path, done, 1, "it is not a regular file")
+
+
+# What happens to the file while the editor runs. Each leads to a copy of it elsewhere.
+SWAPS = {
+    "the file": "ln -sf ../../outside/copy.yml vars/b.yml",
+    "its directory": "mv vars old; ln -s ../outside vars; mv ../outside/copy.yml ../outside/b.yml",
+}
+
+
+@pytest.mark.parametrize("swap", SWAPS.values(), ids=SWAPS)
+def test_swapped(place: Place, swap: str) -> None:
+    """A file that a link has replaced during an edit counts as changed, even if it leads to the same content."""
+    for name in ("project/vars/b.yml", "outside/copy.yml"):
+        place.put(name, sealed("old"))
+    editor = place.script(f'echo more >> "$1"; cd {place.tree}/project; {swap}', "editor")
+    done = place.run(EDIT, *place.by_file("old"), "vars/b.yml", folder="project", EDITOR=editor)
+    ended("the edit", done, 1, "vars/b.yml: another program changed it in the meantime")
+    assert place.kept() == [TEXT + b"more\n"], "what was saved is kept"
+    assert {*list_contents(place).values()} == {sealed("old")}, "nothing else has changed"
+
+
+def test_under_git(place: Place) -> None:
+    """git passes regular files, and no links, even where the user's own links lead to the repository."""
+    needs("git")
+    under_git(place, "* diff=ansible-vault\n")
+    place.run("git", "config", "diff.ansible-vault.textconv", " ".join([TEXTCONV, *place.by_file("old")]))
+    (place.tree / "link.yml").symlink_to("../outside.yml")
+    committed(place, "a.yml", sealed("old", b"first\n"))
+    (place.tree / "link.yml").unlink()
+    (place.tree / "link.yml").symlink_to("../other.yml")
+    committed(place, "a.yml", sealed("old", b"second\n"))
+    (place.tree / "link.yml").unlink()
+    (place.tree / "link.yml").symlink_to("/proc/self/fd/3")
+    place.put("a.yml", sealed("old", b"third\n"))
+    (place.path / "way").symlink_to("tree")
+    (place.path / "t").symlink_to("temporary")
+    for folder in (".", "../way"):
+        for command, texts in (("diff", ["second", "third"]), ("log -p -1", ["first", "second"])):
+            done = place.shell(f"git {command} | grep '^[-+][a-z./]'", folder=folder, TMPDIR=f"{place.path}/t")
+            links = {"diff": ["../other.yml", "/proc/self/fd/3"], "log -p -1": ["../outside.yml", "../other.yml"]}
+            wanted = [f"{sign}{text}" for pair in (texts, links[command]) for sign, text in zip("-+", pair)]
+            assert (done.stdout.splitlines(), done.stderr) == (wanted, "")
