@@ -1,6 +1,7 @@
 """ansible-vault-check; and every companion's help, invalid command lines, secrets that it refuses, and links to it."""
 
 import os
+import subprocess
 
 import pytest
 
@@ -116,13 +117,51 @@ def test_help(name: str) -> None:
     assert max(map(len, lines)) <= 80 and (len(lines) <= 34 or name == WITH) and "None" not in map(str.strip, lines)
 
 
-def test_vanished_files(place: Place) -> None:
-    """A file that is found and then vanishes, as those of a rotation do, is no failure, but a named one is."""
-    place.wrap_tool("rm -f t/39.yml")
-    for words, status, output in ((["t"], 0, "39 decrypted, 0 not"), (["t", "t/39.yml"], 1, "t/39.yml: No such file")):
-        for number in range(40):
-            place.put(f"t/{number}.yml", sealed("old"))
-        ended(output, place.run(CHECK, *place.by_file("old"), *words), status, output)
+# What happens to files between the search and their reading, the paths, the status, and what is said.
+VANISHED = {
+    "a file": ("rm -f t/z.yml", ["t"], 0, "41 decrypted, 0 not\n"),
+    "a directory": ("rm -rf t/z", ["t"], 0, "41 decrypted, 0 not\n"),
+    "a file that becomes a directory": ("rm -rf t/z.yml; mkdir -p t/z.yml", ["t"], 1, "t/z.yml: Is a directory\n"),
+    "a named file": ("rm -f t/z.yml", ["t", "t/z.yml"], 1, "t/z.yml: No such file or directory\n"),
+    "one of its paths": ("rm -f t/x.yml", ["t"], 0, "42 decrypted, 0 not\n"),
+}
+
+
+@pytest.mark.parametrize("change, paths, status, said", VANISHED.values(), ids=VANISHED)
+def test_vanished_files(place: Place, change: str, paths: list[str], status: int, said: str) -> None:
+    """A file that is found and then vanishes is no failure, but a named one is. One that has lost one of its paths is
+    still checked. The first of many files is decrypted before the last ones are read."""
+    place.wrap_tool(f'[ "$1" != view ] || {{ {change}; }} 2> /dev/null')
+    for name in [*(f"{number}.yml" for number in range(40)), "z.yml", "z/a.yml"]:
+        place.put(f"t/{name}", sealed("old"))
+    (place.tree / "t/x.yml").symlink_to("z/a.yml")
+    done = place.run(CHECK, *place.by_file("old"), *paths)
+    ended("the check", done, status, said)
+    assert bool(done.stderr) == bool(status)
+
+
+def test_beside_a_rotation(place: Place) -> None:
+    """It finds each vault once, and no temporary file, while a rotation replaces them."""
+    names = [f"{number}.yml" for number in range(25)]
+    for name in names:
+        place.put(name, sealed("old"))
+    old, new = place.by_file("old"), place.by_file("new")
+    there = " ".join([ROTATE, *old, *place.by_file("new", "new-"), "."])
+    back = " ".join([ROTATE, *new, *place.by_file("old", "new-"), "."])
+    words = ["sh", "-c", f"while [ ! -e ../stop ]; do {there} && {back} || exit; done"]
+    overlaps = 0
+    with subprocess.Popen(words, cwd=place.tree, env=place.environment, stdout=subprocess.DEVNULL) as rotation:
+        try:
+            while overlaps < 8:
+                before = [os.stat(place.tree / name).st_ino for name in names]
+                done = place.run(CHECK, *old, *new, ".")
+                assert (done.returncode, done.stderr) == (0, "")
+                assert done.stdout.endswith("\n25 decrypted, 0 not\n")
+                assert rotation.poll() is None, "the rotation goes on"
+                overlaps += before != [os.stat(place.tree / name).st_ino for name in names]
+        finally:
+            (place.path / "stop").touch()
+    assert rotation.returncode == 0
 
 
 def test_same_password_in_another_file(place: Place) -> None:

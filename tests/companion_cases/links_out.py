@@ -227,7 +227,8 @@ def test_descriptor_of_a_password(place: Place) -> None:
             assert (done.returncode, done.stdout) == (1, ""), path
             assert "leads out of" in done.stderr or "it is not a regular file" in done.stderr or MISSING in done.stderr
     done = place.run(CHECK, *secrets, ".")
-    assert "the password" not in done.stdout + done.stderr
+    assert (done.returncode, done.stdout) == (0, "0 decrypted, 0 not\n")
+    assert ".yml: a link leads out of " in done.stderr and "the password" not in done.stderr
 
 
 # What a shell makes of a file, as words of the alias, and what is printed.

@@ -6,11 +6,14 @@ from collections import Counter
 from itertools import product
 from operator import attrgetter
 
+import pytest
+
 from companion_cases import CHECK, NOBODY, PASSWORDS, ROTATE, TEXT, Place, block, decrypted, ended, sealed, summary
 from companion_cases import texts, to_new
 from lib.needs import needs_root
 from model.vaults import seal
 
+CHANGED_MEANWHILE = "another program changed it in the meantime"
 # A plaintext with blocks, the last of which is under another secret than its label says.
 NAMES = [b"a", b"b", b"stray"]
 INNER = (
@@ -72,6 +75,17 @@ def test_what_cannot_be_rotated(place: Place) -> None:
     whys += ["closed.yml: Permission denied", "folder: Permission denied", "link.yml: Not a directory"]
     ended("they are not sealed", done, 1, *(f"./{why}" for why in whys), summary(0, failed=5))
     assert place.files() == before, "they stay"
+
+
+@pytest.mark.parametrize(
+    "change, why", [("rm -f t/a.yml", CHANGED_MEANWHILE), ("rm -rf t", "No such file or directory")]
+)
+def test_vanished_while_rotated(place: Place, change: str, why: str) -> None:
+    """It may be elsewhere now, under the old password, so it is a failure, and it does not come back."""
+    place.put("t/a.yml", sealed("old"))
+    place.wrap_tool(f'[ "$1" != encrypt ] || {change}')
+    ended("it is gone", place.run(ROTATE, *to_new(place), "."), 1, f"./t/a.yml: {why}\n", summary(0, failed=1))
+    assert place.files() == {}
 
 
 def test_owners_and_modes(place: Place) -> None:

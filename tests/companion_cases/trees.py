@@ -113,8 +113,18 @@ def test_what_is_looked_at(place: Place) -> None:
     place.put("script.sh", b"#!/bin/sh\ngrep -q '^$ANSIBLE_VAULT;1.1;AES256' file\n")
     place.put("picture.png", bytes(range(256)) * 5000)
     os.mkfifo(place.tree / "pipe")
+    leftover = ".ansible-vault-0_abcxyz.new"
+    for name in (leftover, f"host_vars/{leftover}"):
+        place.put(name, sealed("old"))
+    others = [f"x{leftover}", f"{leftover}x", ".ansible-vault-0abcxyz.new"]
+    for name in others:
+        place.put(name, sealed("old"))
+    vaults += others
     wanted = [*vaults, *(f"{name}:2" for name in blocks)]
     assert found(place, ".") == sorted(f"./{name}" for name in wanted)
+    assert found(place, leftover) == [leftover], "a path that is given"
+    ended("a rotation", place.run(ROTATE, *to_new(place), "."), 0, summary(len(wanted)))
+    assert place.get(leftover) == sealed("old"), "it is for the user to look at"
 
 
 def test_pieces(tmp_path: Path, monkeypatch: pytest.MonkeyPatch) -> None:

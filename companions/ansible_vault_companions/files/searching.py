@@ -9,7 +9,7 @@ import stat
 from fnmatch import fnmatchcase
 from typing import Callable, Collection, NamedTuple
 
-from ansible_vault_companions.files import resolving
+from ansible_vault_companions.files import replacing, resolving
 from ansible_vault_companions.quoting import quote_word
 from ansible_vault_companions.refusals import Refused, describe_fault
 
@@ -96,7 +96,9 @@ class Search:
             self._add(path, own, "")
 
     def _is_left_out(self, path: str) -> bool:
-        return os.path.basename(path) == resolving.GIT or self._is_excluded(os.path.normpath(path))
+        """Whether to skip what is in a directory. A temporary file belongs to another companion, or to a crash."""
+        name = os.path.basename(path)
+        return name == resolving.GIT or replacing.is_leftover(name) or self._is_excluded(os.path.normpath(path))
 
     def _add(self, path: str, target: str, refusal: str) -> None:
         self.found.setdefault(target, []).append((path, refusal))
