@@ -44,40 +44,61 @@ LINKS = {
 }
 
 
+def link_files(place: Place, is_repository: bool) -> None:
+    """Make these links in a directory of vaults, which is a repository or not."""
+    for name in ("tree/all.yml", "tree/deep/b.yml", "shared/vault.yml", "elsewhere/deep.yml", "tree-old/vault.yml"):
+        place.put(name, sealed("old"))
+    place.put("shared/plain.yml", TEXT)
+    if is_repository:
+        place.shell("git init -q tree")
+    for name, target in LINKS.items():
+        (place.tree / "tree" / name).symlink_to(target)
+
+
+def list_messages(place: Place) -> dict[str, str]:
+    """Return what is said of the links that are not followed."""
+    told = {}
+    for name, target in (("chain", "shared/vault"), ("sibling", "tree-old/vault"), ("plain", "shared/plain")):
+        told[f"{name}.yml"] = f"a link leads out of {place.tree}/tree; name {place.tree}/{target}.yml instead"
+    told["folder"] = f"it is a link to a directory, which is not searched; name {place.tree}/elsewhere as well"
+    return told
+
+
 @pytest.mark.usefixtures("git")
 @pytest.mark.parametrize("is_repository", (True, False))
 def test_links(place: Place, is_repository: bool) -> None:
     """A link to a file is followed within the repository or, outside of git, within the paths, and so not into a
     directory whose name begins with the one that was named. Any other is named, and fails if there is an envelope in
-    its file. A link to a directory is followed only if it is a path. Each file is named once."""
-    for name in ("tree/all.yml", "shared/vault.yml", "elsewhere/deep.yml", "tree-old/vault.yml"):
-        place.put(name, sealed("old"))
-    place.put("shared/plain.yml", TEXT)
-    place.shell("mkdir tree/deep" + "; git init -q tree" * is_repository)
-    for name, target in LINKS.items():
-        (place.tree / "tree" / name).symlink_to(target)
-    shared, before = f"{place.tree}/shared/vault.yml", place.files()
-    out = f"a link leads out of {place.tree}/tree; name {{}} instead"
-    chain, sibling = (out.format(path) for path in (shared, f"{place.tree}/tree-old/vault.yml"))
-    folder = f"it is a link to a directory, which is not searched; name {place.tree}/elsewhere as well"
-    failed = {"chain.yml": chain, "sibling.yml": sibling}
-    told = {**failed, "plain.yml": out.format(f"{place.tree}/shared/plain.yml"), "folder": folder}
-    check, rotate = [CHECK, *place.by_file("old")], [ROTATE, *to_new(place)]
-    done = place.run(*check, "tree", "tree/all.yml")
+    its file. A link to a directory is not followed. Each file is named once."""
+    link_files(place, is_repository)
+    told, before = list_messages(place), place.files()
+    done = place.run(CHECK, *place.by_file("old"), "tree", "tree/all.yml")
     wanted = sorted(f"{CHECK}: tree/{name}: {why}" for name, why in told.items())
     assert (done.returncode, sorted(done.stderr.splitlines())) == (1, wanted)
-    assert done.stdout.splitlines()[1:] == ["1 decrypted, 2 not"] and done.stdout.startswith("tree/all.yml: ")
-    ended("links out", place.run(*rotate, "tree"), 1, f"tree/chain.yml: {chain}\n", "1 rotated, 0 under", "2 failed")
+    assert [line.partition(": ")[0] for line in done.stdout.splitlines()] == [
+        "tree/all.yml",
+        "tree/deep/b.yml",
+        "2 decrypted, 2 not",
+    ]
+    done = place.run(ROTATE, *to_new(place), "tree")
+    ended("links out", done, 1, f"tree/chain.yml: {told['chain.yml']}\n", "2 rotated, 0 under", "2 failed")
     changed = {name for name, content in place.files().items() if content != before[name]}
-    assert changed == {"tree/all.yml", "tree/inside.yml"}
-    quiet = [f"--exclude={name}" for name in told]
-    done = place.run(CHECK, *place.by_file("new"), *quiet, "--exclude=outside.yml", "tree")
-    assert (done.returncode, done.stderr) == (0, ""), "those that are left out are not named"
-    paths = ["tree", shared, "tree-old", "shared/plain.yml", f"{place.tree}/elsewhere"]
-    done = place.run(*rotate, *paths)
-    ended("their files are named", done, 0, f"tree/chain.yml ({shared}): rotated\n", summary(3, 1))
-    assert done.stderr == "", "and so are their directories"
+    assert changed == {"tree/all.yml", "tree/deep/b.yml", "tree/inside.yml"}
     assert {name: os.readlink(place.tree / "tree" / name) for name in LINKS} == LINKS, "links stay links"
+
+
+@pytest.mark.usefixtures("git")
+@pytest.mark.parametrize("is_repository", (True, False))
+def test_messages_on_links(place: Place, is_repository: bool) -> None:
+    """Whoever leaves out the links, or names their targets as well, gets no message."""
+    link_files(place, is_repository)
+    left_out = [f"--exclude={name}" for name in (*list_messages(place), "outside.yml")]
+    done = place.run(CHECK, *place.by_file("old"), *left_out, "tree")
+    assert (done.returncode, done.stderr) == (0, "")
+    shared = f"{place.tree}/shared/vault.yml"
+    done = place.run(ROTATE, *to_new(place), "tree", shared, "tree-old", "shared/plain.yml", f"{place.tree}/elsewhere")
+    ended("their files are rotated", done, 0, f"tree/chain.yml ({shared}): rotated\n", summary(5))
+    assert done.stderr == ""
 
 
 @pytest.mark.usefixtures("git")

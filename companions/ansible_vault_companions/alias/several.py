@@ -28,21 +28,28 @@ def handle(companion: str, call: Call) -> int:
     tool = Tool(companion)
     if call.args.command == ENCRYPT_STRING:
         return _encrypt_strings(tool, call)
-    end = b""
+    files = Files(tool, call)
+    return max(lifecycle.attempt_work(NAME, path, partial(files.handle, path)) for path in call.args.arguments)
 
-    def work(path: str) -> None:
-        """If a text that is shown does not end with a newline, the next one still begins on a new line."""
-        nonlocal end
+
+class Files:
+    """Replaces or shows files, one after another."""
+
+    def __init__(self, tool: Tool, call: Call) -> None:
+        self.tool = tool
+        self.call = call
+        # A newline if the last text that was shown does not end with one.
+        self.end = b""
+
+    def handle(self, path: str) -> None:
         target = resolving.resolve_file(path)
         before = reading.read_existing(target)
-        after = tool.run(call.words(), before, [*call.passwords, *call.new])
-        if call.args.command == VIEW:
-            output.write_data(end + after)
-            end = b"\n" if after and not after.endswith(b"\n") else b""
+        after = self.tool.run(self.call.words(), before, [*self.call.passwords, *self.call.new])
+        if self.call.args.command == VIEW:
+            output.write_data(self.end + after)
+            self.end = b"\n" if after and not after.endswith(b"\n") else b""
         else:
-            replacing.replace(target, after, before, call.args.command == DECRYPT)
-
-    return max(lifecycle.attempt_work(NAME, path, partial(work, path)) for path in call.args.arguments)
+            replacing.replace(target, after, before, is_private=self.call.args.command == DECRYPT)
 
 
 def _encrypt_strings(tool: Tool, call: Call) -> int:
@@ -58,10 +65,13 @@ def _encrypt_strings(tool: Tool, call: Call) -> int:
     path = call.args.output
     if path is None or path == STANDARD_INPUT:
         output.write_data(b"".join(values))
-    else:
-        target = resolving.resolve_file(path)
-        replacing.replace(target, b"".join(values), reading.read(target))
-    return 0
+        return 0
+    return lifecycle.attempt_work(NAME, path, partial(_replace_output, path, b"".join(values)))
+
+
+def _replace_output(path: str, content: bytes) -> None:
+    target = resolving.resolve_file(path)
+    replacing.replace(target, content, reading.read(target))
 
 
 def _list_texts(args: Namespace) -> list[Text]:
