@@ -1,7 +1,7 @@
 """Finds programs and runs them.
 
-git and ansible-vault only read and write pipes, which close when a signal ends the companion, so they end by themselves.
-An editor and a password script may wait for a person, so a signal is passed on to them.
+git and ansible-vault end by themselves when a signal ends the companion, since that closes their pipes. An editor and a
+password script may wait for a person, so a signal is passed on to them.
 """
 
 from __future__ import annotations

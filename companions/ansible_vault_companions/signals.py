@@ -40,20 +40,20 @@ def restore_defaults() -> None:
     """Gives signals their default actions, except those that are ignored, and lets them through."""
     # If SIGCHLD is ignored, the system keeps no exit statuses of child processes.
     _signal.signal(_signal.SIGCHLD, _signal.SIG_DFL)
-    # Python has a handler of its own.
+    # Python has a handler of its own, and env has blocked the signal until now.
     if _signal.SIGINT in ENDING:
         _signal.signal(_signal.SIGINT, _signal.SIG_DFL)
-    let_through()
+    _signal.pthread_sigmask(_signal.SIG_UNBLOCK, ENDING | {_signal.SIGINT})
 
 
 def let_through() -> None:
+    """Undoes what a program inherits if it is started where signals are postponed."""
     _signal.pthread_sigmask(_signal.SIG_UNBLOCK, ENDING)
 
 
 @contextmanager
 def postponed() -> Iterator[None]:
-    """A context at whose end signals arrive. Programs that are started in it block them as well, and threads do so
-    for good."""
+    """A context at whose end signals arrive. Programs and threads that are started in it block them for good."""
     mask = _signal.pthread_sigmask(_signal.SIG_BLOCK, ENDING)
     try:
         yield

@@ -48,7 +48,7 @@ def test_names(cases: Companions, name: str) -> None:
     awkward = st.sampled_from([each for each in AWKWARD if each.startswith("-")])
     files = st.one_of(likely, likely, ANY.map("-{}".format), awkward)
 
-    @settings(max_examples=25, deadline=None, database=None, suppress_health_check=[*HealthCheck])
+    @settings(max_examples=15, deadline=None, database=None, suppress_health_check=[*HealthCheck])
     @given(files.filter(lambda file: file not in ("", "-", "--") and len(file.encode()) < 256))
     def check(file: str) -> None:
         shutil.rmtree(place.tree)
@@ -69,7 +69,8 @@ def test_strangers_password(place: Place) -> None:
     place.put("evil.pass", b"evil\n")
     place.put(".evil", b"#!/bin/sh\necho run > ../run\n", 0o755)
     for file in ("--new-vault-password-file=evil.pass", "--vault-password-file=.evil"):
-        place.put(file, b"")
+        # A link to nothing is among the names, too.
+        (place.tree / file).symlink_to("nowhere")
         for line in (f"{WITH} rekey {OLD} *", f"{ROTATE} {OLD} *", f"{TEXTCONV} {OLD} * a.yml", f"{CHECK} *"):
             done = place.shell(f"{line}; exit $?")
             assert done.returncode == 2 and f"write {shlex.quote('./' + file)} for" in done.stderr, (line, done)

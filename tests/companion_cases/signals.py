@@ -14,6 +14,7 @@ import pytest
 
 from companion_cases import CHANGE, CHANGED, CHECK, EDIT, HOOK, MERGE, ROTATE, TEXT, TEXTCONV, WITH, Companions, Place
 from companion_cases import block, decrypted, edit, run_changed, sealed, silent, texts, to_new, versions, wait_until
+from lib.needs import needs
 from lib.processes import SECONDS, started
 from lib.subtests import SubTests
 
@@ -99,6 +100,23 @@ def test_at_each_step(cases: Companions, subtests: SubTests, name: str) -> None:
     assert 7 < number < 99, "there were such steps"
 
 
+def test_at_each_step_of_the_hook(cases: Companions, git: None) -> None:
+    """An index that git needs on the disk is removed, and no longer needed there while the hook reviews a commit."""
+    for number in range(100):
+        place = cases.place()
+        place.put("a.yml", sealed("old"))
+        commit = "git add . && git -c user.name=a -c user.email=b commit -qm c"
+        place.shell(f"git init -q && {commit} && echo b > b.yml && {commit}")
+        words = ["--since", "HEAD~1"]
+        done = run_changed(place, HOOK, AT_STEP.format(number=number, receiver="os.getpid()"), words)
+        is_sent = (place.path / "sent").exists()
+        assert (done.returncode, done.stderr) == (-signal.SIGTERM if is_sent else 0, ""), number
+        assert os.listdir(place.temporary) == [], number
+        if not is_sent:
+            break
+    assert 7 < number < 99, "there were such steps"
+
+
 def blocked(status: Path) -> set[int]:
     """Return the signals that a thread blocks, from its status or a copy of that."""
     bits = int(status.read_text().split("SigBlk:")[1].split()[0], 16)
@@ -107,7 +125,10 @@ def blocked(status: Path) -> set[int]:
 
 def test_postponed_signals(place: Place) -> None:
     """Every signal that would end a program is postponed, but not for the editor, to which a terminal's keys belong."""
-    # Some cannot be blocked, a fault of Python itself would raise others again at once, and Python ignores the last two.
+    # Other shells let the signals through themselves.
+    needs("bash")
+    (place.tools / "sh").symlink_to("/bin/bash")
+    # Some cannot be blocked, a crash of Python itself would raise others again, and Python ignores the last two.
     others = "CHLD CONT URG WINCH TSTP TTIN TTOU KILL STOP SEGV BUS FPE ILL PIPE XFSZ"
     wanted = signal.valid_signals() - {getattr(signal, f"SIG{name}") for name in others.split()}
     tree(place)
@@ -115,8 +136,8 @@ def test_postponed_signals(place: Place) -> None:
     waits = "until grep -q '^7 ' /proc/$PPID/syscall; do :; done"
     place.wrap_tool(f'[ "$1" != encrypt ] || {{ {waits}; cat /proc/$PPID/status > ../encrypting; }}')
     keys = "kill -INT $PPID; kill -QUIT $PPID"
-    editor = f"cat /proc/self/status > ../editing; {keys}; {CHANGE}"
-    silent("the edit", edit(place, editor, *place.by_file("old"), "a.yml"))
+    editor = f"cat /proc/self/status > ../editing; {keys}; sed -i s/correct/wrong/"
+    silent("the edit", place.run(EDIT, *place.by_file("old"), "a.yml", EDITOR=editor))
     assert (blocked(place.path / "encrypting"), blocked(place.path / "editing")) == (wanted, set())
     assert decrypted("old", place.get("a.yml")) == CHANGED
     check_whole(place)
@@ -157,7 +178,9 @@ def test_last_words(place: Place) -> None:
 
 def sleeping(place: Place, before: str = "") -> str:
     """Write a password script that never ends, and return the path of the file that gets its process number."""
-    place.script(f"{before} echo $$ > ../pid.new; mv ../pid.new ../pid; while :; do sleep 0.05; done")
+    text = f"{before} echo $$ > ../pid.new; mv ../pid.new ../pid; while :; do sleep 0.05; done"
+    # Other shells let postponed signals through themselves.
+    place.script(text, interpreter="/bin/bash")
     return str(place.path / "pid")
 
 
@@ -173,6 +196,7 @@ SCRIPTS = {"": False, "kill -STOP $$;": False, "trap '' TERM;": True}
 @pytest.mark.parametrize("before", SCRIPTS)
 def test_password_script(place: Place, before: str) -> None:
     """A password script gets the signal, even if it is stopped. If it ignores the signal, only the companion ends."""
+    needs("bash")
     tree(place)
     file = Path(sleeping(place, "" if "STOP" in before else before))
     with started([CHECK, "--vault-id", "../script", "a.yml"], cwd=place.tree, env=place.environment) as process:
@@ -261,8 +285,10 @@ def test_waits(place: Place, line: str, call: str) -> None:
     os.mkfifo(place.path / "pipe")
 
     def is_waiting(number: int) -> bool:
-        calls = [Path(f"/proc/{number}/syscall").read_text() for _ in range(2) if not time.sleep(0.05)]
-        return calls[0] == calls[1] and calls[0].startswith(call)
+        file = Path(f"/proc/{number}/syscall")
+        first = file.read_text()
+        time.sleep(0.05)
+        return first == file.read_text() and first.startswith(call)
 
     check_ended(place, line, is_waiting)
 
