@@ -84,11 +84,11 @@ ROWS = {
     "a vault": Row(VAULT, TEXT, paste, paste),
     "a removed vault": Row(VAULT, TEXT, paste, paste, old="old/{}"),
     "a value": Row(VALUE, b"pw: plain\n", paste, paste),
-    "no YAML any more": Row(VALUE, TAB, paste, paste, "", YAML, YAML),
-    "no YAML before": Row(TAB + VALUE, TEXT, paste, paste, "", YAML, YAML),
+    "no YAML any more": Row(VALUE, TAB, paste, paste, old=YAML, new=YAML),
+    "no YAML before": Row(TAB + VALUE, TEXT, paste, paste, old=YAML, new=YAML),
     "damage": Row(VAULT, VAULT[:-100], type_it, restore),
     "damage that is meant": Row(VAULT, VAULT[:-100], paste, paste),
-    "a leftover": Row(TEXT, TEXT, type_it, type_it, "", "{}.d/x", "{}.d/" + LEFTOVER),
+    "a leftover": Row(TEXT, TEXT, type_it, type_it, old="{}.d/x", new="{}.d/" + LEFTOVER),
     "marked": Row(b"", TEXT, paste, paste, "* diff=ansible-vault\n.gitattributes !diff\n"),
     "a pointer": Row(VAULT, POINTER, paste_and_type, paste_and_type),
 }
@@ -198,3 +198,17 @@ def test_combined_change(place: Place) -> None:
     assert f"rewrite the commits, for example with `git rebase -i {first}`; " in advice
     [later] = re.findall("begin later: (--since .*)", advice)
     assert later.endswith(last) and list_advice(place, *later.split()) == []
+
+
+def test_rewritten_commit(place: Place) -> None:
+    """A commit between others is rewritten with the command that is shown."""
+    under_git(place, "")
+    first = committed(place, "a.yml", VAULT)
+    committed(place, "a.yml", TEXT)
+    committed(place, "x", b"")
+    [advice] = list_advice(place, "--since", first)
+    [command] = re.findall("rewrite the commit, for example with `(.*?)`", advice)
+    place.shell(command, GIT_SEQUENCE_EDITOR="sed -i '1s/^pick/edit/'")
+    place.put("a.yml", sealed("new"))
+    place.shell("git commit -qa --amend --no-edit && git rebase --continue")
+    assert list_advice(place, "--since", first) == [] and place.get("a.yml") == sealed("new")
