@@ -275,6 +275,17 @@ def test_streams_that_are_no_files(place: Place) -> None:
             ended(path, done, 1, "it is not a regular file")
 
 
+def test_no_current_directory(place: Place) -> None:
+    """An absolute path does not need it."""
+    place.put("a.yml", sealed("old"))
+    secret, path = place.secret("old"), place.tree / "a.yml"
+    for companion in (TEXTCONV, f"{WITH} view"):
+        line = f"mkdir gone && cd gone && rmdir ../gone && {companion} --vault-password-file {secret}"
+        done = place.shell(f"{line} {path}")
+        assert (done.returncode, done.stdout, done.stderr) == (0, TEXT.decode(), "")
+        assert place.shell(f"{line} a.yml").returncode == 1
+
+
 # What happens to the file while the editor runs. Each leads to a copy of it elsewhere.
 SWAPS = {
     "the file": "ln -sf ../../outside/copy.yml vars/b.yml",

@@ -36,14 +36,14 @@ def is_within(path: str, folder: str) -> bool:
 
 def resolve_folder(path: str) -> str:
     """The real path of a typed directory. Refuses a link that leads out of its repository."""
-    return _Walk(path).follow(os.getcwd(), path)
+    return _Walk(path).start(path)
 
 
 def resolve_file(path: str) -> str:
     """The real path of a typed file. Refuses a link that leads out of its repository or, outside of git, out of its
     directory. A name of an open file or of a device stays as it is."""
     folder, name = os.path.split(path)
-    named = _Walk(path).follow(os.getcwd(), folder)
+    named = _Walk(path).start(folder)
     return path if OF_OPEN_FILES.fullmatch(named) else _Walk(path, named).follow(named, name)
 
 
@@ -61,6 +61,11 @@ class _Walk:
         # The directory that bounds links outside of git.
         self.named = named
         self.links = 0
+
+    def start(self, text: str) -> str:
+        """The real path to which a typed path leads. The current directory may be gone, which does not matter to an
+        absolute path."""
+        return self.follow(os.sep if os.path.isabs(text) else os.getcwd(), text)
 
     def follow(self, folder: str, text: str) -> str:
         """The real path to which a path, or the text of a link, leads from a directory."""
