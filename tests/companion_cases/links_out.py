@@ -305,6 +305,17 @@ def test_swapped(place: Place, swap: str) -> None:
     assert {*list_contents(place).values()} == {sealed("old")}, "nothing else has changed"
 
 
+def test_swapped_before_the_program_runs(place: Place) -> None:
+    """The program that the alias becomes opens the file to which the link led when it was judged."""
+    place.put("a.yml", sealed("old"))
+    place.put("../outside.yml", sealed("old", b"another text\n"))
+    (place.tree / "l.yml").symlink_to("a.yml")
+    place.wrap_tool("ln -sf ../outside.yml l.yml")
+    done = place.run(WITH, "view", *place.by_file("old"), "l.yml")
+    assert (done.returncode, done.stdout, done.stderr) == (0, TEXT.decode(), "")
+    assert os.readlink(place.tree / "l.yml") == "../outside.yml"
+
+
 def test_under_git(place: Place) -> None:
     """git passes regular files, and no links, even where the user's own links lead to the repository."""
     needs("git")
