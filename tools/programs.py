@@ -126,6 +126,10 @@ def commands() -> list[Command]:
     own = stored_help("program")
     listed = [command_of_help("", own), *(command_of_help(name, stored_help(name)) for name, _ in COMMAND.findall(own))]
     for name in NAMES[1:]:
-        made = command_line.command_line if name == WITH else runpy.run_path(str(COMPANIONS / name))["command_line"]
+        made = (
+            command_line.make_command_line
+            if name == WITH
+            else runpy.run_path(str(COMPANIONS / name))["make_command_line"]
+        )
         listed += commands_of_parser(name, made())
     return listed

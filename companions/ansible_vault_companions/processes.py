@@ -20,7 +20,7 @@ if TYPE_CHECKING:
     from typing import Any, NoReturn
 
 
-def run(words: list[str], data: bytes = b"", **options: Any) -> CompletedProcess[bytes]:
+def run_program(words: list[str], data: bytes = b"", **options: Any) -> CompletedProcess[bytes]:
     """Runs a program that reads this data, to its end, and keeps its output."""
     import subprocess
 
@@ -33,8 +33,8 @@ def run_script(words: list[str], **streams: Any) -> CompletedProcess[bytes]:
     from subprocess import DEVNULL, PIPE, CompletedProcess, Popen
 
     options: dict[str, Any] = {"stdin": DEVNULL, "stdout": PIPE, "stderr": PIPE, **streams}
-    with signals.postponed():
-        program = Popen(words, preexec_fn=signals.let_through, **options)
+    with signals.postpone_signals():
+        program = Popen(words, preexec_fn=signals.let_signals_through, **options)
         output, errors = _communicate(program)
     return CompletedProcess(words, program.returncode, output, errors)
 
@@ -46,9 +46,9 @@ def _communicate(program: Popen[bytes]) -> tuple[bytes, bytes]:
         try:
             return program.communicate(timeout=signals.INTERVAL)
         except TimeoutExpired:
-            number = signals.find_postponed()
+            number = signals.find_postponed_signal()
             if number is not None:
-                signals.pass_on(number, program)
+                signals.pass_signal_on(number, program)
                 raise signals.Stopped from None
 
 
@@ -57,9 +57,9 @@ def run_on_terminal(words: list[str]) -> int:
     Stopped if one has arrived before."""
     from subprocess import Popen
 
-    signals.check()
-    program = Popen(words, preexec_fn=signals.let_through)
-    signals.pass_on_until_end(program)
+    signals.check_for_signal()
+    program = Popen(words, preexec_fn=signals.let_signals_through)
+    signals.pass_signals_on_until_end(program)
     return program.returncode
 
 

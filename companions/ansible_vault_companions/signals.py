@@ -46,13 +46,13 @@ def restore_defaults() -> None:
     _signal.pthread_sigmask(_signal.SIG_UNBLOCK, ENDING | {_signal.SIGINT})
 
 
-def let_through() -> None:
+def let_signals_through() -> None:
     """Undoes what a program inherits if it is started where signals are postponed."""
     _signal.pthread_sigmask(_signal.SIG_UNBLOCK, ENDING)
 
 
 @contextmanager
-def postponed() -> Iterator[None]:
+def postpone_signals() -> Iterator[None]:
     """A context at whose end signals arrive. Programs and threads that are started in it block them for good."""
     mask = _signal.pthread_sigmask(_signal.SIG_BLOCK, ENDING)
     try:
@@ -61,30 +61,30 @@ def postponed() -> Iterator[None]:
         _signal.pthread_sigmask(_signal.SIG_SETMASK, mask)
 
 
-def find_postponed() -> int | None:
+def find_postponed_signal() -> int | None:
     """A signal that has asked the companion to end, and will."""
     return min(ENDING.intersection(_signal.sigpending()), default=None)
 
 
-def check() -> None:
+def check_for_signal() -> None:
     """Raises Stopped if a signal has been postponed."""
-    if find_postponed() is not None:
+    if find_postponed_signal() is not None:
         raise Stopped
 
 
 def wait_for_input(descriptor: int) -> None:
     """Waits until there is something to read."""
     while not select([descriptor], [], [], INTERVAL)[0]:
-        check()
+        check_for_signal()
 
 
-def pass_on(number: int, program: Popen[bytes]) -> None:
+def pass_signal_on(number: int, program: Popen[bytes]) -> None:
     """Sends a signal to a program, even if it is stopped. What it has started is its own concern."""
     program.send_signal(number)
     program.send_signal(_signal.SIGCONT)
 
 
-def pass_on_until_end(program: Popen[bytes]) -> None:
+def pass_signals_on_until_end(program: Popen[bytes]) -> None:
     """Waits for a program that owns the terminal, and so gets the signals of keys itself. Others are passed on to it,
     and remain postponed."""
     received = set()
@@ -93,7 +93,7 @@ def pass_on_until_end(program: Popen[bytes]) -> None:
     while program.poll() is None:
         number = _signal.sigwait(ENDING | {_signal.SIGCHLD})
         if number in ENDING - OF_KEYS:
-            pass_on(number, program)
+            pass_signal_on(number, program)
             received.add(number)
     while _signal.sigtimedwait(OF_KEYS, 0):
         pass

@@ -12,7 +12,7 @@ from typing import Callable, Hashable, NamedTuple
 
 from ansible_vault_companions import processes
 from ansible_vault_companions.envelopes.header import read_label
-from ansible_vault_companions.passwords.labels import Policy, describe_tried, order_to_try, require_label
+from ansible_vault_companions.passwords.labels import Policy, describe_attempts, order_to_try, require_label
 from ansible_vault_companions.passwords.password import Password
 from ansible_vault_companions.refusals import Refused
 
@@ -35,7 +35,7 @@ class NotDecrypted(Refused):
     """No password decrypts a vault."""
 
 
-class Decrypted(NamedTuple):
+class Decryption(NamedTuple):
     """An envelope, the password that decrypts it, and the plaintext."""
 
     envelope: bytes
@@ -53,7 +53,7 @@ class Decrypted(NamedTuple):
         require_label(*self.key, self.policy, where)
 
 
-Decrypt = Callable[[bytes], Decrypted]
+Decrypt = Callable[[bytes], Decryption]
 
 
 class Tool:
@@ -65,7 +65,7 @@ class Tool:
         if path is None:
             raise Refused(f"there is no {NAME} beside this program or on PATH; install it")
         self.path = path
-        if re.match(rb"ansible-vault \d", processes.run([self.path, "--version"]).stdout) is None:
+        if re.match(rb"ansible-vault \d", processes.run_program([self.path, "--version"]).stdout) is None:
             why = "is not the ansible-vault that the companions need; put the right one beside them or on PATH"
             raise Refused(f"{self.path} {why}")
         self.lock = threading.Lock()
@@ -74,7 +74,9 @@ class Tool:
 
     def run(self, words: list[str], data: bytes, passwords: list[Password]) -> bytes:
         """The tool's output. Raises Refused with the tool's message if it fails."""
-        done = processes.run([self.path, *words], data, pass_fds=[password.descriptor for password in passwords])
+        done = processes.run_program(
+            [self.path, *words], data, pass_fds=[password.descriptor for password in passwords]
+        )
         if done.returncode < 0:
             raise Refused(f"signal {-done.returncode} ended {NAME}; run this again")
         if done.returncode > 0:
@@ -85,10 +87,10 @@ class Tool:
 
     def view(self, envelope: bytes, password: Password) -> bytes:
         """The plaintext, decrypted with this password, once for the same envelope."""
-        view = lambda: self.run(["view", password.option()], envelope, [password])
-        return self.once((envelope, password), len(envelope), view)
+        view = lambda: self.run(["view", password.make_option()], envelope, [password])
+        return self.remember((envelope, password), len(envelope), view)
 
-    def decrypt(self, envelope: bytes, passwords: list[Password], policy: Policy) -> Decrypted:
+    def decrypt(self, envelope: bytes, passwords: list[Password], policy: Policy) -> Decryption:
         """Tries passwords one at a time, those with the envelope's label first, so it is certain which one works."""
         label = read_label(envelope)
         tried = order_to_try(passwords, label, policy)
@@ -96,20 +98,22 @@ class Tool:
             with suppress(NotDecrypted):
                 plaintext = self.view(envelope, password)
                 password.trust()
-                return Decrypted(envelope, password, plaintext, policy)
-        raise NotDecrypted(f"{NOT_DECRYPTED} {describe_tried(label, tried)}")
+                return Decryption(envelope, password, plaintext, policy)
+        raise NotDecrypted(f"{NOT_DECRYPTED} {describe_attempts(label, tried)}")
 
     def encrypt(self, plaintext: bytes, password: Password, label: str) -> bytes:
         """The plaintext, encrypted with a password and labeled with this label."""
-        return self.run(["encrypt", password.option(label=label)], plaintext, [password])
+        return self.run(["encrypt", password.make_option(label=label)], plaintext, [password])
 
     def encrypt_again(self, envelope: bytes, plaintext: bytes, password: Password, label: str) -> bytes:
         """Encrypts the plaintext to replace an envelope. Identical envelopes get the same replacement, so that copies
         stay copies. Different envelopes with the same plaintext get different ones."""
         size = len(envelope) + len(plaintext)
-        return self.once((envelope, plaintext, password, label), size, lambda: self.encrypt(plaintext, password, label))
+        return self.remember(
+            (envelope, plaintext, password, label), size, lambda: self.encrypt(plaintext, password, label)
+        )
 
-    def once(self, what: Hashable, size: int, make: Callable[[], bytes]) -> bytes:
+    def remember(self, what: Hashable, size: int, make: Callable[[], bytes]) -> bytes:
         """Calls `make`, or returns the remembered result of an equal call. Waits for one that is still running."""
         with self.lock:
             is_first = what not in self.results

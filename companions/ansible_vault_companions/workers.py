@@ -26,7 +26,7 @@ class Workers(ThreadPoolExecutor):
     def begin(self, work: Callable[..., Result], *items: object) -> Future[Result]:
         """Begins some work. Signals are postponed for a new thread, so the main one takes them all."""
         try:
-            with signals.postponed():
+            with signals.postpone_signals():
                 return self.submit(work, *items)
         except RuntimeError as fault:
             raise Refused(f"{fault}: there are too many processes, or too little memory") from None

@@ -22,7 +22,7 @@ from ansible_vault_companions.merging.line_merge import Versions
 from ansible_vault_companions.passwords.labels import Policy
 from ansible_vault_companions.passwords.password import Password
 from ansible_vault_companions.passwords.sources import parse_vault_id
-from ansible_vault_companions.tool import Decrypted, NotDecrypted, Tool
+from ansible_vault_companions.tool import Decryption, NotDecrypted, Tool
 from companion_cases import PASSWORDS, decrypted
 from companion_cases.repository import SALTS, by_git, repository
 from lib.needs import needs, needs_pyyaml
@@ -131,7 +131,7 @@ class Model(Tool):
             raise NotDecrypted("no secret decrypts this vault")
         return text
 
-    def opened(self, envelope: bytes) -> Decrypted:
+    def opened(self, envelope: bytes) -> Decryption:
         return self.decrypt(envelope, [*SECRETS.values()], POLICY)
 
     def encrypt(self, plaintext: bytes, secret: Password, label: str) -> bytes:

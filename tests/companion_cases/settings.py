@@ -185,4 +185,4 @@ def test_values_for_true(monkeypatch: pytest.MonkeyPatch) -> None:
     for value, is_true in values.items():
         for spelling in (value, value.upper(), value.title(), f"'{value}'"):
             monkeypatch.setenv("ANSIBLE_ASK_VAULT_PASS", spelling)
-            assert Settings(False, print).asks() == is_true, spelling
+            assert Settings(False, print).is_asking() == is_true, spelling

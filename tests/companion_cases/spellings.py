@@ -287,7 +287,7 @@ def test_random_yaml(monkeypatch: pytest.MonkeyPatch, pytestconfig: pytest.Confi
         texts = [(value.path, value.text.decode().strip()) for value in values]
         assert texts == [(value.path, value.text.strip()) for value in wanted], data
         new = {number: NEW for number, value in enumerate(read.values) if random.random() < 0.5}
-        after = read.with_envelopes(new)
+        after = read.replace_envelopes(new)
         assert around(after) == around(data), (data, after)
         assert {*LINE_END.findall(after)} <= {*LINE_END.findall(data)}, (data, after)
         replaced = [(path, new[n].decode().strip() if n in new else text) for n, (path, text) in enumerate(texts)]

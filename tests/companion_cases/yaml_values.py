@@ -21,7 +21,7 @@ from ansible_vault_companions.passwords.labels import Policy
 from ansible_vault_companions.passwords.password import Password
 from ansible_vault_companions.passwords.sources import make_path_source
 from ansible_vault_companions.refusals import Refused
-from ansible_vault_companions.tool import Decrypted, Tool
+from ansible_vault_companions.tool import Decryption, Tool
 from companion_cases.spellings import LOADERS, Generator, composed
 
 SECRET = Password(make_path_source(""), b"", -1)
@@ -36,9 +36,9 @@ def envelope(plaintext: bytes) -> bytes:
     return b"$ANSIBLE_VAULT;1.1;AES256\n" + binascii.hexlify(plaintext) + b"\n"
 
 
-def decrypt(text: bytes) -> Decrypted:
+def decrypt(text: bytes) -> Decryption:
     try:
-        return Decrypted(text, SECRET, binascii.unhexlify(b"".join(text.split()[1:])), POLICY)
+        return Decryption(text, SECRET, binascii.unhexlify(b"".join(text.split()[1:])), POLICY)
     except ValueError:
         raise Refused("a comment below is part of its text") from None
 

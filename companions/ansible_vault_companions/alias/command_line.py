@@ -66,7 +66,7 @@ ARGUMENTS: dict[str, tuple[int | str, str, str]] = {
 }
 
 
-def command_line(words: Collection[str] = tuple(COMMANDS)) -> parsers.Parser:
+def make_command_line(words: Collection[str] = tuple(COMMANDS)) -> parsers.Parser:
     """The parser, with the options of the commands that are among the words."""
     parser = parsers.make_parser(NAME, SUMMARY, EXAMPLE, allow_abbrev=True)
     options.add_options(parser, before="before_")
@@ -83,7 +83,7 @@ def command_line(words: Collection[str] = tuple(COMMANDS)) -> parsers.Parser:
 
 def parse(words: list[str]) -> Namespace:
     """The command line."""
-    parser = command_line(words)
+    parser = make_command_line(words)
     args = parser.parse_args(words)
     if not args.command:
         parser.error(f"no command is given; {NAME} --help lists the commands")
@@ -187,8 +187,8 @@ class Call:
         """The words that give the tool the command, the passwords and the options that are passed on."""
         return [
             self.args.command,
-            *(password.option() for password in self.passwords),
-            *(password.option("--new-vault-id") for password in self.new),
+            *(password.make_option() for password in self.passwords),
+            *(password.make_option("--new-vault-id") for password in self.new),
             *([f"{ENCRYPT_ID}={self.label}"] if self.label and self.args.command in ENCRYPTING else []),
             *([MATCH] if self.needs_match and not self.args.require_id_match else []),
             *list_passed_on(self.args, (ENCRYPT_ID, "--any-label", *without)),
@@ -201,5 +201,5 @@ def _ask_password(encrypts: bool, none: str) -> Password:
     if password.fault == prompts.NO_TERMINAL:
         raise Refused(none)
     if password.fault:
-        raise password.refusal(password.fault)
+        raise password.make_refusal(password.fault)
     return password

@@ -13,7 +13,7 @@ from ansible_vault_companions.git.pathspecs import make_pathspec
 from ansible_vault_companions.passwords.password import Password
 from ansible_vault_companions.quoting import escape
 from ansible_vault_companions.refusals import Refused
-from ansible_vault_companions.tool import Decrypted
+from ansible_vault_companions.tool import Decryption
 
 RESOLVE = "resolve with ansible-vault-edit; or set up ansible-vault-merge, and run `git checkout --merge -- {}`"
 
@@ -35,7 +35,7 @@ class Check(Work):
         is_prose = file_kinds.is_prose(found.target) and not (is_marked or file.is_vault)
         why = file_kinds.find_yaml_fault(file, path, found.target)
         try:
-            self.change_envelopes(file, lambda value: _name_value(value, value.place(path)), report, is_prose)
+            self.change_envelopes(file, lambda value: _name_value(value, value.describe_place(path)), report, is_prose)
         except Refused as fault:
             why = why or str(fault)
         if damage.is_unmerged(file):
@@ -59,7 +59,7 @@ class Check(Work):
             report.labels.clear()
         return same
 
-    def _check_plaintext(self, where: str, result: Decrypted, report: Report) -> None:
+    def _check_plaintext(self, where: str, result: Decryption, report: Report) -> None:
         try:
             result.require_label()
             report.lines.append(f"{where}: decrypted by {escape(result.password.source.text)}")

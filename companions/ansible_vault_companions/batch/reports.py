@@ -17,7 +17,7 @@ from ansible_vault_companions.passwords.labels import Policy
 from ansible_vault_companions.passwords.password import Password
 from ansible_vault_companions.quoting import escape
 from ansible_vault_companions.refusals import Refused
-from ansible_vault_companions.tool import Decrypted, NotDecrypted, Tool
+from ansible_vault_companions.tool import Decryption, NotDecrypted, Tool
 from ansible_vault_companions.workers import Workers
 
 
@@ -70,10 +70,10 @@ class Work:
         """The text that takes the place of an envelope; None if it stays."""
         raise NotImplementedError
 
-    def decrypt(self, value: Node, passwords: list[Password], is_prose: bool) -> Decrypted | None:
+    def decrypt(self, value: Node, passwords: list[Password], is_prose: bool) -> Decryption | None:
         """An envelope in plaintext; None for an example: one in prose that is damaged or that nothing decrypts."""
         try:
-            return self.tool.decrypt(value.readable(), passwords, self.policy)
+            return self.tool.decrypt(value.require_readable(), passwords, self.policy)
         except Refused as fault:
             if is_prose and (isinstance(fault, NotDecrypted) or not value.is_whole):
                 return None
@@ -83,14 +83,14 @@ class Work:
         self, file: Content, place: Callable[[Node], str], report: Report, is_prose: bool = False
     ) -> bytes:
         """The data with the texts that take the places of envelopes. What fails stays, and is reported."""
-        envelopes = file.envelopes()
+        envelopes = file.number_envelopes()
         work = lambda value: self._result(value, place(value), is_prose)
         new: dict[int, bytes] = {}
         for number, (text, own) in zip(envelopes, self.workers.share(work, [*envelopes.values()])):
             report.add(own)
             if text is not None:
                 new[number] = text
-        return file.with_envelopes(new) if new else file.data
+        return file.replace_envelopes(new) if new else file.data
 
     def _result(self, value: Node, where: str, is_prose: bool) -> tuple[bytes | None, Report]:
         report = Report()
@@ -164,7 +164,7 @@ class Reports:
         path = found.paths[0]
         text = f"{escape(path)}: {found.refusal}"
         is_marked = any(path in self.marked for path in found.paths)
-        if is_marked or file.envelopes() or file_kinds.find_yaml_fault(file, path, found.target):
+        if is_marked or file.number_envelopes() or file_kinds.find_yaml_fault(file, path, found.target):
             return Report(faults=[text])
         return Report(notes=[text])
 

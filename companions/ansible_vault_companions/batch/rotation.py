@@ -35,7 +35,7 @@ class Rotation(Work):
             raise Refused(file.fault)
         is_prose = file_kinds.is_prose(found.target) and not file.is_vault
         try:
-            after = self.change_envelopes(file, lambda value: value.place(path), report, is_prose)
+            after = self.change_envelopes(file, lambda value: value.describe_place(path), report, is_prose)
         except Refused:
             report.counts[CHANGED] = 0
             raise

@@ -44,19 +44,19 @@ def list_copies(target: str) -> list[str]:
     """The paths of all copies for a file, the newest first."""
     path = find_folder()
     names = os.listdir(path) if os.path.isdir(path) else []
-    paths = [os.path.join(path, name) for name in names if name.startswith(_prefix(target))]
+    paths = [os.path.join(path, name) for name in names if name.startswith(_make_prefix(target))]
     return sorted(paths, key=os.path.getmtime, reverse=True)
 
 
 def save_copy(tool: Tool, key: Key, target: str, base: bytes, text: bytes) -> str:
     """Writes the copy of a text, and returns its path. The edit began with `base`."""
-    envelope = tool.encrypt(_head(base) + text, *key)
+    envelope = tool.encrypt(_make_head(base) + text, *key)
     path = find_folder()
     try:
         os.makedirs(path, 0o700, exist_ok=True)
         # Nothing of the path is missing any more.
         require_own_folder(path)
-        return replacing.write_new(path, envelope, prefix=_prefix(target))
+        return replacing.write_new(path, envelope, prefix=_make_prefix(target))
     except OSError as fault:
         raise _make_refusal(path, fault) from None
 
@@ -65,16 +65,16 @@ def read_copy(path: str, base: bytes, keys: list[Key], decrypt: Decrypt) -> byte
     """The text of a copy. The file may be under new passwords by now, but what it says, and for whom, is as before."""
     content = reading.read_existing(path)
     text = decrypt(content).text
-    if [key.label for key in keys] != [read_label(content)] or not text.startswith(_head(base)):
+    if [key.label for key in keys] != [read_label(content)] or not text.startswith(_make_head(base)):
         why = f"its text or its label has changed since the edit that left {escape(path)}"
         raise Refused(f"{why}; take what you need from the copy, which `ansible-vault-textconv` shows")
-    return text[len(_head(base)) :]
+    return text[len(_make_head(base)) :]
 
 
-def _head(base: bytes) -> bytes:
+def _make_head(base: bytes) -> bytes:
     return HEAD % hashlib.sha256(base).hexdigest().encode()
 
 
-def _prefix(target: str) -> str:
+def _make_prefix(target: str) -> str:
     """The beginning of the names of a file's copies."""
     return hashlib.sha256(os.fsencode(target)).hexdigest()[:16] + "-"

@@ -26,7 +26,7 @@ RESCUED = "{}; what you saved is encrypted in {}\n--resume reopens it, unless th
 SHELL_WORDS = frozenset("=;&|()<>{}`\n")
 
 
-class Saved(NamedTuple):
+class EditorResult(NamedTuple):
     """What the editor has left: a text, unless the file is gone."""
 
     text: bytes | None
@@ -44,7 +44,7 @@ class Edit:
         self.path = path
         self.folder = folder
 
-    def run_editor(self) -> Saved:
+    def run_editor(self) -> EditorResult:
         editor = os.environ.get("VISUAL") or os.environ.get("EDITOR") or "vi"
         status = self._run(editor)
         try:
@@ -52,9 +52,9 @@ class Edit:
         except (Refused, OSError) as unread:
             raise self.folder.keep(refusals.describe_fault(unread)) from None
         if status:
-            return Saved(text, f"the editor failed ({editor}, status {status})")
+            return EditorResult(text, f"the editor failed ({editor}, status {status})")
         # Even the directory may be gone: logging out removes files in memory.
-        return Saved(text, NO_FILE if text is None else "")
+        return EditorResult(text, NO_FILE if text is None else "")
 
     def _run(self, editor: str) -> int:
         """Runs the editor, and returns its status."""
@@ -112,7 +112,7 @@ class Edit:
 
 
 def describe_signal() -> str:
-    return f"signal {signals.find_postponed()} ended the edit"
+    return f"signal {signals.find_postponed_signal()} ended the edit"
 
 
 def edit_draft(tool: Tool, draft: Draft, path: str, text: bytes | None) -> bool:
@@ -122,7 +122,7 @@ def edit_draft(tool: Tool, draft: Draft, path: str, text: bytes | None) -> bool:
         edit = Edit(tool, draft, path, folder)
         while True:
             saved = edit.run_editor()
-            if signals.find_postponed() is not None:
+            if signals.find_postponed_signal() is not None:
                 saved = saved._replace(fault=describe_signal())
             if saved.text is None or draft.is_as_it_was(saved.text):
                 break

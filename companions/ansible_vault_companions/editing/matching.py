@@ -14,7 +14,7 @@ from ansible_vault_companions.envelopes.key_paths import KeyPath
 from ansible_vault_companions.envelopes.node import Node
 from ansible_vault_companions.quoting import escape
 from ansible_vault_companions.refusals import Refused
-from ansible_vault_companions.tool import Decrypted, Key
+from ansible_vault_companions.tool import Decryption, Key
 
 UNCLEAR = "{} may be a new value or a changed one, and the password depends on which; save one change at a time"
 
@@ -22,17 +22,17 @@ UNCLEAR = "{} may be a new value or a changed one, and the password depends on w
 Place = tuple[KeyPath, int]
 
 
-class Opened(NamedTuple):
+class DecryptedValue(NamedTuple):
     """A value of the file, and its plaintext."""
 
     value: Node
-    decrypted: Decrypted
+    decrypted: Decryption
 
 
 class Match(NamedTuple):
     """What a typed value was before, if anything. Without a key it keeps the envelope."""
 
-    before: Opened | None
+    before: DecryptedValue | None
     key: Key | None = None
 
 
@@ -45,7 +45,7 @@ def describe_place(value: Node) -> str:
     return f"line {value.line}: {describe_name(value)}"
 
 
-def find_matches(opened: list[Opened], typed: list[Node], choice: Choice) -> list[Match]:
+def find_matches(opened: list[DecryptedValue], typed: list[Node], choice: Choice) -> list[Match]:
     """What each typed value was before, and its key, in order."""
     before = dict(zip(_number_places(old.value for old in opened), opened))
     after = dict(zip(_number_places(typed), typed))
@@ -63,7 +63,10 @@ def find_matches(opened: list[Opened], typed: list[Node], choice: Choice) -> lis
 
 
 def _keep_moved(
-    kept: dict[Place, Place], before: dict[Place, Opened], after: dict[Place, Node], group: Callable[[Place], KeyPath]
+    kept: dict[Place, Place],
+    before: dict[Place, DecryptedValue],
+    after: dict[Place, Node],
+    group: Callable[[Place], KeyPath],
 ) -> None:
     """Adds typed values whose text a single other value of the same group had, which is gone."""
     vanished: dict[tuple[KeyPath, bytes], list[Place]] = defaultdict(list)
@@ -76,7 +79,7 @@ def _keep_moved(
 
 
 def _find_changed(
-    kept: dict[Place, Place], before: dict[Place, Opened], after: dict[Place, Node], choice: Choice
+    kept: dict[Place, Place], before: dict[Place, DecryptedValue], after: dict[Place, Node], choice: Choice
 ) -> set[Place]:
     """The places of values with a new text, which keep their password. If the items of a list might get several
     passwords, they have to be where those were that are gone."""

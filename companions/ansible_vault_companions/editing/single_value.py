@@ -40,13 +40,13 @@ class SingleValue:
         if content is None and not is_chosen:
             raise FileNotFoundError(errno.ENOENT, os.strerror(errno.ENOENT), target)
         self.text = _tag(content or b"", path, is_chosen)
-        self.value = self.text.value_at(path)
+        self.value = self.text.find_value_at(path)
         # The old text, if the password that opens it is to encrypt the new one.
         self.before: bytes | None = None
         if is_chosen:
             self.key = choice.choose_key(escape(path), escape(path))
         else:
-            decrypted = decrypt(self.value.readable())
+            decrypted = decrypt(self.value.require_readable())
             # If the password has another label than the value, the new text may be for other readers.
             decrypted.require_label()
             self.key, self.before = decrypted.key, decrypted.text
@@ -75,10 +75,10 @@ def _tag(data: bytes, path: str, is_chosen: bool) -> Content:
     if conflicts.is_unmerged(data):
         raise Refused(f"it {conflicts.UNMERGED}")
     file = parse_nodes(data)
-    if is_chosen and KEY.fullmatch(path) and not file.values_at(path):
+    if is_chosen and KEY.fullmatch(path) and not file.list_values_at(path):
         tag = _add_key(data, path)
     else:
-        value = file.value_at(path)
+        value = file.find_value_at(path)
         if value.is_tagged and value.is_envelope:
             return file
         if not is_chosen:
@@ -107,7 +107,7 @@ def _add_tag(value: Node, path: str) -> Replacement:
 
 def _list_others(file: Content, path: str) -> list[tuple[KeyPath, str, bytes]]:
     """All nodes except the value, and except the empty one of a file without any."""
-    here = file.values_at(path)
+    here = file.list_values_at(path)
     others = [value for value in file.values if (value.path or value.text) and value not in here]
     return [(value.path, value.tag, value.text) for value in others]
 

@@ -3,7 +3,7 @@
 from __future__ import annotations
 
 from ansible_vault_companions.editing.choosing import Choice
-from ansible_vault_companions.editing.matching import Match, Opened, describe_place, find_matches
+from ansible_vault_companions.editing.matching import Match, DecryptedValue, describe_place, find_matches
 from ansible_vault_companions.editing.typed_tags import check_tags, refuse_directive
 from ansible_vault_companions.editing.writing import make_plain_block, make_sealed_block, parse_nodes, write_values
 from ansible_vault_companions.envelopes import conflicts
@@ -30,7 +30,7 @@ class YamlDraft:
         self.file = parse_nodes(edited)
         self.tagged = {number: value for number, value in enumerate(self.file.values) if value.is_tagged}
         # The values that are shown in plaintext; and those that stay encrypted, and why.
-        self.opened: dict[int, Opened] = {}
+        self.opened: dict[int, DecryptedValue] = {}
         self.faults: list[tuple[Node, Refused]] = []
         self._open(decrypt)
         self.plaintext = self._show()
@@ -55,7 +55,7 @@ class YamlDraft:
         refuse_directive(text)
         after = parse_nodes(text)
         closed = {value.text for value, _ in self.faults}
-        typed = {number: value for number, value in enumerate(after.values) if _is_typed(value, closed)}
+        typed = {number: value for number, value in enumerate(after.values) if _is_to_be_encrypted(value, closed)}
         check_tags(parse_nodes(self.plaintext), after)
         found = find_matches([*self.opened.values()], [*typed.values()], self.choice)
         matches = dict(zip(typed, found))
@@ -67,7 +67,7 @@ class YamlDraft:
         closed = {number: value for number, value in self.tagged.items() if value.is_envelope}
         results = work_at_once(lambda value: _try_to_open(value, decrypt), closed.values())
         for (number, value), result in zip(closed.items(), results):
-            if isinstance(result, Opened):
+            if isinstance(result, DecryptedValue):
                 self.opened[number] = result
             else:
                 self.faults.append((value, result))
@@ -86,10 +86,10 @@ class YamlDraft:
         return make_sealed_block(text, value, envelope, old)
 
 
-def _try_to_open(value: Node, decrypt: Decrypt) -> Opened | Refused:
+def _try_to_open(value: Node, decrypt: Decrypt) -> DecryptedValue | Refused:
     """A value in plaintext, or why it stays encrypted."""
     try:
-        decrypted = decrypt(value.readable())
+        decrypted = decrypt(value.require_readable())
         decrypted.text.decode()
     except UnicodeDecodeError:
         return Refused(NOT_UTF_8)
@@ -97,7 +97,7 @@ def _try_to_open(value: Node, decrypt: Decrypt) -> Opened | Refused:
         return fault
     if decrypted.text.strip().startswith(MAGIC):
         return Refused("its plaintext is itself a vault")
-    return Opened(value, decrypted)
+    return DecryptedValue(value, decrypted)
 
 
 def _seal(tool: Tool, value: Node, match: Match) -> bytes:
@@ -108,7 +108,7 @@ def _seal(tool: Tool, value: Node, match: Match) -> bytes:
     return tool.encrypt(value.text, *match.key)
 
 
-def _is_typed(value: Node, closed: set[bytes]) -> bool:
+def _is_to_be_encrypted(value: Node, closed: set[bytes]) -> bool:
     """Whether a value has to be encrypted. An envelope that was not opened, or was pasted whole, stays."""
     is_like_a_vault = value.text.startswith(MAGIC)
     if not value.is_tagged or is_like_a_vault and (value.is_whole or value.text in closed):

@@ -45,11 +45,11 @@ class Content:
     def is_vault(self) -> bool:
         return self.data.startswith(MAGIC)
 
-    def envelopes(self) -> dict[int, Node]:
+    def number_envelopes(self) -> dict[int, Node]:
         """The envelopes by their numbers. A value that only has the tag is none."""
         return {n: value for n, value in enumerate(self.values) if value.style == WHOLE or value.is_envelope}
 
-    def with_envelopes(self, new: dict[int, bytes]) -> bytes:
+    def replace_envelopes(self, new: dict[int, bytes]) -> bytes:
         """The data with other envelopes, by the numbers of their values. It is read again: only these may differ."""
         replacements = [replace_envelope(self.values[number], text) for number, text in new.items()]
         after = apply_replacements(self.data, replacements)
@@ -59,15 +59,15 @@ class Content:
                 raise Refused(NO_PLACE)
         return after
 
-    def values_at(self, path: str) -> list[Node]:
+    def list_values_at(self, path: str) -> list[Node]:
         """The encrypted values at a typed path, else all nodes there. A list item may also be written as `[]`."""
         names = ((value, value.typed_path) for value in self.values)
         values = [value for value, name in names if path in (name, NUMBER.sub("[]", name))]
         return [value for value in values if value.is_value] or values
 
-    def value_at(self, path: str) -> Node:
+    def find_value_at(self, path: str) -> Node:
         """The only one of the values at a typed path."""
-        values = self.values_at(path)
+        values = self.list_values_at(path)
         if not values:
             names = [escape(value.typed_path) for value in self.values if value.is_envelope]
             listed = f"; encrypted here: {', '.join(names)}" if 0 < len(names) <= MOST_LISTED else ""

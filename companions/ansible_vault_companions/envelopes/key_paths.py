@@ -12,7 +12,7 @@ UNQUOTED = re.compile(r'[^."\[\]\x00-\x1f]+')
 KeyPath = tuple[Union[str, int], ...]
 
 
-def _type_key(key: str) -> str:
+def type_key(key: str) -> str:
     return key if UNQUOTED.fullmatch(key) else quote_key(key)
 
 

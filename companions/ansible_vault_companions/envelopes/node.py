@@ -5,7 +5,7 @@ from __future__ import annotations
 from typing import NamedTuple
 
 from ansible_vault_companions.envelopes.header import JOINED_LINES, START, WITH_DIGITS, is_whole_envelope, read_label
-from ansible_vault_companions.envelopes.key_paths import KeyPath, _type_key
+from ansible_vault_companions.envelopes.key_paths import KeyPath, type_key
 from ansible_vault_companions.quoting import escape
 from ansible_vault_companions.refusals import Refused
 
@@ -49,7 +49,7 @@ class Node(NamedTuple):
     def typed_path(self) -> str:
         """The path as users type it: keys with dots between them, and the numbers of list items, as in `users[0].name`.
         A key with a dot, a bracket or a double quote is in double quotes."""
-        steps = (f"[{step}]" if isinstance(step, int) else f".{_type_key(step)}" for step in self.path)
+        steps = (f"[{step}]" if isinstance(step, int) else f".{type_key(step)}" for step in self.path)
         return "".join(steps).removeprefix(".")
 
     @property
@@ -82,11 +82,11 @@ class Node(NamedTuple):
     def is_whole(self) -> bool:
         return is_whole_envelope(self.text)
 
-    def place(self, path: str) -> str:
+    def describe_place(self, path: str) -> str:
         """The path, with the line number if it is not the whole file, for a message."""
         return f"{escape(path)}:{self.line}" if self.line else escape(path)
 
-    def readable(self) -> bytes:
+    def require_readable(self) -> bytes:
         """What ansible-vault reads."""
         if self.style == LOOSE:
             raise Refused(ELSEWHERE)

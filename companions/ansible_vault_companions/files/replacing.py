@@ -20,7 +20,7 @@ def replace(target: str, content: bytes, before: bytes | None, is_private: bool 
     """Replaces the content of a file with this real path. Refuses if the content is no longer `before`, or if a link is
     in its path by now. A private file is readable only by its owner, whatever its mode was. The directory is synced, so
     that the old content does not come back after a power failure."""
-    with signals.postponed():
+    with signals.postpone_signals():
         beside = _write_beside(target, content, is_private)
         try:
             if os.path.realpath(target) != target or reading.read(target) != before:
@@ -34,7 +34,7 @@ def replace(target: str, content: bytes, before: bytes | None, is_private: bool 
 
 def check_replaceable(target: str) -> None:
     """Refuses in advance a file that `replace` could not replace."""
-    with signals.postponed():
+    with signals.postpone_signals():
         os.unlink(_write_beside(target, b""))
 
 

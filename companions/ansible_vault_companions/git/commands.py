@@ -43,7 +43,7 @@ def run_git_command(
 ) -> CompletedProcess[bytes]:
     """Runs a git command to its end, whatever its status."""
     try:
-        return processes.run(build_command(words), data, env=build_environment(index), **options)
+        return processes.run_program(build_command(words), data, env=build_environment(index), **options)
     except FileNotFoundError:
         raise Refused("git is not installed; install it") from None
 

@@ -66,7 +66,7 @@ class Index:
         self.parents = parents or [read_line("hash-object", "-t", "tree", "--stdin")]
         self.path = path
 
-    def at(self, paths: list[str]) -> list[File]:
+    def list_files(self, paths: list[str]) -> list[File]:
         """The files and links at or below these paths. git refuses a path without any."""
         words = ("ls-files", "-s", "-z", "--full-name", "--error-unmatch", "--", *paths)
         files = []
@@ -79,9 +79,9 @@ class Index:
 
     @cached_property
     def files(self) -> dict[bytes, File]:
-        return {file.name: file for file in self.at([])}
+        return {file.name: file for file in self.list_files([])}
 
-    def change(self, commit: str) -> Differences:
+    def compare_with(self, commit: str) -> Differences:
         """The differences from a commit. A file that git calls renamed is not removed."""
         words = ("diff-index", "--cached", *RENAMES, *RAW, commit, "--")
         files = []
@@ -91,11 +91,11 @@ class Index:
             files.append(File(difference.name, blob, before, is_link=difference.mode == LINK_MODE))
         return Differences(commit[:10], files, commit)
 
-    def changes(self) -> list[Differences]:
+    def compare_with_parents(self) -> list[Differences]:
         """The differences from each parent."""
-        return [self.change(parent) for parent in self.parents]
+        return [self.compare_with(parent) for parent in self.parents]
 
-    def former(self, commit: str) -> set[File]:
+    def list_former_versions(self, commit: str) -> set[File]:
         """The files, each with a version that a commit in the history had of it."""
         commits = [line + b"\n" for line in list_records("rev-list", commit, "--")]
         files: set[File] = set()
@@ -150,7 +150,7 @@ def _open_index_of(tree: str) -> int:
     """The descriptor of an index that git has written, which it only does in a directory."""
     # If none is named, `tempfile` might choose another directory, even the current one.
     above = os.path.abspath(os.environ.get("TMPDIR") or "/tmp")
-    with signals.postponed(), tempfile.TemporaryDirectory(prefix="ansible-vault-", dir=above) as folder:
+    with signals.postpone_signals(), tempfile.TemporaryDirectory(prefix="ansible-vault-", dir=above) as folder:
         path = os.path.join(folder, "index")
         run_git("read-tree", tree, index=path)
         return os.open(path, os.O_RDONLY)

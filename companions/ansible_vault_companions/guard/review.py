@@ -84,8 +84,8 @@ class Review:
 def review_staged(review: Review, paths: list[str]) -> None:
     """Reviews the staged changes, and the files at or below these paths even if they did not change."""
     index = indexes.read_staged()
-    named = Differences("", index.at(paths) if paths else [])
-    review.look_at(index, [*index.changes(), named], partial(advice.write_advice, words=advice.STAGED))
+    named = Differences("", index.list_files(paths) if paths else [])
+    review.look_at(index, [*index.compare_with_parents(), named], partial(advice.write_advice, words=advice.STAGED))
 
 
 def review_since(review: Review, name: str) -> None:
@@ -97,11 +97,11 @@ def review_since(review: Review, name: str) -> None:
         commit = line.decode()
         with indexes.open_index(commit) as index:
             advise = partial(advice.advise_on_commit, commit=commit)
-            review.look_at(index, index.changes(), advise, f"{commit[:DIGITS]}: ")
+            review.look_at(index, index.compare_with_parents(), advise, f"{commit[:DIGITS]}: ")
     with indexes.open_index(last) as index:
         for base in history.list_merge_bases(first, last):
             advise = partial(advice.advise_on_commits, base=base, last=last)
-            review.look_at(index, [index.change(base)], advise, f"{last[:DIGITS]}: ")
+            review.look_at(index, [index.compare_with(base)], advise, f"{last[:DIGITS]}: ")
 
 
 def review_all(review: Review) -> None:
@@ -109,11 +109,11 @@ def review_all(review: Review) -> None:
     commit = history.find_commit("HEAD")
     advise = partial(advice.write_advice, words=advice.COMMITTED)
     with indexes.open_index(commit) as index:
-        former = index.former(commit)
+        former = index.list_former_versions(commit)
         blobs = {file.before for file in former}
         vaults = {blob for blob in blobs if review.blobs.read(blob, is_old=True) == MAGIC}
         # One version is enough.
         were_vaults = {file.name: file for file in sorted(former) if file.before in vaults}
-        review.look_at(index, [Differences("", index.at([]))], advise)
-        review.look_at(index, index.changes(), partial(advice.write_advice, words=advice.LAST))
+        review.look_at(index, [Differences("", index.list_files([]))], advise)
+        review.look_at(index, index.compare_with_parents(), partial(advice.write_advice, words=advice.LAST))
         review.look_at(index, [Differences("an earlier commit", [*were_vaults.values()])], advise)

@@ -15,7 +15,7 @@ from ansible_vault_companions.envelopes import conflicts
 from ansible_vault_companions.envelopes.layout import Replacement, replace_envelope
 from ansible_vault_companions.envelopes.node import LITERAL, STRAY, Node
 from ansible_vault_companions.merging.line_merge import BASE, OURS, SIDES, THEIRS
-from ansible_vault_companions.tool import Decrypted, Key, Tool
+from ansible_vault_companions.tool import Decryption, Key, Tool
 
 OF_MARKER = {conflicts.OURS: OURS, conflicts.BASE: BASE, conflicts.THEIRS: THEIRS}
 
@@ -83,7 +83,7 @@ class Tokens:
 class Restoration:
     """Puts envelopes in place of the tokens of a merged text."""
 
-    def __init__(self, tokens: Tokens, decryptions: dict[bytes, Decrypted], tool: Tool) -> None:
+    def __init__(self, tokens: Tokens, decryptions: dict[bytes, Decryption], tool: Tool) -> None:
         self.tokens = tokens
         self.decryptions = decryptions
         self.tool = tool

@@ -12,7 +12,7 @@ from ansible_vault_companions.merging.common_key import find_common_key
 from ansible_vault_companions.merging.line_merge import OURS, SIDES, THEIRS, MergedLines, Versions, merge_lines
 from ansible_vault_companions.merging.tokens import KeyAndText, Meaning, Restoration, Tokens
 from ansible_vault_companions.refusals import Refused
-from ansible_vault_companions.tool import Decrypt, Decrypted, Key, Tool
+from ansible_vault_companions.tool import Decrypt, Decryption, Key, Tool
 from ansible_vault_companions.workers import work_at_once
 
 NOT_YAML = "git can merge its lines, but then {}"
@@ -42,7 +42,7 @@ class ValueMerge:
         self._check(content, restoration.envelopes, has_conflict=count > 0)
         return MergedLines(content, count)
 
-    def _decrypt_all(self, decrypt: Decrypt) -> dict[bytes, Decrypted]:
+    def _decrypt_all(self, decrypt: Decrypt) -> dict[bytes, Decryption]:
         """Those that not all versions have, if a password opens them that their labels allow."""
         texts = [{value.text for value in self.values[side]} for side in SIDES]
         differing = sorted(set[bytes]().union(*texts).difference(set.intersection(*texts)))
@@ -94,7 +94,7 @@ def _has_token(value: Node) -> bool:
     return value.is_envelope and value.style != LOOSE
 
 
-def _try_to_decrypt(decrypt: Decrypt, text: bytes) -> Decrypted | None:
+def _try_to_decrypt(decrypt: Decrypt, text: bytes) -> Decryption | None:
     try:
         decrypted = decrypt(text)
         decrypted.require_label()

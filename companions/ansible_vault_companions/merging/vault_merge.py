@@ -8,7 +8,7 @@ from ansible_vault_companions.merging.common_key import Keys, find_common_key
 from ansible_vault_companions.merging.line_merge import OURS, THEIRS, Versions, merge_lines
 from ansible_vault_companions.quoting import escape
 from ansible_vault_companions.refusals import Refused
-from ansible_vault_companions.tool import Decrypt, Decrypted, Key, NotDecrypted, Tool
+from ansible_vault_companions.tool import Decrypt, Decryption, Key, NotDecrypted, Tool
 
 
 class VaultMerge:
@@ -52,7 +52,7 @@ class VaultMerge:
         return vault.text, {vault.key}
 
 
-def _decrypt_side(side: str, decrypt: Decrypt, vault: bytes) -> Decrypted:
+def _decrypt_side(side: str, decrypt: Decrypt, vault: bytes) -> Decryption:
     try:
         decrypted = decrypt(vault)
         decrypted.require_label()

@@ -39,7 +39,7 @@ class Policy:
 def make_policy(passwords: Iterable[Password], settings: Settings, any_label: bool) -> Policy:
     """The policy for these passwords. Passwords that are all the same count as one."""
     are_one = len({password.content for password in passwords}) == 1
-    return Policy(settings.requires_match(), any_label or are_one, settings.encrypt_label())
+    return Policy(settings.requires_match(), any_label or are_one, settings.find_encrypt_label())
 
 
 def order_to_try(passwords: Iterable[Password], label: str | None, policy: Policy) -> list[Password]:
@@ -79,7 +79,7 @@ def require_label(password: Password, label: str, policy: Policy, where: str = "
         )
 
 
-def describe_tried(label: str | None, passwords: Sequence[Password]) -> str:
+def describe_attempts(label: str | None, passwords: Sequence[Password]) -> str:
     """For a message: which passwords were tried on an envelope that none decrypts, and what to do."""
     names = ", ".join(escape(password.source.text) for password in passwords) or "none: no password has its label"
     has = f"label {escape(label)}" if label else "no label"

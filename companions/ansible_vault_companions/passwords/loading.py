@@ -28,7 +28,7 @@ def load_passwords(companion: str, sources: list[Source], encrypts: bool, skips:
         write_error(f"{companion}: {escape(password.source.text)}: {password.fault}; it is ignored")
     for password in passwords:
         if password.fault and password not in ignored:
-            raise password.refusal(password.fault)
+            raise password.make_refusal(password.fault)
     return passwords
 
 
@@ -45,7 +45,7 @@ def load_password(source: Source, encrypts: bool) -> Password:
     """Reads a password that must be usable."""
     password = read_password(source, encrypts)
     if password.fault:
-        raise password.refusal(password.fault)
+        raise password.make_refusal(password.fault)
     return password
 
 

@@ -29,17 +29,17 @@ class Password:
         # Whether it was typed once and has decrypted nothing yet, so that it may be mistyped.
         self._is_doubtful = is_doubtful
 
-    def option(self, name: str = "--vault-id", label: str | None = None) -> str:
+    def make_option(self, name: str = "--vault-id", label: str | None = None) -> str:
         """The word that names it to the tool, with its own label or another one."""
         return f"{name}={self.label if label is None else label}@/dev/fd/{self.descriptor}"
 
-    def refusal(self, why: str) -> Refused:
+    def make_refusal(self, why: str) -> Refused:
         return Refused(f"{escape(self.source.text)}: {why}")
 
     def require_usable(self) -> None:
         """Refuses to encrypt with one that was ignored: no other password takes its place."""
         if self.fault:
-            raise self.refusal(f"{self.fault}, and no other password encrypts in its place")
+            raise self.make_refusal(f"{self.fault}, and no other password encrypts in its place")
 
     def trust(self) -> None:
         self._is_doubtful = False
@@ -48,5 +48,5 @@ class Password:
         """Asks again for one that is in doubt, before it encrypts."""
         if self._is_doubtful:
             if not prompts.confirm_password(self.source.place, self.label, self.content):
-                raise self.refusal(prompts.DIFFER)
+                raise self.make_refusal(prompts.DIFFER)
             self.trust()

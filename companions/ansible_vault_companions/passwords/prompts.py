@@ -49,7 +49,7 @@ def ask_string(is_hidden: bool) -> bytes:
 
 def ask_line(question: str) -> bytes:
     """A line that the user types. It is shown."""
-    with _terminal() as terminal:
+    with _open_terminal() as terminal:
         return _read_answer(terminal, question)
 
 
@@ -75,8 +75,8 @@ def _ask_hidden_password(question: str) -> bytes:
 
 def _ask_hidden(question: str) -> bytes:
     """A line that is not shown. It must be UTF-8, so that the same keys give the same password in every locale."""
-    with _terminal() as terminal:
-        with signals.postponed(), _without_echo(terminal):
+    with _open_terminal() as terminal:
+        with signals.postpone_signals(), _switch_echo_off(terminal):
             text = _read_answer(terminal, question).replace(SUSPEND, b"")
         terminal.write(b"\n")
     try:
@@ -102,7 +102,7 @@ def _read_answer(terminal: FileIO, question: str) -> bytes:
 
 
 @contextmanager
-def _terminal() -> Iterator[FileIO]:
+def _open_terminal() -> Iterator[FileIO]:
     try:
         terminal = open("/dev/tty", "r+b", buffering=0)
     except OSError:
@@ -112,7 +112,7 @@ def _terminal() -> Iterator[FileIO]:
 
 
 @contextmanager
-def _without_echo(terminal: FileIO) -> Iterator[None]:
+def _switch_echo_off(terminal: FileIO) -> Iterator[None]:
     """A context without echo. Ctrl-Z has no effect in it: after Ctrl-Z and `fg`, a shell would show what is typed."""
     shown = termios.tcgetattr(terminal)
     keys = [*shown[6]]

@@ -45,23 +45,23 @@ class Settings:
         self.path = self._find_file()
         self.keys = _read_section(self.path) if self.path else {}
 
-    def identities(self) -> list[str]:
+    def list_identities(self) -> list[str]:
         """The sources, as [LABEL@]SOURCE. As with Ansible, relative paths start from the current directory."""
         items = [_unquote(item.strip()) for item in self._read(IDENTITIES).split(",")]
-        return [item for item in items if item and self._counts(item.partition("@")[2] or item)]
+        return [item for item in items if item and self._may_count(item.partition("@")[2] or item)]
 
-    def password_file(self) -> str:
+    def find_password_file(self) -> str:
         """The path of the password file; empty if there is none. In a file, it is relative to the file's directory."""
         path = self._read(PASSWORD_FILE)
         folder = "" if PASSWORD_FILE[0] in os.environ or not self.path else os.path.dirname(self.path)
-        counts = path and self._counts(path, folder)
+        counts = path and self._may_count(path, folder)
         return expand_path(path.replace(CURRENT, os.getcwd()), folder) if counts else ""
 
-    def asks(self) -> bool:
+    def is_asking(self) -> bool:
         """Whether to ask for a password."""
         return _unquote(self._read(ASKS)).lower() in TRUE
 
-    def encrypt_label(self) -> str | None:
+    def find_encrypt_label(self) -> str | None:
         """The label of the password to encrypt with."""
         return _unquote(self._read(ENCRYPT_IDENTITY)) or None
 
@@ -73,7 +73,7 @@ class Settings:
         variable, key = setting
         return os.environ.get(variable, self.keys.get(key, ""))
 
-    def _counts(self, place: str, folder: str = "") -> bool:
+    def _may_count(self, place: str, folder: str = "") -> bool:
         """Whether a path counts that starts from a directory, if it is relative. A variable may be the current one."""
         start = place if place.startswith(("$", CURRENT)) else os.path.join(folder, os.path.expanduser(place))
         counts = not self.beside_options or place in (PROMPT, ASK) or os.path.isabs(start)
@@ -85,7 +85,7 @@ class Settings:
         """The file that ANSIBLE_CONFIG names, else the first readable one, in Ansible's order of places."""
         named = os.environ.get("ANSIBLE_CONFIG", "")
         path = os.path.join(expand_path(named), NAME) if os.path.isdir(expand_path(named)) else expand_path(named)
-        if _is_readable(path) and self._counts(named):
+        if _is_readable(path) and self._may_count(named):
             return path
         places = [os.path.expanduser("~/.ansible.cfg"), "/etc/ansible/ansible.cfg"]
         if not self.beside_options and os.path.exists(NAME):

@@ -50,13 +50,13 @@ def make_path_source(path: str, is_setting: bool = False) -> Source:
 
 def list_sources(ids: list[str], paths: list[str], settings: Settings) -> list[Source]:
     """All sources that options and settings name, in Ansible's order."""
-    sources = [parse_vault_id(text, is_setting=True) for text in settings.identities()]
+    sources = [parse_vault_id(text, is_setting=True) for text in settings.list_identities()]
     sources += [parse_vault_id(text) for text in ids if text != ASKED]
     sources += [make_path_source(path) for path in paths]
-    path = settings.password_file()
+    path = settings.find_password_file()
     if path:
         sources.append(make_path_source(path, is_setting=True))
-    if ASKED in ids or settings.asks():
+    if ASKED in ids or settings.is_asking():
         sources.append(parse_vault_id(ASKED))
     if len(sources) > MOST:
         raise Refused(f"{len(sources)} passwords are named, and ansible-vault takes at most {MOST}")
