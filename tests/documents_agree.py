@@ -11,7 +11,8 @@ import pytest
 
 from ansible_vault_companions import OLDEST
 from ansible_vault_companions.editing import private_directory
-from ansible_vault_companions.files import reading, replacing
+from ansible_vault_companions.files import replacing
+from ansible_vault_companions.limits import LONGEST_PLAINTEXT, LONGEST_VAULT
 from contracts import CRATES, code, declared_in
 from documents import FORMATS, PAGE as VERIFICATION, REFERENCE, WRITTEN, definition_files
 from lib.links import dead_links
@@ -126,7 +127,7 @@ def test_limits() -> None:
     numbers = "".join(re.findall(r"^\| .+ (\| [\d].* \|)$", table, re.MULTILINE))
     assert [int(each) for each in re.findall(r"\d+", numbers) if each != "1"] == [limits[each] for each in LIMITS]
     assert f"at most {limits['SECRET_COUNT_LIMIT']} passwords" in table
-    assert (reading.LONGEST_PLAINTEXT, reading.LIMIT) == (limits["PLAINTEXT_LIMIT"], limits["ENVELOPE_LIMIT"])
+    assert (LONGEST_PLAINTEXT, LONGEST_VAULT) == (limits["PLAINTEXT_LIMIT"], limits["ENVELOPE_LIMIT"])
     assert {int(each.replace(",", "")) for each in re.findall(r"\d+,\d{3},\d{3}", TEXT)} <= {*limits.values()}
 
 

@@ -1,9 +1,10 @@
 """The modules that ansible-vault's companions share. They are tested, not proved.
 
-`lifecycle` starts and ends every companion, with a command line from `parsers`. `refusals`, `quoting` and `output` are
-what it says, and `limits` bounds its work. `files` finds, reads and replaces files, and `envelopes` finds the envelopes
-in them. `passwords` gets passwords, `tool` runs ansible-vault with them, and `workers` do so for several envelopes at
-once. `git` asks git, and `guard` has the rules of the hook. Above these are `merging`, `editing` and `batch` (check and
+`lifecycle` starts and ends every companion, with a command line from `parsers`. `signals` postpones what would end it
+too early, and `processes` runs programs. `refusals`, `quoting` and `output` are what it says, and `limits` and
+`bounding` bound its work. `files` finds, reads and replaces files, and `envelopes` finds the envelopes in them.
+`passwords` gets passwords, `tool` runs ansible-vault with them, and `workers` do so for several envelopes at once.
+`git` asks git, and `guard` has the rules of the hook. Above these are `merging`, `editing` and `batch` (check and
 rotate); `alias` takes the command lines of Ansible's tool.
 """
 

@@ -6,88 +6,35 @@ the next file is taken.
 
 from __future__ import annotations
 
-import _signal  # type: ignore
-import resource
-import threading
-from contextlib import contextmanager
-from typing import Iterator
-
 from ansible_vault_companions.refusals import Refused
 
 # The levels of YAML, with those of an alias at its place. libyaml takes quadratic time for brackets.
 DEEPEST = 64
 # The texts of a file, and the keys above them, which count for each text and again for each alias.
 MOST_KEYS = 1_000_000
-# The bytes of YAML, as many as a plaintext has; and of a link, as many as Linux has.
-LONGEST, LONGEST_LINK = 16_777_216, 4_096
+# The bytes of the longest plaintext, and so of YAML that is read; and of the longest vault. Of longer files, even
+# endless ones as in /proc, no more is read.
+LONGEST_PLAINTEXT = 16_777_216
+LONGEST_VAULT = 6 * LONGEST_PLAINTEXT + 8_192
+# The bytes of a password file.
+LONGEST_PASSWORD = 4_096
+# The bytes of a link that git has, as many as Linux allows.
+LONGEST_LINK = 4_096
 # The characters of an ansible.cfg, and of a line in it: Python's parser takes quadratic time for the blanks of a line.
-LONGEST_SETTINGS, LONGEST_SETTING = 262_144, 2_048
+LONGEST_SETTINGS = 262_144
+LONGEST_SETTING = 2_048
 # Processor time, with more of it for the hook, since a file that it refuses cannot be committed; and memory beyond what
 # the companion has already.
-SECONDS, HOOK_SECONDS, MEGABYTES = 10, 30, 256
+SECONDS = 10
+HOOK_SECONDS = 30
+MEGABYTES = 256
 
 TOO_DEEP = f"it is nested over {DEEPEST} levels"
 TOO_MANY = f"it has over {MOST_KEYS:,} keys and texts"
-TOO_LONG = f"it has over {LONGEST:,} bytes"
+TOO_LONG = f"it has over {LONGEST_PLAINTEXT:,} bytes"
 TOO_SLOW = "it takes over {} s of processor time"
 TOO_MUCH = f"it takes over {MEGABYTES} MB of memory"
 
 
 class TooMuch(Refused):
     """A file exceeds a limit."""
-
-
-class TimeOver(Exception):
-    """The limit of processor time is reached."""
-
-
-def _end_time(_number: int, _frame: object) -> None:
-    raise TimeOver
-
-
-@contextmanager
-def limit_work(seconds: int = SECONDS) -> Iterator[None]:
-    """A context for work on what a file contains, in which nothing is written. The limits of time and memory end it,
-    even within a search: they raise TooMuch. Python handles signals only in the main thread, so in others, which read
-    only what a password has opened, there is no limit. Nor is there one of memory while others run, since it would be
-    theirs as well."""
-    is_limited = _signal.getsignal(_signal.SIGPROF) == _end_time
-    if is_limited or threading.current_thread() is not threading.main_thread():
-        yield
-        return
-    before = resource.getrlimit(resource.RLIMIT_DATA)
-    if threading.active_count() == 1:
-        most = _measure_memory() + (MEGABYTES << 20)
-        resource.setrlimit(resource.RLIMIT_DATA, (min(most, before[0]) if before[0] > 0 else most, before[1]))
-    try:
-        with _limit_time(seconds):
-            yield
-    except TimeOver:
-        raise TooMuch(TOO_SLOW.format(seconds)) from None
-    except MemoryError:
-        raise TooMuch(TOO_MUCH) from None
-    finally:
-        resource.setrlimit(resource.RLIMIT_DATA, before)
-
-
-@contextmanager
-def _limit_time(seconds: int) -> Iterator[None]:
-    """A context that raises TimeOver after this much processor time, even where signals are postponed."""
-    action = _signal.signal(_signal.SIGPROF, _end_time)
-    mask = _signal.pthread_sigmask(_signal.SIG_BLOCK, ())
-    try:
-        try:
-            _signal.pthread_sigmask(_signal.SIG_UNBLOCK, {_signal.SIGPROF})
-            _signal.setitimer(_signal.ITIMER_PROF, seconds)
-            yield
-        finally:
-            _signal.setitimer(_signal.ITIMER_PROF, 0)
-    finally:
-        _signal.pthread_sigmask(_signal.SIG_SETMASK, mask)
-        _signal.signal(_signal.SIGPROF, action)
-
-
-def _measure_memory() -> int:
-    """The bytes of data that this process has."""
-    with open("/proc/self/statm", encoding="ascii") as file:
-        return int(file.read().split()[5]) * resource.getpagesize()

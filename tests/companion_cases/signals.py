@@ -353,9 +353,9 @@ def test_time_of_an_edit(place: Place) -> None:
     place.put("vars.yml", block("old") + b"x: [%s]\n" % b", ".join([b"1"] * 20_000))
     # The editor has saved before a time limit that nothing meets applies.
     change = """
-from ansible_vault_companions import limits
-limited = limits._limit_time
-limits._limit_time = lambda seconds: limited(1e-6 if os.path.exists("../saved") else seconds)
+from ansible_vault_companions import bounding
+limited = bounding._limit_time
+bounding._limit_time = lambda seconds: limited(1e-6 if os.path.exists("../saved") else seconds)
 """
     editor = place.script('echo "a: !vault more" >> "$1"; : > ../saved', "editor")
     done = run_changed(place, EDIT, change, [*place.by_file("old"), "vars.yml"], EDITOR=editor)

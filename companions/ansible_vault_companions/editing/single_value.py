@@ -15,6 +15,7 @@ from ansible_vault_companions.envelopes.key_paths import KeyPath, quote_key
 from ansible_vault_companions.envelopes.layout import Replacement, apply_replacements
 from ansible_vault_companions.envelopes.node import ALIAS, NO_SCALAR, Node
 from ansible_vault_companions.files import reading, replacing
+from ansible_vault_companions.limits import LONGEST_PLAINTEXT
 from ansible_vault_companions.quoting import escape
 from ansible_vault_companions.refusals import Refused
 from ansible_vault_companions.tool import Decrypt, Tool
@@ -116,7 +117,7 @@ def _read_input() -> bytes:
     if os.isatty(0):
         raise Refused("--value reads standard input, which is a terminal; use a pipe or a file")
     text = reading.read_input(0)
-    if len(text) > reading.LONGEST_PLAINTEXT:
+    if len(text) > LONGEST_PLAINTEXT:
         raise Refused(TOO_LONG)
     if not text:
         raise Refused(NOTHING_GIVEN)

@@ -10,7 +10,7 @@ from __future__ import annotations
 import re
 from dataclasses import dataclass, field
 
-from ansible_vault_companions import limits
+from ansible_vault_companions import bounding
 from ansible_vault_companions.envelopes.detection import may_have_envelope
 from ansible_vault_companions.envelopes.header import MAGIC
 from ansible_vault_companions.envelopes.layout import apply_replacements, replace_envelope
@@ -86,12 +86,12 @@ def parse_content(data: bytes, every: bool = False) -> Content:
     if not (every or may_have_envelope(data)):
         return content
     try:
-        with limits.limit_work():
+        with bounding.limit_work():
             content.values = list(read_nodes(data, every))
     except (NotYaml, TooMuch) as fault:
         content.fault = str(fault)
     if not every and BINARY not in data:
-        with limits.limit_work():
+        with bounding.limit_work():
             content.values += find_strays(data, content.values)
         content.values.sort(key=lambda value: value.start)
     return content

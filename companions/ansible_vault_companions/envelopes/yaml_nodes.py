@@ -58,7 +58,7 @@ def read_nodes(data: bytes, every: bool = False) -> Iterator[Node]:
     """The envelopes among the scalars; or every node, but of the keys only envelopes. Raises NotYaml, or TooMuch."""
     if BINARY in data:
         raise NotYaml(NOT_YAML.format(NULL))
-    if len(data) > limits.LONGEST:
+    if len(data) > limits.LONGEST_PLAINTEXT:
         raise TooMuch(limits.TOO_LONG)
     yaml = require_pyyaml()
     skipped = len(BYTE_ORDER_MARK) if data.startswith(BYTE_ORDER_MARK) else 0

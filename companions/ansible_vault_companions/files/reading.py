@@ -7,14 +7,11 @@ import os
 import stat
 from typing import BinaryIO, Iterator
 
+from ansible_vault_companions.limits import LONGEST_VAULT
 from ansible_vault_companions.refusals import Refused
 
 # Bytes to read at once, since a file may be huge. Some files in /proc refuse reads of an odd size.
 CHUNK_SIZE = 1 << 20
-# The lengths of the longest plaintext and of the longest vault, in bytes. Of longer files, even endless ones as in
-# /proc, no more than LIMIT is read.
-LONGEST_PLAINTEXT = 16_777_216
-LIMIT = 6 * LONGEST_PLAINTEXT + 8_192
 NOT_REGULAR = "it is not a regular file"
 
 
@@ -40,25 +37,25 @@ def read_existing(path: str) -> bytes:
 def read_input(file: str | int) -> bytes:
     """The whole of an input such as standard input, or a bit more than any vault has."""
     with open(file, "rb", closefd=file != 0) as opened_file:
-        return opened_file.read(LIMIT + 1)
+        return opened_file.read(LONGEST_VAULT + 1)
 
 
 def read_pieces(path: str) -> Iterator[bytes]:
-    """Yields the content of a file, up to its stated size if that exceeds LIMIT."""
+    """Yields the content of a file, up to its stated size if that exceeds LONGEST_VAULT."""
     with open_regular(path) as file:
-        yield from read_parts(file, max(LIMIT, os.fstat(file.fileno()).st_size))
+        yield from read_parts(file, max(LONGEST_VAULT, os.fstat(file.fileno()).st_size))
 
 
 def read_whole(file: BinaryIO, path: str) -> bytes:
     """The content of a file. Raises TooLong, and reads nothing of a file whose stated size exceeds the limit."""
-    is_longer = os.fstat(file.fileno()).st_size > LIMIT
-    content = b"" if is_longer else b"".join(read_parts(file, LIMIT + 1))
-    if is_longer or len(content) > LIMIT:
-        raise TooLong(errno.EFBIG, f"it has more than {LIMIT:,} bytes, more than any vault", path)
+    is_longer = os.fstat(file.fileno()).st_size > LONGEST_VAULT
+    content = b"" if is_longer else b"".join(read_parts(file, LONGEST_VAULT + 1))
+    if is_longer or len(content) > LONGEST_VAULT:
+        raise TooLong(errno.EFBIG, f"it has more than {LONGEST_VAULT:,} bytes, more than any vault", path)
     return content
 
 
-def read_parts(file: BinaryIO, limit: int = LIMIT) -> Iterator[bytes]:
+def read_parts(file: BinaryIO, limit: int = LONGEST_VAULT) -> Iterator[bytes]:
     """Yields the content of a file from its beginning, up to the limit."""
     file.seek(0)
     while limit > 0 and (piece := file.read(CHUNK_SIZE)):

@@ -6,9 +6,8 @@ import subprocess
 from contextlib import suppress
 
 from ansible_vault_companions.envelopes.header import MAGIC
-from ansible_vault_companions.files.reading import LIMIT
 from ansible_vault_companions.git.commands import CUT, build_command, build_environment
-from ansible_vault_companions.limits import LONGEST
+from ansible_vault_companions.limits import LONGEST_PLAINTEXT, LONGEST_VAULT
 from ansible_vault_companions.refusals import Refused
 
 NOT_PARTIAL = "if this is a partial clone, clone again without --filter"
@@ -34,11 +33,11 @@ class Blobs:
         size = self._ask(blob)
         content = self._take(min(size, len(MAGIC)))
         if content != MAGIC:
-            content += self._take(min(size, LONGEST + 1) - len(content))
-        elif size <= LIMIT and not is_old:
+            content += self._take(min(size, LONGEST_PLAINTEXT + 1) - len(content))
+        elif size <= LONGEST_VAULT and not is_old:
             content += self._take(size - len(content))
         left = size - len(content)
-        if left <= LONGEST:
+        if left <= LONGEST_PLAINTEXT:
             self._take(left + 1)
         else:
             # It is quicker to begin again than to read the rest.

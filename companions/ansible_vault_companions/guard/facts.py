@@ -5,7 +5,7 @@ from __future__ import annotations
 from collections import Counter
 from typing import Iterator, NamedTuple
 
-from ansible_vault_companions import limits
+from ansible_vault_companions import bounding, limits
 from ansible_vault_companions.envelopes.content import Content
 from ansible_vault_companions.envelopes.damage import (
     HEADER,
@@ -53,7 +53,7 @@ class Facts(NamedTuple):
 def find_facts(data: bytes, needs_plain: bool = False) -> Facts:
     """Reads a content that may have an envelope, or the plaintexts of any."""
     try:
-        with limits.limit_work(limits.HOOK_SECONDS):
+        with bounding.limit_work(limits.HOOK_SECONDS):
             return _read_facts(data, needs_plain)
     except TooMuch as fault:
         return Facts(fault=str(fault), is_too_much=True, envelopes=data.count(HEADER))
@@ -62,7 +62,7 @@ def find_facts(data: bytes, needs_plain: bool = False) -> Facts:
 def _read_facts(data: bytes, needs_plain: bool) -> Facts:
     if data.startswith(MAGIC):
         return Facts(is_vault=True, envelopes=1, damage=find_damage(Content(data)), unencrypted="")
-    if len(data) > limits.LONGEST:
+    if len(data) > limits.LONGEST_PLAINTEXT:
         raise TooMuch(limits.TOO_LONG)
     if not data.strip():
         return Facts(is_empty=True, unencrypted="")

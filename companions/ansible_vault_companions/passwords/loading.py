@@ -8,15 +8,13 @@ import stat
 
 from ansible_vault_companions.output import write_error
 from ansible_vault_companions.envelopes.header import MAGIC
+from ansible_vault_companions.limits import LONGEST_PASSWORD
 from ansible_vault_companions.passwords import prompts, scripts
 from ansible_vault_companions.passwords.labels import is_allowed
 from ansible_vault_companions.passwords.password import Password
 from ansible_vault_companions.passwords.sources import Source
 from ansible_vault_companions.quoting import escape
 from ansible_vault_companions.refusals import Refused, describe_fault
-
-# The maximum length of a password file, in bytes.
-LIMIT = 4096
 
 
 def load_passwords(companion: str, sources: list[Source], encrypts: bool, skips: bool = False) -> list[Password]:
@@ -66,15 +64,15 @@ def _read(source: Source, encrypts: bool) -> bytes:
         return prompts.ask_password(source.place, source.label, encrypts)
     mode = os.stat(source.place).st_mode
     if stat.S_ISREG(mode) and mode & 0o111:
-        return scripts.run_script(source.place, source.written_label)[: LIMIT + 1]
+        return scripts.run_script(source.place, source.written_label)[: LONGEST_PASSWORD + 1]
     with open(source.place, "rb") as file:
-        return file.read(LIMIT + 1)
+        return file.read(LONGEST_PASSWORD + 1)
 
 
 def _find_fault(label: str, content: bytes) -> str:
     """Why the tool would refuse a password, with the tool's words; empty if it would not."""
-    if len(content) > LIMIT:
-        return f"a password file is longer than {LIMIT} bytes"
+    if len(content) > LONGEST_PASSWORD:
+        return f"a password file is longer than {LONGEST_PASSWORD} bytes"
     if content.startswith(b"#!"):
         return "a password file is a script"
     if content.startswith(MAGIC):

@@ -11,6 +11,7 @@ import os
 import stat
 from collections.abc import Callable
 
+from ansible_vault_companions.limits import LONGEST_SETTING, LONGEST_SETTINGS, TooMuch
 from ansible_vault_companions.quoting import escape
 from ansible_vault_companions.refusals import Refused, describe_fault
 
@@ -101,8 +102,6 @@ def _read_section(path: str) -> dict[str, str]:
     # Imported here, since most runs of ansible-vault-with need no file.
     import configparser
 
-    from ansible_vault_companions.limits import LONGEST_SETTINGS
-
     parser = configparser.RawConfigParser(inline_comment_prefixes=(";",))
     try:
         with open(path, encoding="utf-8") as file:
@@ -118,8 +117,6 @@ def _read_section(path: str) -> dict[str, str]:
 
 def _require_short(text: str) -> None:
     """Refuses a text for which Python's parser would take long, or which no program writes."""
-    from ansible_vault_companions.limits import LONGEST_SETTING, LONGEST_SETTINGS, TooMuch
-
     if "\0" in text:
         raise Refused("it has a NUL byte")
     if len(text) > LONGEST_SETTINGS:
