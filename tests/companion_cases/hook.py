@@ -4,7 +4,7 @@ import re
 
 import pytest
 
-from companion_cases import HOOK, TEXT, WITH, Place, block, ended, run_changed, sealed, silent
+from companion_cases import HOOK, TEXT, WITH, Done, Place, block, ended, run_changed, sealed, silent
 from companion_cases.repository import GONE, WHOLE, add_and_commit, committed, fork, staged, told, under_git, with_hooks
 from lib.needs import needs
 from lib.paths import ROOT
@@ -205,6 +205,12 @@ def test_history(place: Place) -> None:
 LIKE_REVISIONS = ["HEAD", "HEAD~1", "--", "--all", "-x", ":/a", "^HEAD", "*", "refs/heads/x"]
 
 
+def run_below(place: Place, *words: str) -> Done:
+    """Run the hook in a directory that has none of these names, since it refuses an option that is the name of a file."""
+    (place.tree / "below").mkdir(exist_ok=True)
+    return place.run(HOOK, *words, folder="below")
+
+
 def test_versions(place: Place) -> None:
     """Any number of versions of a vault is fine, also beside files that are named like commits. What is committed is no
     longer to be committed otherwise, so the advice is another one."""
@@ -215,18 +221,18 @@ def test_versions(place: Place) -> None:
     for text in (b"1", b"2", b"3"):
         committed(place, place.shell("git rev-parse HEAD").stdout.strip(), TEXT)
         committed(place, "a.yml", sealed("old", text))
-    for words in ([HOOK], [HOOK, "--all"], [HOOK, "--since", first]):
-        silent("three versions", place.run(*words))
+    for words in ([], ["--all"], ["--since", first]):
+        silent("three versions", run_below(place, *words))
     committed(place, "a.yml", TEXT)
     for option in ("--all", "--since=HEAD~1"):
-        done = place.run(HOOK, option)
+        done = run_below(place, option)
         assert len(told(done)) == 1 and "rewrite the commit" in done.stderr and "--no-verify" not in done.stderr
     committed(place, "b.yml", TEXT)
-    done = place.run(HOOK, "--all")
+    done = run_below(place, "--all")
     assert told(done) == [f"a.yml {WHOLE.replace('HEAD', 'an earlier commit')}"]
     assert "commit this line at the end of .gitattributes: /a.yml -ansible-vault" in done.stderr
     committed(place, ".gitattributes", b"/a.yml -ansible-vault\n")
-    silent("the line is committed", place.run(HOOK, "--all"))
+    silent("the line is committed", run_below(place, "--all"))
 
 
 @pytest.mark.parametrize("name", LIKE_REVISIONS)
@@ -235,12 +241,12 @@ def test_names_like_revisions(place: Place, name: str) -> None:
     with_hooks(place)
     first = committed(place, "a.txt", TEXT)
     committed(place, name, sealed("old"))
-    silent("a vault", place.run(HOOK, "--since", first))
+    silent("a vault", run_below(place, "--since", first))
     assert staged(place, {name: TEXT}) == [f"{name} {WHOLE}"]
     ended("git commit", place.shell("git commit -qm plaintext"), 1, f"{HOOK}: {name} {WHOLE}\n")
     second, last = place.shell("git rev-parse HEAD").stdout[:10], committed(place, name, TEXT)
-    assert told(place.run(HOOK, "--all")) == [f"{name} {WHOLE.replace('HEAD', second)}"]
-    assert told(place.run(HOOK, "--since", second)) == [f"{last}: {name} {WHOLE.replace('HEAD', second)}"]
+    assert told(run_below(place, "--all")) == [f"{name} {WHOLE.replace('HEAD', second)}"]
+    assert told(run_below(place, "--since", second)) == [f"{last}: {name} {WHOLE.replace('HEAD', second)}"]
 
 
 @pytest.mark.parametrize("zeros", ["0" * 40, "0" * 64, ""])

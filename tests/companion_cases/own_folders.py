@@ -256,8 +256,8 @@ def test_mounts(place: Place, options: str, fill: str) -> None:
 
 
 NO_PLACE = """
-from ansible_vault_companions.editing import private_folder
-private_folder._list_places = lambda: ["/proc", os.environ["HOME"]]
+from ansible_vault_companions.editing import private_directory
+private_directory._list_places = lambda: ["/proc", os.environ["HOME"]]
 """
 
 
