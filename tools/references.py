@@ -25,7 +25,7 @@ PLACEHOLDER = re.compile(r"\b(?:FILE|NAME|CRATE|WHAT_IS_WRONG)\b")
 OTHER_PATHS = {"bin", "crates/*/out", "none.rt"}
 # Names of other tools and of languages, parts of names, and names that CHANGELOG.md reports as gone.
 OTHER_NAMES = {
-    *("CFLAGS", "LDFLAGS", "RUSTFLAGS", "fg"),
+    *("CFLAGS", "LDFLAGS", "RUSTFLAGS", "fg", "su"),
     *("Send", "bytes.hex", "trusted", "u8::is_ascii_whitespace", "unsafe", "x.entry", "x.new", "x.now", "x.old"),
     *("_in", "test_NAME"),
     *("FileSystem", "HostFiles", "set_output"),

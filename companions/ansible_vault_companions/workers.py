@@ -33,10 +33,14 @@ class Workers(ThreadPoolExecutor):
 
     def share(self, work: Callable[[Item], Result], items: Sequence[Item]) -> list[Result]:
         """The results for the parts of a worker's own work. It does itself what no other worker has begun."""
-        others = [(item, self.begin(work, item)) for item in items[1:]]
-        first = [work(item) for item in items[:1]]
-        rest = [work(item) if future.cancel() else future.result() for item, future in reversed(others)]
-        return first + rest[::-1]
+        others = items[1:]
+        futures = [self.begin(work, item) for item in others]
+        results = [work(item) for item in items[:1]]
+        # Workers begin at the front, so what is left is at the end.
+        last: list[Result] = []
+        for item, future in zip(reversed(others), reversed(futures)):
+            last.append(work(item) if future.cancel() else future.result())
+        return results + last[::-1]
 
 
 def work_at_once(work: Callable[[Item], Result], items: Iterable[Item]) -> list[Result]:

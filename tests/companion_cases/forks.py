@@ -35,7 +35,7 @@ class Forks:
         self.server.communicate()
 
     def run(self, place: Place, *words: str, folder: str = ".", **variables: str) -> Run:
-        """Run a companion in a directory of the tree, as `Place.run` does."""
+        """Run a companion in a directory of the tree, as `place.run` does."""
         environment = place.environment | variables
         request = {"words": words, "folder": str(place.tree / folder), "environment": environment}
         assert self.server.stdin and self.server.stdout

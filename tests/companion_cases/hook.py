@@ -221,7 +221,8 @@ def test_versions(place: Place) -> None:
     for text in (b"1", b"2", b"3"):
         committed(place, place.shell("git rev-parse HEAD").stdout.strip(), TEXT)
         committed(place, "a.yml", sealed("old", text))
-    for words in ([], ["--all"], ["--since", first]):
+    lines: list[list[str]] = [[], ["--all"], ["--since", first]]
+    for words in lines:
         silent("three versions", run_below(place, *words))
     committed(place, "a.yml", TEXT)
     for option in ("--all", "--since=HEAD~1"):
