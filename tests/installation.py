@@ -72,8 +72,7 @@ def test_python(tmp_path: Path, make: Make, place: Path) -> None:
         done = make("install", *([f"PYTHON={python}"] if said else []))
         assert done.returncode == 0 and done.stderr.startswith(said) and bool(done.stderr) == bool(said), done.stderr
         starts = {path.read_text().split("\n")[0] for path in (place / "lib/ansible-vault").glob("ansible-vault-*")}
-        before = "#!/usr/bin/env -S --block-signal=INT"
-        assert starts == {f"{before} {python} -IB", f"{before} {python} -ISB"}
+        assert starts == {f"#!{python} -IB", f"#!{python} -ISB"}
     for name in ("python3", "/two words/python3", f"{tmp_path}/none"):
         done = make("install", f"PYTHON={name}", f"PREFIX={tmp_path}/other")
         assert (done.returncode != 0, (tmp_path / "other").exists(), "PYTHON" in done.stderr) == (True, False, True)

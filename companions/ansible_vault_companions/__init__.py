@@ -1,11 +1,11 @@
 """The modules that ansible-vault's companions share. They are tested, not proved.
 
-`lifecycle` starts and ends every companion, with a command line from `parsers`. `signals` postpones what would end it
-too early, and `processes` runs programs. `refusals`, `quoting` and `output` are what it says, and `limits` and
-`bounding` bound its work. `files` finds, reads and replaces files, and `envelopes` finds the envelopes in them.
-`passwords` gets passwords, `tool` runs ansible-vault with them, and `workers` do so for several envelopes at once.
-`git` asks git, and `guard` has the rules of the hook. Above these are `merging`, `editing` and `batch` (check and
-rotate); `alias` takes the command lines of Ansible's tool.
+`startup` comes before all else, and `lifecycle` starts and ends every companion, with a command line from `parsers`.
+`signals` postpones what would end it too early, and `processes` runs programs. `refusals`, `quoting` and `output` are
+what it says, and `limits` and `bounding` bound its work. `files` finds, reads and replaces files, and `envelopes` finds
+the envelopes in them. `passwords` gets passwords, `tool` runs ansible-vault with them, and `workers` do so for several
+envelopes at once. `git` asks git, and `guard` has the rules of the hook. Above these are `merging`, `editing` and
+`batch` (check and rotate); `alias` takes the command lines of Ansible's tool.
 """
 
 import os
@@ -22,15 +22,3 @@ if sys.version_info < OLDEST:
         f"{os.path.basename(sys.argv[0])}: Python {OLDEST[0]}.{OLDEST[1]} or newer is needed, and {sys.executable} is "
         f"{sys.version.split()[0]}"
     )
-
-
-def report_failure(kind, fault, trace):  # type: ignore
-    """Says in one line what the system refused, such as memory for a module. Anything else is a bug: the traceback goes
-    into a report."""
-    if not issubclass(kind, (MemoryError, ImportError, OSError)):
-        sys.__excepthook__(kind, fault, trace)
-        return
-    sys.stderr.write(f"{os.path.basename(sys.argv[0])}: {str(fault) or 'out of memory'}\n")
-
-
-sys.excepthook = report_failure

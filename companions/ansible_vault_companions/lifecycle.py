@@ -9,7 +9,6 @@ import sys
 from collections.abc import Callable
 from contextlib import suppress
 
-from ansible_vault_companions import signals
 from ansible_vault_companions.output import discard_stream, write_data, write_error
 from ansible_vault_companions.quoting import escape
 from ansible_vault_companions.refusals import Refused, describe_fault, describe_refusal
@@ -26,7 +25,6 @@ def attempt_work(companion: str, path: str, work: Callable[[], int | None]) -> i
 
 def run_companion(name: str, main: Callable[[list[str]], int]) -> None:
     """Runs a companion with the command line's words, and exits with its status."""
-    signals.restore_defaults()
     _prepare_streams()
     # A core dump would contain plaintext and passwords.
     resource.setrlimit(resource.RLIMIT_CORE, (0, resource.getrlimit(resource.RLIMIT_CORE)[1]))

@@ -36,16 +36,6 @@ class Stopped(Exception):
     """A signal has asked the companion to end."""
 
 
-def restore_defaults() -> None:
-    """Gives signals their default actions, except those that are ignored, and lets them through."""
-    # If SIGCHLD is ignored, the system keeps no exit statuses of child processes.
-    _signal.signal(_signal.SIGCHLD, _signal.SIG_DFL)
-    # Python has a handler of its own, and env has blocked the signal until now.
-    if _signal.SIGINT in ENDING:
-        _signal.signal(_signal.SIGINT, _signal.SIG_DFL)
-    _signal.pthread_sigmask(_signal.SIG_UNBLOCK, ENDING | {_signal.SIGINT})
-
-
 def let_signals_through() -> None:
     """Undoes what a program inherits if it is started where signals are postponed."""
     _signal.pthread_sigmask(_signal.SIG_UNBLOCK, ENDING)

@@ -172,7 +172,7 @@ ROWS = {
     "another": Row(sealed("dev", TEXT, "a"), CHECKED, "with (--.*) LABEL@", rf"{CHECKED} \1 a@~/secrets/dev"),
     "any label": Row(OF_PROD, BY_BOTH, "permit it with (.*?) when", rf"{BY_BOTH} \1"),
     "no new one": Row(OLD_VAULT, f"{ROTATE} {OLD}", "one with (.*?) or", rf"{ROTATE} {OLD} \1 ~/secrets/new"),
-    "no script": Row(has_script, f"{CHECK} --vault-password-file A_FILE a.yml", "run `(.*)`", in_shell, []),
+    "no script": Row(has_script, f"{CHECK} --vault-password-file=A_FILE a.yml", "run `(.*)`", in_shell, []),
     "it exists": Row(OLD_VAULT, f"{WITH} create {OLD}", "; use `(.*)`", rf"{WITH} \1 {OLD}"),
     "no vault": Row(TEXT, EDITED, "encrypt it with `(.*?)`", rf"\1 {OLD}"),
     "no value": Row(TEXT, EDITED, "or write `NAME(.*) TEXT`", write("b{} x\n"), [b"x"]),

@@ -12,7 +12,7 @@ NAMES = (EDIT, ROTATE, MERGE, CHECK, TEXTCONV, HOOK, WITH)
 LIMITS = 8
 # In kilobytes: from less than Python needs to more than any companion does.
 LEAST, MOST = 8_000, 120_000
-START = f"import sys; sys.path.insert(0, {str(COMPANIONS)!r}); import ansible_vault_companions"
+START = f"import sys; sys.path.insert(0, {str(COMPANIONS)!r}); import ansible_vault_companions.startup"
 
 
 def prepare(place: Place, name: str) -> list[str]:
@@ -58,7 +58,7 @@ def test_processes(cases: Companions, git: None, name: str) -> None:
 
 @pytest.mark.parametrize("name", NAMES)
 def test_memory(cases: Companions, git: None, pytestconfig: pytest.Config, name: str) -> None:
-    """Once Python itself can start, and read the package."""
+    """Once Python itself can start, and read a module."""
     needs("prlimit")
     random = Random(f"{pytestconfig.getoption('--seed')} {name}")
     for limit in [random.randrange(LEAST, MOST) for _ in range(2 * LIMITS)]:

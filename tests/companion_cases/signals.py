@@ -239,6 +239,7 @@ PIPE = "--vault-password-file ../pipe"
 WAITS = {
     "standard input": (f"{EDIT} {OLD} --value secret b.yml", "0 0x0 "),
     "a pipe with a password": (f"{CHECK} {PIPE} a.yml", "257 "),
+    "a signal that was blocked": (f"env --block-signal=TERM {CHECK} {PIPE} a.yml", "257 "),
     "a pipe with a password of the alias": (f"{WITH} view {PIPE} a.yml", "257 "),
     "a reader": (f"{TEXTCONV} {OLD} long.yml", "1 0x1 "),
     "a reader of the alias": (f"{WITH} view {OLD} long.yml long.yml", "1 0x1 "),
@@ -364,23 +365,46 @@ bounding._limit_time = lambda seconds: limited(1e-6 if os.path.exists("../saved"
 
 
 MOMENTS = 12
+COMPANIONS = (EDIT, ROTATE, MERGE, CHECK, TEXTCONV, HOOK, WITH)
+# Sends a signal to a companion some time after it has begun. Before that, Python answers SIGINT itself.
+LATER = """
+import subprocess
+from ansible_vault_companions import startup
+words = ["sh", "-c", f"sleep {moment}; kill -{number} {{os.getpid()}} 2> /dev/null"]
+def prepare(before=startup.prepare_process):
+    before()
+    subprocess.Popen(words, stdout=subprocess.DEVNULL, stderr=subprocess.DEVNULL)
+startup.prepare_process = prepare
+"""
 
 
-@pytest.mark.parametrize("name", (EDIT, ROTATE, MERGE, CHECK, TEXTCONV, HOOK, WITH))
+def prepare(place: Place, name: str) -> list[str]:
+    """Return a command line of a companion, in a repository."""
+    place.shell("git init -q && git -c user.name=a -c user.email=b commit -qm c --allow-empty")
+    lines = {CHECK: [CHECK, *place.by_file("old"), "."], TEXTCONV: [TEXTCONV, *place.by_file("old"), "a.yml"]}
+    lines |= {HOOK: [HOOK, "--since", "HEAD"], WITH: [WITH, "rekey", *to_new(place), "a.yml"]} | tree(place)
+    return lines[name]
+
+
+def check_end(place: Place, name: str, number: int, status: int, errors: str) -> None:
+    """Check that a signal has ended a run by its default action, or came too late, and that nothing is torn or left."""
+    assert status in (0, -number) and "Traceback" not in errors and "KeyboardInterrupt" not in errors, errors
+    shutil.rmtree(place.tree / ".git")
+    if name == EDIT:
+        check_edit(place, errors)
+    else:
+        check_whole(place)
+
+
+@pytest.mark.parametrize("name", COMPANIONS)
 def test_random_moments(cases: Companions, git: None, pytestconfig: pytest.Config, name: str) -> None:
-    """From the first millisecond on, a signal ends a run by its default action, or comes too late; never with words of
-    Python, and with nothing torn or left."""
-    random = Random(f"{pytestconfig.getoption('--seed')} {name}")
-    longest = 0.0
-    for attempt in range(MOMENTS + 1):
-        place = cases.place()
-        place.shell("git init -q && git -c user.name=a -c user.email=b commit -qm c --allow-empty")
-        lines = {CHECK: [CHECK, *place.by_file("old"), "."], TEXTCONV: [TEXTCONV, *place.by_file("old"), "a.yml"]}
-        lines |= {HOOK: [HOOK, "--since", "HEAD"], WITH: [WITH, "rekey", *to_new(place), "a.yml"]} | tree(place)
-        number = random.choice((signal.SIGINT, signal.SIGTERM, signal.SIGHUP))
-        begin = time.monotonic()
+    """From the first millisecond on."""
+    random, longest = Random(f"{pytestconfig.getoption('--seed')} {name}"), 0.0
+    for attempt in range(MOMENTS):
+        place, number = cases.place(), random.choice((signal.SIGTERM, signal.SIGHUP))
+        words, begin = prepare(place, name), time.monotonic()
         streams = {"stdout": subprocess.DEVNULL, "stderr": subprocess.PIPE}
-        with started(lines[name], cwd=place.tree, env=place.environment, text=True, **streams) as process:
+        with started(words, cwd=place.tree, env=place.environment, text=True, **streams) as process:
             if attempt == 0:
                 process.wait(SECONDS)
                 longest = time.monotonic() - begin
@@ -388,9 +412,18 @@ def test_random_moments(cases: Companions, git: None, pytestconfig: pytest.Confi
                 time.sleep(random.uniform(0.001, longest))
                 process.send_signal(number)
             errors = process.communicate(timeout=SECONDS)[1]
-            assert process.returncode in (0, -number) and "Traceback" not in errors, (attempt, errors)
-        shutil.rmtree(place.tree / ".git")
-        if name == EDIT:
-            check_edit(place, errors)
-        else:
-            check_whole(place)
+        check_end(place, name, number, process.returncode, errors)
+
+
+@pytest.mark.parametrize("name", COMPANIONS)
+def test_early_interrupts(cases: Companions, git: None, pytestconfig: pytest.Config, name: str) -> None:
+    """While modules are imported, too."""
+    random, statuses = Random(f"{pytestconfig.getoption('--seed')} {name}"), set[int]()
+    for _ in range(MOMENTS):
+        place = cases.place()
+        companion, *words = prepare(place, name)
+        change = LATER.format(moment=random.uniform(0, 0.15), number=int(signal.SIGINT))
+        done = run_changed(place, companion, change, words)
+        check_end(place, name, signal.SIGINT, done.returncode, done.stderr)
+        statuses.add(done.returncode)
+    assert -signal.SIGINT in statuses
