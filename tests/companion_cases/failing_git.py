@@ -9,6 +9,7 @@ if it has another form than a whole one; `looks_whole` has those that have not.
 """
 
 import os
+import re
 import shutil
 from collections import Counter
 from collections.abc import Callable
@@ -24,13 +25,15 @@ from companion_cases.repository import under_git
 pytestmark = [pytest.mark.usefixtures("git"), pytest.mark.faults]
 
 NOTHING, RECORD, HALF, SHORT, ALL = "nothing", "the first record", "half", "all but the last byte", "all"
+# The line before each content in the answer of `cat-file --batch`.
+BATCH = re.compile(rb"^[0-9a-f]{40} blob \d+\n", re.MULTILINE)
 # A call with a status reads its input first.
 ENDS = {f"status {status}": f"cat > /dev/null; exit {status}" for status in (0, 1, 128)} | {"a signal": "kill -KILL $$"}
 # What a failing call prints, and how it ends.
 Way = tuple[str, str]
 WAYS: list[Way] = [
     *((part, "status 0") for part in (NOTHING, RECORD, HALF, SHORT)),
-    *((NOTHING, end) for end in ("status 1", "status 128", "a signal")),
+    *((NOTHING, end) for end in ("status 1", "status 128")),
     (HALF, "a signal"),
     (ALL, "status 1"),
     (ALL, "a signal"),
@@ -182,15 +185,12 @@ class Call(NamedTuple):
     answer: bytes
 
     def length(self, part: str) -> int:
-        """Return how many bytes this part of the answer has. A record ends with a null character or with its line."""
+        """Return how many bytes this part of the answer has. A record ends with a null character or with its line. Of
+        the answers to a batch, half are all but the last content."""
         whole, end = len(self.answer), b"\0" if b"\0" in self.answer else b"\n"
-        lengths = {
-            NOTHING: 0,
-            RECORD: self.answer.find(end) + 1,
-            HALF: whole // 2,
-            SHORT: max(0, whole - 1),
-            ALL: whole,
-        }
+        headers = [header.end() for header in BATCH.finditer(self.answer)]
+        half = headers[-1] if headers else whole // 2
+        lengths = {NOTHING: 0, RECORD: self.answer.find(end) + 1, HALF: half, SHORT: max(0, whole - 1), ALL: whole}
         return lengths[part]
 
 

@@ -86,7 +86,7 @@ CONTENTS = {
 }
 # Names of a file, which are bytes.
 NAMES = [
-    b"\xff\xfe.yml", b"a\nansible-vault-hook: b.yml", b"-f.yml", b"--all", b"--", b"HEAD", b"HEAD~1", b"master", b"@", b":0:a.yml",
+    b"\xff\xfe.yml", b"a\nfine: b.yml", b"-f.yml", b"--all", b"--", b"HEAD", b"HEAD~1", b"master", b"@", b":0:a.yml",
     b":/", b":(top)a.yml", b"\x1b[2J.yml", b"\x1b]0;owned\x07.yml", b"\xe2\x80\xae.yml", b"a\\.yml", b'"a".yml', b"*", b"[a].yml",
     b" ", b"~", b"#.yml", b"!a.yml", b"%2e.yml", b"MERGE_HEAD", b"x" * 255, b"$(id).yml",
 ]  # fmt: skip
@@ -197,13 +197,16 @@ PARTS = 3
 Make = Callable[[Place, str], None]
 
 
-def try_all(cases: Companions, forks: Forks, config: pytest.Config, makes: dict[str, Make]) -> tuple[int, int]:
-    """Run a command, or one in --share of them, on each that is made. Return how many were run, and of how many."""
+def try_all(
+    cases: Companions, forks: Forks, config: pytest.Config, makes: dict[str, Make], always: str = ""
+) -> tuple[int, int]:
+    """Run a command, or one in --share of them, on each that is made, and this one always. Return how many were run, and
+    of how many."""
     share, random = int(config.getoption("--share")), Random(f"{config.getoption('--seed')}")
     every = [(name, command) for name in makes for command in COMMANDS]
     seen, number, faults = set[str](), 0, []
     for name, command in random.sample(every, len(every)):
-        if name in seen and random.randrange(share) > 0:
+        if name in seen and command != always and random.randrange(share) > 0:
             continue
         seen.add(name)
         number += 1
@@ -230,13 +233,13 @@ def test_contents(
     def make(name: str, place: Place, command: str) -> None:
         place.put("a.yml", beside_envelope(content_of(name, command), random))
 
-    makes = {name: partial(make, name) for name in [*CONTENTS][part::PARTS]}
+    makes: dict[str, Make] = {name: partial(make, name) for name in [*CONTENTS][part::PARTS]}
     record_property("hostile files", try_all(cases, forks, pytestconfig, makes))
 
 
 def put_name(name: bytes, place: Place, _command: str) -> None:
     """A plaintext in place of a vault of this name, in two directories."""
-    for folder, content in (("", BLOCK), ("a folder/", ENVELOPE)):
+    for folder, content in (("", ENVELOPE), ("a folder/", BLOCK)):
         place.put(folder + os.fsdecode(name), content)
     add_and_commit(place)
     place.put(os.fsdecode(name), TEXT)
@@ -250,6 +253,16 @@ def put_link(target: bytes, place: Place, _command: str) -> None:
     (place.tree / "b.yml").unlink()
     for name in ("b.yml", "self"):
         os.symlink(target, os.fsencode(place.tree / name))
+
+
+def put_long_link(place: Place, _command: str) -> None:
+    """A link that no file system can have, in place of a vault."""
+    place.put("b.yml", ENVELOPE)
+    add_and_commit(place)
+    place.put("../target", b"q/" * (LONGEST // 2) + b"a.yml")
+    blob = place.shell("git hash-object -w ../target").stdout.strip()
+    assert blob, "the link is in the repository"
+    place.shell(f"git update-index --cacheinfo 120000,{blob},b.yml && git update-index --skip-worktree b.yml")
 
 
 def put_attributes(line: bytes, place: Place, _command: str) -> None:
@@ -278,7 +291,7 @@ def put_deep_folders(place: Place, _command: str) -> None:
 OTHERS: dict[str, Make] = {f"the name {name!r}": partial(put_name, name) for name in NAMES}
 OTHERS |= {f"a link to {target[:40]!r}": partial(put_link, target) for target in LINKS}
 OTHERS |= {f"attributes, {what}": partial(put_attributes, line) for what, line in ATTRIBUTES.items()}
-OTHERS |= {"many names": put_many_names, "deep folders": put_deep_folders}
+OTHERS |= {"a long link": put_long_link, "many names": put_many_names, "deep folders": put_deep_folders}
 
 
 @pytest.mark.parametrize("part", range(PARTS))
@@ -290,4 +303,4 @@ def test_others(
     record_property: Callable[[str, object], None],
 ) -> None:
     makes = {name: OTHERS[name] for name in [*OTHERS][part::PARTS]}
-    record_property("hostile files", try_all(cases, forks, pytestconfig, makes))
+    record_property("hostile files", try_all(cases, forks, pytestconfig, makes, always="the hook"))
