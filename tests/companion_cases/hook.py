@@ -206,7 +206,7 @@ LIKE_REVISIONS = ["HEAD", "HEAD~1", "--", "--all", "-x", ":/a", "^HEAD", "*", "r
 
 
 def run_below(place: Place, *words: str) -> Done:
-    """Run the hook in a directory that has none of these names, since it refuses an option that is the name of a file."""
+    """Run the hook in a directory without these names, since it refuses an option that is the name of a file."""
     (place.tree / "below").mkdir(exist_ok=True)
     return place.run(HOOK, *words, folder="below")
 

@@ -67,8 +67,9 @@ def load_new_passwords(args: argparse.Namespace) -> list[Password]:
 
 def repeat_options(args: argparse.Namespace) -> list[str]:
     """The words of a command line that name the same passwords."""
-    by_id = ["-J" if text == ASKED else f"--vault-id={text}" for text in args.vault_id]
-    return [*by_id, *(f"--vault-password-file={path}" for path in args.vault_password_file)]
+    words = [f"--vault-id={text}" for text in args.vault_id]
+    words += [f"--vault-password-file={path}" for path in args.vault_password_file]
+    return words
 
 
 def read_settings(args: argparse.Namespace, warn: Callable[[str], None]) -> Settings:
