@@ -63,9 +63,14 @@ def read_nodes(data: bytes, every: bool = False) -> Iterator[Node]:
     yaml = require_pyyaml()
     skipped = len(BYTE_ORDER_MARK) if data.startswith(BYTE_ORDER_MARK) else 0
     ending = b"\r\n" if b"\r\n" in data else b"\n"
+    # How many keys and texts there are so far.
+    size = 0
     try:
         for path, is_key, event in _read_nodes(yaml, _Shadow(data[skipped:])):
             if every and not is_key or _is_envelope(path, event):
+                size += 1 + len(path)
+                if size > limits.MOST_KEYS:
+                    raise TooMuch(limits.TOO_MANY)
                 yield _make_node(data, skipped, ending, path, event)
     except yaml.YAMLError as fault:
         mark = getattr(fault, "problem_mark", None)

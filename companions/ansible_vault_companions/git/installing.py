@@ -65,7 +65,7 @@ def make_setting(setting: str, program: str, passwords: list[str]) -> str:
 
 
 def read_setting(setting: str, *options: str) -> str:
-    """The value of a setting; empty if it is not set. Without a default, git has the same status then and if it fails."""
+    """The value of a setting; empty if it is not set. Without a default, git would have the status of a failure."""
     return read_line("config", *options, "--default", "", "--get", setting)
 
 
