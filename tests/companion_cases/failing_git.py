@@ -90,8 +90,8 @@ VAULT, PW, PLAIN = sealed("old"), block("old", name="pw"), b"pw: plain\n"
 LINES = b"".join(b"line%d: %d\n" % (number, number) for number in range(40))
 # Names that begin with m have to be encrypted, and old.yml need not be.
 MARKS: Files = {".gitattributes": b"m*.yml diff=ansible-vault\nold.yml -ansible-vault\n"}
-# Files, and what takes their place: plaintext in the same file, in a renamed one, in one that is marked, and in one that
-# an older line of .gitattributes exempts.
+# Files, and what takes their place: plaintext in the same file, in a renamed one, in one that is marked, and in one
+# that an older line of .gitattributes exempts.
 ENCRYPTED: Files = {**MARKS, "a.yml": VAULT, "b.yml": PW, "c.yml": LINES + PW, "old.yml": VAULT}
 PLAINTEXT: Files = {
     "a.yml": TEXT,
@@ -215,7 +215,7 @@ class Failing(NamedTuple):
     line: str
 
     def run(self, call: Call | None = None, way: Way = WHOLE, alike: bool = False) -> tuple[Result, bool]:
-        """Return the result of a run in the prepared repository, and whether the call has failed, or all of its kind."""
+        """Return the result of a run in the prepared repository, and whether the call failed, or all of its kind."""
         for name in ("kinds", "failed"):
             (self.place.path / name).write_text("")
         fails = {}

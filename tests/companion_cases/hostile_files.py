@@ -19,8 +19,8 @@ from companion_cases.repository import add_and_commit, under_git
 
 pytestmark = [pytest.mark.usefixtures("git"), pytest.mark.faults]
 
-# The bounds of each run, and the longest content in bytes. An edit holds what was there and what was saved.
-SECONDS, KILOBYTES, OF_EDIT, LONGEST = 10, 300_000, 500_000, 400_000
+# The bounds of each run, and the longest content in bytes.
+SECONDS, KILOBYTES, LONGEST = 10, 300_000, 400_000
 BLOCK, ENVELOPE, HEADER = block("old"), sealed("old"), b"$ANSIBLE_VAULT;1.1;AES256\n"
 SIDES = b"<<<<<<< ours\nx: 1\n=======\nx: 2\n>>>>>>> theirs\n"
 # What is repeated, as often as it fits into the size, behind the first text and before the last one.
@@ -87,8 +87,8 @@ CONTENTS = {
 # Names of a file, which are bytes.
 NAMES = [
     b"\xff\xfe.yml", b"a\nfine: b.yml", b"-f.yml", b"--all", b"--", b"HEAD", b"HEAD~1", b"master", b"@", b":0:a.yml",
-    b":/", b":(top)a.yml", b"\x1b[2J.yml", b"\x1b]0;owned\x07.yml", b"\xe2\x80\xae.yml", b"a\\.yml", b'"a".yml', b"*", b"[a].yml",
-    b" ", b"~", b"#.yml", b"!a.yml", b"%2e.yml", b"MERGE_HEAD", b"x" * 255, b"$(id).yml",
+    b":/", b":(top)a.yml", b"\x1b[2J.yml", b"\x1b]0;owned\x07.yml", b"\xe2\x80\xae.yml", b"a\\.yml", b'"a".yml', b"*",
+    b"[a].yml", b" ", b"~", b"#.yml", b"!a.yml", b"%2e.yml", b"MERGE_HEAD", b"x" * 255, b"$(id).yml",
 ]  # fmt: skip
 # Where a link leads.
 LINKS = [
@@ -167,7 +167,7 @@ def find_fault(place: Place, forks: Forks, command: str) -> str:
     companion, line, statuses = COMMANDS[command]
     run = forks.run(place, companion, *line.split())
     used = f"{run.seconds:.1f} s, {run.kilobytes // 1000} MB"
-    if run.seconds > SECONDS or run.kilobytes > (OF_EDIT if companion == EDIT else KILOBYTES):
+    if run.seconds > SECONDS or run.kilobytes > KILOBYTES:
         return f"it takes {used}"
     if run.status not in statuses:
         return f"it has the status {run.status}: {run.errors[:500]}"
@@ -198,15 +198,15 @@ Make = Callable[[Place, str], None]
 
 
 def try_all(
-    cases: Companions, forks: Forks, config: pytest.Config, makes: dict[str, Make], always: str = ""
+    cases: Companions, forks: Forks, config: pytest.Config, makes: dict[str, Make], *first: str
 ) -> tuple[int, int]:
-    """Run a command, or one in --share of them, on each that is made, and this one always. Return how many were run, and
-    of how many."""
+    """Run one of the first commands on each that is made, and one in --share of all commands. Return how many were run,
+    and of how many."""
     share, random = int(config.getoption("--share")), Random(f"{config.getoption('--seed')}")
     every = [(name, command) for name in makes for command in COMMANDS]
     seen, number, faults = set[str](), 0, []
-    for name, command in random.sample(every, len(every)):
-        if name in seen and command != always and random.randrange(share) > 0:
+    for name, command in sorted(random.sample(every, len(every)), key=lambda pair: pair[1] not in first):
+        if name in seen and random.randrange(share) > 0:
             continue
         seen.add(name)
         number += 1
@@ -234,7 +234,7 @@ def test_contents(
         place.put("a.yml", beside_envelope(content_of(name, command), random))
 
     makes: dict[str, Make] = {name: partial(make, name) for name in [*CONTENTS][part::PARTS]}
-    record_property("hostile files", try_all(cases, forks, pytestconfig, makes))
+    record_property("hostile files", try_all(cases, forks, pytestconfig, makes, "the hook", "edit"))
 
 
 def put_name(name: bytes, place: Place, _command: str) -> None:
@@ -303,4 +303,4 @@ def test_others(
     record_property: Callable[[str, object], None],
 ) -> None:
     makes = {name: OTHERS[name] for name in [*OTHERS][part::PARTS]}
-    record_property("hostile files", try_all(cases, forks, pytestconfig, makes, always="the hook"))
+    record_property("hostile files", try_all(cases, forks, pytestconfig, makes, "the hook"))

@@ -5,14 +5,15 @@ It reads requests from standard input, a line of JSON each, and prints what is l
 
 import json
 import os
+import resource
 import runpy
 import signal
 import sys
 from pathlib import Path
 from typing import Any
 
-# Seconds after which a run is ended.
-MOST_SECONDS = 300
+# Seconds after which a run is ended: of processor time, and by the clock.
+OF_PROCESSOR, BY_CLOCK = 60, 300
 
 
 def start(main: dict[str, Any], words: list[str], folder: str, environment: dict[str, str]) -> None:
@@ -22,7 +23,8 @@ def start(main: dict[str, Any], words: list[str], folder: str, environment: dict
     os.environ.clear()
     os.environ.update(environment)
     os.chdir(folder)
-    signal.alarm(MOST_SECONDS)
+    resource.setrlimit(resource.RLIMIT_CPU, (OF_PROCESSOR, OF_PROCESSOR))
+    signal.alarm(BY_CLOCK)
     sys.argv = words
     lifecycle.run_companion(main["NAME"], main["main"])
 
