@@ -139,6 +139,8 @@ ROTATED = r".+: (?:(\d+) )?would be rotated"
 COUNTED = r"(\d+) to be rotated, 0 under the new password already, (\d+) with other labels(?: \(.+\))?, (\d+) failed"
 MISSING = f"{ROTATE}: no vault or value has the label default"
 SHOWN = rf"(?:{TEXTCONV}: .+: shown as it is: .+\n)?"
+# Of a link out of the repository to a file without an envelope. That is no failure of check and rotate.
+LEADS_OUT = r".+: .+: a link leads out of .+; name .+ instead"
 
 
 def is_hook_answer(run: Run, status: int, leak: Leak | None) -> bool:
@@ -150,10 +152,15 @@ def is_hook_answer(run: Run, status: int, leak: Leak | None) -> bool:
     return (run.status, run.output) == (1, "") and names and re.fullmatch(form, run.errors) is not None
 
 
+def list_faults(run: Run) -> list[str]:
+    """List the lines of standard error, without links that lead out."""
+    return [line for line in run.errors.splitlines() if not re.fullmatch(LEADS_OUT, line)]
+
+
 def is_check_answer(run: Run, number: int | None) -> bool:
     """It has a line for each envelope, of which there are so many, and one for each failure, which it counts."""
     *lines, last = run.output.splitlines()
-    faults, counts = run.errors.splitlines(), re.fullmatch(CHECKED, last)
+    faults, counts = list_faults(run), re.fullmatch(CHECKED, last)
     if counts is None or not all(re.fullmatch(DECRYPTED, line) for line in lines):
         return False
     is_counted = [int(count) for count in counts.groups()] == [len(lines), len(faults)]
@@ -169,14 +176,16 @@ def is_rotate_answer(run: Run, number: int | None) -> bool:
     if counts is None or None in named:
         return False
     rotated, others, failed = map(int, counts.groups())
-    faults = [line for line in run.errors.splitlines() if line != MISSING]
+    faults = [line for line in list_faults(run) if line != MISSING]
     is_counted = (rotated, failed) == (sum(int(each[1] or 1) for each in named if each), len(faults))
     is_right = number is None or (number, 0) == (rotated + others, failed)
     return is_counted and is_right and run.status == 1 and (MISSING in run.errors) == (rotated == 0 and failed == 0)
 
 
-def is_textconv_answer(run: Run, content: bytes) -> bool:
-    """A vault is shown in plaintext, and what has no envelope as it is."""
+def is_textconv_answer(run: Run, content: bytes, leads_out: bool) -> bool:
+    """A vault is shown in plaintext, and what has no envelope as it is. No link is followed out of the repository."""
+    if leads_out:
+        return (run.status, run.output) == (1, "") and re.fullmatch(LEADS_OUT, run.errors.rstrip("\n")) is not None
     if re.fullmatch(SHOWN, run.errors) is None or run.status != 0:
         return False
     text = TEXTS.get(content, None if b"ANSIBLE_VAULT" in content else content)
@@ -214,7 +223,8 @@ class Watch(NamedTuple):
         rotate = [ROTATE, "--dry-run", *old, *place.by_file("new", "new-"), "."]
         self.run(name, rotate, lambda run: is_rotate_answer(run, number))
         for path in self.team.random.sample(sorted(before), 2):
-            self.run(name, [TEXTCONV, *old, path], lambda run: is_textconv_answer(run, before[path]))
+            leads_out = not (place.tree / path).resolve().is_relative_to(place.tree.resolve())
+            self.run(name, [TEXTCONV, *old, path], lambda run: is_textconv_answer(run, before[path], leads_out))
         assert place.files() == before, "nothing is changed"
 
     def run(self, name: str, words: list[str], is_allowed: Callable[[Run], bool]) -> None:

@@ -171,8 +171,8 @@ def find_fault(place: Place, forks: Forks, command: str) -> str:
         return f"it takes {used}"
     if run.status not in statuses:
         return f"it has the status {run.status}: {run.errors[:500]}"
-    # A line of advice follows a line of the hook.
-    lines = [line for line in run.errors.splitlines() if not re.match(rf"{companion}: |  \S", line)]
+    # A line of advice follows one of the hook, or of an edit that leaves an encrypted copy.
+    lines = [line for line in run.errors.splitlines() if not re.match(rf"{companion}: |  \S|--resume reopens", line)]
     lines += [line for line in run.errors.splitlines() if not line.isprintable()]
     if run.status == 1 and not run.errors:
         return "it fails without a word"
