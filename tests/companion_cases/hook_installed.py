@@ -92,8 +92,10 @@ def test_those_of_others(place: Place) -> None:
 def test_refused_secrets(place: Place) -> None:
     """A clone could bring a secret at a relative path along, and only an installation has a use for secrets."""
     under_git(place, ATTRIBUTES)
-    before, why = place.get(".git/config"), "has to begin with / or ~"
-    whys = {"--install --vault-password-file=pass": why, "--install --vault-id=dev@pass": why}
+    before, why = place.get(".git/config"), "has to begin with / or a home directory's ~"
+    by_path, by_id = "--install --vault-password-file", "--install --vault-id"
+    whys = {f"{by_path}=pass": why, f"{by_id}=dev@pass": why, f"{by_id}=dev@": why}
+    whys |= {f"{by_path}=~nobody-has-this-name/pass": why, f"{by_id}=dev@~nobody-has-this-name/pass": why}
     for line, why in (whys | {"--all --vault-id=/pass": "only --install takes passwords"}).items():
         ended(line, place.run(HOOK, *line.split()), 2, why)
     assert place.get(".git/config") == before and ".git/hooks/pre-commit" not in place.names(), "nothing is done"

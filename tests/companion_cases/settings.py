@@ -1,5 +1,6 @@
 """Secrets that Ansible's settings name, compared with Ansible's own tool."""
 
+import os
 import re
 import shutil
 from itertools import compress, product
@@ -7,7 +8,7 @@ from itertools import compress, product
 import pytest
 
 from ansible_vault_companions.passwords.settings import Settings
-from companion_cases import CHECK, EDIT, ROTATE, TEXT, WITH, Place, described, ended, sealed
+from companion_cases import CHECK, EDIT, ROTATE, TEXT, TEXTCONV, WITH, Place, described, ended, sealed
 from lib.needs import needs, needs_root
 from lib.subtests import SubTests
 
@@ -93,6 +94,43 @@ def test_what_is_not_trusted(
         ended("without options", place.run(*line), 1)
         assert ran.exists(), "it is run"
         ran.unlink()
+
+
+# A home directory that there is not, and how a companion takes a password from there: what it says and its status.
+LOST = "~nobody-has-this-name/script"
+NO_HOME = f"{LOST}: ~ leads to no home directory; to mean a file of this name, begin with ./"
+IGNORED = f"{LOST}: beside options, a path in the"
+HOMELESS: dict[str, tuple[list[str], dict[str, str], int, str]] = {
+    "a path": ([CHECK, "--vault-password-file", LOST], {}, 1, NO_HOME),
+    "a source": ([CHECK, "--vault-id", f"dev@{LOST}"], {}, 1, f"dev@{NO_HOME}"),
+    "one for git": ([TEXTCONV, "--vault-id", f"dev@{LOST}"], {}, 0, f"dev@{NO_HOME}; it is ignored"),
+    "a list": ([CHECK], {"IDENTITY_LIST": f"../secrets/old, dev@{LOST}"}, 0, f"dev@{NO_HOME}; it is ignored"),
+    "a variable": ([CHECK], {"PASSWORD_FILE": LOST}, 1, NO_HOME),
+    "a variable of a variable": ([CHECK], {"PASSWORD_FILE": "$LOST"}, 1, f"$LOST: {NO_HOME.partition(': ')[2]}"),
+    "a list beside options": ([CHECK, "--vault-id", "../secrets/old"], {"IDENTITY_LIST": f"dev@{LOST}"}, 0, IGNORED),
+}
+
+
+@pytest.mark.parametrize("words, settings, status, told", HOMELESS.values(), ids=HOMELESS)
+def test_homes_that_are_missing(
+    place: Place, words: list[str], settings: dict[str, str], status: int, told: str
+) -> None:
+    """Where nobody has the name after ~, a directory of that name in a stranger's repository does not count."""
+    place.put(LOST, b"#!/bin/sh\ntouch ran; cat ../secrets/dev\n", 0o755)
+    place.put("a.yml", sealed("old"))
+    variables = {f"ANSIBLE_VAULT_{name}": value for name, value in settings.items()}
+    ended("it is refused", place.run(*words, "a.yml", LOST=LOST, **variables), status, told)
+    assert "ran" not in place.names()
+    ended("with ./", place.run(CHECK, "--vault-id", f"./{LOST}", "a.yml"), 1, f"tried ./{LOST})")
+    assert "ran" in place.names()
+
+
+def test_no_home(place: Place, monkeypatch: pytest.MonkeyPatch) -> None:
+    """A user without a home directory has no ~/.ansible.cfg, even in a directory that has this path."""
+    monkeypatch.setattr(os.path, "expanduser", lambda path: path)
+    monkeypatch.chdir(place.tree)
+    place.put("~/.ansible.cfg", FILE.format("/the/strangers").encode())
+    assert Settings(False, print).find_password_file() == ""
 
 
 # What Python's parser would look at for minutes.

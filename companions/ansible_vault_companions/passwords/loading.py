@@ -12,6 +12,7 @@ from ansible_vault_companions.limits import LONGEST_PASSWORD
 from ansible_vault_companions.passwords import prompts, scripts
 from ansible_vault_companions.passwords.labels import is_allowed
 from ansible_vault_companions.passwords.password import Password
+from ansible_vault_companions.passwords.settings import expand_path
 from ansible_vault_companions.passwords.sources import Source
 from ansible_vault_companions.quoting import escape
 from ansible_vault_companions.refusals import Refused, describe_fault
@@ -62,10 +63,11 @@ def read_password(source: Source, encrypts: bool) -> Password:
 def _read(source: Source, encrypts: bool) -> bytes:
     if source.is_prompt:
         return prompts.ask_password(source.place, source.label, encrypts)
-    mode = os.stat(source.place).st_mode
+    path = expand_path(source.place)
+    mode = os.stat(path).st_mode
     if stat.S_ISREG(mode) and mode & 0o111:
-        return scripts.run_script(source.place, source.written_label)[: LONGEST_PASSWORD + 1]
-    with open(source.place, "rb") as file:
+        return scripts.run_script(path, source.written_label)[: LONGEST_PASSWORD + 1]
+    with open(path, "rb") as file:
         return file.read(LONGEST_PASSWORD + 1)
 
 

@@ -17,6 +17,8 @@ from ansible_vault_companions.refusals import Refused, describe_fault
 
 NAME = "ansible.cfg"
 SECTION = "defaults"
+# Other places of the file, in the order in which Ansible looks there.
+USUAL_PLACES = "~/.ansible.cfg", "/etc/ansible/ansible.cfg"
 # In a path of the settings, this means the current directory.
 CURRENT = "{{CWD}}"
 # For each setting, the environment variable and the key in the file.
@@ -29,12 +31,33 @@ ID_MATCH = "ANSIBLE_VAULT_ID_MATCH", "vault_id_match"
 PROMPT, ASK = "prompt", "prompt_ask_vault_pass"
 # Values that Ansible reads as true.
 TRUE = ("1", "on", "t", "true", "y", "yes")
-RELATIVE = "beside options, a path in the settings counts only if it begins with / or ~; it is ignored"
+HOME = "~"
+RELATIVE = (
+    "beside options, a path in the settings counts only if it begins with / or a home directory's ~; it is ignored"
+)
+NO_HOME = "~ leads to no home directory; to mean a file of this name, begin with ./"
+
+
+def split_vault_id(text: str) -> tuple[str, str]:
+    """The label of [LABEL@]SOURCE, empty if there is none, and the source."""
+    label, at, place = text.partition("@")
+    return (label, place) if at else ("", text)
+
+
+def is_absolute(place: str, folder: str = "") -> bool:
+    """Whether a path leads to the same place from everywhere. A relative one starts from `folder`. A variable may be the
+    current directory."""
+    path = os.path.expanduser(place)
+    return os.path.isabs(path) or os.path.isabs(folder) and not path.startswith((HOME, "$", CURRENT))
 
 
 def expand_path(path: str, folder: str = "") -> str:
-    """A path as Ansible reads it. A relative one starts from this directory, or else from the current one."""
-    return os.path.join(folder, os.path.expanduser(os.path.expandvars(path)))
+    """A path as Ansible reads it. A relative one starts from this directory, or else from the current one. Refuses a
+    home directory that there is not: as a relative path, it could be one of a stranger's repository."""
+    expanded = os.path.expanduser(os.path.expandvars(path))
+    if expanded.startswith(HOME):
+        raise Refused(NO_HOME)
+    return os.path.join(folder, expanded)
 
 
 class Settings:
@@ -49,14 +72,14 @@ class Settings:
     def list_identities(self) -> list[str]:
         """The sources, as [LABEL@]SOURCE. As with Ansible, relative paths start from the current directory."""
         items = [_unquote(item.strip()) for item in self._read(IDENTITIES).split(",")]
-        return [item for item in items if item and self._may_count(item.partition("@")[2] or item)]
+        return [item for item in items if item and self._may_count(split_vault_id(item)[1] or item)]
 
     def find_password_file(self) -> str:
         """The path of the password file; empty if there is none. In a file, it is relative to the file's directory."""
         path = self._read(PASSWORD_FILE)
         folder = "" if PASSWORD_FILE[0] in os.environ or not self.path else os.path.dirname(self.path)
         counts = path and self._may_count(path, folder)
-        return expand_path(path.replace(CURRENT, os.getcwd()), folder) if counts else ""
+        return _expand_setting(path.replace(CURRENT, os.getcwd()), folder) if counts else ""
 
     def is_asking(self) -> bool:
         """Whether to ask for a password."""
@@ -75,9 +98,8 @@ class Settings:
         return os.environ.get(variable, self.keys.get(key, ""))
 
     def _may_count(self, place: str, folder: str = "") -> bool:
-        """Whether a path counts that starts from a directory, if it is relative. A variable may be the current one."""
-        start = place if place.startswith(("$", CURRENT)) else os.path.join(folder, os.path.expanduser(place))
-        counts = not self.beside_options or place in (PROMPT, ASK) or os.path.isabs(start)
+        """Whether a path counts. A relative one starts from `folder`."""
+        counts = not self.beside_options or place in (PROMPT, ASK) or is_absolute(place, folder)
         if not counts:
             self.warn(f"{escape(place)}: {RELATIVE}")
         return counts
@@ -85,16 +107,25 @@ class Settings:
     def _find_file(self) -> str | None:
         """The file that ANSIBLE_CONFIG names, else the first readable one, in Ansible's order of places."""
         named = os.environ.get("ANSIBLE_CONFIG", "")
-        path = os.path.join(expand_path(named), NAME) if os.path.isdir(expand_path(named)) else expand_path(named)
+        path = _expand_setting(named)
+        if os.path.isdir(path):
+            path = os.path.join(path, NAME)
         if _is_readable(path) and self._may_count(named):
             return path
-        places = [os.path.expanduser("~/.ansible.cfg"), "/etc/ansible/ansible.cfg"]
+        places = [os.path.expanduser(place) for place in USUAL_PLACES if is_absolute(place)]
         if not self.beside_options and os.path.exists(NAME):
             if os.stat(".").st_mode & stat.S_IWOTH:
                 self.warn(f"{escape(os.path.abspath(NAME))} is ignored, since its directory is world-writable")
             else:
                 places.insert(0, NAME)
         return next((place for place in places if _is_readable(place)), None)
+
+
+def _expand_setting(path: str, folder: str = "") -> str:
+    try:
+        return expand_path(path, folder)
+    except Refused as fault:
+        raise Refused(f"{escape(path)}: {fault}") from None
 
 
 def _read_section(path: str) -> dict[str, str]:

@@ -3,7 +3,7 @@
 from __future__ import annotations
 
 from ansible_vault_companions.envelopes.header import DEFAULT_LABEL
-from ansible_vault_companions.passwords.settings import ASK, PROMPT, Settings, expand_path
+from ansible_vault_companions.passwords.settings import ASK, PROMPT, Settings, split_vault_id
 from ansible_vault_companions.refusals import Refused
 
 # The module `typing` takes long to import.
@@ -25,7 +25,7 @@ class Source:
         # The label that was written, which a script gets; empty if there is none.
         self.written_label: Final = label
         self.label: Final = label or DEFAULT_LABEL
-        # A path or, for a prompt, PROMPT or ASK.
+        # A path as it was written or, for a prompt, PROMPT or ASK.
         self.place: Final = place
         # How messages name it: as it was written.
         self.text: Final = text
@@ -36,16 +36,14 @@ class Source:
 
 def parse_vault_id(text: str, is_setting: bool = False) -> Source:
     """The source that [LABEL@]SOURCE names."""
-    label, at, place = text.partition("@")
-    if not at:
-        label, place = "", text
+    label, place = split_vault_id(text)
     if place in (PROMPT, ASK):
         return Source(label, place, ASKING[1] if text == ASKED else text, is_prompt=True, is_setting=is_setting)
-    return Source(label, expand_path(place), text, is_prompt=False, is_setting=is_setting)
+    return Source(label, place, text, is_prompt=False, is_setting=is_setting)
 
 
 def make_path_source(path: str, is_setting: bool = False) -> Source:
-    return Source(DEFAULT_LABEL, expand_path(path), path, is_prompt=False, is_setting=is_setting)
+    return Source(DEFAULT_LABEL, path, path, is_prompt=False, is_setting=is_setting)
 
 
 def list_sources(ids: list[str], paths: list[str], settings: Settings) -> list[Source]:
