@@ -21,6 +21,7 @@ def encrypt(*words):
     raise MemoryError("no memory")
 Tool.encrypt = encrypt
 """
+SILENT = UNSEALED.replace('MemoryError("no memory")', "MemoryError")
 FULL = """
 write = replacing.write_new
 def full(folder, *words, **options):
@@ -37,7 +38,8 @@ STOPS = {
     "a removal": (f"{CHANGE}; rm all.yml", "", CHANGED_MEANWHILE, SEALED, {}),
     "an exception": (CHANGE, BROKEN, "too deep", SEALED, STAYS),
     "a full disk": (CHANGE, FULL, "no space", SEALED, STAYS),
-    "no vault": (CHANGE, UNSEALED, "no memory", PLAIN, STAYS),
+    "no vault": (CHANGE, UNSEALED, "no memory; an encrypted copy cannot be kept: no memory", PLAIN, STAYS),
+    "no text": (CHANGE, SILENT, "MemoryError; an encrypted copy cannot be kept: MemoryError", PLAIN, STAYS),
     "no directory for copies": (f"{CHANGE}; rm all.yml", "", CHANGED_MEANWHILE, PLAIN, {}),
 }
 

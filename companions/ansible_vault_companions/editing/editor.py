@@ -77,7 +77,7 @@ class Edit:
         except Exception as failed:
             if isinstance(failed, Refused) and self._opens_again(failed):
                 return False
-            raise self._rescue(text, refusals.describe_fault(failed) or describe_signal()) from None
+            raise self._rescue(text, describe_failure(failed)) from None
         try:
             self._replace(content)
         except (Refused, OSError) as failed:
@@ -101,7 +101,7 @@ class Edit:
         try:
             copy = self._save_copy(text)
         except Exception as failed:
-            return self.folder.keep(f"{why}; {NO_COPY}: {refusals.describe_fault(failed) or describe_signal()}", text)
+            return self.folder.keep(f"{why}; {NO_COPY}: {describe_failure(failed)}", text)
         return Refused(RESCUED.format(why, escape(copy)))
 
     def _save_copy(self, text: bytes) -> str:
@@ -109,6 +109,13 @@ class Edit:
         if len(keys) > 1:
             raise Refused(SEVERAL)
         return save_copy(self.tool, keys[0], self.draft.target, self.draft.plaintext, text)
+
+
+def describe_failure(failed: Exception) -> str:
+    """Why something failed. Some exceptions have no text, such as Python's own for too little memory."""
+    if isinstance(failed, signals.Stopped):
+        return describe_signal()
+    return refusals.describe_fault(failed) or type(failed).__name__
 
 
 def describe_signal() -> str:
