@@ -93,7 +93,7 @@ RECIPES = {
         CONFIGURED
         | {VAULT: vault(b"a: first\n"), "vault.yml": vault(b"a: shown\n"), "b.yml": vault(b"b: 1\n", "new.pass", "")},
         prepare="rm -r ~/.vault; git add -A",
-        printed="*\n2 decrypted, 0 not, 1 with other labels (default 1)\na: first\n",
+        printed="*\n2 decrypted, 0 failed, 1 with other labels (default 1)\na: first\n",
         after="stat -c %a ~/.vault ~/.vault/prod.pass; git commit -qm one; git show",
         left="700\n600\n*\n+a: shown\n*",
     ),
@@ -123,7 +123,7 @@ RECIPES = {
     ),
     "Check that everything can be decrypted": Recipe(
         {"vars/a.yml": vault(b"a", "new.pass"), "b.yml": block("secret", b"b", "new.pass")},
-        printed="./b.yml:2: secret: prod: decrypted by *\n./vars/a.yml: prod: decrypted by *\n2 decrypted, 0 not\n",
+        printed="./b.yml:2: secret: prod: decrypted by *\n./vars/a.yml: prod: decrypted by *\n2 decrypted, 0 failed\n",
     ),
     "Mark the files to be encrypted": Recipe(
         {".gitattributes": b""},
@@ -221,7 +221,7 @@ def test_pipeline(repository: Repository) -> None:
     repository.shell("git add -A && git commit -qm one && git update-ref refs/remotes/origin/main HEAD")
     shell, password = COMMANDS[PIPELINE], PASSWORDS["ci.pass"].decode()
     printed = repository.shown(f"set -e\n{shell}", VAULT_PASSWORD=password)
-    wanted = '*\n1 decrypted, 0 not, 1 with other labels (dev 1)\n*"msg": "staple"\n*'
+    wanted = '*\n1 decrypted, 0 failed, 1 with other labels (dev 1)\n*"msg": "staple"\n*'
     assert fnmatchcase(printed, wanted), "vaults are counted, and the playbook is run with the same password"
     assert repository.get("../secrets.yml") == b"shared: staple\n", "and a vault is decrypted"
 

@@ -134,7 +134,7 @@ STATES = {
 # What the pages name, as patterns of whole lines. Names are printed without line ends.
 REFUSED = rf"{HOOK}: (?:[0-9a-f]{{10}}: )?.+ (?:is|has) .+\n  .+\n"
 FAILED = rf"{HOOK}: .+\n"
-DECRYPTED, CHECKED = r".+: \w+: decrypted by .+", r"(\d+) decrypted, (\d+) not"
+DECRYPTED, CHECKED = r".+: \w+: decrypted by .+", r"(\d+) decrypted, (\d+) failed"
 ROTATED = r".+: (?:(\d+) )?would be rotated"
 COUNTED = r"(\d+) to be rotated, 0 under the new password already, (\d+) with other labels(?: \(.+\))?, (\d+) failed"
 MISSING = f"{ROTATE}: no vault or value has the label default"

@@ -35,7 +35,7 @@ def test_labels_and_secrets(place: Place) -> None:
         f"./f.json:1: x: default: decrypted by {old}",
         f"./g.yml:3: y: default: decrypted by {old}",
         f"./g.yml:{4 + len(BODY.splitlines())}: default: decrypted by {old}",
-        "8 decrypted, 3 not",
+        "8 decrypted, 3 failed",
     ]
     found = done.stdout.splitlines(), len(done.stderr.splitlines()), place.files()
     assert found == (wanted, 3, before), "what is decrypted, and nothing is written"
@@ -119,11 +119,11 @@ def test_help(name: str) -> None:
 
 # What happens to files between the search and their reading, the paths, the status, and what is said.
 VANISHED = {
-    "a file": ("rm -f t/z.yml", ["t"], 0, "41 decrypted, 0 not\n"),
-    "a directory": ("rm -rf t/z", ["t"], 0, "41 decrypted, 0 not\n"),
+    "a file": ("rm -f t/z.yml", ["t"], 0, "41 decrypted, 0 failed\n"),
+    "a directory": ("rm -rf t/z", ["t"], 0, "41 decrypted, 0 failed\n"),
     "a file that becomes a directory": ("rm -rf t/z.yml; mkdir -p t/z.yml", ["t"], 1, "t/z.yml: Is a directory\n"),
     "a named file": ("rm -f t/z.yml", ["t", "t/z.yml"], 1, "t/z.yml: No such file or directory\n"),
-    "one of its paths": ("rm -f t/x.yml", ["t"], 0, "42 decrypted, 0 not\n"),
+    "one of its paths": ("rm -f t/x.yml", ["t"], 0, "42 decrypted, 0 failed\n"),
 }
 
 
@@ -156,7 +156,7 @@ def test_beside_a_rotation(place: Place) -> None:
                 before = [os.stat(place.tree / name).st_ino for name in names]
                 done = place.run(CHECK, *old, *new, ".")
                 assert (done.returncode, done.stderr) == (0, "")
-                assert done.stdout.endswith("\n25 decrypted, 0 not\n")
+                assert done.stdout.endswith("\n25 decrypted, 0 failed\n")
                 assert rotation.poll() is None, "the rotation goes on"
                 overlaps += before != [os.stat(place.tree / name).st_ino for name in names]
         finally:
@@ -185,7 +185,7 @@ def test_chain_of_links(place: Place, holder: str) -> None:
     (place.tools / "ansible-vault").rename(place.path / holder / "ansible-vault")
     place.script('echo "ansible-vault [core 2.14.18]"', "tools/ansible-vault")
     done = place.run(f"../first/{CHECK}", *place.by_file("old"), ".")
-    ended("the check", done, 0, "1 decrypted, 0 not")
+    ended("the check", done, 0, "1 decrypted, 0 failed")
 
 
 def test_named_as_the_tool(place: Place) -> None:

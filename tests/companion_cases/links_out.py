@@ -204,7 +204,9 @@ def test_found_link(place: Place, content: bytes, fails: bool) -> None:
         done = place.run(*words, folder="project")
         assert (done.returncode, done.stderr) == (int(fails), f"{words[0]}: {told}")
     place.put("project/.gitattributes", b"l.yml ansible-vault\n")
-    ended("a marked one", place.run(CHECK, *place.by_file("new"), ".", folder="project"), 1, told, "1 decrypted, 1 not")
+    ended(
+        "a marked one", place.run(CHECK, *place.by_file("new"), ".", folder="project"), 1, told, "1 decrypted, 1 failed"
+    )
     assert place.get("outside.yml") == content
     os.truncate(place.tree / "outside.yml", 1 << 27)
     status = int(b"vault" in content.lower())
@@ -223,7 +225,7 @@ def test_descriptor_of_a_password(place: Place) -> None:
             assert (done.returncode, done.stdout) == (1, ""), path
             assert "leads out of" in done.stderr or "it is not a regular file" in done.stderr or MISSING in done.stderr
     done = place.run(CHECK, *secrets, ".")
-    assert (done.returncode, done.stdout) == (0, "0 decrypted, 0 not\n")
+    assert (done.returncode, done.stdout) == (0, "0 decrypted, 0 failed\n")
     assert ".yml: a link leads out of " in done.stderr and "the password" not in done.stderr
 
 

@@ -28,7 +28,7 @@ def test_marked_files(place: Place) -> None:
     assert sorted(line.partition(";")[0] for line in done.stderr.splitlines()) == sorted(
         f"{CHECK}: {each}" for each in wanted
     )
-    ended("the check", done, 1, "2 decrypted, 6 not\n")
+    ended("the check", done, 1, "2 decrypted, 6 failed\n")
     (place.tree / "link.yml").symlink_to("one/b.vault.yml")
     ended("a link to one", place.run(CHECK, *place.by_file("old"), "link.yml"), 1, "link.yml: is not encrypted\n")
 
@@ -49,11 +49,13 @@ def test_some_labels(place: Place) -> None:
     place.put("c.yml", block("dev", label="dev") + block("old") + block("old", label="prod", name="x"))
     dev = [CHECK, *place.by_id("dev", "dev"), "--label"]
     done = place.run(*dev, "dev", ".")
-    ended("one label", done, 0, "\n2 decrypted, 0 not, 4 with other labels (default 2, prod 2)\n")
+    ended("one label", done, 0, "\n2 decrypted, 0 failed, 4 with other labels (default 2, prod 2)\n")
     done = place.run(CHECK, *place.by_id("dev", "old"), "c.yml", ANSIBLE_VAULT_ID_MATCH="False")
-    ended("labels must match", done, 1, "(label default; tried none: no password has its label)", "0 decrypted, 3 not")
+    ended(
+        "labels must match", done, 1, "(label default; tried none: no password has its label)", "0 decrypted, 3 failed"
+    )
     done = place.run(*dev, "prdo", "a.yml")
     ended("a label that nothing has", done, 1, f"{CHECK}: no vault or value has the label prdo\n")
     place.put("d.yml", b"$ANSIBLE_VAULT;1.1\n")
     done = place.run(*dev, "dev", ".")
-    ended("one without a header", done, 1, "./d.yml: no label: vault header line is malformed", "2 decrypted, 1 not")
+    ended("one without a header", done, 1, "./d.yml: no label: vault header line is malformed", "2 decrypted, 1 failed")

@@ -37,7 +37,7 @@ def test_by_label(place: Place) -> None:
     done = place.run(CHECK, *prod, *dev, "all.yml")
     wanted = [f"{what}decrypted by {prod[1]}" for what in ("", f"{a}a: prod: ")]
     wanted += [f"{b}b: dev: decrypted by {dev[1]}", f"{stray}stray: prod: {why}"]
-    ended("the check", done, 1, *(f"all.yml: prod: {each}" for each in wanted), "\n3 decrypted, 1 not\n")
+    ended("the check", done, 1, *(f"all.yml: prod: {each}" for each in wanted), "\n3 decrypted, 1 failed\n")
     rotate = [ROTATE, *prod, *dev, *place.by_id("prod", "prod2", "new-"), "."]
     names = ["all.yml", "done.yml"]
     reported = ["./all.yml: 2 rotated\n", "./done.yml: rotated\n", *(f"./{name}: {stray}{why}" for name in names)]

@@ -85,7 +85,7 @@ def test_forms(place: Place) -> None:
     rotate, check = [ROTATE, *to_new(place), "."], [CHECK, *place.by_file("old"), "."]
     rotated, failed = len(FORMS) - len(left), len(left)
     to_be = summary(rotated, failed=failed).replace("rotated", "to be rotated", 1)
-    counts = {CHECK: f"{rotated} decrypted, {failed} not", "dry": to_be, ROTATE: summary(rotated, failed=failed)}
+    counts = {CHECK: f"{rotated} decrypted, {failed} failed", "dry": to_be, ROTATE: summary(rotated, failed=failed)}
     for words, count in zip((check, [*rotate, "--dry-run"], rotate), counts.values()):
         assert place.files() == before
         done = place.run(*words)

@@ -78,7 +78,7 @@ def test_links(place: Place, is_repository: bool) -> None:
     assert [line.partition(": ")[0] for line in done.stdout.splitlines()] == [
         "tree/all.yml",
         "tree/deep/b.yml",
-        "2 decrypted, 2 not",
+        "2 decrypted, 2 failed",
     ]
     done = place.run(ROTATE, *to_new(place), "tree")
     ended("links out", done, 1, f"tree/chain.yml: {told['chain.yml']}\n", "2 rotated, 0 under", "2 failed")
@@ -115,12 +115,12 @@ def test_paths_that_are_links(place: Place) -> None:
         path = f"{place.tree}/elsewhere{name.removeprefix('folder')}"
         why = f"tree/{name}: a link leads out of {place.tree}/tree; name {path} instead\n"
         done = place.run(*check, f"tree/{name}")
-        assert (done.returncode, done.stdout, done.stderr) == (1, "0 decrypted, 1 not\n", f"{CHECK}: {why}")
+        assert (done.returncode, done.stdout, done.stderr) == (1, "0 decrypted, 1 failed\n", f"{CHECK}: {why}")
         done = place.run(*check, f"--exclude=tree/{name}", f"tree/{name}", path)
         assert (done.returncode, done.stderr) == (0, ""), "it is left out, and its target is a path"
     place.shell("mv tree/.git .git")
     done = place.run(*check, "tree/folder")
-    ended("within the repository", done, 0, "tree/folder/below/deep.yml: ", "1 decrypted, 0 not\n")
+    ended("within the repository", done, 0, "tree/folder/below/deep.yml: ", "1 decrypted, 0 failed\n")
 
 
 def test_what_is_looked_at(place: Place) -> None:

@@ -146,7 +146,7 @@ def test_ignored_signals(place: Place) -> None:
     """What is ignored from the beginning stays ignored, except SIGCHLD: it would make a failure look like status 0."""
     place.put("a.yml", sealed("old"))
     done = place.run("env", "--ignore-signal=CHLD", CHECK, *place.by_file("dev"), "a.yml")
-    ended("a wrong password", done, 1, "no secret decrypts this vault", "0 decrypted, 1 not")
+    ended("a wrong password", done, 1, "no secret decrypts this vault", "0 decrypted, 1 failed")
     place.wrap_tool("kill -HUP $PPID; sleep 0.05")
     ended("a rotation", place.shell(f"trap '' HUP; {ROTATE} {' '.join(to_new(place))} ."), 0, summary(1))
     assert decrypted("new", place.get("a.yml")) == TEXT, "it is done"

@@ -64,5 +64,5 @@ def check_program(program: pathlib.Path, where: str) -> None:
         assert (shown.stdout, shown.stderr) == (b"text", b""), f"{where} shows a vault"
         check = str(program.with_name("ansible-vault-check"))
         output = printed(check, "--vault-password-file", str(password), str(vault), PATH=os.defpath)
-        wanted = f"{vault}: default: decrypted by {password}\n1 decrypted, 0 not\n"
+        wanted = f"{vault}: default: decrypted by {password}\n1 decrypted, 0 failed\n"
         assert output == wanted, f"the companions beside {where} call it"
