@@ -56,6 +56,22 @@ def test_only_password(place: Place, words: list[str]) -> None:
     assert (session.returncode, decrypted("new", place.get("a.yml"))) == (0, TEXT), session
 
 
+@pytest.mark.parametrize("line", ("encrypt plain.yml", "create new.yml", "edit new.yml"))
+def test_label_of_the_settings(place: Place, line: str) -> None:
+    """If nothing names a password, all settings count. The password that is typed has the label `default`."""
+    place.put("ansible.cfg", b"[defaults]\nvault_encrypt_identity = prod\n")
+    place.put("plain.yml", TEXT)
+    before, editor = place.files(), place.script('echo text > "$1"', "editor")
+    answers = typed("dev", "New Vault password: ", AGAIN)
+    session = ask(place, WITH, *line.split(), answers=answers, EDITOR=editor)
+    why = "no secret has the label of --encrypt-vault-id"
+    assert (session.returncode, why in session.stderr, place.files()) == (1, True, before), session
+    place.put("ansible.cfg", b"[defaults]\nvault_encrypt_identity = default\n")
+    session = ask(place, WITH, *line.split(), answers=answers, EDITOR=editor)
+    header, found = described(place.get(line.split()[1]))
+    assert (session.returncode, header, found and found[0]) == (0, b"$ANSIBLE_VAULT;1.1;AES256", "dev"), session
+
+
 NEW_VALUE = b"word: !vault TEXT\n"
 OF_PROD = typed("prod", "Vault password (prod): ", "Confirm new vault password (prod): ")
 BY_LABEL = "--vault-id prod@prompt --encrypt-vault-id prod"
