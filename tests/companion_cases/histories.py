@@ -139,6 +139,16 @@ REFUSED: dict[str, tuple[Content, Content, str]] = {
         {"g/all": TEXT},
         f"g/all {GONE.format('g/all/x.yml')}",
     ),
+    "a key that is spelled like an item": (
+        below(b"x", b'"[]": 1\n' + PW),
+        below(b"x", b'"[]": 1\n' + PLAIN) + below(b"y", PW),
+        IN_PART.format("x.pw"),
+    ),
+    "a mapping with such a key, by the name of a vault": (
+        {"a/x.yml": VAULT},
+        {"b/x.yml": b'"[]": plain\n'},
+        f"b/x.yml {GONE.format('a/x.yml')}",
+    ),
     "a vault, now in git-lfs": (VAULT, POINTER, LFS),
     "values, now in git-lfs": (PW, POINTER, LFS),
     "an exempt fixture": (FIXTURES | {"t/a.yml": VAULT}, FIXTURES | {"t/a.yml": TEXT}, f"t/a.yml {WHOLE}"),

@@ -6,21 +6,24 @@ All items of a list have the same keys, so their order does not matter.
 from __future__ import annotations
 
 import re
-from typing import Iterable
+from typing import Iterable, Optional
 
 from ansible_vault_companions.envelopes.key_paths import KeyPath
 from ansible_vault_companions.envelopes.node import JSON_KEY
 
-# The key of every list item, and the key that merges a mapping into another, which is not part of a path.
-ITEM, MERGE = "[]", "<<"
+# What every list item has in place of a key, and how .gitattributes names it.
+ITEM = None
+WRITTEN_ITEM = "[]"
+# The key that merges a mapping into another, which is not part of a path.
+MERGE = "<<"
 # What the value of an attribute cannot have, or what separates keys.
 UNWRITTEN = re.compile(r"[^\w$@/:+*-]")
 
-Keys = tuple[str, ...]
+Keys = tuple[Optional[str], ...]
 
 
 def make_keys(path: KeyPath) -> Keys:
-    keys = list[str]()
+    keys = list[Optional[str]]()
     before: str | int | None = None
     for step in path:
         is_merged_item = isinstance(step, int) and before == MERGE
@@ -32,8 +35,8 @@ def make_keys(path: KeyPath) -> Keys:
 
 def write_keys(keys: Keys) -> str:
     """A key path as in .gitattributes, with what cannot be written there percent-encoded: `users[].password`."""
-    steps = (key if key is ITEM else UNWRITTEN.sub(_encode, key) for key in keys)
-    return ".".join(steps).replace(f".{ITEM}", ITEM) or "."
+    steps = (WRITTEN_ITEM if key is ITEM else UNWRITTEN.sub(_encode, key) for key in keys)
+    return ".".join(steps).replace(f".{WRITTEN_ITEM}", WRITTEN_ITEM) or "."
 
 
 def _encode(text: re.Match[str]) -> str:
@@ -42,7 +45,7 @@ def _encode(text: re.Match[str]) -> str:
 
 def has_name(keys: Keys) -> bool:
     """Whether a key is on the path. A whole text and the items of a list at the top have none."""
-    return any(key != ITEM for key in keys)
+    return any(key is not ITEM for key in keys)
 
 
 def list_branches(paths: Iterable[Keys]) -> set[Keys]:
@@ -57,7 +60,7 @@ def align_paths(paths: Iterable[Keys]) -> dict[Keys, Keys]:
     deepest = max(map(len, aligned), default=0)
     for depth in range(deepest):
         deeper = [keys for keys in aligned if len(keys) > depth]
-        lists = {aligned[keys] for keys in deeper if keys[depth] == ITEM}
+        lists = {aligned[keys] for keys in deeper if keys[depth] is ITEM}
         for keys in deeper:
             above = aligned[keys]
             aligned[keys] = (*above, ITEM if above in lists else keys[depth])
