@@ -5,7 +5,7 @@ from __future__ import annotations
 from ansible_vault_companions.envelopes.damage import IN_LFS
 from ansible_vault_companions.git.attributes import make_line
 from ansible_vault_companions.git.indexes import File
-from ansible_vault_companions.guard import exemption_rule
+from ansible_vault_companions.guard import exemptions
 from ansible_vault_companions.guard.advice import Fault, Remedy
 from ansible_vault_companions.guard.evidence import Evidence
 from ansible_vault_companions.guard.vault_rule import VaultRule
@@ -17,7 +17,7 @@ def find_fault(evidence: Evidence, file: File, vault_rule: VaultRule) -> Fault |
     if not evidence.now[file].is_pointer:
         return None
     was_encrypted = evidence.before[file].envelopes > 0 or vault_rule.find_replaced(file) is not None
-    is_lost = was_encrypted and not exemption_rule.allows_loss(evidence, file)
+    is_lost = was_encrypted and not exemptions.allows_loss(evidence, file)
     if not (evidence.attributes[file.name].is_marked or is_lost):
         return None
     return Fault(IN_LFS, Remedy.OUT_OF_LFS, file.name, make_line(file.name, NO_FILTER, evidence.index.files))

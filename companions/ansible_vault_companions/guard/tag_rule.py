@@ -3,7 +3,7 @@
 from __future__ import annotations
 
 from ansible_vault_companions.git.indexes import File
-from ansible_vault_companions.guard import exemption_rule
+from ansible_vault_companions.guard import exemptions
 from ansible_vault_companions.guard.advice import Fault, Remedy
 from ansible_vault_companions.guard.evidence import Evidence
 
@@ -11,6 +11,6 @@ from ansible_vault_companions.guard.evidence import Evidence
 def find_fault(evidence: Evidence, file: File) -> Fault | None:
     now = evidence.now[file]
     has_or_had = now.envelopes or evidence.before[file].envelopes
-    if not (now.tagged and has_or_had) or exemption_rule.allows_damage(evidence, file):
+    if not (now.tagged and has_or_had) or exemptions.allows_damage(evidence, file):
         return None
-    return exemption_rule.make_damage(evidence, file, now.tagged, Remedy.ENCRYPT)
+    return exemptions.make_damage(evidence, file, now.tagged, Remedy.ENCRYPT)

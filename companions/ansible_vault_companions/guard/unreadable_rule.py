@@ -5,7 +5,7 @@ from __future__ import annotations
 
 from ansible_vault_companions.envelopes.damage import NOT_READ
 from ansible_vault_companions.git.indexes import File
-from ansible_vault_companions.guard import exemption_rule
+from ansible_vault_companions.guard import exemptions
 from ansible_vault_companions.guard.advice import Fault, Remedy
 from ansible_vault_companions.guard.evidence import Evidence, is_yaml
 
@@ -15,15 +15,15 @@ FEWER = "has fewer envelopes than{}, and cannot be compared with what it was the
 
 def find_fault(evidence: Evidence, file: File) -> Fault | None:
     before, now = evidence.before[file], evidence.now[file]
-    if evidence.is_example(file) or exemption_rule.allows_loss(evidence, file):
+    if evidence.is_example(file) or exemptions.allows_loss(evidence, file):
         return None
     if now.is_too_much and before.envelopes:
-        return exemption_rule.make_loss(evidence, file, NOT_READ.format(now.fault))
-    if now.is_too_much and now.envelopes and not exemption_rule.allows_damage(evidence, file):
-        return exemption_rule.make_damage(evidence, file, NOT_READ.format(now.fault), Remedy.ALLOW)
+        return exemptions.make_loss(evidence, file, NOT_READ.format(now.fault))
+    if now.is_too_much and now.envelopes and not exemptions.allows_damage(evidence, file):
+        return exemptions.make_damage(evidence, file, NOT_READ.format(now.fault), Remedy.ALLOW)
     if now.fault and before.encrypted and is_yaml(file):
-        return exemption_rule.make_loss(evidence, file, NOT_YAML.format(now.fault), Remedy.REPAIR)
+        return exemptions.make_loss(evidence, file, NOT_YAML.format(now.fault), Remedy.REPAIR)
     was_unreadable = before.is_too_much or before.fault and is_yaml(file)
     if was_unreadable and before.envelopes > now.envelopes and not (now.is_vault or now.is_empty):
-        return exemption_rule.make_loss(evidence, file, FEWER.format(evidence.since, before.fault))
+        return exemptions.make_loss(evidence, file, FEWER.format(evidence.since, before.fault))
     return None

@@ -8,7 +8,7 @@ from functools import cached_property
 from typing import Collection, Iterable
 
 from ansible_vault_companions.git.indexes import File
-from ansible_vault_companions.guard import exemption_rule
+from ansible_vault_companions.guard import exemptions
 from ansible_vault_companions.guard.advice import Fault
 from ansible_vault_companions.guard.evidence import Evidence
 from ansible_vault_companions.guard.facts import NONE, Facts
@@ -46,13 +46,13 @@ class ValueRule:
 
     def find_fault(self, file: File) -> Fault | None:
         sources = self._find_sources(file)
-        losable = exemption_rule.list_losable_values(self.evidence, file)
+        losable = exemptions.list_losable_values(self.evidence, file)
         refused = {write_keys(keys): source for keys, source in sources.items() if write_keys(keys) not in losable}
         if not refused:
             return None
         names = ", ".join(name + refused[name] for name in sorted(refused))
         why = NOW_PLAIN.format(names, "was" if len(refused) == 1 else "were", self.evidence.since)
-        return exemption_rule.make_loss_of_values(self.evidence, file, why, {*refused})
+        return exemptions.make_loss_of_values(self.evidence, file, why, {*refused})
 
     def _find_sources(self, file: File) -> dict[Keys, str]:
         """The keys of lost values, and of which other file they are, if any."""

@@ -7,7 +7,7 @@ from functools import cached_property
 from typing import Iterable
 
 from ansible_vault_companions.git.indexes import File
-from ansible_vault_companions.guard import exemption_rule
+from ansible_vault_companions.guard import exemptions
 from ansible_vault_companions.guard.advice import Fault
 from ansible_vault_companions.guard.evidence import Evidence, is_yaml
 from ansible_vault_companions.guard.key_names import ITEM
@@ -37,9 +37,9 @@ class VaultRule:
         if now.is_vault or now.is_empty:
             return None
         why = self._find_loss(file)
-        if not why or exemption_rule.allows_loss(self.evidence, file):
+        if not why or exemptions.allows_loss(self.evidence, file):
             return None
-        return exemption_rule.make_loss(self.evidence, file, why)
+        return exemptions.make_loss(self.evidence, file, why)
 
     def _find_loss(self, file: File) -> str:
         """Which vault a file that is none was, or replaces; empty if there is none."""

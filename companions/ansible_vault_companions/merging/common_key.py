@@ -7,10 +7,10 @@ from typing import AbstractSet, Optional
 from ansible_vault_companions.tool import Key
 
 # The keys of a version's envelopes; None for one that is not decrypted.
-Keys = AbstractSet[Optional[Key]]
+VersionKeys = AbstractSet[Optional[Key]]
 
 
-def find_common_key(ours: Keys, base: Keys, theirs: Keys) -> Key | None:
+def find_common_key(ours: VersionKeys, base: VersionKeys, theirs: VersionKeys) -> Key | None:
     """The key of both sides; or, if one side alone changed it to another with the same labels, the new one."""
     if base == theirs or ours == theirs:
         new = ours

@@ -4,7 +4,7 @@ from __future__ import annotations
 
 from ansible_vault_companions.envelopes import conflicts
 from ansible_vault_companions.envelopes.header import MAGIC
-from ansible_vault_companions.merging.common_key import Keys, find_common_key
+from ansible_vault_companions.merging.common_key import VersionKeys, find_common_key
 from ansible_vault_companions.merging.line_merge import OURS, THEIRS, Versions, merge_lines
 from ansible_vault_companions.quoting import escape
 from ansible_vault_companions.refusals import Refused
@@ -40,7 +40,7 @@ class VaultMerge:
                 return vault.envelope
         return tool.encrypt(text, *key)
 
-    def _decrypt_base(self, decrypt: Decrypt, data: bytes) -> tuple[bytes, Keys]:
+    def _decrypt_base(self, decrypt: Decrypt, data: bytes) -> tuple[bytes, VersionKeys]:
         """The text of the base, and its keys. One that is a conflict, as in a crossed history, counts as none."""
         if not data.startswith(MAGIC):
             return b"" if conflicts.is_unmerged(data) else data, set()
