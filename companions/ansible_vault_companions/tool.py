@@ -87,8 +87,8 @@ class Tool:
 
     def view(self, envelope: bytes, password: Password) -> bytes:
         """The plaintext, decrypted with this password, once for the same envelope."""
-        view = lambda: self.run(["view", password.make_option()], envelope, [password])
-        return self.remember((envelope, password), len(envelope), view)
+        words = ["view", password.make_option()]
+        return self.remember((envelope, password), len(envelope), lambda: self.run(words, envelope, [password]))
 
     def decrypt(self, envelope: bytes, passwords: list[Password], policy: Policy) -> Decryption:
         """Tries passwords one at a time, those with the envelope's label first, so it is certain which one works."""

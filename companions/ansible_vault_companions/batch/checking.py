@@ -28,31 +28,36 @@ class Check(Work):
     # The paths that git's attributes mark.
     marked: set[str]
 
-    def file(self, found: FoundFile, file: Content, report: Report) -> None:
+    def process_file(self, found: FoundFile, content: Content, report: Report) -> None:
         """Checks a file. It is marked if one of its paths is."""
         path = next((path for path in found.paths if path in self.marked), found.paths[0])
         is_marked = path in self.marked
-        is_prose = file_kinds.is_prose(found.target) and not (is_marked or file.is_vault)
-        why = file_kinds.find_yaml_fault(file, path, found.target)
+        is_prose = file_kinds.is_prose(found.target) and not (is_marked or content.is_vault)
+        why = file_kinds.find_yaml_fault(content, path, found.target)
+
+        def describe_place(value: Node) -> str:
+            return _name_value(value, value.describe_place(path))
+
         try:
-            self.change_envelopes(file, lambda value: _name_value(value, value.describe_place(path)), report, is_prose)
+            self.change_envelopes(content, describe_place, report, is_prose)
         except Refused as fault:
             why = why or str(fault)
-        if damage.is_unmerged(file):
+        if damage.is_unmerged(content):
             why = f"{conflicts.UNMERGED}; {RESOLVE.format(make_pathspec(path))}"
-        if is_marked and file.data.strip() and not (why or report.faults):
-            why = damage.find_unencrypted(file)
+        if is_marked and content.data.strip() and not (why or report.faults):
+            why = damage.find_unencrypted(content)
         if why:
             report.faults.append(f"{escape(path)}: {why}")
 
-    def envelope(self, value: Node, where: str, report: Report, is_prose: bool) -> bytes | None:
-        """The envelope itself, so that it is tried to put another one in its place."""
-        same, label = value.text if value.is_whole and not is_prose else None, value.label
+    def process_envelope(self, value: Node, where: str, report: Report, is_prose: bool) -> bytes | None:
+        """The envelope itself. Putting it back shows whether a rotation could put another one in its place."""
+        label = value.label
+        same = value.text if value.is_whole and not is_prose else None
         if label is not None and self.labels and label not in self.labels:
             report.others[label] += 1
             return same
         report.labels.add(label)
-        result = self.decrypt(value, self.passwords, is_prose)
+        result = self.decrypt(value, self.passwords, may_fail=is_prose)
         if result:
             self._check_plaintext(where, result, report)
         else:
@@ -67,8 +72,11 @@ class Check(Work):
             report.faults.append(f"{where}: {fault}")
         if conflicts.is_unmerged(result.text):
             report.faults.append(f"{where}: its plaintext {conflicts.UNMERGED}")
-        place = lambda value: _name_value(value, f"{where}: in its plaintext, line {max(value.line, 1)}")
-        self.change_envelopes(parse_content(result.text), place, report)
+
+        def describe_place(value: Node) -> str:
+            return _name_value(value, f"{where}: in its plaintext, line {max(value.line, 1)}")
+
+        self.change_envelopes(parse_content(result.text), describe_place, report)
 
 
 def _name_value(value: Node, where: str) -> str:

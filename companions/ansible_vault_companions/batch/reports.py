@@ -21,6 +21,10 @@ from ansible_vault_companions.tool import Decryption, NotDecrypted, Tool
 from ansible_vault_companions.workers import Workers
 
 
+# What a rotation counts: envelopes that get a new password, and those that have it already.
+CHANGED, HAD_IT = "changed", "had it"
+
+
 @dataclass
 class Report:
     """The results for an envelope, a file or all files."""
@@ -58,44 +62,47 @@ class Work:
     # What labels mean to the passwords.
     policy: Policy
 
-    def file(self, found: FoundFile, file: Content, report: Report) -> bytes | None:
+    def process_file(self, found: FoundFile, content: Content, report: Report) -> bytes | None:
         """Works on a file, in a thread. Returns its new content; None if it stays."""
         raise NotImplementedError
 
-    def put(self, found: FoundFile, after: bytes, before: bytes, report: Report) -> None:
-        """Puts new content into a file, in the main thread, where signals can be postponed."""
+    def write_file(self, found: FoundFile, after: bytes, before: bytes, report: Report) -> None:
+        """Writes new content to a file, in the main thread, where signals can be postponed."""
         raise NotImplementedError
 
-    def envelope(self, value: Node, where: str, report: Report, is_prose: bool) -> bytes | None:
+    def process_envelope(self, value: Node, where: str, report: Report, is_prose: bool) -> bytes | None:
         """The text that takes the place of an envelope; None if it stays."""
         raise NotImplementedError
 
-    def decrypt(self, value: Node, passwords: list[Password], is_prose: bool) -> Decryption | None:
-        """An envelope in plaintext; None for an example: one in prose that is damaged or that nothing decrypts."""
+    def decrypt(self, value: Node, passwords: list[Password], may_fail: bool) -> Decryption | None:
+        """An envelope in plaintext. If that may fail, None for one that is damaged or that nothing decrypts."""
         try:
             return self.tool.decrypt(value.require_readable(), passwords, self.policy)
         except Refused as fault:
-            if is_prose and (isinstance(fault, NotDecrypted) or not value.is_whole):
+            if may_fail and (isinstance(fault, NotDecrypted) or not value.is_whole):
                 return None
             raise
 
     def change_envelopes(
-        self, file: Content, place: Callable[[Node], str], report: Report, is_prose: bool = False
+        self, content: Content, describe_place: Callable[[Node], str], report: Report, is_prose: bool = False
     ) -> bytes:
         """The data with the texts that take the places of envelopes. What fails stays, and is reported."""
-        envelopes = file.number_envelopes()
-        work = lambda value: self._result(value, place(value), is_prose)
+
+        def process(value: Node) -> tuple[bytes | None, Report]:
+            return self._report_on(value, describe_place(value), is_prose)
+
+        envelopes = content.number_envelopes()
         new: dict[int, bytes] = {}
-        for number, (text, own) in zip(envelopes, self.workers.share(work, [*envelopes.values()])):
+        for number, (text, own) in zip(envelopes, self.workers.share(process, [*envelopes.values()])):
             report.add(own)
             if text is not None:
                 new[number] = text
-        return file.replace_envelopes(new) if new else file.data
+        return content.replace_envelopes(new) if new else content.data
 
-    def _result(self, value: Node, where: str, is_prose: bool) -> tuple[bytes | None, Report]:
+    def _report_on(self, value: Node, where: str, is_prose: bool) -> tuple[bytes | None, Report]:
         report = Report()
         try:
-            return self.envelope(value, where, report, is_prose), report
+            return self.process_envelope(value, where, report, is_prose), report
         except Refused as fault:
             report.faults.append(f"{where}: {fault}")
             # Changes within it are not written either.
@@ -116,7 +123,9 @@ class Outcome(NamedTuple):
     after: bytes | None = None
 
     def fail(self, fault: Exception) -> None:
+        """Reports a failure. Nothing is written, so no envelope is changed."""
         self.report.faults.append(refusals.describe_refusal(self.file.paths[0], fault))
+        self.report.counts.pop(CHANGED, None)
 
 
 class Reports:
@@ -143,12 +152,12 @@ class Reports:
     def _begin(self, found: FoundFile, work: Work) -> Future[Outcome]:
         """Reads a file and begins the work on it. A failure is in its report, so other files are still processed."""
         try:
-            file = parse_content(detection.read_envelope_file(found.target))
+            content = parse_content(detection.read_envelope_file(found.target))
         except (Refused, OSError) as fault:
             return _finish(found, self._report_unread(found, fault))
         if found.refusal:
-            return _finish(found, self._report_refused(found, file))
-        return work.workers.begin(_work_on, found, file, work)
+            return _finish(found, self._report_refused(found, content))
+        return work.workers.begin(_work_on, found, content, work)
 
     def _report_unread(self, found: FoundFile, fault: Exception) -> Report:
         """The report on a file that cannot be read. One that was found, and is gone, is no failure."""
@@ -159,12 +168,12 @@ class Reports:
             return Report(faults=[f"{escape(path)}: {why}"])
         return Report(notes=[f"{escape(path)}: {why}"] if found.refusal else [])
 
-    def _report_refused(self, found: FoundFile, file: Content) -> Report:
+    def _report_refused(self, found: FoundFile, content: Content) -> Report:
         """The report on a link that leads out: a failure if there is something to do in its file."""
         path = found.paths[0]
         text = f"{escape(path)}: {found.refusal}"
         is_marked = any(path in self.marked for path in found.paths)
-        if is_marked or file.number_envelopes() or file_kinds.find_yaml_fault(file, path, found.target):
+        if is_marked or content.number_envelopes() or file_kinds.find_yaml_fault(content, path, found.target):
             return Report(faults=[text])
         return Report(notes=[text])
 
@@ -172,7 +181,7 @@ class Reports:
         report = outcome.report
         if outcome.after is not None:
             try:
-                work.put(outcome.file, outcome.after, outcome.before, report)
+                work.write_file(outcome.file, outcome.after, outcome.before, report)
             except (Refused, OSError) as fault:
                 outcome.fail(fault)
         self.total.add(report)
@@ -203,10 +212,10 @@ def _finish(found: FoundFile, report: Report) -> Future[Outcome]:
     return done
 
 
-def _work_on(found: FoundFile, file: Content, work: Work) -> Outcome:
-    outcome = Outcome(found, Report(), file.data)
+def _work_on(found: FoundFile, content: Content, work: Work) -> Outcome:
+    outcome = Outcome(found, Report(), content.data)
     try:
-        return outcome._replace(after=work.file(found, file, outcome.report))
+        return outcome._replace(after=work.process_file(found, content, outcome.report))
     except (Refused, OSError) as fault:
         outcome.fail(fault)
         return outcome

@@ -5,7 +5,7 @@ from __future__ import annotations
 import os
 from dataclasses import dataclass
 
-from ansible_vault_companions.batch.reports import Report, Work
+from ansible_vault_companions.batch.reports import CHANGED, HAD_IT, Report, Work
 from ansible_vault_companions.envelopes import file_kinds
 from ansible_vault_companions.envelopes.content import Content, parse_content
 from ansible_vault_companions.envelopes.node import Node
@@ -15,8 +15,6 @@ from ansible_vault_companions.passwords.password import Password
 from ansible_vault_companions.quoting import escape
 from ansible_vault_companions.refusals import Refused
 
-# What is counted: envelopes that get a new password, and those that have it already.
-CHANGED, HAD_IT = "changed", "had it"
 # A placeholder for the new envelope in a dry run.
 DRY = b"$ANSIBLE_VAULT;1.1;AES256\n%s\n" % (b"61" * 16)
 
@@ -29,25 +27,17 @@ class Rotation(Work):
     new: dict[str, Password]
     is_dry: bool
 
-    def file(self, found: FoundFile, file: Content, report: Report) -> bytes | None:
+    def process_file(self, found: FoundFile, content: Content, report: Report) -> bytes | None:
         path = found.paths[0]
-        if not file.values and file_kinds.find_yaml_fault(file, path, found.target):
-            raise Refused(file.fault)
-        is_prose = file_kinds.is_prose(found.target) and not file.is_vault
-        try:
-            after = self.change_envelopes(file, lambda value: value.describe_place(path), report, is_prose)
-        except Refused:
-            report.counts[CHANGED] = 0
-            raise
-        return after if after != file.data else None
+        if not content.values and file_kinds.find_yaml_fault(content, path, found.target):
+            raise Refused(content.fault)
+        is_prose = file_kinds.is_prose(found.target) and not content.is_vault
+        after = self.change_envelopes(content, lambda value: value.describe_place(path), report, is_prose)
+        return after if after != content.data else None
 
-    def put(self, found: FoundFile, after: bytes, before: bytes, report: Report) -> None:
+    def write_file(self, found: FoundFile, after: bytes, before: bytes, report: Report) -> None:
         path = found.paths[0]
-        try:
-            self._replace(found.target, after, before)
-        except (Refused, OSError):
-            report.counts[CHANGED] = 0
-            raise
+        self._replace(found.target, after, before)
         count = report.counts[CHANGED]
         if count:
             target = f" ({escape(found.target)})" if os.path.islink(path) else ""
@@ -60,7 +50,7 @@ class Rotation(Work):
         else:
             replacing.replace(target, after, before)
 
-    def envelope(self, value: Node, where: str, report: Report, is_prose: bool) -> bytes | None:
+    def process_envelope(self, value: Node, where: str, report: Report, is_prose: bool) -> bytes | None:
         label = value.label
         if label is None:
             raise Refused("its first line is malformed")
@@ -68,11 +58,12 @@ class Rotation(Work):
         if new:
             report.labels.add(label)
             # Passwords with its label are tried first, so most envelopes are decrypted by the first one.
-            result = self.decrypt(value, [*self.old, new], is_prose)
+            result = self.decrypt(value, [*self.old, new], may_fail=is_prose)
         else:
+            # One with another label stays, and is decrypted only for the envelopes in its plaintext, if it can be.
             report.others[label] += 1
             passwords = [password for password in self.old if password.label == label]
-            result = self.decrypt(value, passwords, is_prose=True) if value.is_whole else None
+            result = self.decrypt(value, passwords, may_fail=True) if value.is_whole else None
         if not result:
             report.labels.clear()
             return None

@@ -3,6 +3,7 @@
 from __future__ import annotations
 
 from dataclasses import dataclass
+from functools import partial
 from typing import Protocol, Union
 
 from ansible_vault_companions.editing.choosing import Choice
@@ -80,10 +81,10 @@ class ConflictDraft:
         self.content = content
         self.vaults = vaults
         self.keys = [key]
-        self.plaintext = vaults.merge.text
+        self.plaintext = vaults.merged_lines.text
 
     def is_as_it_was(self, text: bytes) -> bool:
-        return text == self.plaintext and self.vaults.merge.conflicts > 0
+        return text == self.plaintext and self.vaults.merged_lines.conflicts > 0
 
     def encrypt(self, tool: Tool, text: bytes) -> bytes:
         of_sides = conflicts.count_markers(self.vaults.ours.text) | conflicts.count_markers(self.vaults.theirs.text)
@@ -96,8 +97,8 @@ class Loader:
     """Makes the draft for a file. Refuses one whose text could not be encrypted again."""
 
     def __init__(self, tool: Tool, passwords: list[Password], policy: Policy, label: str | None) -> None:
-        self.tool, self.passwords = tool, passwords
-        self.decrypt: Decrypt = lambda envelope: tool.decrypt(envelope, passwords, policy)
+        self.tool = tool
+        self.decrypt: Decrypt = partial(tool.decrypt, passwords=passwords, policy=policy)
         # The label that the user has chosen is also for the text of a conflict and for a single value; the usual one is
         # for new vaults and values alone.
         self.chosen = Choice(passwords, label)

@@ -48,9 +48,9 @@ def merge_file(tool: Tool, decrypt: Decrypt, versions: Versions, chosen: Key | N
 def _merge_vaults(tool: Tool, decrypt: Decrypt, versions: Versions, chosen: Key | None) -> bytes:
     vaults = VaultMerge(decrypt, versions)
     key = vaults.choose_key(chosen)
-    if vaults.merge.conflicts:
+    if vaults.merged_lines.conflicts:
         raise Refused(vaults.why)
-    return vaults.seal(tool, vaults.merge.text, key)
+    return vaults.seal(tool, vaults.merged_lines.text, key)
 
 
 def _merge_values(tool: Tool, decrypt: Decrypt, versions: Versions, chosen: Key | None) -> MergedFile:

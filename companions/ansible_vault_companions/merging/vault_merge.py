@@ -21,7 +21,7 @@ class VaultMerge:
         self.theirs = _decrypt_side(THEIRS, decrypt, versions.theirs)
         text, self.base_keys = self._decrypt_base(decrypt, versions.base)
         texts = Versions(self.ours.text, text, self.theirs.text)
-        self.merge = merge_lines(texts)
+        self.merged_lines = merge_lines(texts)
 
     def choose_key(self, chosen: Key | None) -> Key:
         """The key of the result. The chosen one counts only if the sides have none in common."""
