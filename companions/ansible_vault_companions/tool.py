@@ -1,20 +1,23 @@
-"""Runs ansible-vault, which does all encryption and decryption, for several envelopes at once. Plaintext and envelopes
-pass only through pipes."""
+"""Runs ansible-vault, which does all encryption and decryption. Plaintext and envelopes pass only through pipes."""
 
 from __future__ import annotations
 
 import os
 import re
 import threading
-from concurrent.futures import Future
+from collections.abc import Callable, Hashable
 from contextlib import suppress
-from typing import Callable, Hashable, NamedTuple
 
 from ansible_vault_companions import processes
 from ansible_vault_companions.envelopes.header import read_label
 from ansible_vault_companions.passwords.labels import Policy, describe_attempts, order_to_try, require_label
 from ansible_vault_companions.passwords.password import Password
 from ansible_vault_companions.refusals import Refused
+
+# The module `typing` takes long to import.
+TYPE_CHECKING = False
+if TYPE_CHECKING:
+    from typing import Final
 
 NAME = "ansible-vault"
 NOT_DECRYPTED = "no secret decrypts this vault"
@@ -24,25 +27,33 @@ ERROR = "ERROR! "
 MOST_REMEMBERED = 1 << 26
 
 
-class Key(NamedTuple):
+class Key:
     """What encrypts: a password, and the label that the envelope gets."""
 
-    password: Password
-    label: str
+    def __init__(self, password: Password, label: str) -> None:
+        self.password: Final = password
+        self.label: Final = label
+
+    def __eq__(self, other: object) -> bool:
+        return isinstance(other, Key) and (self.password, self.label) == (other.password, other.label)
+
+    def __hash__(self) -> int:
+        return hash((self.password, self.label))
 
 
 class NotDecrypted(Refused):
     """No password decrypts a vault."""
 
 
-class Decryption(NamedTuple):
+class Decryption:
     """An envelope, the password that decrypts it, and the plaintext."""
 
-    envelope: bytes
-    password: Password
-    text: bytes
-    # What its label means.
-    policy: Policy
+    def __init__(self, envelope: bytes, password: Password, text: bytes, policy: Policy) -> None:
+        self.envelope: Final = envelope
+        self.password: Final = password
+        self.text: Final = text
+        # What its label means.
+        self.policy: Final = policy
 
     @property
     def key(self) -> Key:
@@ -50,10 +61,32 @@ class Decryption(NamedTuple):
 
     def require_label(self, where: str = "") -> None:
         """Refuses a text that its label does not allow to encrypt again with this password."""
-        require_label(*self.key, self.policy, where)
+        require_label(self.password, self.key.label, self.policy, where)
 
 
 Decrypt = Callable[[bytes], Decryption]
+
+
+class Result:
+    """What a call returns or raises. Whoever asks first makes the call, and others wait for it."""
+
+    def __init__(self, call: Callable[[], bytes]) -> None:
+        self.call = call
+        self.lock = threading.Lock()
+        self.data: bytes | None = None
+        self.fault: BaseException | None = None
+
+    def get(self) -> bytes:
+        with self.lock:
+            if self.data is None and self.fault is None:
+                try:
+                    self.data = self.call()
+                except BaseException as fault:
+                    self.fault = fault
+        if self.data is None:
+            assert self.fault
+            raise self.fault
+        return self.data
 
 
 class Tool:
@@ -69,7 +102,7 @@ class Tool:
             why = "is not the ansible-vault that the companions need; put the right one beside them or on PATH"
             raise Refused(f"{self.path} {why}")
         self.lock = threading.Lock()
-        self.results: dict[Hashable, Future[bytes]] = {}
+        self.results: dict[Hashable, Result] = {}
         self.room = MOST_REMEMBERED
 
     def run(self, words: list[str], data: bytes, passwords: list[Password]) -> bytes:
@@ -101,29 +134,21 @@ class Tool:
                 return Decryption(envelope, password, plaintext, policy)
         raise NotDecrypted(f"{NOT_DECRYPTED} {describe_attempts(label, tried)}")
 
-    def encrypt(self, plaintext: bytes, password: Password, label: str) -> bytes:
-        """The plaintext, encrypted with a password and labeled with this label."""
-        return self.run(["encrypt", password.make_option(label=label)], plaintext, [password])
+    def encrypt(self, plaintext: bytes, key: Key) -> bytes:
+        """The plaintext, encrypted and labeled with a key."""
+        return self.run(["encrypt", key.password.make_option(label=key.label)], plaintext, [key.password])
 
-    def encrypt_again(self, envelope: bytes, plaintext: bytes, password: Password, label: str) -> bytes:
+    def encrypt_again(self, envelope: bytes, plaintext: bytes, key: Key) -> bytes:
         """Encrypts the plaintext to replace an envelope. Identical envelopes get the same replacement, so that copies
         stay copies. Different envelopes with the same plaintext get different ones."""
         size = len(envelope) + len(plaintext)
-        return self.remember(
-            (envelope, plaintext, password, label), size, lambda: self.encrypt(plaintext, password, label)
-        )
+        return self.remember((envelope, plaintext, key), size, lambda: self.encrypt(plaintext, key))
 
-    def remember(self, what: Hashable, size: int, make: Callable[[], bytes]) -> bytes:
-        """Calls `make`, or returns the remembered result of an equal call. Waits for one that is still running."""
+    def remember(self, what: Hashable, size: int, call: Callable[[], bytes]) -> bytes:
+        """The result of a call, or that of an equal one before it, if there was room to remember it."""
         with self.lock:
-            is_first = what not in self.results
-            result = self.results.get(what) or Future()
-            if is_first and size <= self.room:
+            result = self.results.get(what) or Result(call)
+            if what not in self.results and size <= self.room:
                 self.room -= size
                 self.results[what] = result
-        if is_first:
-            try:
-                result.set_result(make())
-            except BaseException as fault:
-                result.set_exception(fault)
-        return result.result()
+        return result.get()

@@ -4,7 +4,7 @@ from __future__ import annotations
 
 import os
 from concurrent.futures import Future, ThreadPoolExecutor
-from typing import Callable, Iterable, Sequence, TypeVar
+from typing import Callable, Sequence, TypeVar
 
 from ansible_vault_companions import signals
 from ansible_vault_companions.refusals import Refused
@@ -41,9 +41,3 @@ class Workers(ThreadPoolExecutor):
         for item, future in zip(reversed(others), reversed(futures)):
             last.append(work(item) if future.cancel() else future.result())
         return results + last[::-1]
-
-
-def work_at_once(work: Callable[[Item], Result], items: Iterable[Item]) -> list[Result]:
-    """The results of some work on each item."""
-    with Workers() as workers:
-        return workers.share(work, [*items])

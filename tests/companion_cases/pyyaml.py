@@ -18,7 +18,8 @@ def test_without_pyyaml(place: Place) -> None:
     place.put("all.yml", sealed("old"))
     place.put("vars.yml", content)
     silent("edit", edit(place, CHANGE, *old, "all.yml"))
-    assert place.run(WITH, "view", *old, "all.yml").stdout == CHANGED.decode(), "it is edited and shown"
+    for words in ([WITH, "view"], [TEXTCONV]):
+        assert place.run(*words, *old, "all.yml").stdout == CHANGED.decode(), "it is edited and shown"
     base, ours, theirs = (sealed("old", text) for text in (b"a: 1\n\nb: 1\n", b"a: 2\n\nb: 1\n", b"a: 1\n\nb: 2\n"))
     silent("merge", place.run(MERGE, *old, *versions(place, "a.yml", base, ours, theirs)))
     before = place.files()

@@ -22,7 +22,7 @@ from ansible_vault_companions.merging.line_merge import Versions
 from ansible_vault_companions.passwords.labels import Policy
 from ansible_vault_companions.passwords.password import Password
 from ansible_vault_companions.passwords.sources import parse_vault_id
-from ansible_vault_companions.tool import Decryption, NotDecrypted, Tool
+from ansible_vault_companions.tool import Decryption, Key, NotDecrypted, Tool
 from companion_cases import PASSWORDS, decrypted
 from companion_cases.repository import SALTS, by_git, repository
 from lib.needs import needs, needs_pyyaml
@@ -134,8 +134,9 @@ class Model(Tool):
     def opened(self, envelope: bytes) -> Decryption:
         return self.decrypt(envelope, [*SECRETS.values()], POLICY)
 
-    def encrypt(self, plaintext: bytes, secret: Password, label: str) -> bytes:
-        value = Value("", plaintext, "" if label == "default" else label, secret.source.place, next(self.salts), 0)
+    def encrypt(self, plaintext: bytes, key: Key) -> bytes:
+        label = "" if key.label == "default" else key.label
+        value = Value("", plaintext, label, key.password.source.place, next(self.salts), 0)
         self.made[value.envelope()] = value
         return value.envelope()
 

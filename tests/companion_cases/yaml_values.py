@@ -21,7 +21,7 @@ from ansible_vault_companions.passwords.labels import Policy
 from ansible_vault_companions.passwords.password import Password
 from ansible_vault_companions.passwords.sources import make_path_source
 from ansible_vault_companions.refusals import Refused
-from ansible_vault_companions.tool import Decryption, Tool
+from ansible_vault_companions.tool import Decryption, Key, Tool
 from companion_cases.spellings import LOADERS, Generator, composed
 
 SECRET = Password(make_path_source(""), b"", -1)
@@ -49,7 +49,7 @@ class Hexadecimal(Tool):
     def __init__(self) -> None:
         pass
 
-    def encrypt(self, plaintext: bytes, secret: Password, label: str) -> bytes:
+    def encrypt(self, plaintext: bytes, key: Key) -> bytes:
         return envelope(plaintext)
 
 

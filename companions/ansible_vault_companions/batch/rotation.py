@@ -14,6 +14,7 @@ from ansible_vault_companions.files.searching import FoundFile
 from ansible_vault_companions.passwords.password import Password
 from ansible_vault_companions.quoting import escape
 from ansible_vault_companions.refusals import Refused
+from ansible_vault_companions.tool import Key
 
 # A placeholder for the new envelope in a dry run.
 DRY = b"$ANSIBLE_VAULT;1.1;AES256\n%s\n" % (b"61" * 16)
@@ -74,7 +75,9 @@ class Rotation(Work):
             report.counts[HAD_IT if keeps else CHANGED] += 1
         if keeps and after == result.text:
             return None
-        return DRY if self.is_dry else self.tool.encrypt_again(value.text, after, new or result.password, label)
+        if self.is_dry:
+            return DRY
+        return self.tool.encrypt_again(value.text, after, Key(new or result.password, label))
 
     def _within(self, plaintext: bytes, where: str, report: Report) -> bytes:
         """The plaintext of an envelope, with the envelopes in it rotated."""

@@ -50,7 +50,7 @@ def list_copies(target: str) -> list[str]:
 
 def save_copy(tool: Tool, key: Key, target: str, base: bytes, text: bytes) -> str:
     """Writes the copy of a text, and returns its path. The edit began with `base`."""
-    envelope = tool.encrypt(_make_head(base) + text, *key)
+    envelope = tool.encrypt(_make_head(base) + text, key)
     path = find_folder()
     try:
         os.makedirs(path, 0o700, exist_ok=True)

@@ -14,8 +14,9 @@ from ansible_vault_companions.envelopes import conflicts, detection
 from ansible_vault_companions.envelopes.header import MAGIC
 from ansible_vault_companions.files import reading, resolving
 from ansible_vault_companions.git.pathspecs import make_pathspec
-from ansible_vault_companions.merging.file_merge import KINDS_DIFFER, find_versions, merge_file
+from ansible_vault_companions.merging.file_merge import KINDS_DIFFER, merge_file
 from ansible_vault_companions.merging.line_merge import Versions
+from ansible_vault_companions.merging.unmerged_file import find_versions
 from ansible_vault_companions.merging.vault_merge import VaultMerge
 from ansible_vault_companions.passwords.labels import Policy
 from ansible_vault_companions.passwords.password import Password
@@ -69,7 +70,7 @@ class VaultDraft:
         return text == self.plaintext
 
     def encrypt(self, tool: Tool, text: bytes) -> bytes:
-        vault = tool.encrypt(text, *self.keys[0])
+        vault = tool.encrypt(text, self.keys[0])
         return vault.replace(b"\n", b"\r\n") if b"\r\n" in (self.content or b"") else vault
 
 

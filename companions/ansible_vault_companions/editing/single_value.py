@@ -60,7 +60,7 @@ class SingleValue:
 
     def _encrypt(self, tool: Tool, text: bytes) -> bytes:
         """The file with the value encrypted."""
-        number, envelope = self.text.values.index(self.value), tool.encrypt(text, *self.key)
+        number, envelope = self.text.values.index(self.value), tool.encrypt(text, self.key)
         old = self.value if self.value.is_envelope else None
         block = make_sealed_block(self.text.data, self.value, envelope, old)
         try:

@@ -10,9 +10,9 @@ from ansible_vault_companions.envelopes import conflicts
 from ansible_vault_companions.envelopes.header import MAGIC
 from ansible_vault_companions.envelopes.layout import NOT_UTF_8, Replacement
 from ansible_vault_companions.envelopes.node import ALIAS, NO_SCALAR, PLAIN, Node
+from ansible_vault_companions.parallel import work_at_once
 from ansible_vault_companions.refusals import Refused
 from ansible_vault_companions.tool import Decrypt, Key, Tool
-from ansible_vault_companions.workers import work_at_once
 
 NO_TEXT = "is a list, a mapping or a key, not a string; put quotes around a text"
 NOTHING = 'is missing after `!vault`; write `""` for an empty one'
@@ -105,7 +105,7 @@ def _seal(tool: Tool, value: Node, match: Match) -> bytes:
     if match.before and not match.key:
         return match.before.value.text
     assert match.key
-    return tool.encrypt(value.text, *match.key)
+    return tool.encrypt(value.text, match.key)
 
 
 def _is_to_be_encrypted(value: Node, closed: set[bytes]) -> bool:

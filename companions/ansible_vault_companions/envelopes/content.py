@@ -8,7 +8,7 @@ digits is a stray.
 from __future__ import annotations
 
 import re
-from dataclasses import dataclass, field
+from collections.abc import Iterable
 
 from ansible_vault_companions import bounding
 from ansible_vault_companions.envelopes.detection import may_have_envelope
@@ -31,15 +31,15 @@ NO_TEXT = "{} is a list, a mapping or an alias; name a value in it"
 NOT_ENCRYPTED = "{} is not encrypted"
 
 
-@dataclass
 class Content:
     """The bytes of a file or of a plaintext, and what was read of them."""
 
-    data: bytes
-    # The envelopes and the scalars that are tagged as one; or every node.
-    values: list[Node] = field(default_factory=list)
-    # Why it cannot be read as YAML; empty if it can, or need not be.
-    fault: str = ""
+    def __init__(self, data: bytes, values: Iterable[Node] = (), fault: str = "") -> None:
+        self.data = data
+        # The envelopes and the scalars that are tagged as one; or every node.
+        self.values = [*values]
+        # Why it cannot be read as YAML; empty if it can, or need not be.
+        self.fault = fault
 
     @property
     def is_vault(self) -> bool:

@@ -9,8 +9,8 @@ from typing import Iterable, NamedTuple
 from ansible_vault_companions.envelopes.node import LITERAL, STRAY, WHOLE, Node
 from ansible_vault_companions.refusals import Refused
 
-# What YAML does not allow, or takes for the end of a line.
-UNSHOWN = re.compile("[^\t\n\x20-\x7e\xa0-\u2027\u202a-\ud7ff\ue000-\ufefe\uff00-\ufffd\U00010000-\U0010ffff]")
+# What YAML does not allow, or takes for the end of a line. Python compiles a set of all others ten times as slowly.
+UNSHOWN = re.compile("[\0-\x08\x0b-\x1f\x7f-\x9f\u2028\u2029\ud800-\udfff\ufeff\ufffe\uffff]")
 BLOCK_HEADER = re.compile(rb"[|>][-+0-9]*")
 BEGINS_WITH_BLANK = re.compile(rb"\n*[ \t]")
 # What precedes a key or the text of an item in its line.

@@ -5,10 +5,15 @@ from __future__ import annotations
 import errno
 import os
 import stat
-from typing import BinaryIO, Iterator
+from collections.abc import Iterator
 
 from ansible_vault_companions.limits import LONGEST_VAULT
 from ansible_vault_companions.refusals import Refused
+
+# The module `typing` takes long to import.
+TYPE_CHECKING = False
+if TYPE_CHECKING:
+    from typing import BinaryIO
 
 # Bytes to read at once, since a file may be huge. Some files in /proc refuse reads of an odd size.
 CHUNK_SIZE = 1 << 20
@@ -32,6 +37,13 @@ def read_existing(path: str) -> bytes:
     """The content of a file that must exist."""
     with open_regular(path) as file:
         return read_whole(file, path)
+
+
+def read_if_begins(path: str, beginning: bytes) -> bytes:
+    """The content of a file that must exist, if it begins with these bytes; otherwise, nothing."""
+    with open_regular(path) as file:
+        piece = next(read_parts(file), b"")
+        return read_whole(file, path) if piece.startswith(beginning) else b""
 
 
 def read_input(file: str | int) -> bytes:

@@ -123,7 +123,7 @@ class Restoration:
         for envelopes in self._list_choices(meaning, side):
             if envelopes:
                 return envelopes[min(number, len(envelopes) - 1)]
-        return self.tool.encrypt(meaning.text, *meaning.key)
+        return self.tool.encrypt(meaning.text, meaning.key)
 
     def _list_choices(self, meaning: KeyAndText, side: str) -> list[list[bytes]]:
         """The envelopes with a meaning, the best first: in a conflict those of its side, and otherwise those under the

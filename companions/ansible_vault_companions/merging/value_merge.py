@@ -11,9 +11,9 @@ from ansible_vault_companions.envelopes.node import LOOSE, Node
 from ansible_vault_companions.merging.common_key import find_common_key
 from ansible_vault_companions.merging.line_merge import OURS, SIDES, THEIRS, MergedLines, Versions, merge_lines
 from ansible_vault_companions.merging.tokens import KeyAndText, Meaning, Restoration, Tokens
+from ansible_vault_companions.parallel import work_at_once
 from ansible_vault_companions.refusals import Refused
 from ansible_vault_companions.tool import Decrypt, Decryption, Key, Tool
-from ansible_vault_companions.workers import work_at_once
 
 NOT_YAML = "git can merge its lines, but then {}"
 HAS_MARKERS = "it has lines that look like git's conflict markers"

@@ -38,7 +38,7 @@ class VaultMerge:
         for vault in (self.ours, self.theirs):
             if (vault.text, vault.key) == (text, key):
                 return vault.envelope
-        return tool.encrypt(text, *key)
+        return tool.encrypt(text, key)
 
     def _decrypt_base(self, decrypt: Decrypt, data: bytes) -> tuple[bytes, VersionKeys]:
         """The text of the base, and its keys. One that is a conflict, as in a crossed history, counts as none."""

@@ -1,0 +1,35 @@
+"""The versions of a file that has a conflict: its sides, and their base in git's index."""
+
+from __future__ import annotations
+
+import os
+
+from ansible_vault_companions.envelopes import conflicts
+from ansible_vault_companions.git import commands, repository
+from ansible_vault_companions.merging.line_merge import Versions
+
+
+def find_versions(target: str, data: bytes) -> Versions | None:
+    """The sides of a file with a conflict, and their base if the index has this conflict; None if there is none."""
+    sides = conflicts.split_sides(data)
+    if not sides:
+        return None
+    ours, theirs = sides[conflicts.OURS], sides[conflicts.THEIRS]
+    base, *stages = _read_stages(target)
+    # Ends of lines may differ from those in the file.
+    is_same = [stage.split() for stage in stages] == [ours.split(), theirs.split()]
+    return Versions(ours, base if is_same else b"", theirs)
+
+
+def _read_stages(target: str) -> list[bytes]:
+    """Base, ours and theirs of a file in the index, each empty if the index has none."""
+    contents = [b"", b"", b""]
+    folder = repository.find_repository(os.path.dirname(target))
+    if folder:
+        name = os.path.relpath(target, folder)
+        for record in commands.list_records("ls-files", "--unmerged", "-z", "--", name, folder=folder):
+            about, _, found = record.partition(b"\t")
+            if found == os.fsencode(name):
+                _, blob, stage = about.decode().split()
+                contents[int(stage) - 1] = commands.run_git("cat-file", "blob", blob, folder=folder)
+    return contents

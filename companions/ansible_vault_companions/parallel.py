@@ -1,0 +1,25 @@
+"""Works on several items at once."""
+
+from __future__ import annotations
+
+from collections.abc import Callable, Iterable
+
+# The module `typing` takes long to import.
+TYPE_CHECKING = False
+if TYPE_CHECKING:
+    from typing import TypeVar
+
+    Item = TypeVar("Item")
+    Result = TypeVar("Result")
+
+
+def work_at_once(work: Callable[[Item], Result], items: Iterable[Item]) -> list[Result]:
+    """The results of some work on each item."""
+    items = [*items]
+    if len(items) < 2:
+        return [work(item) for item in items]
+    # Threads take long to import, and most files have a single envelope.
+    from ansible_vault_companions.workers import Workers
+
+    with Workers() as workers:
+        return workers.share(work, items)

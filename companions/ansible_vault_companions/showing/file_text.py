@@ -1,0 +1,56 @@
+"""Shows a file with plaintext in place of its envelopes."""
+
+from __future__ import annotations
+
+from contextlib import suppress
+
+from ansible_vault_companions.envelopes import detection
+from ansible_vault_companions.envelopes.content import Content, parse_content
+from ansible_vault_companions.envelopes.header import MAGIC
+from ansible_vault_companions.envelopes.layout import Replacement, apply_replacements, put_plaintext
+from ansible_vault_companions.envelopes.node import Node
+from ansible_vault_companions.merging.unmerged_file import find_versions
+from ansible_vault_companions.merging.vault_merge import VaultMerge
+from ansible_vault_companions.output import write_error
+from ansible_vault_companions.parallel import work_at_once
+from ansible_vault_companions.refusals import Refused
+from ansible_vault_companions.tool import Decrypt
+
+NO_VAULT = "it is not a vault and has no encrypted value"
+
+
+def read_envelopes(target: str) -> Content:
+    """The content of a file. Refuses one without envelopes."""
+    file = parse_content(detection.read_envelope_file(target))
+    if not file.values:
+        raise Refused(NO_VAULT)
+    return file
+
+
+def show_envelopes(companion: str, file: Content, path: str, target: str, decrypt: Decrypt) -> bytes:
+    """The file's data with plaintext in place of its envelopes, as far as they can be decrypted and shown; for a
+    conflict of two vaults, the merged text."""
+    with suppress(Refused):
+        sides = find_versions(target, file.data)
+        if sides and sides.ours.startswith(MAGIC) and sides.theirs.startswith(MAGIC):
+            return VaultMerge(decrypt, sides).merged_lines.text
+    return _show_values(companion, file, path, decrypt)
+
+
+def _show_values(companion: str, file: Content, path: str, decrypt: Decrypt) -> bytes:
+    values = [*file.number_envelopes().values()]
+    changes: list[Replacement] = []
+    for result, value in zip(work_at_once(lambda value: _try_to_show(file.data, value, decrypt), values), values):
+        if isinstance(result, Refused):
+            write_error(f"{companion}: {value.describe_place(path)}: shown as it is: {result}")
+        else:
+            changes += result
+    return apply_replacements(file.data, changes)
+
+
+def _try_to_show(data: bytes, value: Node, decrypt: Decrypt) -> list[Replacement] | Refused:
+    """The changes that show a value, or why it stays encrypted."""
+    try:
+        return put_plaintext(data, value, decrypt(value.require_readable()).text)
+    except Refused as fault:
+        return fault

@@ -1,0 +1,26 @@
+"""Shows one value of a file."""
+
+from __future__ import annotations
+
+from ansible_vault_companions.envelopes.content import NOT_ENCRYPTED, NO_TEXT, Content, parse_content
+from ansible_vault_companions.envelopes.node import ALIAS, NO_SCALAR
+from ansible_vault_companions.quoting import escape
+from ansible_vault_companions.refusals import Refused
+from ansible_vault_companions.tool import Decrypt
+
+
+def read_value(data: bytes, path: str, decrypt: Decrypt) -> bytes:
+    """The plaintext of a value in YAML, or in the plaintext of a vault."""
+    is_vault = Content(data).is_vault
+    text = decrypt(data).text if is_vault else data
+    nodes = parse_content(text, every=True)
+    if nodes.fault:
+        raise Refused(nodes.fault)
+    value = nodes.find_value_at(path)
+    if value.is_envelope:
+        return decrypt(value.require_readable()).text
+    if not is_vault:
+        raise Refused(NOT_ENCRYPTED.format(escape(path)))
+    if value.style in (NO_SCALAR, ALIAS):
+        raise Refused(NO_TEXT.format(escape(path)))
+    return value.text
