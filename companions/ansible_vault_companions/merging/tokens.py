@@ -6,8 +6,8 @@ could read the envelopes, and then envelopes take the places of the tokens again
 
 from __future__ import annotations
 
+import os
 import re
-import secrets as randomness
 from collections import Counter, defaultdict
 from typing import Hashable, NamedTuple, Union
 
@@ -43,7 +43,7 @@ class Tokens:
     """The tokens of three versions. Those of the same meaning and layout have the same number."""
 
     def __init__(self) -> None:
-        self.mark = b"ansible-vault-%s" % randomness.token_hex(12).encode()
+        self.mark = b"ansible-vault-%s" % os.urandom(12).hex().encode()
         self.pattern = re.compile(rb"%s-(\d+)" % self.mark)
         # A line with this below a token keeps the lines of two values apart.
         self.separator = b"%s/" % self.mark
