@@ -93,17 +93,24 @@ class Tool:
     """The ansible-vault beside a companion, otherwise the one on PATH. Each run derives a key, and the same envelope
     may occur more than once, so results are remembered, including refusals."""
 
-    def __init__(self, companion: str) -> None:
-        path = processes.find_beside(companion, NAME) or processes.find_program(os.get_exec_path(), NAME, companion)
+    def __init__(self, companion: str, only_shows: bool = False) -> None:
+        beside = processes.find_beside(companion, NAME)
+        path = beside or processes.find_program(os.get_exec_path(), NAME, companion)
         if path is None:
             raise Refused(f"there is no {NAME} beside this program or on PATH; install it")
         self.path = path
-        if re.match(rb"ansible-vault \d", processes.run_program([self.path, "--version"]).stdout) is None:
-            why = "is not the ansible-vault that the companions need; put the right one beside them or on PATH"
-            raise Refused(f"{self.path} {why}")
+        # The one beside was installed with the companion, so a text that is only shown can do without the question.
+        if not (beside and only_shows):
+            self._require_own()
         self.lock = threading.Lock()
         self.results: dict[Hashable, Result] = {}
         self.room = MOST_REMEMBERED
+
+    def _require_own(self) -> None:
+        """Refuses another program of this name, such as that of Ansible."""
+        if re.match(rb"ansible-vault \d", processes.run_program([self.path, "--version"]).stdout) is None:
+            why = "is not the ansible-vault that the companions need; put the right one beside them or on PATH"
+            raise Refused(f"{self.path} {why}")
 
     def run(self, words: list[str], data: bytes, passwords: list[Password]) -> bytes:
         """The tool's output. Raises Refused with the tool's message if it fails."""

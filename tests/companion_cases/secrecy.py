@@ -6,7 +6,7 @@ import resource
 
 import pytest
 
-from companion_cases import CHECK, EDIT, MERGE, PASSWORDS, ROTATE, TEXT, TEXTCONV, WITH, Place, ended, sealed
+from companion_cases import CHECK, EDIT, MERGE, PASSWORDS, ROTATE, TEXT, TEXTCONV, WITH, Place, block, ended, sealed
 from companion_cases import versions
 from companion_cases.terminal import ask
 from lib.needs import needs
@@ -100,6 +100,31 @@ def test_which_tool(place: Place) -> None:
     done = place.run(CHECK, *place.by_file("old"), ".")
     ended("Ansible's tool", done, 1, "is not the ansible-vault that the companions need")
     assert (place.path / "runs").read_text() == "run\n", "is asked its version alone"
+
+
+# Command lines that only show a text, and others.
+SHOWING = [f"{TEXTCONV} {OLD} a.yml", f"{TEXTCONV} {OLD} values.yml", f"{WITH} view {OLD} a.yml"]
+OTHERS = [f"{TEXTCONV} {OLD} --value secret values.yml", *(line for line in RUNS if line not in SHOWING)]
+
+
+@pytest.mark.parametrize("is_on_path", [False, True], ids=["beside", "on PATH"])
+@pytest.mark.parametrize("line", SHOWING + OTHERS)
+def test_asked(place: Place, line: str, is_on_path: bool) -> None:
+    """A tool on PATH is asked its version once, before it gets a password. The one beside a companion was installed with
+    it, so it is not asked before a text is only shown."""
+    versions(place, "a.yml", *(sealed("old", text) for text in TEXTS))
+    place.put("plain.yml", TEXTS[0])
+    place.put("values.yml", block("old"))
+    place.environment["EDITOR"] = place.script('sed -i s/one/three/ "$1"', "editor")
+    place.wrap_tool('echo "$1" >> ../seen')
+    if is_on_path:
+        place.shell("mkdir ../first && mv ../tools/ansible-vault ../first")
+        place.environment["PATH"] = f"{place.path}/first:{place.environment['PATH']}"
+    done = place.shell(line)
+    assert done.returncode == 0, done.stderr
+    first, *others = (place.path / "seen").read_text().split()
+    is_asked = is_on_path or line in OTHERS
+    assert (first == "--version", "--version" in others) == (is_asked, False)
 
 
 NO_TOOLS = ["mkdir {}", "echo > {}", "ln -s nowhere {}", "ln -s ansible-vault {}", f"ln -s ../tools/{CHECK} {{}}", ":"]

@@ -16,7 +16,7 @@ def decrypt_whole_vault(companion: str, target: str, passwords: list[Password], 
     vault = reading.read_if_begins(target, MAGIC)
     if not vault:
         return None
-    tool = Tool(companion)
+    tool = Tool(companion, only_shows=True)
     try:
         return tool.decrypt(vault, passwords, policy).text
     except NotDecrypted:
