@@ -19,7 +19,7 @@ OLD, NEW = "--vault-password-file=../secrets/old", "--new-vault-password-file=..
 # The modules for each command line, a line for each package.
 RUNS = {
     f"{TEXTCONV} {OLD} vault.yml": """
-        lifecycle limits output parsers processes quoting refusals signals tool
+        lifecycle limits output parsers processes quoting refusals signals startup tool
         envelopes: header
         files: reading resolving
         git: repository
@@ -28,7 +28,7 @@ RUNS = {
         others: argparse subprocess
     """,
     f"{TEXTCONV} {OLD} plain.yml": """
-        bounding lifecycle limits output parallel parsers processes quoting refusals signals tool
+        bounding lifecycle limits output parallel parsers processes quoting refusals signals startup tool
         envelopes: conflicts content detection header key_paths layout node strays yaml_nodes
         files: reading resolving
         git: commands repository
@@ -38,7 +38,7 @@ RUNS = {
         others: argparse json typing
     """,
     f"{TEXTCONV} {OLD} value.yml": """
-        bounding lifecycle limits output parallel parsers processes quoting refusals signals tool
+        bounding lifecycle limits output parallel parsers processes quoting refusals signals startup tool
         envelopes: conflicts content detection header key_paths layout node strays yaml_nodes
         files: reading resolving
         git: commands repository
@@ -48,7 +48,7 @@ RUNS = {
         others: argparse json subprocess typing yaml
     """,
     f"{TEXTCONV} {OLD} values.yml": """
-        bounding lifecycle limits output parallel parsers processes quoting refusals signals tool workers
+        bounding lifecycle limits output parallel parsers processes quoting refusals signals startup tool workers
         envelopes: conflicts content detection header key_paths layout node strays yaml_nodes
         files: reading resolving
         git: commands repository
@@ -58,7 +58,7 @@ RUNS = {
         others: argparse concurrent.futures json subprocess typing yaml
     """,
     f"{WITH} view {OLD} vault.yml": """
-        lifecycle limits output parsers processes quoting refusals signals
+        lifecycle limits output parsers processes quoting refusals signals startup
         alias: command_line
         envelopes: header
         files: resolving
@@ -67,7 +67,7 @@ RUNS = {
         others: argparse
     """,
     f"{CHECK} {OLD} .": """
-        bounding lifecycle limits output parsers processes quoting refusals signals tool workers
+        bounding lifecycle limits output parsers processes quoting refusals signals startup tool workers
         batch: checking reports
         envelopes: conflicts content damage detection file_kinds header key_paths layout node strays yaml_nodes
         files: reading replacing resolving searching
@@ -76,7 +76,7 @@ RUNS = {
         others: argparse concurrent.futures dataclasses json subprocess tempfile typing yaml
     """,
     f"{ROTATE} {OLD} {NEW} .": """
-        bounding lifecycle limits output parsers processes quoting refusals signals tool workers
+        bounding lifecycle limits output parsers processes quoting refusals signals startup tool workers
         batch: reports rotation
         envelopes: content detection file_kinds header key_paths layout node strays yaml_nodes
         files: reading replacing resolving searching
@@ -85,7 +85,7 @@ RUNS = {
         others: argparse concurrent.futures dataclasses json subprocess tempfile typing yaml
     """,
     f"{EDIT} {OLD} vault.yml": """
-        bounding lifecycle limits output parallel parsers processes quoting refusals signals tool
+        bounding lifecycle limits output parallel parsers processes quoting refusals signals startup tool
         editing: choosing copies drafts editor matching own_folder private_directory single_value typed_tags writing
             yaml_draft
         envelopes: conflicts content detection header key_paths layout node strays yaml_nodes
@@ -96,7 +96,7 @@ RUNS = {
         others: argparse dataclasses json subprocess tempfile typing
     """,
     f"{MERGE} {OLD} base.yml vault.yml theirs.yml vault.yml": """
-        bounding lifecycle limits output parallel parsers processes quoting refusals signals tool
+        bounding lifecycle limits output parallel parsers processes quoting refusals signals startup tool
         envelopes: conflicts content detection header key_paths layout node strays yaml_nodes
         files: reading replacing resolving
         git: commands repository
@@ -105,12 +105,13 @@ RUNS = {
         others: argparse json subprocess tempfile typing
     """,
     HOOK: """
-        bounding lifecycle limits output parsers processes quoting refusals signals
+        bounding lifecycle limits output parsers processes quoting refusals signals startup
         envelopes: conflicts content damage detection file_kinds header key_paths layout node strays yaml_nodes
         files: reading replacing resolving
         git: attributes blobs commands history indexes installing links pathspecs repository
-        guard: advice damage_rule evidence exemption_rule facts key_names leftover_rule mark_rule placeholders
+        guard: advice damage_rule evidence exemptions facts key_names leftover_rule mark_rule placeholders
             pointer_rule review tag_rule unreadable_rule value_rule vault_rule
+        passwords: settings
         others: argparse json subprocess tempfile typing yaml
     """,
 }
