@@ -1,6 +1,6 @@
 """Install the program below a directory with `make install`, and uninstall it again."""
 
-import re
+import os
 import shutil
 import stat
 import subprocess
@@ -10,7 +10,8 @@ from pathlib import Path
 
 import pytest
 
-from lib.installed import PREFIX_FILES, SHARED, check_program, files_below, printed, run_make
+from lib.installed import PREFIX_FILES, SHARED, check_program, check_starts, compiled_modules, files_below, printed
+from lib.installed import run_make
 from lib.links import dead_links
 from lib.scripts import searched_first, write_script
 
@@ -36,8 +37,8 @@ def check_files(prefix: Path) -> None:
     """Everything is installed, and each module of the companions is compiled."""
     found = files_below(prefix)
     compiled = {each for each in found if each.endswith(".pyc")}
-    modules = {re.sub(r"__pycache__/(\w+)\..*", r"\1.py", each) for each in compiled}
-    assert (found - compiled, modules) == (LOCAL_FILES, {f"lib/ansible-vault/{each}" for each in SHARED})
+    modules = {f"lib/ansible-vault/{each}" for each in SHARED}
+    assert (found - compiled, compiled_modules(found)) == (LOCAL_FILES, modules)
 
 
 def test_install(tmp_path: Path, make: Make) -> None:
@@ -63,6 +64,8 @@ def test_found(make: Make, place: Path) -> None:
     programs |= {place / "share/doc/ansible-vault/testkit" / name for name in ("ansible-value", "make", "run")}
     run = {path for path in modes if path.is_dir() or path.resolve() in programs}
     assert modes == {path: 0o755 if path in run else 0o644 for path in modes}
+    as_nobody = ["setpriv", "--reuid=nobody", "--regid=nogroup", "--clear-groups"] if os.geteuid() == 0 else []
+    check_starts(f"{place}/lib/ansible-vault", *as_nobody)
 
 
 def test_python(tmp_path: Path, make: Make, place: Path) -> None:

@@ -11,7 +11,8 @@ from pathlib import Path
 import pytest
 
 from ansible_vault_companions import OLDEST
-from lib.installed import FILES, NAMES, VERSION, check_program, files_below, printed, run_make
+from lib.installed import FILES, NAMES, SHARED, VERSION, check_program, check_starts, compiled_modules, files_below
+from lib.installed import printed, run_make
 from lib.needs import needs, needs_root
 from lib.package_root import Root, later, stand_in
 from lib.paths import ROOT
@@ -166,3 +167,17 @@ def test_beside_theirs(package: Path, tmp_path: Path, program: str) -> None:
     run_dpkg(root, "-P", "ansible-vault")
     check_theirs(root, mark)
     assert root.dpkg("-s", "ansible-vault").returncode == 1, "it is unknown to dpkg"
+
+
+def test_compiled(package: Path, tmp_path: Path, program: str) -> None:
+    """Where the package is installed, every user starts companions that are compiled."""
+    needs_root()
+    needs("py3compile")
+    root = Root(str(tmp_path / "root"), program)
+    root.add_python()
+    for name in ("libc6", "python3", "python3-yaml"):
+        run_dpkg(root, "-i", stand_in(tmp_path, name, "99", {}))
+    run_dpkg(root, "-i", package)
+    library = "/usr/lib/ansible-vault"
+    assert compiled_modules(files_below(root.path / library.lstrip("/"))) == SHARED
+    check_starts(library, "chroot", "--userspec=65534:65534", str(root.path))

@@ -2,6 +2,7 @@
 
 import os
 import pathlib
+import re
 import subprocess
 import tempfile
 from typing import Any
@@ -47,6 +48,21 @@ def printed(*words: str, cwd: pathlib.Path | None = None, **variables: str) -> s
 
 def files_below(folder: pathlib.Path) -> set[str]:
     return {str(each.relative_to(folder)) for each in folder.rglob("*") if not each.is_dir()}
+
+
+def compiled_modules(files: set[str]) -> set[str]:
+    """Return the modules whose compiled form is among these files."""
+    compiled = [each for each in files if each.endswith(".pyc")]
+    return {re.sub(r"__pycache__/(\w+)\..*", r"\1.py", each) for each in compiled}
+
+
+def check_starts(library: str, *start: str) -> None:
+    """Check that companions in this directory, started like this, read no module that has to be compiled first."""
+    for name in COMPANIONS:
+        done = run_text([*start, "/usr/bin/python3", "-IBv", f"{library}/{name}", "--help"])
+        read = re.findall(rf"^# code object from '?{re.escape(library)}/([^'\n]+)", done.stderr, re.MULTILINE)
+        sources = [path for path in read if not path.endswith(".pyc")]
+        assert (done.returncode, bool(read), sources) == (0, True, []), name
 
 
 def check_program(program: pathlib.Path, where: str) -> None:

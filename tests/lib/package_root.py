@@ -60,13 +60,30 @@ class Root:
             (self.path / folder).symlink_to(f"usr/{folder}")
         for file, text in {"status": "", "available": "", "info/format": "1\n"}.items():
             (self.path / "var/lib/dpkg" / file).write_text(text)
-        for path in {*TOOLS, *(each for tool in [*TOOLS, program] for each in libraries(tool))}:
-            copy = self.path / path.lstrip("/")
-            copy.parent.mkdir(parents=True, exist_ok=True)
-            shutil.copy(path, copy)
+        self._copy({*TOOLS, *(each for tool in [*TOOLS, program] for each in libraries(tool))})
 
     def dpkg(self, *words: str) -> subprocess.CompletedProcess[str]:
         return run_text(["dpkg", f"--root={self.path}", *words], env=os.environ | {"LC_ALL": "C"})
+
+    def add_python(self) -> None:
+        """Add this machine's Python, and what compiles the modules of a package with it."""
+        python = os.path.realpath("/usr/bin/python3")
+        library = f"/usr/lib/{os.path.basename(python)}"
+        for folder in (library, "/usr/share/python3"):
+            ignored = shutil.ignore_patterns("__pycache__", "test", "config-*", "sitecustomize.py")
+            shutil.copytree(folder, f"{self.path}{folder}", ignore=ignored)
+        programs = [python, "/usr/bin/dpkg", "/usr/bin/dpkg-query"]
+        extensions = [str(path) for path in Path(library, "lib-dynload").iterdir()]
+        self._copy({each for file in [*programs, *extensions] for each in libraries(file)})
+        self._copy({*programs, "/usr/bin/python3", "/usr/bin/py3compile"})
+        # For /dev/null, to which postinst writes.
+        (self.path / "dev").mkdir()
+
+    def _copy(self, paths: set[str]) -> None:
+        for path in paths:
+            copy = self.path / path.lstrip("/")
+            copy.parent.mkdir(parents=True, exist_ok=True)
+            shutil.copy(path, copy)
 
     def run(self, *words: str) -> str:
         """Run a program in this root, and return everything it prints."""
