@@ -23,7 +23,7 @@ from ansible_vault_companions.passwords.password import Password
 from ansible_vault_companions.refusals import Refused
 from ansible_vault_companions.tool import Decrypt, Key, Tool
 
-NO_VAULT = (
+NOTHING_TO_EDIT = (
     "it is not a vault, and no value in it has the tag `!vault`; encrypt it with `ansible-vault-with encrypt`, or "
     "write `NAME: !vault TEXT` in it for a single value and run this again"
 )
@@ -140,10 +140,10 @@ class Loader:
 
     def _load_values(self, target: str, content: bytes, edited: bytes) -> YamlDraft:
         if not detection.may_have_envelope(edited):
-            raise Refused(NO_VAULT)
+            raise Refused(NOTHING_TO_EDIT)
         draft = YamlDraft(target, content, edited, self.decrypt, self.choice)
         if not draft.tagged:
-            raise Refused(NO_VAULT)
+            raise Refused(NOTHING_TO_EDIT)
         for old in draft.opened.values():
             old.decrypted.require_label(f"{describe_place(old.value)}: ")
         if len(draft.faults) == len(draft.tagged) and self.choice.label is None:

@@ -22,8 +22,8 @@ NO_FILE = "the editor left no file"
 NO_COPY = "an encrypted copy cannot be kept"
 SEVERAL = "its text has several passwords, and none of them may read all of it"
 RESCUED = "{}; what you saved is encrypted in {}\n--resume reopens it, unless the file has changed."
-# With these, a command is more than the name of a program and its arguments.
-SHELL_WORDS = frozenset("=;&|()<>{}`\n")
+# With one of these characters, a command is more than the name of a program and its arguments.
+OF_SHELL = frozenset("=;&|()<>{}`\n")
 
 
 class EditorResult(NamedTuple):
@@ -59,7 +59,7 @@ class Edit:
     def _run(self, editor: str) -> int:
         """Runs the editor, and returns its status."""
         # Without a shell between, signals reach the editor, unless its command needs one.
-        command = editor if SHELL_WORDS.intersection(editor) else f"exec {editor}"
+        command = editor if OF_SHELL.intersection(editor) else f"exec {editor}"
         # If a signal came before the editor is opened again, the text that was saved first is still there.
         with suppress(signals.Stopped):
             return processes.run_on_terminal(["sh", "-c", f'{command} "$@"', editor, self.folder.file])

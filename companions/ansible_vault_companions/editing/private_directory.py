@@ -11,7 +11,9 @@ from ansible_vault_companions.editing.own_folder import require_own_folder
 from ansible_vault_companions.refusals import Refused
 
 PREFIX = "ansible-vault-"
-NO_PLACE = "no private directory can be made for the plaintext ({}); set TMPDIR to a directory that only you can open"
+NO_PRIVATE_FOLDER = (
+    "no private directory can be made for the plaintext ({}); set TMPDIR to a directory that only you can open"
+)
 
 
 class PrivateDirectory:
@@ -49,7 +51,7 @@ def _make(name: str, text: bytes) -> str:
             return _make_in(place, name, text)
         except OSError as fault:
             faults.append(f"{place}: {refusals.describe_fault(fault)}")
-    raise Refused(NO_PLACE.format("; ".join(faults)))
+    raise Refused(NO_PRIVATE_FOLDER.format("; ".join(faults)))
 
 
 def _list_places() -> list[str]:

@@ -9,7 +9,7 @@ import re
 from ansible_vault_companions.editing.choosing import Choice
 from ansible_vault_companions.editing.writing import make_sealed_block, parse_nodes, write_values
 from ansible_vault_companions.envelopes import conflicts
-from ansible_vault_companions.envelopes.content import NOT_ENCRYPTED, NO_TEXT, Content, parse_content
+from ansible_vault_companions.envelopes.content import NO_SCALAR_THERE, VALUE_NOT_ENCRYPTED, Content, parse_content
 from ansible_vault_companions.envelopes.header import MAGIC
 from ansible_vault_companions.envelopes.key_paths import KeyPath, quote_key
 from ansible_vault_companions.envelopes.layout import Replacement, apply_replacements
@@ -21,10 +21,10 @@ from ansible_vault_companions.refusals import Refused
 from ansible_vault_companions.tool import Decrypt, Tool
 
 A_VAULT = "what you gave is a vault, which ansible-vault does not encrypt again; decrypt it first"
-TOO_LONG = "standard input has more bytes than a vault can hold; split it"
+INPUT_TOO_LONG = "standard input has more bytes than a vault can hold; split it"
 NOTHING_GIVEN = "standard input is empty"
-TO_ENCRYPT = "; to encrypt it there, choose its password with --encrypt-vault-id"
-NO_PLACE = "there is no place for {} in this YAML; edit the file without --value"
+HOW_TO_ENCRYPT = "; to encrypt it there, choose its password with --encrypt-vault-id"
+NO_PLACE_IN_YAML = "there is no place for {} in this YAML; edit the file without --value"
 # A new key, and one that YAML reads as this string without further quotes.
 KEY = re.compile(r'[^."\[\]\x00-\x1f]+|"(?:[^"\\]|\\.)*"')
 SIMPLE_KEY = re.compile(r'(?!(?i:y|yes|n|no|on|off|true|false|null)\Z)[A-Za-z_][A-Za-z0-9_-]*|".*"')
@@ -66,7 +66,7 @@ class SingleValue:
         try:
             return write_values(self.text, {number: envelope}, {number: block} if block else {})
         except Refused:
-            raise Refused(NO_PLACE.format(escape(self.path))) from None
+            raise Refused(NO_PLACE_IN_YAML.format(escape(self.path))) from None
 
 
 def _tag(data: bytes, path: str, is_chosen: bool) -> Content:
@@ -83,11 +83,11 @@ def _tag(data: bytes, path: str, is_chosen: bool) -> Content:
         if value.is_tagged and value.is_envelope:
             return file
         if not is_chosen:
-            raise Refused(NOT_ENCRYPTED.format(escape(path)) + TO_ENCRYPT)
+            raise Refused(VALUE_NOT_ENCRYPTED.format(escape(path)) + HOW_TO_ENCRYPT)
         tag = _add_tag(value, path)
     after = parse_content(apply_replacements(data, [tag]), every=True)
     if after.fault or _list_others(after, path) != _list_others(file, path):
-        raise Refused(NO_PLACE.format(escape(path)))
+        raise Refused(NO_PLACE_IN_YAML.format(escape(path)))
     return after
 
 
@@ -101,7 +101,7 @@ def _add_key(data: bytes, path: str) -> Replacement:
 def _add_tag(value: Node, path: str) -> Replacement:
     """The change that adds the tag before a text that is there, or before an empty one."""
     if value.style in (NO_SCALAR, ALIAS):
-        raise Refused(NO_TEXT.format(escape(path)))
+        raise Refused(NO_SCALAR_THERE.format(escape(path)))
     text = b"!vault " if value.end > value.begin else b' !vault ""'
     return Replacement(value.begin, value.begin, b"" if value.is_tagged else text)
 
@@ -118,7 +118,7 @@ def _read_input() -> bytes:
         raise Refused("--value reads standard input, which is a terminal; use a pipe or a file")
     text = reading.read_input(0)
     if len(text) > LONGEST_PLAINTEXT:
-        raise Refused(TOO_LONG)
+        raise Refused(INPUT_TOO_LONG)
     if not text:
         raise Refused(NOTHING_GIVEN)
     if text.startswith(MAGIC):

@@ -29,11 +29,11 @@ HAS_DIRECTIVE = "line {}: `%TAG` may make `!vault` another tag; remove that line
 NEW_TAG = (
     "line {}: it has a tag that the file did not have, other than `!vault`; correct it, or add it with another editor"
 )
-STRAY = (
+LOOSE_WORD = (
     "line {}: no value follows `!vault` here, so nothing would be encrypted, as in a comment or a string; correct it, "
     "or add it with another editor"
 )
-CUT = "line {}: a text without quotes ends within the line, so the rest would stay in plaintext; put it in quotes"
+CUT_SHORT = "line {}: a text without quotes ends within the line, so the rest would stay in plaintext; put it in quotes"
 
 
 def refuse_directive(data: bytes) -> None:
@@ -52,24 +52,24 @@ def check_tags(shown: Content, saved: Content) -> None:
             raise Refused(NEW_TAG.format(value.line))
         is_unquoted = value.is_tagged and value.style == PLAIN and not value.is_envelope
         if is_unquoted and not REST.match(saved.data, value.end):
-            raise Refused(CUT.format(value.line))
-    before = Counter(word[0] for word in _find_strays(shown))
-    for word in _find_strays(saved):
+            raise Refused(CUT_SHORT.format(value.line))
+    before = Counter(word[0] for word in _find_loose_words(shown))
+    for word in _find_loose_words(saved):
         if not before[word[0]]:
-            raise Refused(STRAY.format(_find_line(saved.data, word.start())))
+            raise Refused(LOOSE_WORD.format(_find_line(saved.data, word.start())))
         before[word[0]] -= 1
 
 
-def _find_strays(text: Content) -> Iterator[re.Match[bytes]]:
+def _find_loose_words(text: Content) -> Iterator[re.Match[bytes]]:
     """Each `!vault` that is neither the tag of a value nor within the quotes or the block of one, with what follows."""
     values = sorted((value for value in text.values if value.is_tagged), key=lambda value: value.begin)
     begins = [value.begin for value in values]
-    behind_tags = {*begins}
+    after_tags = {*begins}
     for word in WORD.finditer(text.data):
         number = bisect_right(begins, word.start())
         is_within = number > 0 and word.start() < values[number - 1].end and values[number - 1].style != PLAIN
         tag = TAG.match(text.data, word.start())
-        if not is_within and not (tag and tag.end() in behind_tags):
+        if not is_within and not (tag and tag.end() in after_tags):
             yield word
 
 

@@ -21,7 +21,7 @@ from ansible_vault_companions.envelopes.layout import (
 from ansible_vault_companions.envelopes.node import LITERAL, Node
 from ansible_vault_companions.refusals import Refused
 
-NO_PLACE = "its values cannot be written where they are; write each as `NAME: !vault |`"
+NOT_WRITABLE = "its values cannot be written where they are; write each as `NAME: !vault |`"
 # What a node of YAML says: its path and its text.
 KeyPathAndText = tuple[KeyPath, bytes]
 
@@ -70,7 +70,7 @@ def _find_wrong(
         # A value that is no block yet may be where no block can be, and so break the text around it.
         wrong, unsure = [*blocks], [number for number in blocks if text.values[number].style != LITERAL]
     if not wrong:
-        raise Refused(NO_PLACE)
+        raise Refused(NOT_WRITABLE)
     return unsure or wrong
 
 

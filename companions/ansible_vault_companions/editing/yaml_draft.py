@@ -14,8 +14,8 @@ from ansible_vault_companions.parallel import work_at_once
 from ansible_vault_companions.refusals import Refused
 from ansible_vault_companions.tool import Decrypt, Key, Tool
 
-NO_TEXT = "is a list, a mapping or a key, not a string; put quotes around a text"
-NOTHING = 'is missing after `!vault`; write `""` for an empty one'
+NOT_A_STRING = "is a list, a mapping or a key, not a string; put quotes around a text"
+NOTHING_TYPED = 'is missing after `!vault`; write `""` for an empty one'
 LIKE_A_VAULT = "begins like a vault ($ANSIBLE_VAULT), but is not one, so ansible-vault does not encrypt it"
 
 
@@ -114,9 +114,9 @@ def _is_to_be_encrypted(value: Node, closed: set[bytes]) -> bool:
     if not value.is_tagged or is_like_a_vault and (value.is_whole or value.text in closed):
         return False
     if value.style in (NO_SCALAR, ALIAS) or value.is_key:
-        raise Refused(f"{describe_place(value)} {NO_TEXT}")
+        raise Refused(f"{describe_place(value)} {NOT_A_STRING}")
     if value.style == PLAIN and not value.text:
-        raise Refused(f"{describe_place(value)} {NOTHING}")
+        raise Refused(f"{describe_place(value)} {NOTHING_TYPED}")
     if is_like_a_vault:
         raise Refused(f"{describe_place(value)} {LIKE_A_VAULT}")
     return True

@@ -21,14 +21,14 @@ from ansible_vault_companions.limits import TooMuch
 from ansible_vault_companions.quoting import escape
 from ansible_vault_companions.refusals import Refused
 
-NO_PLACE = "its values cannot be replaced where they are; write each as `NAME: !vault |`"
+NOT_REPLACEABLE = "its values cannot be replaced where they are; write each as `NAME: !vault |`"
 
 # The number of a list item in a typed path.
 NUMBER = re.compile(r"\[\d+\]")
 # How many values a message lists if a typed path leads nowhere.
 MOST_LISTED = 20
-NO_TEXT = "{} is a list, a mapping or an alias; name a value in it"
-NOT_ENCRYPTED = "{} is not encrypted"
+NO_SCALAR_THERE = "{} is a list, a mapping or an alias; name a value in it"
+VALUE_NOT_ENCRYPTED = "{} is not encrypted"
 
 
 class Content:
@@ -56,7 +56,7 @@ class Content:
         if not self.is_vault:
             wanted = [(value.path, new.get(number, value.text).strip()) for number, value in enumerate(self.values)]
             if [(value.path, value.text.strip()) for value in parse_content(after).values] != wanted:
-                raise Refused(NO_PLACE)
+                raise Refused(NOT_REPLACEABLE)
         return after
 
     def list_values_at(self, path: str) -> list[Node]:

@@ -17,7 +17,7 @@ WHOLE, STRAY, LOOSE = "vault", "stray", "loose"
 TAGS, JSON_KEY = ("!vault", "!vault-encrypted"), "__ansible_vault"
 
 ELSEWHERE = "an envelope within other text; write it as a value (`NAME: !vault |`), or encrypt the whole file"
-JOINED = (
+LINES_JOINED = (
     "its lines are joined, since it is not a block; write it as a block (`NAME: !vault |`), or, if the file is to be a "
     "vault, let the file begin with it"
 )
@@ -93,5 +93,5 @@ class Node(NamedTuple):
         if self.style != WHOLE and not self.is_envelope:
             raise Refused("it has the tag `!vault` but is plaintext")
         if JOINED_LINES.match(self.text):
-            raise Refused(JOINED)
+            raise Refused(LINES_JOINED)
         return self.text

@@ -9,7 +9,6 @@ import os
 import shlex
 
 from ansible_vault_companions.git.commands import read_line, run_git
-from ansible_vault_companions.git.repository import find_top
 from ansible_vault_companions.quoting import escape, quote_word
 from ansible_vault_companions.refusals import Refused
 
@@ -27,8 +26,8 @@ git diff and git merge recognize vaults by .gitattributes; for the whole team, a
 
 
 def list_hooks() -> list[str]:
-    """The paths of this repository's hooks. Changes to its top, where a relative core.hooksPath starts."""
-    os.chdir(find_top())
+    """The paths of this repository's hooks. A relative core.hooksPath starts from its top, which must be the current
+    directory."""
     folder = os.path.abspath(read_line("rev-parse", "--git-path", "hooks"))
     return [os.path.join(folder, name) for name in ("pre-commit", "pre-merge-commit")]
 

@@ -63,7 +63,7 @@ class Review:
         self.blobs = blobs
         self.reported: set[tuple[bytes, str]] = set()
 
-    def look_at(
+    def check_changes(
         self, index: Index, changes: list[Differences], advise: Callable[[Fault], str], where: str = ""
     ) -> None:
         """Checks changes with the attributes of an index. `where` precedes each message, and advice follows it. A link
@@ -85,7 +85,8 @@ def review_staged(review: Review, paths: list[str]) -> None:
     """Reviews the staged changes, and the files at or below these paths even if they did not change."""
     index = indexes.read_staged()
     named = Differences("", index.list_files(paths) if paths else [])
-    review.look_at(index, [*index.compare_with_parents(), named], partial(advice.write_advice, words=advice.STAGED))
+    advise = partial(advice.write_advice, words=advice.STAGED)
+    review.check_changes(index, [*index.compare_with_parents(), named], advise)
 
 
 def review_since(review: Review, name: str) -> None:
@@ -97,11 +98,11 @@ def review_since(review: Review, name: str) -> None:
         commit = line.decode()
         with indexes.open_index(commit) as index:
             advise = partial(advice.advise_on_commit, commit=commit)
-            review.look_at(index, index.compare_with_parents(), advise, f"{commit[:DIGITS]}: ")
+            review.check_changes(index, index.compare_with_parents(), advise, f"{commit[:DIGITS]}: ")
     with indexes.open_index(last) as index:
         for base in history.list_merge_bases(first, last):
             advise = partial(advice.advise_on_commits, base=base, last=last)
-            review.look_at(index, [index.compare_with(base)], advise, f"{last[:DIGITS]}: ")
+            review.check_changes(index, [index.compare_with(base)], advise, f"{last[:DIGITS]}: ")
 
 
 def review_all(review: Review) -> None:
@@ -114,6 +115,6 @@ def review_all(review: Review) -> None:
         vaults = {blob for blob in blobs if review.blobs.read(blob, is_old=True) == MAGIC}
         # One version is enough.
         were_vaults = {file.name: file for file in sorted(former) if file.before in vaults}
-        review.look_at(index, [Differences("", index.list_files([]))], advise)
-        review.look_at(index, index.compare_with_parents(), partial(advice.write_advice, words=advice.LAST))
-        review.look_at(index, [Differences("an earlier commit", [*were_vaults.values()])], advise)
+        review.check_changes(index, [Differences("", index.list_files([]))], advise)
+        review.check_changes(index, index.compare_with_parents(), partial(advice.write_advice, words=advice.LAST))
+        review.check_changes(index, [Differences("an earlier commit", [*were_vaults.values()])], advise)

@@ -9,7 +9,7 @@ from ansible_vault_companions.guard import exemptions
 from ansible_vault_companions.guard.advice import Fault, Remedy
 from ansible_vault_companions.guard.evidence import Evidence, is_yaml
 
-NOT_YAML = "had encrypted values, but can no longer be checked: {}"
+NO_LONGER_YAML = "had encrypted values, but can no longer be checked: {}"
 FEWER = "has fewer envelopes than{}, and cannot be compared with what it was there: {}"
 
 
@@ -22,7 +22,7 @@ def find_fault(evidence: Evidence, file: File) -> Fault | None:
     if now.is_too_much and now.envelopes and not exemptions.allows_damage(evidence, file):
         return exemptions.make_damage(evidence, file, NOT_READ.format(now.fault), Remedy.ALLOW)
     if now.fault and before.encrypted and is_yaml(file):
-        return exemptions.make_loss(evidence, file, NOT_YAML.format(now.fault), Remedy.REPAIR)
+        return exemptions.make_loss(evidence, file, NO_LONGER_YAML.format(now.fault), Remedy.REPAIR)
     was_unreadable = before.is_too_much or before.fault and is_yaml(file)
     if was_unreadable and before.envelopes > now.envelopes and not (now.is_vault or now.is_empty):
         return exemptions.make_loss(evidence, file, FEWER.format(evidence.since, before.fault))

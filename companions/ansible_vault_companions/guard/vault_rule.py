@@ -13,7 +13,7 @@ from ansible_vault_companions.guard.evidence import Evidence, is_yaml
 from ansible_vault_companions.guard.key_names import ITEM
 from ansible_vault_companions.quoting import escape
 
-NO_VAULT = "is not a vault, but was one{}"
+WAS_VAULT = "is not a vault, but was one{}"
 SUCCESSOR = "is not encrypted, and {}, which is gone, was a vault{}"
 
 
@@ -44,7 +44,7 @@ class VaultRule:
     def _find_loss(self, file: File) -> str:
         """Which vault a file that is none was, or replaces; empty if there is none."""
         if self.evidence.before[file].is_vault:
-            return NO_VAULT.format(self.evidence.since)
+            return WAS_VAULT.format(self.evidence.since)
         replaced = self.find_replaced(file)
         if replaced is None or not self._has_plaintext(file):
             return ""

@@ -15,7 +15,7 @@ from ansible_vault_companions.parallel import work_at_once
 from ansible_vault_companions.refusals import Refused
 from ansible_vault_companions.tool import Decrypt, Decryption, Key, Tool
 
-NOT_YAML = "git can merge its lines, but then {}"
+MERGED_NOT_YAML = "git can merge its lines, but then {}"
 HAS_MARKERS = "it has lines that look like git's conflict markers"
 NEW_VALUE = "git can merge its lines, but the result has a value that neither side has"
 
@@ -84,7 +84,7 @@ class ValueMerge:
         result = conflicts.parse_sides(content)
         are_yaml = not any(self.contents[side].fault for side in (OURS, THEIRS))
         if result.fault and are_yaml and not has_conflict:
-            raise Refused(NOT_YAML.format(result.fault))
+            raise Refused(MERGED_NOT_YAML.format(result.fault))
         found = Counter(value.text.strip() for value in result.values if _has_token(value))
         if found != Counter(envelope.strip() for envelope in envelopes):
             raise Refused(NEW_VALUE)

@@ -16,14 +16,14 @@ from ansible_vault_companions.parallel import work_at_once
 from ansible_vault_companions.refusals import Refused
 from ansible_vault_companions.tool import Decrypt
 
-NO_VAULT = "it is not a vault and has no encrypted value"
+NO_ENVELOPE = "it is not a vault and has no encrypted value"
 
 
 def read_envelopes(target: str) -> Content:
     """The content of a file. Refuses one without envelopes."""
     file = parse_content(detection.read_envelope_file(target))
     if not file.values:
-        raise Refused(NO_VAULT)
+        raise Refused(NO_ENVELOPE)
     return file
 
 

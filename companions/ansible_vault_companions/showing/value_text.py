@@ -2,7 +2,7 @@
 
 from __future__ import annotations
 
-from ansible_vault_companions.envelopes.content import NOT_ENCRYPTED, NO_TEXT, Content, parse_content
+from ansible_vault_companions.envelopes.content import NO_SCALAR_THERE, VALUE_NOT_ENCRYPTED, Content, parse_content
 from ansible_vault_companions.envelopes.node import ALIAS, NO_SCALAR
 from ansible_vault_companions.quoting import escape
 from ansible_vault_companions.refusals import Refused
@@ -20,7 +20,7 @@ def read_value(data: bytes, path: str, decrypt: Decrypt) -> bytes:
     if value.is_envelope:
         return decrypt(value.require_readable()).text
     if not is_vault:
-        raise Refused(NOT_ENCRYPTED.format(escape(path)))
+        raise Refused(VALUE_NOT_ENCRYPTED.format(escape(path)))
     if value.style in (NO_SCALAR, ALIAS):
-        raise Refused(NO_TEXT.format(escape(path)))
+        raise Refused(NO_SCALAR_THERE.format(escape(path)))
     return value.text
