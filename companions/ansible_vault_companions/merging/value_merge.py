@@ -50,6 +50,8 @@ class ValueMerge:
         return {each.envelope: each for each in decryptions if each}
 
     def _choose_key(self, label: str, chosen: Key | None) -> Key | None:
+        """The key of the result for the values with a label. A merged vault gets the chosen label, but each value keeps
+        its own, so here the chosen key is only for those that have its label."""
         ours, base, theirs = (self._list_keys(side, label) for side in SIDES)
         key = find_common_key(ours, base, theirs)
         if key is None and chosen and chosen.label == label and ours != theirs:
