@@ -22,9 +22,9 @@ def _end_time(_number: int, _frame: object) -> None:
 @contextmanager
 def limit_work(seconds: int = SECONDS) -> Iterator[None]:
     """A context for work on what a file contains, in which nothing is written. The limits of time and memory end it,
-    even within a search: they raise TooMuch. Python handles signals only in the main thread, so in others, which read
-    only what a password has opened, there is no limit. Nor is there one of memory while others run, since it would be
-    theirs as well."""
+    even within a search: they raise TooMuch. Python handles signals only in the main thread, so in others there is no
+    limit: they read what a password has opened and, once it is changed, a file that was within the limits. Nor is there
+    one of memory while others run, since it would be theirs as well."""
     is_limited = _signal.getsignal(_signal.SIGPROF) == _end_time
     if is_limited or threading.current_thread() is not threading.main_thread():
         yield

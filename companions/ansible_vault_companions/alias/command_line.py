@@ -191,7 +191,7 @@ class Call:
             *(password.make_option("--new-vault-id") for password in self.new),
             *([f"{ENCRYPT_ID}={self.label}"] if self.label and self.args.command in ENCRYPTING else []),
             *([MATCH] if self.needs_match and not self.args.require_id_match else []),
-            *list_passed_on(self.args, (ENCRYPT_ID, "--any-label", *without)),
+            *list_passed_on(self.args, (ENCRYPT_ID, ANY_LABEL, *without)),
         ]
 
 

@@ -30,10 +30,15 @@ class DecryptedValue(NamedTuple):
 
 
 class Match(NamedTuple):
-    """What a typed value was before, if anything. Without a key it keeps the envelope."""
+    """What a typed value was before, if anything, and the key that encrypts it; None if it keeps its envelope."""
 
     before: DecryptedValue | None
     key: Key | None = None
+
+    @property
+    def kept_value(self) -> Node | None:
+        """The value of the file whose envelope stays, if it does."""
+        return self.before.value if self.before and not self.key else None
 
 
 def describe_name(value: Node) -> str:

@@ -44,6 +44,8 @@ def write_values(text: Content, contents: dict[int, bytes], blocks: dict[int, li
         if reading == wanted:
             return after
         wrong = _find_wrong(text, reading, wanted, blocks)
+        if not wrong:
+            raise Refused(NOT_WRITABLE)
         blocks = {number: block for number, block in blocks.items() if number not in wrong}
 
 
@@ -63,15 +65,11 @@ def _list_nodes(data: bytes) -> list[KeyPathAndText]:
 def _find_wrong(
     text: Content, reading: list[KeyPathAndText], wanted: list[KeyPathAndText], blocks: dict[int, list[Replacement]]
 ) -> list[int]:
-    """The numbers of the blocks to write in double quotes instead. Raises Refused if there are none."""
+    """The numbers of the blocks to write in double quotes instead."""
     if len(reading) == len(wanted):
-        wrong = unsure = [number for number in blocks if reading[number] != wanted[number]]
-    else:
-        # A value that is no block yet may be where no block can be, and so break the text around it.
-        wrong, unsure = [*blocks], [number for number in blocks if text.values[number].style != LITERAL]
-    if not wrong:
-        raise Refused(NOT_WRITABLE)
-    return unsure or wrong
+        return [number for number in blocks if reading[number] != wanted[number]]
+    # A value that is no block yet may be where no block can be, and so break the text around it.
+    return [number for number in blocks if text.values[number].style != LITERAL] or [*blocks]
 
 
 def make_plain_block(data: bytes, value: Node, text: bytes) -> list[Replacement]:

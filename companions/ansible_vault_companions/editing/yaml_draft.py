@@ -80,10 +80,10 @@ class YamlDraft:
 
     def _block(self, text: bytes, value: Node, envelope: bytes, match: Match) -> list[Replacement]:
         """The changes that write an envelope as a block. One that stays is written as it was."""
-        old = match.before.value if match.before else None
-        if old and not match.key:
-            return [Replacement(value.begin, value.end, self.file.data[old.begin : old.end])]
-        return make_sealed_block(text, value, envelope, old)
+        kept = match.kept_value
+        if kept:
+            return [Replacement(value.begin, value.end, self.file.data[kept.begin : kept.end])]
+        return make_sealed_block(text, value, envelope, match.before.value if match.before else None)
 
 
 def _try_to_open(value: Node, decrypt: Decrypt) -> DecryptedValue | Refused:
@@ -102,8 +102,8 @@ def _try_to_open(value: Node, decrypt: Decrypt) -> DecryptedValue | Refused:
 
 def _seal(tool: Tool, value: Node, match: Match) -> bytes:
     """The envelope of a typed value: the one that it had, or a new one."""
-    if match.before and not match.key:
-        return match.before.value.text
+    if match.kept_value:
+        return match.kept_value.text
     assert match.key
     return tool.encrypt(value.text, match.key)
 

@@ -10,12 +10,16 @@ PROSE = (".md", ".rst", ".adoc", ".html")
 YAML = (".yml", ".yaml", ".json")
 
 
-def is_prose(target: str) -> bool:
-    """Whether the file with this real path is a document."""
-    return target.lower().endswith(PROSE)
+def is_prose(path: str) -> bool:
+    return path.lower().endswith(PROSE)
+
+
+def is_yaml(path: str) -> bool:
+    return path.lower().endswith(YAML)
 
 
 def find_yaml_fault(document: Content, path: str, target: str) -> str:
     """Why a file with an envelope that is YAML, by its name or by that of its target, cannot be read; else empty."""
-    is_yaml = any(name.lower().endswith(YAML) for name in (path, target))
-    return document.fault if is_yaml and (document.values or BINARY in document.data) else ""
+    if not (is_yaml(path) or is_yaml(target)):
+        return ""
+    return document.fault if document.values or BINARY in document.data else ""

@@ -6,6 +6,8 @@ from ansible_vault_companions.git.commands import CUT, find_object, list_records
 from ansible_vault_companions.quoting import escape
 from ansible_vault_companions.refusals import Refused
 
+# How many digits of a commit are enough for a message.
+DIGITS = 10
 SHALLOW = "earlier commits are missing: run `git fetch --unshallow`, or set fetch-depth or GIT_DEPTH of a pipeline to 0"
 
 
@@ -20,7 +22,7 @@ def find_commit(name: str) -> str:
 
 
 def list_parents(commit: str) -> list[str]:
-    """The parents of a commit. git prints them behind the commit itself."""
+    """The parents of a commit. git prints them after the commit itself."""
     return read_line("rev-list", "--parents", "--max-count=1", commit, "--").split()[1:]
 
 

@@ -10,7 +10,7 @@ from typing import Iterator, NamedTuple
 
 from ansible_vault_companions import signals
 from ansible_vault_companions.git.commands import CUT, find_object, list_records, read_line, run_git
-from ansible_vault_companions.git.history import list_parents
+from ansible_vault_companions.git.history import DIGITS, list_parents
 from ansible_vault_companions.git.pathspecs import make_pathspec
 from ansible_vault_companions.quoting import escape
 from ansible_vault_companions.refusals import Refused
@@ -89,7 +89,7 @@ class Index:
             blob = difference.blob if difference.mode in MODES else ""
             before = difference.old_blob if difference.old_mode in FILE_MODES else ""
             files.append(File(difference.name, blob, before, is_link=difference.mode == LINK_MODE))
-        return Differences(commit[:10], files, commit)
+        return Differences(commit[:DIGITS], files, commit)
 
     def compare_with_parents(self) -> list[Differences]:
         """The differences from each parent."""

@@ -6,6 +6,7 @@ import os
 from enum import Enum
 from typing import NamedTuple
 
+from ansible_vault_companions.git.history import DIGITS
 from ansible_vault_companions.git.pathspecs import make_pathspec
 
 
@@ -69,8 +70,6 @@ LAST = Words(
 )
 # No later commit changes what the hook says of these.
 REWRITE = "rewrite {what}, for example with `git rebase -i {base}`; if that is intended, begin later: --since {last}"
-# How many digits of a commit are enough.
-DIGITS = 10
 
 
 def write_advice(fault: Fault, words: Words) -> str:

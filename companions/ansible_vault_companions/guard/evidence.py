@@ -5,7 +5,7 @@ from __future__ import annotations
 import os
 from functools import cached_property
 
-from ansible_vault_companions.envelopes.file_kinds import PROSE, YAML
+from ansible_vault_companions.envelopes import file_kinds
 from ansible_vault_companions.git import indexes
 from ansible_vault_companions.git.attributes import Attributes, read_attributes
 from ansible_vault_companions.git.blobs import Blobs
@@ -49,8 +49,8 @@ class Evidence:
 
     def is_example(self, file: File) -> bool:
         """Whether a file is a document, which may have envelopes that are none."""
-        return os.fsdecode(file.name).lower().endswith(PROSE) and not self.attributes[file.name].is_marked
+        return file_kinds.is_prose(os.fsdecode(file.name)) and not self.attributes[file.name].is_marked
 
 
 def is_yaml(file: File) -> bool:
-    return os.fsdecode(file.name).lower().endswith(YAML)
+    return file_kinds.is_yaml(os.fsdecode(file.name))

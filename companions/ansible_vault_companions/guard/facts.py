@@ -3,7 +3,8 @@
 from __future__ import annotations
 
 from collections import Counter
-from typing import Iterator, NamedTuple
+from dataclasses import dataclass, field
+from typing import Iterator
 
 from ansible_vault_companions import bounding, limits
 from ansible_vault_companions.envelopes.content import Content
@@ -33,7 +34,8 @@ NONE: Counter[int] = Counter()
 Leaf = tuple[KeyPath, bool, int]
 
 
-class Facts(NamedTuple):
+@dataclass(frozen=True)
+class Facts:
     is_vault: bool = False
     is_empty: bool = False
     is_pointer: bool = False
@@ -46,8 +48,8 @@ class Facts(NamedTuple):
     damage: str = ""
     tagged: str = ""
     unencrypted: str = NOT_ENCRYPTED
-    encrypted: Texts = {}
-    plain: Texts = {}
+    encrypted: Texts = field(default_factory=dict)
+    plain: Texts = field(default_factory=dict)
 
 
 def find_facts(data: bytes, needs_plain: bool = False) -> Facts:
@@ -71,19 +73,24 @@ def _read_facts(data: bytes, needs_plain: bool) -> Facts:
     if not (needs_plain or may_have_envelope(data)):
         return Facts()
     document, leaves = _read_leaves(data)
-    found = Facts(
+    return Facts(
         fault=document.fault,
         envelopes=data.count(HEADER) if document.fault else sum(value.is_envelope for value in document.values),
         damage=find_damage(document),
         tagged=find_tagged(document),
         unencrypted=find_unencrypted(document),
-        encrypted={},
-        plain={},
+        encrypted=_count_texts(leaves, are_encrypted=True),
+        plain=_count_texts(leaves, are_encrypted=False),
     )
+
+
+def _count_texts(leaves: list[Leaf], are_encrypted: bool) -> Texts:
+    """How often each text is at its keys, of those that are encrypted or of the others."""
+    texts: Texts = {}
     for path, is_encrypted, text in leaves:
-        texts = found.encrypted if is_encrypted else found.plain
-        texts.setdefault(make_keys(path), Counter())[text] += 1
-    return found
+        if is_encrypted == are_encrypted:
+            texts.setdefault(make_keys(path), Counter())[text] += 1
+    return texts
 
 
 def _read_leaves(data: bytes) -> tuple[Content, list[Leaf]]:

@@ -10,6 +10,7 @@ from ansible_vault_companions.envelopes.header import MAGIC
 from ansible_vault_companions.git import history, indexes
 from ansible_vault_companions.git.blobs import Blobs
 from ansible_vault_companions.git.commands import list_records
+from ansible_vault_companions.git.history import DIGITS
 from ansible_vault_companions.git.indexes import Differences, File, Index
 from ansible_vault_companions.git.links import find_target
 from ansible_vault_companions.guard import (
@@ -21,7 +22,7 @@ from ansible_vault_companions.guard import (
     tag_rule,
     unreadable_rule,
 )
-from ansible_vault_companions.guard.advice import DIGITS, Fault
+from ansible_vault_companions.guard.advice import Fault
 from ansible_vault_companions.guard.evidence import Evidence
 from ansible_vault_companions.guard.value_rule import ValueRule
 from ansible_vault_companions.guard.vault_rule import VaultRule
