@@ -1,7 +1,7 @@
 """How much work a companion does on one file, whatever the file contains.
 
 No file that anybody uses comes near these limits. What exceeds one is refused with a message that names the limit, and
-the next file is taken.
+work goes on with the next file.
 """
 
 from __future__ import annotations

@@ -11,7 +11,7 @@ ESCAPED = re.compile(r"[^ -&(-\[\]-~]")
 
 
 def escape(name: str) -> str:
-    """A file name in printable form: line ends and terminal control characters are escaped."""
+    """A printable name as it is, and any other as Python writes it: in quotes, with escapes."""
     return name if name.isprintable() else ascii(name)
 
 

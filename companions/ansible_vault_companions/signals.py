@@ -52,7 +52,7 @@ def postpone_signals() -> Iterator[None]:
 
 
 def find_postponed_signal() -> int | None:
-    """A signal that has asked the companion to end, and will."""
+    """A signal that has asked the companion to end, and will end it."""
     return min(ENDING.intersection(_signal.sigpending()), default=None)
 
 

@@ -110,8 +110,8 @@ OTHERS = [f"{TEXTCONV} {OLD} --value secret values.yml", *(line for line in RUNS
 @pytest.mark.parametrize("is_on_path", [False, True], ids=["beside", "on PATH"])
 @pytest.mark.parametrize("line", SHOWING + OTHERS)
 def test_asked(place: Place, line: str, is_on_path: bool) -> None:
-    """A tool on PATH is asked its version once, before it gets a password. The one beside a companion was installed with
-    it, so it is not asked before a text is only shown."""
+    """A tool on PATH is asked for its version once, before it gets a password. The one beside a companion was installed
+    with it, so it is not asked before a text is only shown."""
     versions(place, "a.yml", *(sealed("old", text) for text in TEXTS))
     place.put("plain.yml", TEXTS[0])
     place.put("values.yml", block("old"))

@@ -1,5 +1,10 @@
 """Rescue copies: what an edit saved and could not put into the file is kept encrypted, in a directory of the user's
-own."""
+own.
+
+A repository cannot bring this directory along: git records no modes of directories, so one that it makes is open to
+others, unless a umask prevents that. Even then, a stranger could only commit a copy that the team has made, of the very
+text that the edit begins with.
+"""
 
 from __future__ import annotations
 
@@ -62,7 +67,7 @@ def save_copy(tool: Tool, key: Key, target: str, base: bytes, text: bytes) -> st
 
 
 def read_copy(path: str, base: bytes, keys: list[Key], decrypt: Decrypt) -> bytes:
-    """The text of a copy. The file may be under new passwords by now, but what it says, and for whom, is as before."""
+    """The text of a copy. Refuses one if the file's text or label has changed since; its password may have."""
     content = reading.read_existing(path)
     text = decrypt(content).text
     if [key.label for key in keys] != [read_label(content)] or not text.startswith(_make_head(base)):

@@ -1,4 +1,4 @@
-"""What an edit is of: a vault, YAML with values, a conflict of two of these, or a single value of YAML."""
+"""What can be edited: a vault, YAML with values, a conflict of two vaults, or a single value of YAML."""
 
 from __future__ import annotations
 

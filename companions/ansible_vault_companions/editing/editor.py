@@ -58,9 +58,9 @@ class Edit:
 
     def _run(self, editor: str) -> int:
         """Runs the editor, and returns its status."""
-        # Without a shell between, signals reach the editor, unless its command needs one.
+        # After `exec`, signals reach the editor itself. A command that needs a shell keeps it.
         command = editor if OF_SHELL.intersection(editor) else f"exec {editor}"
-        # If a signal came before the editor is opened again, the text that was saved first is still there.
+        # A signal may have come before the editor is opened again. What was saved first is still there.
         with suppress(signals.Stopped):
             return processes.run_on_terminal(["sh", "-c", f'{command} "$@"', editor, self.folder.file])
         return 0

@@ -73,7 +73,7 @@ def _keep_moved(
     after: dict[Place, Node],
     group: Callable[[Place], KeyPath],
 ) -> None:
-    """Adds typed values whose text a single other value of the same group had, which is gone."""
+    """Adds the typed values that have moved: a single value of the same group had their text, and its place is gone."""
     vanished: dict[tuple[KeyPath, bytes], list[Place]] = defaultdict(list)
     for at in before.keys() - {*kept.values()}:
         vanished[group(at), before[at].decrypted.text].append(at)

@@ -17,12 +17,8 @@ def require_own_folder(path: str) -> None:
     """Refuses a directory, by its real path, unless it is the user's own: it belongs to the user, and others have no
     access. Each directory above it belongs to the user or to root, and others cannot write to it, or it is sticky:
     then, only its owner can rename or remove what belongs to somebody else. So nobody but root can put another
-    directory in the place of this one. Those at the top come first, so that what has passed stays as it is. None is a
-    link, since everybody may write to those.
-
-    git records no modes of directories, so one that it makes is open to others, unless a umask prevents that. Even
-    then, a stranger could only commit a copy that the team has made, of the very text that the edit begins with.
-    """
+    directory in the place of this one. Those at the top come first, so that what has passed stays as it is. A link does
+    not pass, since its mode lets everybody write."""
     for above in reversed(PurePath(path).parents):
         _require_safe(str(above))
     about = os.lstat(path)

@@ -1,4 +1,4 @@
-"""Makes sure that what a user types behind `!vault` is encrypted, whatever is around it.
+"""Makes sure that what a user types after `!vault` is encrypted, whatever is around it.
 
 The text around it may be a stranger's: a string that begins above and ends below takes it in, and the directive `%TAG`
 makes `!vault` another tag. So it is not enough to encrypt the values that YAML says there are. Each `!vault` in what

@@ -20,6 +20,9 @@ MARKER = re.compile(rb"^(<{7}|\|{7}|={7}|>{7})(?:[ \t][^\r\n]*)?\r?$", re.MULTIL
 LONGER = re.compile(rb"^(?:<{7,}|\|{7,}|>{7,})(?:[ \t][^\r\n]*)?\r?$", re.MULTILINE)
 LINES = re.compile(rb"[^\n]*\n|[^\n]+\Z")
 
+# What a line has in place of its side if it is itself a marker, or if it is outside of conflicts.
+IS_MARKER, NO_SIDE = b"marker", b""
+
 UNMERGED = "has git's conflict markers"
 LONG = f"it {UNMERGED}, but no whole conflict between markers of seven characters; take a side with `git checkout`"
 STILL = "it still has git's conflict markers: choose between the sides, and remove the markers"
@@ -36,15 +39,15 @@ def count_markers(text: bytes) -> Counter[bytes]:
 
 
 def mark_lines(text: bytes, is_unmerged: bool = True) -> list[tuple[bytes, bytes]]:
-    """Each line, with the marker of its side before it: none outside of conflicts, and END for a marker itself. A text
-    that git has merged may still have lines that look like markers."""
-    side = b""
+    """Each line, with the marker of its side before it, or else IS_MARKER or NO_SIDE. A text that git has merged may
+    still have lines that look like markers."""
+    side = NO_SIDE
     lines: list[tuple[bytes, bytes]] = []
     for line in LINES.findall(text):
         match = MARKER.match(line)
         if match and is_unmerged and (side or match[1] == OURS):
-            side = b"" if match[1] == END else match[1]
-            lines.append((END, line))
+            side = NO_SIDE if match[1] == END else match[1]
+            lines.append((IS_MARKER, line))
         else:
             lines.append((side, line))
     return lines
@@ -56,7 +59,7 @@ def split_sides(text: bytes, is_masked: bool = False) -> dict[bytes, bytes]:
     if OURS not in text:
         return {}
     lines = mark_lines(text)
-    markers = [line[: len(END)] for marker, line in lines if marker == END]
+    markers = [line[: len(END)] for side, line in lines if side == IS_MARKER]
     if not {OURS, THEIRS, END} <= {*markers} or markers[-1] != END:
         return {}
     sides = [side for side in dict.fromkeys(markers) if side != END]
@@ -66,8 +69,8 @@ def split_sides(text: bytes, is_masked: bool = False) -> dict[bytes, bytes]:
 def _join_lines(lines: list[tuple[bytes, bytes]], side: bytes, is_masked: bool) -> bytes:
     """The lines of a side and those outside of conflicts."""
     pieces = []
-    for marker, line in lines:
-        if marker in (b"", side):
+    for own, line in lines:
+        if own in (NO_SIDE, side):
             pieces.append(line)
         elif is_masked:
             pieces.append(b"\n" * len(line))

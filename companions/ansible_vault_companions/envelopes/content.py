@@ -32,11 +32,11 @@ VALUE_NOT_ENCRYPTED = "{} is not encrypted"
 
 
 class Content:
-    """The bytes of a file or of a plaintext, and what was read of them."""
+    """The bytes of a file or of a plaintext, and what was read from them."""
 
     def __init__(self, data: bytes, values: Iterable[Node] = (), fault: str = "") -> None:
         self.data = data
-        # The envelopes and the scalars that are tagged as one; or every node.
+        # The envelopes, and the scalars that have the tag; or every node, if the parser was asked for every one.
         self.values = [*values]
         # Why it cannot be read as YAML; empty if it can, or need not be.
         self.fault = fault
@@ -50,7 +50,7 @@ class Content:
         return {n: value for n, value in enumerate(self.values) if value.style == WHOLE or value.is_envelope}
 
     def replace_envelopes(self, new: dict[int, bytes]) -> bytes:
-        """The data with other envelopes, by the numbers of their values. It is read again: only these may differ."""
+        """The data with new envelopes, by the numbers of their values. It is read again: only these may differ."""
         replacements = [replace_envelope(self.values[number], text) for number, text in new.items()]
         after = apply_replacements(self.data, replacements)
         if not self.is_vault:
@@ -60,7 +60,8 @@ class Content:
         return after
 
     def list_values_at(self, path: str) -> list[Node]:
-        """The encrypted values at a typed path, else all nodes there. A list item may also be written as `[]`."""
+        """The values at a typed path that are encrypted or have the tag, else all nodes there. A list item may also be
+        written as `[]`."""
         names = ((value, value.typed_path) for value in self.values)
         values = [value for value, name in names if path in (name, NUMBER.sub("[]", name))]
         return [value for value in values if value.is_value] or values

@@ -1,4 +1,5 @@
-"""What is wrong with the envelopes of a file: damage, conflict markers, plaintext with their tag, or there are none."""
+"""What can be wrong with a file: damaged envelopes, git's conflict markers, plaintext with the tag of an envelope, or
+that nothing is encrypted."""
 
 from __future__ import annotations
 
@@ -45,7 +46,7 @@ def find_tagged(document: Content) -> str:
 
 
 def find_unencrypted(document: Content) -> str:
-    """Why a marked file that is not empty is refused; empty if it is not."""
+    """Why to refuse a file that is marked and not empty. The result is empty if nothing is wrong."""
     if document.data.startswith(POINTER):
         return IN_LFS
     if not document.is_vault:

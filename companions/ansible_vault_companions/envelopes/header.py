@@ -9,7 +9,7 @@ import re
 MAGIC = b"$ANSIBLE_VAULT"
 LINE_END = re.compile(rb"\r\n?|\n")
 START = re.compile(rb"\$ANSIBLE_VAULT[^;\r\n]*;")
-# A header with digits behind it, which no text has that only speaks of envelopes. In a folded scalar a space takes the
+# A header with digits after it, which no text has that only speaks of envelopes. In a folded scalar a space takes the
 # place of the line end, and in JSON an escape does. The lookahead and the limits keep a search linear.
 WITH_DIGITS = re.compile(
     rb"\$ANSIBLE_VAULT[^;\r\n\\]{0,240};"

@@ -9,7 +9,7 @@ from typing import Iterator
 from ansible_vault_companions.envelopes.header import WITH_DIGITS
 from ansible_vault_companions.envelopes.node import LOOSE, STRAY, Node
 
-# The lines of an envelope behind one margin.
+# The lines of an envelope, each after the same margin.
 LINES_OF_STRAY = re.compile(
     rb"(?P<margin>[ \t]*(?:#[ \t]*)?)\$ANSIBLE_VAULT[^;\r\n]*;[^\r\n]*"
     rb"(?:\r?\n(?P=margin)[0-9a-fA-F]+(?=[ \t]*(?:\r?\n|\Z)))+"
@@ -19,7 +19,7 @@ LINES_OF_STRAY = re.compile(
 def find_strays(data: bytes, values: list[Node]) -> Iterator[Node]:
     """The envelopes outside of these values, and those within the text of one that is no envelope, but has the tag."""
     starts = [value.start for value in values]
-    # Behind empty lines alone, Ansible reads neither a vault nor a value.
+    # After empty lines alone, Ansible reads neither a vault nor a value.
     first = len(data) - len(data.lstrip())
     number = 1
     place = 0

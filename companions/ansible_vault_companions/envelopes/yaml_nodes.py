@@ -126,7 +126,7 @@ def _read_nodes(yaml: Any, text: _Shadow) -> Iterator[tuple[Steps, bool, Any]]:
 
 
 def _pass_node(steps: Steps, key: str) -> None:
-    """Goes on behind a node of the innermost collection. If the node is a key, its value comes next."""
+    """Goes on after a node of the innermost collection. If the node is a key, its value comes next."""
     if not steps:
         return
     step = steps[-1]

@@ -65,7 +65,7 @@ def find_marked(paths: list[str]) -> set[str]:
 
 
 def make_line(name: bytes, attribute: str, names: Container[bytes]) -> str:
-    """The line that gives an attribute to this file alone, behind the path of its .gitattributes; empty if it would be
+    """The line that gives an attribute to this file alone, after the path of its .gitattributes; empty if it would be
     too long. Of those with these names, git prefers the nearest one."""
     *folders, _ = name.split(b"/")
     while folders and b"/".join([*folders, FILE]) not in names:

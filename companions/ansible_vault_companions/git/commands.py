@@ -1,4 +1,4 @@
-"""Runs git so that it starts no program that a repository names. An answer counts only with its status."""
+"""Runs git so that it starts no program that a repository names. Output counts only if the status is right."""
 
 from __future__ import annotations
 

@@ -29,7 +29,7 @@ class Fault(NamedTuple):
     why: str
     remedy: Remedy
     name: bytes
-    # The line that allows it, behind the path of its .gitattributes; else why none does.
+    # The line that allows it, after the path of its .gitattributes; else why none does.
     line: str = ""
     no_line: str = "a line for it in .gitattributes would be too long for git"
 

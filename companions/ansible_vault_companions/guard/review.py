@@ -37,7 +37,8 @@ NO_COMMIT = (
 
 
 def find_faults(evidence: Evidence) -> Iterator[tuple[File, Fault]]:
-    """Each refused file, with the first of its faults."""
+    """Each refused file, with the first of its faults. A cause comes before its effects: a vault with conflict markers
+    or in git-lfs counts as lost, too, and a marked file that has lost its vault counts as unencrypted."""
     vault_rule, value_rule = VaultRule(evidence), ValueRule(evidence)
     for file in evidence.now:
         if not file.blob:
@@ -113,6 +114,7 @@ def review_all(review: Review) -> None:
     with indexes.open_index(commit) as index:
         former = index.list_former_versions(commit)
         blobs = {file.before for file in former}
+        # Of an old vault, no more than this word is read.
         vaults = {blob for blob in blobs if review.blobs.read(blob, is_old=True) == MAGIC}
         # One version is enough.
         were_vaults = {file.name: file for file in sorted(former) if file.before in vaults}

@@ -63,9 +63,11 @@ SPLIT, JOINED = "split", "joined"
 
 
 class RemovedVaults:
-    """Removed vaults without a new vault in their place. A file is in the place of a vault if it has its path but for a
-    suffix, or its name, whatever its directory; or if one of both is `all.yml` or `all`, and the other is in the
-    directory `all` beside it. Upper and lower case are the same. At each place, vaults are counted one for one."""
+    """The removed vaults that no new vault replaces. A new file takes the place of a vault if it has
+      - the vault's path, perhaps with another suffix or none;
+      - the vault's name, in any directory;
+      - or the path `all/x.yml` if the vault's is `all.yml` or `all`, or the other way around.
+    Case does not matter. At each place, one new vault stands for one that is removed."""
 
     def __init__(self, removed: Iterable[bytes], new: Iterable[bytes]) -> None:
         self.left_at: dict[Place, list[bytes]] = {}
@@ -86,7 +88,8 @@ class RemovedVaults:
 
 
 def _list_places(name: bytes, as_file: str, as_item: str) -> list[Place]:
-    """The places of a vault or of a file, which is the file or in the directory if a file becomes a directory."""
+    """The places of a removed vault or of a new file. In a pair such as `all.yml` and `all/x.yml`, it may be the file,
+    with a place of the kind `as_file`, or in the directory, with one of the kind `as_item`."""
     path = name.lower()
     folder, base = os.path.split(path)
     stem, suffix = os.path.splitext(path)

@@ -94,9 +94,9 @@ class Restoration:
     def restore(self, text: bytes, has_conflict: bool) -> bytes:
         """The text with envelopes in place of its tokens."""
         lines: list[bytes] = []
-        for marker, line in conflicts.mark_lines(text, has_conflict):
+        for side, line in conflicts.mark_lines(text, has_conflict):
             if not line.startswith(self.tokens.separator):
-                lines.append(self._restore_line(line, OF_MARKER.get(marker, "")))
+                lines.append(self._restore_line(line, OF_MARKER.get(side, "")))
             elif not line.endswith(b"\n"):
                 # The last line of the file has no end.
                 lines.append(lines.pop().removesuffix(b"\n").removesuffix(b"\r"))

@@ -14,7 +14,7 @@ if TYPE_CHECKING:
 
 
 class Password:
-    """What was read from a source. Only its doubt changes."""
+    """What was read from a source. Nothing of it changes, except whether it may be mistyped."""
 
     def __init__(
         self, source: Source, content: bytes, descriptor: int, fault: str = "", is_doubtful: bool = False

@@ -1,8 +1,8 @@
 """Ansible's settings that name passwords: environment variables and `ansible.cfg`.
 
 The current directory may be a stranger's, and a password file may be a script. So beside an option that names a
-password, a path in the settings counts only if it does not start from the current directory. ./ansible.cfg is such a
-path.
+password or asks for one (`-J`), a path in the settings counts only if it does not start from the current directory.
+./ansible.cfg is such a path.
 """
 
 from __future__ import annotations
@@ -45,8 +45,8 @@ def split_vault_id(text: str) -> tuple[str, str]:
 
 
 def is_absolute(place: str, folder: str = "") -> bool:
-    """Whether a path leads to the same place from everywhere. A relative one starts from `folder`. A variable may be the
-    current directory."""
+    """Whether a path leads to the same place, whatever the current directory is, which a variable may name. A relative
+    path starts from `folder`."""
     path = os.path.expanduser(place)
     return os.path.isabs(path) or os.path.isabs(folder) and not path.startswith((HOME, "$", CURRENT))
 
