@@ -3,8 +3,8 @@
 from __future__ import annotations
 
 from collections import Counter
-from dataclasses import dataclass, field
-from typing import Iterator
+from types import MappingProxyType
+from typing import Iterator, Mapping, NamedTuple
 
 from ansible_vault_companions import bounding, limits
 from ansible_vault_companions.envelopes.content import Content
@@ -28,14 +28,14 @@ from ansible_vault_companions.guard.placeholders import is_placeholder
 from ansible_vault_companions.limits import TooMuch
 
 # For each text at some keys, a number that stands for it, and how often it is there.
-Texts = dict[Keys, "Counter[int]"]
+Texts = Mapping[Keys, "Counter[int]"]
+NO_TEXTS: Texts = MappingProxyType({})
 NONE: Counter[int] = Counter()
 # A path, whether an envelope is there, and the number of its text.
 Leaf = tuple[KeyPath, bool, int]
 
 
-@dataclass(frozen=True)
-class Facts:
+class Facts(NamedTuple):
     is_vault: bool = False
     is_empty: bool = False
     is_pointer: bool = False
@@ -48,8 +48,8 @@ class Facts:
     damage: str = ""
     tagged: str = ""
     unencrypted: str = NOT_ENCRYPTED
-    encrypted: Texts = field(default_factory=dict)
-    plain: Texts = field(default_factory=dict)
+    encrypted: Texts = NO_TEXTS
+    plain: Texts = NO_TEXTS
 
 
 def find_facts(data: bytes, needs_plain: bool = False) -> Facts:
@@ -86,7 +86,7 @@ def _read_facts(data: bytes, needs_plain: bool) -> Facts:
 
 def _count_texts(leaves: list[Leaf], are_encrypted: bool) -> Texts:
     """How often each text is at its keys, of those that are encrypted or of the others."""
-    texts: Texts = {}
+    texts: dict[Keys, Counter[int]] = {}
     for path, is_encrypted, text in leaves:
         if is_encrypted == are_encrypted:
             texts.setdefault(make_keys(path), Counter())[text] += 1
