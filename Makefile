@@ -158,6 +158,7 @@ bench: all bin/vault_bench
 	bench/commands.py "$(PROGRAM)" --chart $(CHART) $(QUICKLY)
 	bench/parts.py "$(PROGRAM)" $(QUICKLY)
 	bench/companions.py "$(PROGRAM)" $(QUICKLY)
+	bench/git_runs.py "$(PROGRAM)" $(QUICKLY)
 	bench/envelope.py $(QUICKLY)
 	bench/counter_mode.py $(QUICKLY)
 	bench/key_derivation.py $(QUICKLY)

@@ -30,7 +30,7 @@ sys.path.insert(0, str(TESTS))
 from lib.ansible import ansible_vault
 from lib.counts import count_instructions, parts_of
 from lib.installed import run_make
-from measured import CLOCK, PROCESSOR, Spread, Task, Times, measure_in_turn, options, spread
+from measured import CLOCK, PROCESSOR, Spread, Task, Times, describe_processor, measure_in_turn, options, spread
 from model.vaults import seal
 
 SIZES = {"1 KiB": 1 << 10, "64 KiB": 1 << 16, "1 MiB": 1 << 20, "16 MiB": 1 << 24}
@@ -189,7 +189,8 @@ def heading(with_theirs: bool, kind: str) -> str:
 
 def print_table(measured: dict[str, dict[str, Times]], runs: int, kind: str) -> None:
     """Print the table as it appears in docs/speed.md."""
-    print(f"\nTimes of {TIMES[kind]}: the median of {runs} runs, and in parentheses the least and the most.\n")
+    print(f"\nTimes of {TIMES[kind]}: the median of {runs} runs, and in parentheses the least and the most.")
+    print(f"Processor: {describe_processor()}\n")
     print("| | this tool | Ansible's tool | times faster |\n|---|---|---|---|")
     for name, title in TABLE.items():
         if has_ratio(measured.get(name, {}), kind):

@@ -53,6 +53,16 @@ class Spread(NamedTuple):
         return f"{figure(self.median)}{unit} ({figure(self.minimum)} to {figure(self.maximum)})"
 
 
+def describe_processor() -> str:
+    """Return the name of the processor, and whether it has instructions for SHA-256, which OpenSSL uses."""
+    fields: dict[str, str] = {}
+    for line in Path("/proc/cpuinfo").read_text().splitlines():
+        name, _, value = line.partition(":")
+        fields[name.strip()] = value.strip()
+    has_sha = "sha_ni" in fields["flags"].split()
+    return f"{fields['model name']}, {'with' if has_sha else 'without'} SHA extensions"
+
+
 def figure(value: float) -> str:
     """Format with one decimal below 100, and with none from 100 on."""
     return f"{value:.1f}" if value < 100 else f"{value:.0f}"
@@ -125,12 +135,18 @@ def memory_of(task: Task) -> float:
     return max(seen)
 
 
-def measure_in_turn(tasks: dict[str, Task], runs: int) -> dict[str, Times]:
-    """Run each task once, then each again, and so on. Return what each run took, by task."""
+def time_in_turn(tasks: dict[str, Task], runs: int) -> dict[str, Times]:
+    """Run each task once, then each again, and so on. Return the times of each run, by task."""
     times = {name: Times() for name in tasks}
     for _ in range(runs):
         for name, task in tasks.items():
             run_once(task, times[name])
+    return times
+
+
+def measure_in_turn(tasks: dict[str, Task], runs: int) -> dict[str, Times]:
+    """Run each task once, then each again, and so on. Return what each run took, by task."""
+    times = time_in_turn(tasks, runs)
     for name, task in tasks.items():
         times[name].memory = max(memory_of(task) for _ in range(2))
     return times
