@@ -136,7 +136,7 @@ RECIPES = {
         {"../1": b"db_password: a\n", "../2": vault(b"db_password: b\n")},
         prepare=f"""mkdir -p group_vars/all
             for each in 1 2; do mv ../$each {VAULT}; git add .; git commit -qm $each; done""",
-        printed=f"db_password: b\n{VAULT}:db_password: b\n",
+        printed=f"db_password: b\n{VAULT}:db_password: b\n*\n+{FIRST_LINE}\n*\n+++ b/.gitattributes\n*",
         after="git log -p --format= 2> /dev/null | grep '^[-+]db_password'",
         left="-db_password: a\n+db_password: b\n+db_password: a\n",
     ),
