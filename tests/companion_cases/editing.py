@@ -131,6 +131,30 @@ def test_refused_forms(place: Place, text: str) -> None:
     assert (place.kept(), place.get("vars.yml")) == ([text.encode()], before)
 
 
+# What a stranger may have written around a text that looks like a tagged value, but is none.
+LOOKALIKES = [
+    'notes: "\n\npassword: !vault |-\n  changeme\n\n"\n',
+    "notes: |\n  password: !vault\n    changeme\n",
+    "# password: !vault |-\n#   changeme\n",
+    "x: 1 # password: !vault\n  # changeme\n",
+]
+
+
+@pytest.mark.parametrize("text", LOOKALIKES)
+def test_lookalikes(place: Place, text: str) -> None:
+    """Below a `!vault` that encrypts nothing, nothing may change, but values with the tag may, and lines may go."""
+    content = block("old", b"x", name="b")
+    shown = "b: !vault |-\n  x\n" + text
+    changed = shown.replace("changeme", "S3cret")
+    done = type_into(place, content + text.encode(), changed)
+    ended("the edit", done, 1, "no value follows `!vault` here", "; what you saved is encrypted in ")
+    assert b"S3cret" not in place.get("vars.yml")
+    done = type_into(place, content + text.encode() + b"y: 1\n", shown.replace("  x", "  S3cret", 1))
+    ended("another edit", done, 0)
+    after = place.get("vars.yml")
+    assert after.endswith(text.encode()) and texts(after, "old") == [b"S3cret"]
+
+
 CLOSED = {b"\xff": "it is not UTF-8", b"$ANSIBLE_VAULT;1.1;AES256\n": "its plaintext is itself a vault"}
 
 
