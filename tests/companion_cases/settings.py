@@ -135,8 +135,13 @@ def test_no_home(place: Place, monkeypatch: pytest.MonkeyPatch) -> None:
 
 # What Python's parser would look at for minutes.
 BLANKS = b"x%sy\n" % (b" " * 100_000)
+# In each file, a text that is not to be shown.
+HIDDEN = b"s3cret"
 MALFORMED = {
-    "no section": (b"x\n", "File contains no section headers"),
+    "no section": (b"# x\n%s\n" % HIDDEN, "line 2: there is no section above it"),
+    "no value": (b"[defaults]\n\n%s\n%s\n" % (HIDDEN, HIDDEN), "line 3: it is not KEY = VALUE"),
+    "a section twice": (b"[%s]\n[%s]\n" % (HIDDEN, HIDDEN), "line 2: the section is there already"),
+    "a key twice": (b"[defaults]\n%s = 1\n%s = 2\n" % (HIDDEN, HIDDEN), "line 3: the key is there already"),
     "Latin-1": (b"# \xff", "it is not UTF-8"),
     "a NUL byte": (b"#\0", "it has a NUL byte"),
     "a long line": (b"[defaults]\n" + BLANKS, "it has a line of over 2,048 characters"),
@@ -146,9 +151,33 @@ MALFORMED = {
 
 @pytest.mark.parametrize("content, why", MALFORMED.values(), ids=MALFORMED)
 def test_faults(place: Place, content: bytes, why: str) -> None:
-    """Settings that cannot be read are named at once, and nothing is done without them."""
+    """Settings that cannot be read are named at once, but not shown, and nothing is done without them."""
     place.put("ansible.cfg", content)
-    ended("it is refused", place.run(CHECK, "."), 1, f"{CHECK}: ansible.cfg: {why}")
+    done = place.run(CHECK, ".")
+    ended("it is refused", done, 1, f"{CHECK}: ansible.cfg: {why}")
+    assert HIDDEN.decode() not in done.stdout + done.stderr
+
+
+def test_links(place: Place, subtests: SubTests) -> None:
+    """A link named ansible.cfg leads out of its repository only if the user names it. In a repository, it is as good as
+    a file, and relative paths start from its own directory, as with Ansible."""
+    needs("git")
+    place.shell("git init -q project")
+    place.put("project/a.yml", sealed("old"))
+    place.put("project/inner/my.cfg", FILE.format("../../secrets/old").encode())
+    place.put("other/my.cfg", FILE.format("../../secrets/old").encode())
+    link = place.tree / "project/ansible.cfg"
+    for target in ("../../secrets/old", "../other/my.cfg", f"{place.tree}/other/my.cfg", ".git/HEAD"):
+        with subtests.test(target):
+            link.symlink_to(target)
+            done = place.run(CHECK, "a.yml", folder="project", ANSIBLE_VAULT_PASSWORD_FILE="../../secrets/old")
+            ended("it is refused", done, 1, f"{CHECK}: ansible.cfg: a link leads out of {place.tree}/project; name ")
+        link.unlink()
+    link.symlink_to("inner/my.cfg")
+    ended("a link within", place.run(CHECK, "a.yml", folder="project"), 0)
+    link.unlink()
+    link.symlink_to("../other/my.cfg")
+    ended("what is named", place.run(CHECK, "a.yml", folder="project", ANSIBLE_CONFIG="ansible.cfg"), 0)
 
 
 # Secrets of the settings, the label to encrypt with, and the one password that is there.

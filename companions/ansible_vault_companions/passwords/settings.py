@@ -2,7 +2,8 @@
 
 The current directory may be a stranger's, and a password file may be a script. So beside an option that names a
 password or asks for one (`-J`), a path in the settings counts only if it does not start from the current directory.
-./ansible.cfg is such a path.
+./ansible.cfg is such a path. It may also lead to a file of another kind, even to a password. So a link out of its
+repository is refused, and no message quotes a file of settings.
 """
 
 from __future__ import annotations
@@ -11,9 +12,10 @@ import os
 import stat
 from collections.abc import Callable
 
+from ansible_vault_companions.files import resolving
 from ansible_vault_companions.limits import LONGEST_SETTING, LONGEST_SETTINGS, TooMuch
 from ansible_vault_companions.quoting import escape
-from ansible_vault_companions.refusals import Refused, describe_fault
+from ansible_vault_companions.refusals import Refused, describe_refusal
 
 NAME = "ansible.cfg"
 SECTION = "defaults"
@@ -35,6 +37,13 @@ HOME = "~"
 RELATIVE = (
     "beside options, a path in the settings counts only if it begins with / or a home directory's ~; it is ignored"
 )
+# What the parser's errors mean, without its own text, which quotes the file.
+SYNTAX_FAULTS = {
+    "MissingSectionHeaderError": "there is no section above it",
+    "DuplicateSectionError": "the section is there already",
+    "DuplicateOptionError": "the key is there already in this section",
+}
+NOT_A_KEY = "it is not KEY = VALUE"
 NO_HOME = "~ leads to no home directory; to mean a file of this name, begin with ./"
 
 
@@ -117,6 +126,7 @@ class Settings:
             if os.stat(".").st_mode & stat.S_IWOTH:
                 self.warn(f"{escape(os.path.abspath(NAME))} is ignored, since its directory is world-writable")
             else:
+                _refuse_link_out(NAME)
                 places.insert(0, NAME)
         return next((place for place in places if _is_readable(place)), None)
 
@@ -124,6 +134,13 @@ class Settings:
 def _expand_setting(path: str, folder: str = "") -> str:
     try:
         return expand_path(path, folder)
+    except Refused as fault:
+        raise Refused(f"{escape(path)}: {fault}") from None
+
+
+def _refuse_link_out(path: str) -> None:
+    try:
+        resolving.resolve_file(path)
     except Refused as fault:
         raise Refused(f"{escape(path)}: {fault}") from None
 
@@ -141,9 +158,17 @@ def _read_section(path: str) -> dict[str, str]:
         parser.read_string(text)
     except UnicodeError:
         raise Refused(f"{escape(path)}: it is not UTF-8") from None
-    except (Refused, OSError, configparser.Error) as fault:
-        raise Refused(f"{escape(path)}: {' '.join(describe_fault(fault).split())}") from None
+    except configparser.Error as fault:
+        raise Refused(f"{escape(path)}: {_describe_syntax(fault)}") from None
+    except (Refused, OSError) as fault:
+        raise Refused(describe_refusal(path, fault)) from None
     return dict(parser[SECTION]) if SECTION in parser else {}
+
+
+def _describe_syntax(fault: Exception) -> str:
+    """The line of a parser's error, or the first of several, and what is wrong there."""
+    lines = [number for number, _ in getattr(fault, "errors", [])] or [getattr(fault, "lineno")]
+    return f"line {lines[0]}: {SYNTAX_FAULTS.get(type(fault).__name__, NOT_A_KEY)}"
 
 
 def _require_short(text: str) -> None:
