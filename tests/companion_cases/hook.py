@@ -250,6 +250,32 @@ def test_names_like_revisions(place: Place, name: str) -> None:
     assert told(run_below(place, "--since", second)) == [f"{last}: {name} {WHOLE.replace('HEAD', second)}"]
 
 
+WHOLE_NAME = "is ambiguous.); give a whole ID, or a whole name such as refs/remotes/origin/main"
+
+
+def test_names_of_several(place: Place) -> None:
+    """A name that a stranger has given to a tag, too, is refused, whatever git's settings say. What the message asks for
+    checks the branch, even if whole IDs are names of tags, too."""
+    under_git(place, "")
+    first = committed(place, "a.yml", sealed("old"))
+    place.shell("git update-ref refs/remotes/origin/main HEAD")
+    last = committed(place, "a.yml", TEXT)
+    whole = place.shell("git rev-parse HEAD~1").stdout.strip()
+    place.shell(f"for name in origin/main {first} {whole} HEAD; do git tag $name HEAD; done")
+    for setting in ("true", "false"):
+        place.shell(f"git config core.warnAmbiguousRefs {setting}")
+        for name in ("origin/main", "origin/main~0", first, "HEAD~1"):
+            done = place.run(HOOK, "--since", name)
+            ended(f"{name}, {setting}", done, 1, f"{HOOK}: {name} may be another commit (", WHOLE_NAME)
+        for name in (whole, whole.upper(), "refs/remotes/origin/main"):
+            wanted = f"{last}: a.yml {WHOLE.replace('HEAD', first)}"
+            assert told(place.run(HOOK, "--since", name)) == [wanted], name
+    assert f"{HOOK}: " in place.run(HOOK, "--all").stderr, "HEAD is what is checked out"
+    [later] = re.findall("begin later: (.*)", place.run(HOOK, "--since", whole).stderr)
+    place.shell(f"git tag {last} HEAD~1")
+    silent("the advice", place.run(HOOK, *later.split()))
+
+
 @pytest.mark.parametrize("zeros", ["0" * 40, "0" * 64, ""])
 def test_no_commit(place: Place, zeros: str) -> None:
     """A pipeline has zeros for a new branch, or nothing. What the message names instead checks the branch."""

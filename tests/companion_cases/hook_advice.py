@@ -195,9 +195,10 @@ def test_combined_change(place: Place) -> None:
     place.shell("git rm -q a.yml && git commit -qm removed")
     last = committed(place, "a.yml", TEXT)
     [advice] = list_advice(place, "--since", first)
+    first, last = place.shell(f"git rev-parse {first} {last}").stdout.split()
     assert f"rewrite the commits, for example with `git rebase -i {first}`; " in advice
     [later] = re.findall("begin later: (--since .*)", advice)
-    assert later.endswith(last) and list_advice(place, *later.split()) == []
+    assert later == f"--since {last}" and list_advice(place, *later.split()) == []
 
 
 def test_rewritten_commit(place: Place) -> None:

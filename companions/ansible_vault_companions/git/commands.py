@@ -22,6 +22,8 @@ OFF = ("core.fsmonitor=false", "submodule.recurse=false", "core.sparseCheckout=f
 NO_HOOKS = f"core.hooksPath={os.devnull}"
 # These commands run no hook, and need the real setting to say where the hooks are.
 OF_HOOKS = ("rev-parse", "config")
+# Otherwise, git may take one of several objects of a name without a word.
+WARNS = "core.warnAmbiguousRefs=true"
 CUT = "git {} failed: its output is cut"
 
 NO_TRANSPORT = {"GIT_NO_LAZY_FETCH": "1", "GIT_ALLOW_PROTOCOL": "none"}
@@ -56,10 +58,17 @@ def run_git(
     done = run_git_command(*words, data=data, index=index, cwd=folder)
     if may_be_none and done.returncode == 1:
         return b""
-    if done.returncode != 0:
-        text = " ".join(done.stderr.decode(errors="replace").split())
-        raise Refused(f"git {words[0]} failed: {text or _describe_end(done.returncode)}")
+    _require_success(words[0], done)
     return done.stdout
+
+
+def _require_success(command: str, done: CompletedProcess[bytes]) -> None:
+    if done.returncode != 0:
+        raise Refused(f"git {command} failed: {_read_messages(done) or _describe_end(done.returncode)}")
+
+
+def _read_messages(done: CompletedProcess[bytes]) -> str:
+    return " ".join(done.stderr.decode(errors="replace").split())
 
 
 def _describe_end(status: int) -> str:
@@ -86,3 +95,11 @@ def list_records(*words: str, data: bytes = b"", index: str | None = None, folde
 def find_object(*name: str) -> str:
     """The ID of the object that git knows by this name, perhaps with an option; empty if there is none."""
     return run_git("rev-parse", "--verify", "--quiet", *name, may_be_none=True).decode().strip()
+
+
+def find_warning(name: str) -> str:
+    """What git says of the name of an object that is there; empty if it says nothing."""
+    command = "rev-parse"
+    done = run_git_command("-c", WARNS, command, "--verify", "--end-of-options", name)
+    _require_success(command, done)
+    return _read_messages(done)

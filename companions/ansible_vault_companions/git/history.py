@@ -2,13 +2,14 @@
 
 from __future__ import annotations
 
-from ansible_vault_companions.git.commands import CUT, find_object, list_records, read_line
+from ansible_vault_companions.git.commands import CUT, find_object, find_warning, list_records, read_line
 from ansible_vault_companions.quoting import escape
 from ansible_vault_companions.refusals import Refused
 
 # How many digits of a commit are enough for a message.
 DIGITS = 10
 SHALLOW = "earlier commits are missing: run `git fetch --unshallow`, or set fetch-depth or GIT_DEPTH of a pipeline to 0"
+UNAMBIGUOUS = "give a whole ID, or a whole name such as refs/remotes/origin/main"
 
 
 def find_commit(name: str) -> str:
@@ -18,6 +19,16 @@ def find_commit(name: str) -> str:
     commit = find_object("--end-of-options", f"{name}^{{commit}}")
     if not commit:
         raise Refused(f"{escape(name)} is not a commit in this clone; if others have it, run `git fetch`")
+    return commit
+
+
+def find_typed_commit(name: str) -> str:
+    """The same of a name that a user gives. git takes a tag before a branch of the same name, and both before the
+    beginning of an ID, with no more than a warning. Nothing comes before a whole ID."""
+    commit = find_commit(name)
+    warning = find_warning(f"{name}^{{commit}}")
+    if warning and commit != name.lower():
+        raise Refused(f"{escape(name)} may be another commit ({escape(warning)}); {UNAMBIGUOUS}")
     return commit
 
 

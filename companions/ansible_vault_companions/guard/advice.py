@@ -6,7 +6,6 @@ import os
 from enum import Enum
 from typing import NamedTuple
 
-from ansible_vault_companions.git.history import DIGITS
 from ansible_vault_companions.git.pathspecs import make_pathspec
 
 
@@ -68,7 +67,7 @@ LAST = Words(
     allow="if that is intended, commit this line at the end of {line}",
     allow_all="if that is intended, do nothing: only the last commit is compared with the one before",
 )
-# No later commit changes what the hook says of these.
+# No later commit changes what the hook says of these. The IDs are whole, since a tag may have the name of a shorter one.
 REWRITE = "rewrite {what}, for example with `git rebase -i {base}`; if that is intended, begin later: --since {last}"
 
 
@@ -85,9 +84,8 @@ def write_advice(fault: Fault, words: Words) -> str:
 
 
 def advise_on_commit(_: Fault, commit: str) -> str:
-    name = commit[:DIGITS]
-    return REWRITE.format(what="the commit", base=f"{name}~1", last=name)
+    return REWRITE.format(what="the commit", base=f"{commit}~1", last=commit)
 
 
 def advise_on_commits(_: Fault, base: str, last: str) -> str:
-    return REWRITE.format(what="the commits", base=base[:DIGITS], last=last[:DIGITS])
+    return REWRITE.format(what="the commits", base=base, last=last)

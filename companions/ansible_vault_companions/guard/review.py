@@ -95,7 +95,7 @@ def review_since(review: Review, name: str) -> None:
     """Reviews each commit after this one, and what all of them change since the merge bases."""
     if not name.strip("0"):
         raise Refused(NO_COMMIT.format(name or "nothing"))
-    first, last = history.find_commit(name), history.find_commit("HEAD")
+    first, last = history.find_typed_commit(name), history.find_commit("HEAD")
     for line in list_records("rev-list", "--reverse", "--topo-order", f"{first}..{last}", "--"):
         commit = line.decode()
         with indexes.open_index(commit) as index:
