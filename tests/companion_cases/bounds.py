@@ -5,7 +5,7 @@ import sys
 
 import pytest
 
-from companion_cases import CHECK, HOOK, ROTATE, TEXTCONV, WITH, Place, block, ended, to_new
+from companion_cases import CHECK, EDIT, HOOK, ROTATE, TEXTCONV, WITH, Place, block, ended, sealed, to_new
 
 SECONDS, KILOBYTES = 8, 100_000
 BLOCK, COMMENT = block("old"), b"".join(b"# " + line for line in block("old").splitlines(keepends=True))
@@ -47,6 +47,17 @@ def test_files(place: Place, content: bytes) -> None:
     assert used(place, TEXTCONV, *place.by_file("old"), "a.yml") == 0
     assert used(place, ROTATE, *to_new(place), ".") == 0
     assert len(place.get("a.yml")) == len(content) and place.get("a.yml") != content, "it is rotated"
+
+
+def test_long_key(place: Place) -> None:
+    """A key above many values takes memory once, even where other files are worked on and nothing limits memory."""
+    long = b"? " + b"k" * 200_000 + b"\n:\n"
+    place.put("a.yml", sealed("old"))
+    place.put("b.yml", long + b" - !vault v\n" * 5_000)
+    assert used(place, CHECK, *place.by_file("old"), ".") == 0
+    place.put("a.yml", BLOCK + long + b" - v\n" * 5_000)
+    place.environment["EDITOR"] = place.script('echo "# x" >> "$1"', "editor")
+    assert used(place, EDIT, *place.by_file("old"), "a.yml") == 0
 
 
 def test_sparse_gigabyte(place: Place) -> None:

@@ -8,6 +8,7 @@ from __future__ import annotations
 import codecs
 import io
 import re
+import sys
 from functools import lru_cache
 from typing import Any, Iterator, Union
 
@@ -126,14 +127,15 @@ def _read_nodes(yaml: Any, text: _Shadow) -> Iterator[tuple[Steps, bool, Any]]:
 
 
 def _pass_node(steps: Steps, key: str) -> None:
-    """Goes on after a node of the innermost collection. If the node is a key, its value comes next."""
+    """Goes on after a node of the innermost collection. If the node is a key, its value comes next. Equal keys are one
+    string, so that a long one above many nodes takes memory once, and paths are quickly compared."""
     if not steps:
         return
     step = steps[-1]
     if isinstance(step, int):
         steps[-1] = step + 1
     elif step is None:
-        steps[-1] = key
+        steps[-1] = sys.intern(_remove_shadow(key).decode(errors="replace"))
     else:
         steps[-1] = None
 
@@ -187,5 +189,4 @@ def _read_text(event: Any) -> bytes:
 
 
 def _make_path(steps: Steps) -> KeyPath:
-    names = ("" if step is None else step for step in steps)
-    return tuple(_remove_shadow(step).decode(errors="replace") if isinstance(step, str) else step for step in names)
+    return tuple("" if step is None else step for step in steps)
