@@ -296,6 +296,47 @@ def test_random_yaml(monkeypatch: pytest.MonkeyPatch, pytestconfig: pytest.Confi
     assert min(counts["values"], counts["replaced"]) > 500, counts
 
 
+# Pieces of texts: characters that stand for bytes while YAML is read, one beyond 16 bits, and what only looks like escapes.
+ESCAPED = [
+    "\ue000",
+    "\ue0b0",
+    "\ue0ff",
+    "\ue83d",
+    "\U0001f600",
+    "é",
+    "\\",
+    "\n",
+    '"',
+    "\\ud83d",
+    "\\ue0b0",
+    "d83d",
+    " x",
+]
+
+
+def test_escapes(monkeypatch: pytest.MonkeyPatch, pytestconfig: pytest.Config) -> None:
+    """JSON and PyYAML say what an escape means. An escape of half a character alone means nothing."""
+    random = Random(pytestconfig.getoption("--seed"))
+    for number in range(300):
+        monkeypatch.setattr(yaml, "CSafeLoader", LOADERS[number % 2], raising=False)
+        text = "".join(random.choices(ESCAPED, k=random.randint(1, 6)))
+        in_json = json.dumps([text, text]).encode()
+        assert read_texts(in_json) == [text.encode()] * 2, in_json
+        escaped = "".join(random.choice(("\\U{:08x}", "\\U{:08X}")).format(ord(c)) for c in text)
+        in_yaml = f"- \"{escaped}\"\n- |1-\n  \\ud83d\n- \\ud83d\n- '\\ud83d'\n".encode()
+        assert read_texts(in_yaml) == [item.encode() for item in yaml.safe_load(in_yaml)], in_yaml
+    for data in (b'["\\ud83d"]', b'["\\ude00\\ud83d"]', b"""['', "\\ud83d"]""", b'a: "\\U0000dfff"'):
+        for loader in LOADERS:
+            monkeypatch.setattr(yaml, "CSafeLoader", loader, raising=False)
+            assert content.parse_content(data, every=True).fault.startswith("line 1: it cannot be read as YAML: "), data
+
+
+def read_texts(data: bytes) -> list[bytes]:
+    read = content.parse_content(data, every=True)
+    assert not read.fault, (data, read.fault)
+    return [value.text for value in read.values if value.path]
+
+
 BLANKS = ["", "", " ", "\t", "  "]
 # Texts for each field of a header.
 FIELDS = [

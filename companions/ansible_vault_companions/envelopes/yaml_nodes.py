@@ -7,6 +7,7 @@ from __future__ import annotations
 
 import codecs
 import io
+import json
 import re
 import sys
 from functools import lru_cache
@@ -25,8 +26,15 @@ BINARY = b"\0"
 
 # YAML allows each of these characters, and a name gets its bytes back.
 SHADOW = "".join(chr(byte) if 0x20 <= byte < 0x7F or byte in b"\t\n\r" else chr(0xE000 + byte) for byte in range(256))
-# Half of a character, as JSON may have it and libyaml refuses it.
-SURROGATE = re.compile(rb"\\u[dD][89a-fA-F](?=[0-9a-fA-F]{2})")
+# Half of a character, as JSON has it and libyaml refuses it: within JSON, another character takes its place at first.
+SURROGATE = re.compile(rb"(?<!\\)((?:\\\\)*\\u)[dD](?=[89a-fA-F][0-9a-fA-F]{2})")
+# Any escape in double quotes. The first ones are of two halves, of half a character, and of what stands for a byte.
+ESCAPE = re.compile(
+    rb"(?P<pair>\\u[dD][89abAB][0-9a-fA-F]{2}\\u[dD][c-fC-F][0-9a-fA-F]{2})|(?P<half>\\(?:u|U0000)[dD][89a-fA-F])"
+    rb"|\\(?:u|U0000)(?P<shadow>[eE]0[0-9a-fA-F]{2})|\\.",
+    re.DOTALL,
+)
+MAY_BE_MISREAD = re.compile(rb"\\(?:u|U0000)(?:[dD][89a-fA-F]|[eE]0)")
 # What precedes the text of a scalar: tag, anchor, comments; and the first line of a block with text.
 PROPERTIES = re.compile(rb"(?:[!&][^\s,\]}]*(?:\s|(?<=\s)#[^\r\n]*)*)*")
 FIRST_LINE = re.compile(rb"[^\n\r]*(?:\r\n?|\n)(?:[ \t]*(?:\r\n?|\n))*(?P<margin>[ \t]*)")
@@ -37,6 +45,7 @@ HEADER_WORD = MAGIC.decode()
 NO_PYYAML = "PyYAML, which reads YAML, is missing: install Debian's python3-yaml, or PyYAML with pip"
 NOT_YAML = "it cannot be read as YAML: {}"
 NULL = "it has a null character"
+HALF = "it has half a character"
 # The key or number of the next node in each collection; None while a key comes next.
 Steps = list[Union[str, int, None]]
 
@@ -67,7 +76,7 @@ def read_nodes(data: bytes, every: bool = False) -> Iterator[Node]:
     # How many keys and texts there are so far.
     size = 0
     try:
-        for path, is_key, event in _read_nodes(yaml, _Shadow(data[skipped:])):
+        for path, is_key, event in _read_nodes(yaml, data[skipped:]):
             if every and not is_key or _is_envelope(path, event):
                 size += 1 + len(path)
                 if size > limits.MOST_KEYS:
@@ -83,13 +92,23 @@ class _Shadow(io.RawIOBase):
     """The characters, in pieces, since libyaml copies what it gets."""
 
     def __init__(self, data: bytes) -> None:
-        self.data = SURROGATE.sub(rb"\\ue0", data) if b"\\u" in data else data
+        self.data = data
+        if SURROGATE.search(data) and _is_json(data):
+            self.data = SURROGATE.sub(rb"\1e", data)
         self.place = 0
 
     def read(self, size: int = -1) -> str:  # type: ignore[override]
         piece = self.data[self.place : self.place + size]
         self.place += size
         return codecs.charmap_decode(piece, "strict", SHADOW)[0]  # type: ignore[arg-type]
+
+
+def _is_json(data: bytes) -> bool:
+    try:
+        json.loads(data)
+    except (ValueError, RecursionError):
+        return False
+    return True
 
 
 class _BytesOfCharacters(dict[int, bytes]):
@@ -103,7 +122,7 @@ def _remove_shadow(text: str) -> bytes:
     return text.encode() if text.isascii() else codecs.charmap_encode(text, "strict", characters)[0]
 
 
-def _read_nodes(yaml: Any, text: _Shadow) -> Iterator[tuple[Steps, bool, Any]]:
+def _read_nodes(yaml: Any, data: bytes) -> Iterator[tuple[Steps, bool, Any]]:
     """Each scalar, alias and beginning of a collection, the steps to it, and whether it is a key."""
     steps: Steps = []
     mapping = yaml.MappingStartEvent
@@ -111,8 +130,11 @@ def _read_nodes(yaml: Any, text: _Shadow) -> Iterator[tuple[Steps, bool, Any]]:
     starts = (mapping, yaml.SequenceStartEvent)
     ends = (yaml.MappingEndEvent, yaml.SequenceEndEvent)
     nodes = (scalar, yaml.AliasEvent, *starts)
-    for event in yaml.parse(text, getattr(yaml, "CSafeLoader", yaml.SafeLoader)):
+    may_be_misread = MAY_BE_MISREAD.search(data) is not None
+    for event in _parse(yaml, data):
         kind = type(event)
+        if may_be_misread and kind is scalar and event.style == '"':
+            event.value = _read_quoted(yaml, data, event)
         if kind in nodes:
             yield steps, steps[-1:] == [None], event
         if kind in starts:
@@ -124,6 +146,30 @@ def _read_nodes(yaml: Any, text: _Shadow) -> Iterator[tuple[Steps, bool, Any]]:
             _pass_node(steps, "")
         elif kind in nodes:
             _pass_node(steps, event.value if kind is scalar else "")
+
+
+def _parse(yaml: Any, data: bytes) -> Iterator[Any]:
+    events: Iterator[Any] = yaml.parse(_Shadow(data), getattr(yaml, "CSafeLoader", yaml.SafeLoader))
+    return events
+
+
+def _read_quoted(yaml: Any, data: bytes, event: Any) -> str:
+    """The text in double quotes, read with characters in place of escapes that would be taken for bytes."""
+    properties = PROPERTIES.match(data, event.start_mark.index, event.end_mark.index)
+    assert properties
+    source = data[properties.end() : event.end_mark.index]
+    if not MAY_BE_MISREAD.search(source):
+        return str(event.value)
+    source = ESCAPE.sub(lambda escape: _write_character(escape, event), source)
+    return "".join(event.value for event in _parse(yaml, source) if hasattr(event, "value"))
+
+
+def _write_character(escape: re.Match[bytes], event: Any) -> bytes:
+    """The character of an escape, as UTF-8, if it would be misread."""
+    if escape["half"]:
+        raise NotYaml(f"line {event.start_mark.line + 1}: " + NOT_YAML.format(HALF))
+    digits = escape["shadow"] or (escape["pair"] or b"").replace(b"\\u", b"")
+    return bytes.fromhex(digits.decode()).decode("utf-16-be").encode() or escape[0]
 
 
 def _pass_node(steps: Steps, key: str) -> None:
