@@ -12,6 +12,9 @@ from ansible_vault_companions.refusals import Refused
 DEEPEST = 64
 # The texts of a file, and the keys above them, which count for each text and again for each alias.
 MOST_KEYS = 1_000_000
+# The characters of a key, as many as libyaml allows for one that does not follow a question mark. A message names a key
+# for each value below it.
+LONGEST_KEY = 1_024
 # The bytes of the longest plaintext, and so of YAML that is read; and of the longest vault. Of longer files, even
 # endless ones as in /proc, no more is read.
 LONGEST_PLAINTEXT = 16_777_216
@@ -30,6 +33,7 @@ HOOK_SECONDS = 30
 MEGABYTES = 256
 
 TOO_DEEP = f"it is nested over {DEEPEST} levels"
+KEY_TOO_LONG = f"it has a key of over {LONGEST_KEY:,} characters"
 TOO_MANY = f"it has over {MOST_KEYS:,} keys and texts"
 TOO_LONG = f"it has over {LONGEST_PLAINTEXT:,} bytes"
 TOO_SLOW = "it takes over {} s of processor time"

@@ -49,15 +49,23 @@ def test_files(place: Place, content: bytes) -> None:
     assert len(place.get("a.yml")) == len(content) and place.get("a.yml") != content, "it is rotated"
 
 
-def test_long_key(place: Place) -> None:
-    """A key above many values takes memory once, even where other files are worked on and nothing limits memory."""
-    long = b"? " + b"k" * 200_000 + b"\n:\n"
+def test_long_keys(place: Place) -> None:
+    """Keys above many values take memory once, even where other files are worked on and nothing limits memory."""
+    deep = b"x: " + b"{%s: " % (b"k" * 1_000) * 60 + b"[%s]" + b"}" * 60 + b"\n"
     place.put("a.yml", sealed("old"))
-    place.put("b.yml", long + b" - !vault v\n" * 5_000)
+    place.put("b.yml", deep % (b"!vault v," * 5_000))
     assert used(place, CHECK, *place.by_file("old"), ".") == 0
-    place.put("a.yml", BLOCK + long + b" - v\n" * 5_000)
+    place.put("a.yml", BLOCK + deep % (b"v," * 5_000))
     place.environment["EDITOR"] = place.script('echo "# x" >> "$1"', "editor")
     assert used(place, EDIT, *place.by_file("old"), "a.yml") == 0
+
+
+@pytest.mark.parametrize("size, why", [(1_024, ""), (1_025, "it has a key of over 1,024 characters")])
+def test_longest_key(place: Place, size: int, why: str) -> None:
+    """A key that libyaml reads without a question mark is never too long."""
+    place.put("a.yml", b"? " + b"k" * size + b"\n: 1\n" + BLOCK)
+    done = place.run(CHECK, *place.by_file("old"), "a.yml")
+    ended("the check", done, int(bool(why)), *([f"a.yml: {why}\n"] if why else []))
 
 
 def test_sparse_gigabyte(place: Place) -> None:

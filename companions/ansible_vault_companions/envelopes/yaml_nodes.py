@@ -174,13 +174,15 @@ def _write_character(escape: re.Match[bytes], event: Any) -> bytes:
 
 def _pass_node(steps: Steps, key: str) -> None:
     """Goes on after a node of the innermost collection. If the node is a key, its value comes next. Equal keys are one
-    string, so that a long one above many nodes takes memory once, and paths are quickly compared."""
+    string, which takes memory once, however many nodes are below."""
     if not steps:
         return
     step = steps[-1]
     if isinstance(step, int):
         steps[-1] = step + 1
     elif step is None:
+        if len(key) > limits.LONGEST_KEY:
+            raise TooMuch(limits.KEY_TOO_LONG)
         steps[-1] = sys.intern(_remove_shadow(key).decode(errors="replace"))
     else:
         steps[-1] = None
