@@ -304,3 +304,26 @@ def test_others(
 ) -> None:
     makes = {name: OTHERS[name] for name in [*OTHERS][part::PARTS]}
     record_property("hostile files", try_all(cases, forks, pytestconfig, makes, "the hook"))
+
+
+@pytest.mark.parametrize("words", ([CHECK], [ROTATE, "--new-vault-password-file={new}"]), ids=(CHECK, ROTATE))
+def test_depth(place: Place, words: list[str]) -> None:
+    """Neither a chain of links nor a depth of directories that exceeds Python's own limit of recursion ends a run."""
+    count, followed = 1_100, 40
+    deep = place.tree
+    for _ in range(count):
+        deep /= "d"
+        deep.mkdir()
+    (deep / "a.yml").write_bytes(ENVELOPE)
+    place.put(f"chain/l{count}", ENVELOPE)
+    for number in range(count):
+        (place.tree / f"chain/l{number}").symlink_to(f"l{number + 1}")
+    # Its first link leads out of the repository, to the chain.
+    place.shell("git init -q clone; ln -s ../chain clone/out")
+    links = ["clone/out/l0", *(f"chain/l{number}" for number in range(count))]
+    full = [word.format(new=place.secret("new")) for word in words]
+    done = place.run(*full, *place.by_file("old"), "d", *links)
+    loops = [f"{words[0]}: {link}: Too many levels of symbolic links" for link in links[:-followed]]
+    assert (done.returncode, done.stderr.splitlines()) == (1, loops), "the system follows 40 links"
+    assert done.stdout.splitlines()[-1].startswith("2 ") and f" {len(loops)} failed" in done.stdout
+    place.shell("rm -r d")

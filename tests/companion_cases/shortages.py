@@ -67,3 +67,10 @@ def test_memory(cases: Companions, git: None, pytestconfig: pytest.Config, name:
         start = place.run(*limiting, "python3", "-IBc", START)
         if (start.returncode, start.stderr) == (0, ""):
             check(place, name, place.run(*limiting, *words), limit)
+
+
+def test_recursion(place: Place) -> None:
+    """What recurses in a library too deeply, for all that is done to prevent it, ends a run in a line."""
+    code = f"{START} as it; it.prepare_process(); recurse = lambda: recurse(); recurse()"
+    done = place.run("python3", "-IBc", code)
+    assert (done.returncode, done.stderr) == (1, "-c: maximum recursion depth exceeded\n")

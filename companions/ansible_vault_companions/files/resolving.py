@@ -26,6 +26,7 @@ class LeadsOut(Refused):
 
     def __init__(self, bound: str, target: str) -> None:
         super().__init__(f"a link leads out of {escape(bound)}; name {quote_word(target)} instead")
+        self.target = target
 
 
 def is_within(path: str, folder: str) -> bool:
@@ -34,32 +35,36 @@ def is_within(path: str, folder: str) -> bool:
     return path == folder or path.startswith(below) and GIT not in path[len(below) :].split(os.sep)
 
 
+def find_target(path: str) -> str:
+    """The real path of a path, wherever it leads. A path with too many links raises OSError, as in the system, where
+    os.path.realpath recurses for each link."""
+    return _Walk(path).start(path)
+
+
 def resolve_folder(path: str) -> str:
     """The real path of a typed directory. Refuses a link that leads out of its repository."""
-    return _Walk(path).start(path)
+    return _BoundedWalk(path).start(path)
 
 
 def resolve_file(path: str) -> str:
     """The real path of a typed file. Refuses a link that leads out of its repository or, outside of git, out of its
     directory. A name of an open file or of a device stays as it is."""
     folder, name = os.path.split(path)
-    named = _Walk(path).start(folder)
-    return path if OF_OPEN_FILES.fullmatch(named) else _Walk(path, named).follow(named, name)
+    named = _BoundedWalk(path).start(folder)
+    return path if OF_OPEN_FILES.fullmatch(named) else _BoundedWalk(path, named).follow(named, name)
 
 
 def resolve_link(path: str, named: str) -> str:
     """The real path of a link that was found below a directory with this real path. Refuses one that leads out of its
     repository or, outside of git, out of this directory."""
-    return _Walk(path, named).follow(named, path)
+    return _BoundedWalk(path, named).follow(named, path)
 
 
 class _Walk:
     """The way of a path to its file, link by link."""
 
-    def __init__(self, path: str, named: str | None = None) -> None:
+    def __init__(self, path: str) -> None:
         self.path = path
-        # The directory that bounds links outside of git.
-        self.named = named
         self.links = 0
 
     def start(self, text: str) -> str:
@@ -86,10 +91,25 @@ class _Walk:
         if self.links > MOST_LINKS:
             raise OSError(errno.ELOOP, os.strerror(errno.ELOOP), self.path)
         target = self.follow(folder, os.readlink(path))
+        self._check_link(folder, target)
+        return target
+
+    def _check_link(self, folder: str, target: str) -> None:
+        """Refuses a link in this directory if it must not be followed to this real path."""
+
+
+class _BoundedWalk(_Walk):
+    """The way of a path that no link may lead out."""
+
+    def __init__(self, path: str, named: str | None = None) -> None:
+        super().__init__(path)
+        # The directory that bounds links outside of git.
+        self.named = named
+
+    def _check_link(self, folder: str, target: str) -> None:
         bound = find_repository(folder) or self._bound_outside(folder)
         if bound and not is_within(target, bound):
-            raise LeadsOut(bound, os.path.realpath(self.path))
-        return target
+            raise LeadsOut(bound, find_target(self.path))
 
     def _bound_outside(self, folder: str) -> str | None:
         """What bounds a link outside of git: the directory that was named, if the link is in it or below it."""

@@ -11,7 +11,7 @@ from typing import Callable, Collection, NamedTuple
 
 from ansible_vault_companions.files import replacing, resolving
 from ansible_vault_companions.quoting import quote_word
-from ansible_vault_companions.refusals import Refused, describe_fault
+from ansible_vault_companions.refusals import describe_fault
 
 NOT_SEARCHED = "it is a link to a directory, which is not searched; name {} as well"
 
@@ -75,21 +75,26 @@ class Search:
 
     def _search_folder(self, path: str, top: str) -> None:
         """Finds the files below a directory with this typed and this real path."""
-        unread: list[str] = []
-        for folder, folders, names in os.walk(top, onerror=lambda fault: unread.append(fault.filename)):
+        # Those that are left, the next one last.
+        folders = [top]
+        while folders:
+            folder = folders.pop()
             below = os.path.relpath(folder, top)
-            left = {name for name in [*folders, *names] if not self._is_left_out(os.path.join(below, name))}
-            folders[:] = sorted(left.intersection(folders))
-            for name in sorted(left):
-                self._add_found(os.path.join(_join(path, below), name), os.path.join(folder, name), top)
-        for folder in unread:
-            self._add(_join(path, os.path.relpath(folder, top)), folder, "")
+            try:
+                entries = _list_folder(folder)
+            except OSError:
+                self._add(_join(path, below), folder, "")
+                continue
+            left = [entry for entry in entries if not self._is_left_out(os.path.join(below, entry.name))]
+            for entry in left:
+                self._add_found(os.path.join(_join(path, below), entry.name), entry.path, top)
+            folders += [entry.path for entry in reversed(left) if entry.is_dir(follow_symlinks=False)]
 
     def _add_found(self, path: str, own: str, top: str) -> None:
         """Adds what is in a directory, if it is a file or a link to one or to a directory."""
         is_link = os.path.islink(own)
         if is_link and os.path.isdir(own):
-            self.folders[path] = os.path.realpath(own)
+            self.folders[path], _ = _resolve(own, resolving.find_target)
         elif is_link and _is_file(own):
             self._add(path, *_resolve(own, lambda link: resolving.resolve_link(link, top)))
         elif _is_file(own):
@@ -109,16 +114,25 @@ class Search:
         return any(fnmatchcase(path if "/" in pattern else name, pattern) for pattern in self.excluded)
 
 
+def _list_folder(folder: str) -> list[os.DirEntry[str]]:
+    """What a directory contains, by name."""
+    with os.scandir(folder) as entries:
+        return sorted(entries, key=lambda entry: entry.name)
+
+
 def _join(path: str, below: str) -> str:
     return path if below == os.curdir else os.path.join(path, below)
 
 
 def _resolve(path: str, resolve: Callable[[str], str]) -> tuple[str, str]:
-    """The real path of a typed path or of a link, and the reason to refuse it, if there is one."""
+    """The real path of a typed path or of a link, and the reason to refuse it, if there is one. A path that leads
+    nowhere stays as it is."""
     try:
         return resolve(path), ""
-    except (Refused, OSError) as fault:
-        return os.path.realpath(path), describe_fault(fault)
+    except resolving.LeadsOut as fault:
+        return fault.target, str(fault)
+    except OSError as fault:
+        return path, describe_fault(fault)
 
 
 def _is_file(path: str) -> bool:

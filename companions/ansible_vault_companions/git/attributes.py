@@ -6,8 +6,9 @@ import os
 import re
 from typing import Collection, Container, NamedTuple
 
+from ansible_vault_companions.files import resolving
 from ansible_vault_companions.git.commands import CUT, list_records
-from ansible_vault_companions.git.repository import group_by_repository
+from ansible_vault_companions.git.repository import find_repository
 from ansible_vault_companions.quoting import escape
 from ansible_vault_companions.refusals import Refused
 
@@ -55,13 +56,37 @@ def _make_attributes(diff: bytes, vault: bytes, plain: bytes) -> Attributes:
 def find_marked(paths: list[str]) -> set[str]:
     """Those that are marked in the repository that they are in, if any. A link counts by its own name, too."""
     links = [path for path in paths if os.path.islink(path)]
-    groups = [*group_by_repository(paths).items(), *group_by_repository(links, follows=False).items()]
+    groups = [*_group_by_repository(paths).items(), *_group_by_repository(links, follows=False).items()]
     marked = set()
     for folder, names in groups:
         for name, attributes in read_attributes(names, folder=folder).items():
             if attributes.is_marked:
                 marked.add(names[name])
     return marked
+
+
+def _group_by_repository(paths: list[str], follows: bool = True) -> dict[str, dict[bytes, str]]:
+    """The paths in each repository, by their names there: for a link, the name of the file that it points to, or its
+    own. Files outside of repositories are left out, and so is what leads nowhere."""
+    repositories: dict[str, dict[bytes, str]] = {}
+    for path in paths:
+        try:
+            target = _find_name(path, follows)
+        except OSError:
+            continue
+        repository = find_repository(os.path.dirname(target))
+        if repository:
+            name = os.fsencode(os.path.relpath(target, repository))
+            repositories.setdefault(repository, {})[name] = path
+    return repositories
+
+
+def _find_name(path: str, follows: bool) -> str:
+    """The real path of a file or, if it may be a link that is not followed, of its name."""
+    if follows:
+        return resolving.find_target(path)
+    folder, name = os.path.split(path)
+    return os.path.join(resolving.find_target(folder), name)
 
 
 def make_line(name: bytes, attribute: str, names: Container[bytes]) -> str:

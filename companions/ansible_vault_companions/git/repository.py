@@ -28,17 +28,3 @@ def find_top() -> str:
     if not folder:
         raise Refused("the current directory is not in a git repository")
     return folder
-
-
-def group_by_repository(paths: list[str], follows: bool = True) -> dict[str, dict[bytes, str]]:
-    """The paths in each repository, by their names there: for a link, the name of the file that it points to, or its
-    own. Files outside of repositories are left out."""
-    repositories: dict[str, dict[bytes, str]] = {}
-    for path in paths:
-        folder, own = os.path.split(path)
-        target = os.path.realpath(path) if follows else os.path.join(os.path.realpath(folder), own)
-        repository = find_repository(os.path.dirname(target))
-        if repository:
-            name = os.fsencode(os.path.relpath(target, repository))
-            repositories.setdefault(repository, {})[name] = path
-    return repositories
