@@ -25,7 +25,8 @@ def prepare_process() -> None:
 
 def report_failure(kind: type[BaseException], fault: BaseException, trace: TracebackType | None) -> None:
     """Says in one line what the system refused, such as memory. Anything else is a bug, with a traceback to report."""
-    if issubclass(kind, (MemoryError, RecursionError, ImportError, OSError)):
+    # Python's import of a module may end in a SystemError if there is too little memory.
+    if issubclass(kind, (MemoryError, RecursionError, SystemError, ImportError, OSError)):
         sys.stderr.write(f"{os.path.basename(sys.argv[0])}: {str(fault) or 'out of memory'}\n")
     else:
         sys.__excepthook__(kind, fault, trace)
