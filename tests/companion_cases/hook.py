@@ -254,8 +254,8 @@ WHOLE_NAME = "is ambiguous.); give a whole ID, or a whole name such as refs/remo
 
 
 def test_names_of_several(place: Place) -> None:
-    """A name that a stranger has given to a tag, too, is refused, whatever git's settings say. What the message asks for
-    checks the branch, even if whole IDs are names of tags, too."""
+    """A name that a stranger has given to a tag, too, is refused, whatever git's settings say. What the message asks
+    for checks the branch, even if whole IDs are names of tags, too."""
     under_git(place, "")
     first = committed(place, "a.yml", sealed("old"))
     place.shell("git update-ref refs/remotes/origin/main HEAD")

@@ -296,7 +296,7 @@ def test_random_yaml(monkeypatch: pytest.MonkeyPatch, pytestconfig: pytest.Confi
     assert min(counts["values"], counts["replaced"]) > 500, counts
 
 
-# Pieces of texts: characters that stand for bytes while YAML is read, one beyond 16 bits, and what only looks like escapes.
+# Pieces of texts: characters that stand for bytes while YAML is read, one beyond 16 bits, and what looks like escapes.
 ESCAPED = [
     "\ue000",
     "\ue0b0",

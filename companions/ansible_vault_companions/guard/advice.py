@@ -67,7 +67,7 @@ LAST = Words(
     allow="if that is intended, commit this line at the end of {line}",
     allow_all="if that is intended, do nothing: only the last commit is compared with the one before",
 )
-# No later commit changes what the hook says of these. The IDs are whole, since a tag may have the name of a shorter one.
+# No later commit changes what the hook says of these. The IDs are whole: a tag may have the name of a shorter one.
 REWRITE = "rewrite {what}, for example with `git rebase -i {base}`; if that is intended, begin later: --since {last}"
 
 
