@@ -97,6 +97,9 @@ PASSING: dict[str, tuple[Content, Content]] = {
 pw, db, elsewhere = (IN_PART.format(key) for key in ("pw", "db.pw", "db.pw of a.yml"))
 DAMAGED, CUT_VALUE, UNMERGED = "is a damaged vault", "has a damaged value in line {}", "has git's conflict markers"
 NOT_YAML = "had encrypted values, but can no longer be checked: line 1: it cannot be read as YAML: "
+UNREAD = "had encrypted values, but can no longer be checked: line {}: {}"
+OTHER_LINE_END = "it has U+0085, U+2028 or U+2029, which may end a line"
+UNCLEAR_KEY = "a key has a tag or is an alias"
 FEWER = "has fewer envelopes than in HEAD, and cannot be compared with what it was there: "
 LFS, TOKEN = "is a pointer of git-lfs, so its content cannot be checked", "found character that cannot start any token"
 # The same of commits that are to be refused, with the reason, and with the file if that is not a.yml.
@@ -223,6 +226,17 @@ REFUSED: dict[str, tuple[Content, Content, str]] = {
     "a cut vault again": (CUT, CUT[:-1], DAMAGED),
     "a cut value": (X, X + PW[:-100] + b"\n", CUT_VALUE.format(3)),
     "a cut comment": (X, {"a.sh": b"\n# " + CUT.replace(b"\n", b"\n# ")}, f"a.sh {CUT_VALUE.format(2)}"),
+    "a line that ends at U+2028": (PW, "n: 1\n\u2028pw: plain\n".encode(), UNREAD.format(2, OTHER_LINE_END)),
+    "a line that ends at U+2029": (PW, "n: 1\n# x\u2029pw: plain\n".encode(), UNREAD.format(2, OTHER_LINE_END)),
+    "a line that ends at U+0085": (
+        {"all": PW},
+        {"all": "n: 1\n\x85pw: plain\n".encode()},
+        f"all {UNREAD.format(2, OTHER_LINE_END)}",
+    ),
+    "an alias as a key": (PW, b"n: &k pw\n*k : plain\n", UNREAD.format(2, UNCLEAR_KEY)),
+    "an alias as a merging key": (PW, b"n: &k <<\n*k : {pw: plain}\n", UNREAD.format(2, UNCLEAR_KEY)),
+    "a tag of a key": ({"all": PW}, {"all": b"!!merge x: {pw: plain}\n"}, f"all {UNREAD.format(1, UNCLEAR_KEY)}"),
+    "an alias deep in a key": (PW, b"n: &k pw\nx:\n- ? [*k]\n  : plain\n", UNREAD.format(3, UNCLEAR_KEY)),
     "no YAML any more": (PW, b"\t" + PLAIN, f"{NOT_YAML}found character that cannot start any token"),
 }
 CHANGES = {what: (*change, "") for what, change in PASSING.items()} | REFUSED

@@ -65,7 +65,8 @@ def require_pyyaml() -> Any:
 
 
 def read_nodes(data: bytes, every: bool = False) -> Iterator[Node]:
-    """The envelopes among the scalars; or every node, but of the keys only envelopes. Raises NotYaml, or TooMuch."""
+    """The envelopes among the scalars; or every node, but of the keys only envelopes, those with a tag, and aliases.
+    Raises NotYaml, or TooMuch."""
     if BINARY in data:
         raise NotYaml(NOT_YAML.format(NULL))
     if len(data) > limits.LONGEST_PLAINTEXT:
@@ -77,7 +78,7 @@ def read_nodes(data: bytes, every: bool = False) -> Iterator[Node]:
     size = 0
     try:
         for path, is_key, event in _read_nodes(yaml, data[skipped:]):
-            if every and not is_key or _is_envelope(path, event):
+            if every and not (is_key and _is_own_name(event)) or _is_envelope(path, event):
                 size += 1 + len(path)
                 if size > limits.MOST_KEYS:
                     raise TooMuch(limits.TOO_MANY)
@@ -186,6 +187,11 @@ def _pass_node(steps: Steps, key: str) -> None:
         steps[-1] = sys.intern(_remove_shadow(key).decode(errors="replace"))
     else:
         steps[-1] = None
+
+
+def _is_own_name(event: Any) -> bool:
+    """Whether the text of a key is its name. An alias has neither a tag nor a text."""
+    return getattr(event, "tag", "") is None
 
 
 def _is_envelope(steps: Steps, event: Any) -> bool:

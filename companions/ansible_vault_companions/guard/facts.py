@@ -2,6 +2,7 @@
 
 from __future__ import annotations
 
+import re
 from collections import Counter
 from types import MappingProxyType
 from typing import Iterator, Mapping, NamedTuple
@@ -18,7 +19,7 @@ from ansible_vault_companions.envelopes.damage import (
     find_unencrypted,
 )
 from ansible_vault_companions.envelopes.detection import may_have_envelope
-from ansible_vault_companions.envelopes.header import MAGIC
+from ansible_vault_companions.envelopes.header import LINE_END, MAGIC
 from ansible_vault_companions.envelopes.key_paths import KeyPath
 from ansible_vault_companions.envelopes.node import ALIAS, NO_SCALAR, Node
 from ansible_vault_companions.envelopes.strays import find_strays
@@ -26,6 +27,11 @@ from ansible_vault_companions.envelopes.yaml_nodes import BINARY, NotYaml, read_
 from ansible_vault_companions.guard.key_names import Keys, make_keys
 from ansible_vault_companions.guard.placeholders import is_placeholder
 from ansible_vault_companions.limits import TooMuch
+
+# Characters at which Ansible ends a line, while here they are read as bytes.
+OTHER_LINE_END = re.compile(rb"\xc2\x85|\xe2\x80[\xa8\xa9]")
+HAS_LINE_END = "line {}: it has U+0085, U+2028 or U+2029, which may end a line"
+HAS_UNCLEAR_KEY = "line {}: a key has a tag or is an alias"
 
 # For each text at some keys, a number that stands for it, and how often it is there.
 Texts = Mapping[Keys, "Counter[int]"]
@@ -42,6 +48,8 @@ class Facts(NamedTuple):
     # Why it cannot be read as YAML, and whether that is because it exceeds a limit.
     fault: str = ""
     is_too_much: bool = False
+    # Why Ansible may read it as other keys or texts, if that is known.
+    ambiguity: str = ""
     # How many envelopes it has; if it cannot be read, how many headers of some.
     envelopes: int = 0
     # What is wrong with its envelopes, with what only has their tag, and with the whole if it is marked.
@@ -72,9 +80,10 @@ def _read_facts(data: bytes, needs_plain: bool) -> Facts:
         return Facts(is_pointer=True, fault=IN_LFS, unencrypted=IN_LFS)
     if not (needs_plain or may_have_envelope(data)):
         return Facts()
-    document, leaves = _read_leaves(data)
+    document, leaves, keys = _read_leaves(data)
     return Facts(
         fault=document.fault,
+        ambiguity=_find_line_end(data) or _find_unclear_key(keys),
         envelopes=data.count(HEADER) if document.fault else sum(value.is_envelope for value in document.values),
         damage=find_damage(document),
         tagged=find_tagged(document),
@@ -82,6 +91,15 @@ def _read_facts(data: bytes, needs_plain: bool) -> Facts:
         encrypted=_count_texts(leaves, are_encrypted=True),
         plain=_count_texts(leaves, are_encrypted=False),
     )
+
+
+def _find_line_end(data: bytes) -> str:
+    found = OTHER_LINE_END.search(data)
+    return HAS_LINE_END.format(len(LINE_END.findall(data, 0, found.start())) + 1) if found else ""
+
+
+def _find_unclear_key(keys: list[Node]) -> str:
+    return next((HAS_UNCLEAR_KEY.format(key.line) for key in keys if key.tag or key.style == ALIAS), "")
 
 
 def _count_texts(leaves: list[Leaf], are_encrypted: bool) -> Texts:
@@ -93,9 +111,10 @@ def _count_texts(leaves: list[Leaf], are_encrypted: bool) -> Texts:
     return texts
 
 
-def _read_leaves(data: bytes) -> tuple[Content, list[Leaf]]:
-    """The envelopes, and the texts at each path that leads to them, from one look at the nodes."""
-    document, leaves = Content(data), list[Leaf]()
+def _read_leaves(data: bytes) -> tuple[Content, list[Leaf], list[Node]]:
+    """The envelopes, the texts at each path that leads to them, and the nodes within keys, from one look at the
+    nodes."""
+    document, leaves, keys = Content(data), list[Leaf](), list[Node]()
     # How many keys and texts the leaves have.
     number = 0
     # For each anchor its path, and the number of its first text.
@@ -104,6 +123,8 @@ def _read_leaves(data: bytes) -> tuple[Content, list[Leaf]]:
         for node in read_nodes(data, every=True):
             if node.is_value:
                 document.values.append(node)
+            if node.is_key:
+                keys.append(node)
             for leaf in _list_leaves(node, leaves, anchors):
                 number += 1 + len(leaf[0])
                 if number > limits.MOST_KEYS:
@@ -113,7 +134,7 @@ def _read_leaves(data: bytes) -> tuple[Content, list[Leaf]]:
         document, leaves = Content(data, fault=str(fault)), []
     if BINARY not in data:
         document.values += find_strays(data, document.values)
-    return document, leaves
+    return document, leaves, keys
 
 
 def _list_leaves(node: Node, leaves: list[Leaf], anchors: dict[str, tuple[KeyPath, int]]) -> Iterator[Leaf]:
