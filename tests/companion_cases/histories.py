@@ -92,13 +92,14 @@ PASSING: dict[str, tuple[Content, Content]] = {
         {"a.yml": DB, "y": X},
         {"b.yml": b"db: [{name: x}]\nx: {pw: x}\n", "y": X},
     ),
+    "a byte order mark": (PW, b"\xef\xbb\xbf" + PW2),
     "meant damage": (X, {"a.txt": CONFLICT % (PW, CUT), ".gitattributes": b"*.txt -ansible-vault diff=ansible-vault"}),
 }
 pw, db, elsewhere = (IN_PART.format(key) for key in ("pw", "db.pw", "db.pw of a.yml"))
 DAMAGED, CUT_VALUE, UNMERGED = "is a damaged vault", "has a damaged value in line {}", "has git's conflict markers"
 NOT_YAML = "had encrypted values, but can no longer be checked: line 1: it cannot be read as YAML: "
 UNREAD = "had encrypted values, but can no longer be checked: line {}: {}"
-OTHER_LINE_END = "it has U+0085, U+2028 or U+2029, which may end a line"
+HIDDEN_BREAK = "it has U+0085, U+2028, U+2029 or U+FEFF, behind which a key may begin"
 UNCLEAR_KEY = "a key has a tag or is an alias"
 FEWER = "has fewer envelopes than in HEAD, and cannot be compared with what it was there: "
 LFS, TOKEN = "is a pointer of git-lfs, so its content cannot be checked", "found character that cannot start any token"
@@ -226,12 +227,17 @@ REFUSED: dict[str, tuple[Content, Content, str]] = {
     "a cut vault again": (CUT, CUT[:-1], DAMAGED),
     "a cut value": (X, X + PW[:-100] + b"\n", CUT_VALUE.format(3)),
     "a cut comment": (X, {"a.sh": b"\n# " + CUT.replace(b"\n", b"\n# ")}, f"a.sh {CUT_VALUE.format(2)}"),
-    "a line that ends at U+2028": (PW, "n: 1\n\u2028pw: plain\n".encode(), UNREAD.format(2, OTHER_LINE_END)),
-    "a line that ends at U+2029": (PW, "n: 1\n# x\u2029pw: plain\n".encode(), UNREAD.format(2, OTHER_LINE_END)),
+    "a line that ends at U+2028": (PW, "n: 1\n\u2028pw: plain\n".encode(), UNREAD.format(2, HIDDEN_BREAK)),
+    "a line that ends at U+2029": (PW, "n: 1\n# x\u2029pw: plain\n".encode(), UNREAD.format(2, HIDDEN_BREAK)),
     "a line that ends at U+0085": (
         {"all": PW},
         {"all": "n: 1\n\x85pw: plain\n".encode()},
-        f"all {UNREAD.format(2, OTHER_LINE_END)}",
+        f"all {UNREAD.format(2, HIDDEN_BREAK)}",
+    ),
+    "a second byte order mark": (
+        PW,
+        "\ufeff---\n\ufeffpw: plain\n".encode(),
+        UNREAD.format(2, HIDDEN_BREAK),
     ),
     "an alias as a key": (PW, b"n: &k pw\n*k : plain\n", UNREAD.format(2, UNCLEAR_KEY)),
     "an alias as a merging key": (PW, b"n: &k <<\n*k : {pw: plain}\n", UNREAD.format(2, UNCLEAR_KEY)),
