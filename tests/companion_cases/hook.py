@@ -250,6 +250,29 @@ def test_names_like_revisions(place: Place, name: str) -> None:
     assert told(run_below(place, "--since", second)) == [f"{last}: {name} {WHOLE.replace('HEAD', second)}"]
 
 
+def test_byte_order_marks(place: Place) -> None:
+    """A .gitattributes with a byte order mark, whose first line git may overlook, is refused while it concerns a file
+    that is checked."""
+    under_git(place, "")
+    marks = b"\xef\xbb\xbf*.yml diff=ansible-vault\n"
+    why = "begins with a byte order mark, which can hide its first line"
+    for folder in ("", "deep/"):
+        first = committed(place, "plain.txt", folder.encode())
+        source = f"{folder}.gitattributes"
+        wanted = [f"{source} {why}"]
+        assert staged(place, {source: marks, f"{folder}er/a.yml": TEXT}) == wanted, "both are new"
+        last = committed(place, source, marks)
+        assert staged(place, {f"{folder}er/b.yml": TEXT}) == wanted, "it was there before"
+        done = place.run(HOOK, "--all")
+        assert told(done) == wanted and "  save it without this mark, and commit it\n" in done.stderr
+        assert told(place.run(HOOK, "--since", first)) == [f"{last}: {source} {why}"]
+        place.shell("git commit -qm next --no-verify")
+        concerned = [] if folder else wanted
+        assert staged(place, {"elsewhere.txt": TEXT + source.encode()}) == concerned, "a file at the top"
+        assert staged(place, {source: b"*.yml -diff\n"}) == [], "it is gone"
+        place.shell("git commit -qm repaired --no-verify")
+
+
 WHOLE_NAME = "is ambiguous.); give a whole ID, or a whole name such as refs/remotes/origin/main"
 
 

@@ -109,8 +109,8 @@ RUNS = {
         envelopes: conflicts content damage detection file_kinds header key_paths layout node strays yaml_nodes
         files: reading replacing resolving
         git: attributes blobs commands history indexes installing links pathspecs repository
-        guard: advice damage_rule evidence exemptions facts key_names leftover_rule mark_rule placeholders
-            pointer_rule review tag_rule unreadable_rule value_rule vault_rule
+        guard: advice attributes_rule damage_rule evidence exemptions facts key_names leftover_rule mark_rule
+            placeholders pointer_rule review tag_rule unreadable_rule value_rule vault_rule
         passwords: settings
         others: argparse json subprocess tempfile typing yaml
     """,

@@ -4,7 +4,7 @@ from __future__ import annotations
 
 import os
 import re
-from typing import Collection, Container, NamedTuple
+from typing import Collection, Container, Iterable, NamedTuple
 
 from ansible_vault_companions.files import resolving
 from ansible_vault_companions.git.commands import CUT, list_records
@@ -87,6 +87,17 @@ def _find_name(path: str, follows: bool) -> str:
         return resolving.find_target(path)
     folder, name = os.path.split(path)
     return os.path.join(resolving.find_target(folder), name)
+
+
+def list_attribute_files(names: Iterable[bytes]) -> list[bytes]:
+    """The paths at which a .gitattributes would concern one of the files with these names."""
+    paths = set()
+    for name in names:
+        folder = name
+        while folder:
+            folder = os.path.dirname(folder)
+            paths.add(os.path.join(folder, FILE))
+    return sorted(paths)
 
 
 def make_line(name: bytes, attribute: str, names: Container[bytes]) -> str:

@@ -21,6 +21,7 @@ class Remedy(Enum):
     REPAIR = "repair it; {allow}"
     RESOLVE = "resolve the conflict with ansible-vault-edit"
     RESTORE = "{restore}; {allow}"
+    SAVE = "save it without this mark, and {add} it"
     UNMARK = "encrypt it, or unmark it: {add} this line at the end of {line}"
 
 

@@ -15,6 +15,7 @@ from ansible_vault_companions.git.indexes import Differences, File, Index
 from ansible_vault_companions.git.links import find_target
 from ansible_vault_companions.guard import (
     advice,
+    attributes_rule,
     damage_rule,
     leftover_rule,
     mark_rule,
@@ -39,6 +40,7 @@ NO_COMMIT = (
 def find_faults(evidence: Evidence) -> Iterator[tuple[File, Fault]]:
     """Each refused file, with the first of its faults. A cause comes before its effects: a vault with conflict markers
     or in git-lfs counts as lost, too, and a marked file that has lost its vault counts as unencrypted."""
+    yield from attributes_rule.find_faults(evidence)
     vault_rule, value_rule = VaultRule(evidence), ValueRule(evidence)
     for file in evidence.now:
         if not file.blob:
