@@ -67,6 +67,28 @@ def test_drivers(place: Place) -> None:
     assert place.get(".git/config") == before, "nothing is left of it"
 
 
+def test_links(place: Place) -> None:
+    """No link of a repository leads an installation out of it. Links in git's own directory, and those outside of the
+    repository, are the user's."""
+    place.shell("git init -q project && mkdir out own && ln -s ../out project/.githooks && ln -s out way")
+    for given in (".githooks", f"{place.tree}/project/.githooks", ".githooks/new", ".githooks/../out"):
+        place.shell(f"git config core.hooksPath {given}", folder="project")
+        for option in ("--install", "--uninstall"):
+            done = place.run(HOOK, option, folder="project")
+            why = f"{HOOK}: core.hooksPath: a link leads out of {place.tree}/project; name {place.tree}/out"
+            ended(f"{option} of {given}", done, 1, why)
+            assert (done.stdout, os.listdir(place.tree / "out")) == ("", [])
+    for change, folder in {
+        "git config core.hooksPath ../way": "out",
+        "git config --unset core.hooksPath; rm -r .git/hooks; ln -s ../../own .git/hooks": "own",
+        "git config core.hooksPath .git/hooks": "own",
+    }.items():
+        place.shell(change, folder="project")
+        ended(change, place.run(HOOK, "--install", folder="project"), 0, "pre-commit: installed")
+        assert sorted(os.listdir(place.tree / folder)) == NAMES
+        ended(change, place.run(HOOK, "--uninstall", folder="project"), 0, "pre-commit: removed")
+
+
 def test_those_of_others(place: Place) -> None:
     """A link to an earlier location of this program is replaced. Other hooks stay, and so do settings that run other
     programs, whether they are the repository's or the user's."""

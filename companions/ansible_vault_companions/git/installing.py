@@ -8,6 +8,7 @@ from __future__ import annotations
 import os
 import shlex
 
+from ansible_vault_companions.files import resolving
 from ansible_vault_companions.git.commands import read_line, run_git
 from ansible_vault_companions.quoting import escape, quote_word
 from ansible_vault_companions.refusals import Refused
@@ -19,6 +20,8 @@ SETTINGS = {
     "diff.ansible-vault.textconv": ("ansible-vault-textconv", ""),
     "merge.ansible-vault.driver": ("ansible-vault-merge", f" %O %A %B %P{OR_ELSE}"),
 }
+# Where hooks are in git's own directory, unless core.hooksPath is set.
+HOOKS = "hooks"
 NO_PASSWORDS = "git diff and git merge are set up only with passwords: --install --vault-id dev@~/.vault/dev.pass"
 MARKS = """\
 git diff and git merge recognize vaults by .gitattributes; for the whole team, add lines to it, such as
@@ -28,8 +31,20 @@ git diff and git merge recognize vaults by .gitattributes; for the whole team, a
 def list_hooks() -> list[str]:
     """The paths of this repository's hooks. A relative core.hooksPath starts from its top, which must be the current
     directory."""
-    folder = os.path.abspath(read_line("rev-parse", "--git-path", "hooks"))
+    folder = _find_folder()
     return [os.path.join(folder, name) for name in ("pre-commit", "pre-merge-commit")]
+
+
+def _find_folder() -> str:
+    """The directory of the hooks. Refuses one that core.hooksPath names if a link leads out of the repository. Links in
+    git's own directory are the user's."""
+    folder, own = read_line("rev-parse", "--git-path", HOOKS), read_line("rev-parse", "--git-common-dir")
+    if folder == os.path.join(own, HOOKS):
+        return os.path.abspath(folder)
+    try:
+        return resolving.resolve_folder(folder)
+    except Refused as fault:
+        raise Refused(f"core.hooksPath: {fault}") from None
 
 
 def install_hook(hook: str, program: str) -> str:
