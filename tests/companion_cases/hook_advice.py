@@ -56,7 +56,7 @@ def restore(place: Place, advice: str) -> None:
 def paste_and_type(place: Place, advice: str) -> None:
     """What is in the directory is what git-lfs would put there."""
     paste(place, advice)
-    [command] = re.findall("run `(.*)` with this line", advice)
+    [command] = re.findall("run `(.*)` after you (?:stage|commit) this line", advice)
     for name in place.files():
         if place.get(name) == POINTER:
             place.put(name, VAULT)

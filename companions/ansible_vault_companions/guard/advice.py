@@ -15,7 +15,8 @@ class Remedy(Enum):
     ALLOW = "{allow}"
     ENCRYPT = "encrypt it, as each change with ansible-vault-edit does, or remove the tag"
     OUT_OF_LFS = (
-        "run `git add --renormalize -- {path}` with this line, which keeps it out of git-lfs, at the end of {line}"
+        "run `git add --renormalize -- {path}` after you {add} this line, which keeps it out of git-lfs, at the end of "
+        "{line}"
     )
     REMOVE = "look at its content, and remove it with `git rm -f -- {path}`"
     REPAIR = "repair it; {allow}"
