@@ -288,10 +288,20 @@ def put_deep_folders(place: Place, _command: str) -> None:
         place.put("e/" * 900 + f"{number}.yml", TEXT)
 
 
+def put_removed_values(place: Place, _command: str) -> None:
+    """Many values that are removed, and many files with similar keys."""
+    place.put("b.yml", b"x:\n" + b"".join(b" k%d: {a: !vault $ANSIBLE_VAULT;%d}\n" % (n, n) for n in range(8_000)))
+    add_and_commit(place)
+    (place.tree / "b.yml").unlink()
+    for number in range(3_000):
+        place.put(f"c/{number}.yml", b"x: {z%d: {a: 1}}\n" % number)
+
+
 OTHERS: dict[str, Make] = {f"the name {name!r}": partial(put_name, name) for name in NAMES}
 OTHERS |= {f"a link to {target[:40]!r}": partial(put_link, target) for target in LINKS}
 OTHERS |= {f"attributes, {what}": partial(put_attributes, line) for what, line in ATTRIBUTES.items()}
 OTHERS |= {"a long link": put_long_link, "many names": put_many_names, "deep folders": put_deep_folders}
+OTHERS |= {"removed values": put_removed_values}
 
 
 @pytest.mark.parametrize("part", range(PARTS))

@@ -53,6 +53,64 @@ def list_branches(paths: Iterable[Keys]) -> set[Keys]:
     return {keys[:length] for keys in paths for length in range(len(keys) + 1)}
 
 
+class Branch:
+    """A tree of paths: what is below a key, and the path that ends here, if one does."""
+
+    def __init__(self, key: str | None = None) -> None:
+        self.key = key
+        self.below: dict[str | None, Branch] = {}
+        self.path: Keys = ()
+
+
+# Branches of two trees that are at the same place.
+Pair = tuple[list[Branch], list[Branch]]
+
+
+def make_tree(paths: Iterable[Keys]) -> Branch:
+    top = Branch()
+    for keys in paths:
+        branch = top
+        for key in keys:
+            if key not in branch.below:
+                branch.below[key] = Branch(key)
+            branch = branch.below[key]
+        branch.path = keys
+    return top
+
+
+def find_at_or_above(tree: Branch, paths: Iterable[Keys]) -> set[Keys]:
+    """The paths of a tree that are at or above these, with the same first and last key. Between these keys, a list and
+    a mapping by name stand for each other."""
+    found = set[Keys]()
+    pairs = _match_keys([tree], [make_tree(paths)])
+    while pairs:
+        branches, others = pairs.pop()
+        keys = {other.key for other in others}
+        found.update(branch.path for branch in branches if branch.path and branch.key in keys)
+        if any(ITEM in branch.below for branch in [*branches, *others]):
+            pairs.append((_list_below(branches), _list_below(others)))
+        else:
+            pairs += _match_keys(branches, others)
+    return found
+
+
+def _list_below(branches: list[Branch]) -> list[Branch]:
+    return [below for branch in branches for below in branch.below.values()]
+
+
+def _match_keys(branches: list[Branch], others: list[Branch]) -> list[Pair]:
+    """What is below each key that both have."""
+    pairs: dict[str | None, Pair] = {}
+    for other in others:
+        for key, below in other.below.items():
+            pairs.setdefault(key, ([], []))[1].append(below)
+    for branch in branches:
+        # Python goes through the smaller of the two.
+        for key in branch.below.keys() & pairs.keys():
+            pairs[key][0].append(branch.below[key])
+    return [pair for pair in pairs.values() if pair[0]]
+
+
 def align_paths(paths: Iterable[Keys]) -> dict[Keys, Keys]:
     """Each path in the form in which it is compared: a list and a mapping by name stand for each other, so where one of
     the paths has an item, the keys of the others count as items, too."""

@@ -5,14 +5,24 @@ from __future__ import annotations
 import os
 from collections import Counter
 from functools import cached_property
-from typing import Collection, Iterable
+from typing import Iterable
 
 from ansible_vault_companions.git.indexes import File
 from ansible_vault_companions.guard import exemptions
 from ansible_vault_companions.guard.advice import Fault
 from ansible_vault_companions.guard.evidence import Evidence
 from ansible_vault_companions.guard.facts import NONE, Facts
-from ansible_vault_companions.guard.key_names import ITEM, Keys, align_paths, has_name, list_branches, write_keys
+from ansible_vault_companions.guard.key_names import (
+    ITEM,
+    Branch,
+    Keys,
+    align_paths,
+    find_at_or_above,
+    has_name,
+    list_branches,
+    make_tree,
+    write_keys,
+)
 from ansible_vault_companions.quoting import escape
 
 NOW_PLAIN = "has {} in plaintext, which {} encrypted{}"
@@ -40,6 +50,10 @@ class ValueRule:
         return removed
 
     @cached_property
+    def removed_tree(self) -> Branch:
+        return make_tree(self.removed)
+
+    @cached_property
     def fewer(self) -> Counter[Keys]:
         """The keys of which there are fewer values in all."""
         return count_values(self.evidence.before.values()) - count_values(self.evidence.now.values())
@@ -64,26 +78,15 @@ class ValueRule:
         return sources
 
     def _find_from_elsewhere(self, file: File) -> set[Keys]:
-        """The keys of removed values at or below which there is new plaintext. If there are as many values elsewhere,
-        a plaintext that was there may change."""
+        """The keys of removed values at or below which there is new plaintext. Files have nothing in common but names,
+        so the first key and the value's own are to be the same. If there are as many values elsewhere, a plaintext
+        that was there may change."""
         now = self.evidence.now[file]
-        if not (self.removed and self._find_at_or_below(now.plain)):
+        if not find_at_or_above(self.removed_tree, now.plain):
             return set()
         before = self.evidence.find_facts(file.before, needs_plain=True)
-        changeable = self._find_at_or_below(before.plain) - self.fewer.keys()
-        return self._find_at_or_below(find_new_plaintext(before, now)) - changeable
-
-    def _find_at_or_below(self, paths: Collection[Keys]) -> set[Keys]:
-        """The keys of removed values at or below which one of these paths of another file is. Files have nothing in
-        common but names, so the first key and the value's own are to be the same."""
-        first_keys = {key for keys in paths for key in keys[:1]}
-        all_keys = {key for keys in paths for key in keys}
-        removed = [keys for keys in self.removed if keys[0] in first_keys and keys[-1] in all_keys]
-        if not removed:
-            return set()
-        aligned = align_paths([*removed, *paths])
-        branches = list_branches(aligned[keys] for keys in paths)
-        return {keys for keys in removed if aligned[keys][-1] == keys[-1] and aligned[keys] in branches}
+        changeable = find_at_or_above(self.removed_tree, before.plain) - self.fewer.keys()
+        return find_at_or_above(self.removed_tree, find_new_plaintext(before, now)) - changeable
 
 
 def find_new_plaintext(before: Facts, after: Facts) -> set[Keys]:
