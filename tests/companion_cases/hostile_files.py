@@ -297,11 +297,17 @@ def put_removed_values(place: Place, _command: str) -> None:
         place.put(f"c/{number}.yml", b"x: {z%d: {a: 1}}\n" % number)
 
 
+def put_links_in_ring(place: Place, _command: str) -> None:
+    """Links that lead to each other, in place of files."""
+    for number in range(7_000):
+        os.symlink(f"l{(number + 1) % 7_000}", place.tree / f"l{number}")
+
+
 OTHERS: dict[str, Make] = {f"the name {name!r}": partial(put_name, name) for name in NAMES}
 OTHERS |= {f"a link to {target[:40]!r}": partial(put_link, target) for target in LINKS}
 OTHERS |= {f"attributes, {what}": partial(put_attributes, line) for what, line in ATTRIBUTES.items()}
 OTHERS |= {"a long link": put_long_link, "many names": put_many_names, "deep folders": put_deep_folders}
-OTHERS |= {"removed values": put_removed_values}
+OTHERS |= {"removed values": put_removed_values, "links in a ring": put_links_in_ring}
 
 
 @pytest.mark.parametrize("part", range(PARTS))

@@ -7,7 +7,7 @@ from contextlib import suppress
 
 from ansible_vault_companions.envelopes.header import MAGIC
 from ansible_vault_companions.git.commands import CUT, build_command, build_environment
-from ansible_vault_companions.limits import LONGEST_PLAINTEXT, LONGEST_VAULT
+from ansible_vault_companions.limits import LONGEST_LINK, LONGEST_PLAINTEXT, LONGEST_VAULT
 from ansible_vault_companions.refusals import Refused
 
 NOT_PARTIAL = "if this is a partial clone, clone again without --filter"
@@ -15,6 +15,10 @@ NOT_PARTIAL = "if this is a partial clone, clone again without --filter"
 
 class Blobs:
     """The contents of blobs, read with a git process."""
+
+    def __init__(self) -> None:
+        # The texts of links, many of which may lead through the same ones.
+        self.links: dict[str, bytes] = {}
 
     def __enter__(self) -> Blobs:
         pipes = {"stdin": subprocess.PIPE, "stdout": subprocess.PIPE, "stderr": subprocess.DEVNULL}
@@ -44,6 +48,12 @@ class Blobs:
             self.__exit__()
             self.__enter__()
         return content
+
+    def read_link(self, blob: str) -> bytes:
+        """The text of a link; of one that is too long, only the beginning, which is too long as well."""
+        if blob not in self.links:
+            self.links[blob] = self.read(blob)[: LONGEST_LINK + 1]
+        return self.links[blob]
 
     def _ask(self, blob: str) -> int:
         """The size of a blob, whose content comes next, and then the end of a line."""

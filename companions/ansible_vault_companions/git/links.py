@@ -22,7 +22,7 @@ def find_target(index: Index, link: File, blobs: Blobs) -> str:
         _take_step(path, step)
         file = index.files.get(b"/".join(path))
         if file and file.is_link:
-            text = blobs.read(file.blob)
+            text = blobs.read_link(file.blob)
             # An absolute path leads out of the repository.
             if len(text) > LONGEST_LINK or text.startswith(b"/"):
                 return ""
