@@ -1,4 +1,4 @@
-"""No .gitattributes that concerns a file begins with a byte order mark: in an index, git overlooks the line behind it."""
+"""No .gitattributes that concerns a file begins with a byte order mark: in an index, git overlooks its first line."""
 
 from __future__ import annotations
 
