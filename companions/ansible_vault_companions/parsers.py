@@ -15,6 +15,10 @@ if TYPE_CHECKING:
     from typing import Any, NoReturn
 
 
+# Ends the options.
+SEPARATOR = "--"
+
+
 class Formatter(argparse.RawDescriptionHelpFormatter):
     """Names the value of an option once, after all spellings, and no options in the usage, since a list follows."""
 
@@ -34,14 +38,23 @@ class Formatter(argparse.RawDescriptionHelpFormatter):
 class Parser(argparse.ArgumentParser):
     """A parser whose message is one write, with the words of the command line in printable form."""
 
-    def parse_args(self, words: list[str]) -> argparse.Namespace:  # type: ignore[override]
-        """Refuses a word that may be an option or the name of a file: where a stranger has named a file like an option,
-        a pattern of the shell such as `*` gives it among the others."""
-        for word in words[: words.index("--")] if "--" in words else words:
+    def parse_args(self, words: list[str], file: str | None = None) -> argparse.Namespace:  # type: ignore[override]
+        """The command line. A file that is given apart is the last argument, whatever its name."""
+        self._refuse_names(words)
+        if file is None:
+            return super().parse_args(words)
+        others = words[:-1] if words[-1:] == [SEPARATOR] else words
+        return super().parse_args([*others, SEPARATOR, file])
+
+    def _refuse_names(self, words: list[str]) -> None:
+        """Refuses a word that may be an option, or the separator behind them, or the name of a file: where a stranger
+        has named a file like an option, a pattern of the shell such as `*` gives it among the others."""
+        for word in words:
             if word.startswith("-") and word != "-" and os.path.lexists(word):
                 to_do = f"write {quote_word(word)} for the file, or rename it to use the option"
                 self.error(f"{word}: a file has this name; {to_do}")
-        return super().parse_args(words)
+            if word == SEPARATOR:
+                return
 
     def error(self, message: str) -> NoReturn:
         self.exit(2, f"{self.format_usage()}{self.prog}: error: {escape(message)}\n")

@@ -49,7 +49,7 @@ def test_names(cases: Companions, name: str) -> None:
     files = st.one_of(likely, likely, ANY.map("-{}".format), awkward)
 
     @settings(max_examples=15, deadline=None, database=None, suppress_health_check=[*HealthCheck])
-    @given(files.filter(lambda file: file not in ("", "-", "--") and len(file.encode()) < 256))
+    @given(files.filter(lambda file: file not in ("", "-") and len(file.encode()) < 256))
     def check(file: str) -> None:
         shutil.rmtree(place.tree)
         place.tree.mkdir()
@@ -61,6 +61,31 @@ def test_names(cases: Companions, name: str) -> None:
         assert ": a file has this name; write " in done.stderr and "./-" in done.stderr, (file, done.stderr)
 
     check()
+
+
+@pytest.mark.parametrize("name", LINES)
+def test_separator(place: Place, name: str) -> None:
+    """A file with the name of the separator is not skipped without a word."""
+    for each in ("a.yml", "--"):
+        place.put(each, sealed("old"))
+    before = place.files()
+    done = place.shell(LINES[name])
+    assert (done.returncode, done.stdout, place.files()) == (2, "", before), done
+    assert "--: a file has this name; write ./-- for" in done.stderr
+
+
+def test_beside_a_separator(place: Place) -> None:
+    """Such a file keeps nobody from the others, nor from itself."""
+    for each in ("a.yml", "--"):
+        place.put(each, sealed("old"))
+    edit = f"EDITOR=true {WITH} edit {OLD}"
+    lines = f"EDITOR=true {EDIT} {OLD} a.yml", f"{edit} a.yml", f"{edit} ./--", f"{TEXTCONV} {OLD} a.yml"
+    for line in (*lines, f"{TEXTCONV} {OLD} --"):
+        done = place.shell(f"{line}; exit $?")
+        assert done.returncode == 0, (line, done)
+    (place.tree / "--").unlink()
+    place.put("-x.yml", sealed("old"))
+    assert place.shell(f"{edit} -- -x.yml; exit $?").returncode == 0, "the alias names the file to the editor's program"
 
 
 def test_strangers_password(place: Place) -> None:
