@@ -141,6 +141,9 @@ def test_what_is_looked_at(place: Place) -> None:
     for name in others:
         place.put(name, sealed("old"))
     vaults += others
+    # Only a regular file is one that a companion left.
+    vaults.append(".ansible-vault-abcdefgh.new/vault.yml")
+    place.put(vaults[-1], sealed("old"))
     wanted = [*vaults, *(f"{name}:2" for name in blocks)]
     assert found(place, ".") == sorted(f"./{name}" for name in wanted)
     assert found(place, leftover) == [leftover], "a path that is given"

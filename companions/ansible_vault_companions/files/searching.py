@@ -85,7 +85,7 @@ class Search:
             except OSError:
                 self._add(_join(path, below), folder, "")
                 continue
-            left = [entry for entry in entries if not self._is_left_out(os.path.join(below, entry.name))]
+            left = [entry for entry in entries if not self._is_left_out(entry, below)]
             for entry in left:
                 self._add_found(os.path.join(_join(path, below), entry.name), entry.path, top)
             folders += [entry.path for entry in reversed(left) if entry.is_dir(follow_symlinks=False)]
@@ -100,10 +100,11 @@ class Search:
         elif _is_file(own):
             self._add(path, own, "")
 
-    def _is_left_out(self, path: str) -> bool:
+    def _is_left_out(self, entry: os.DirEntry[str], below: str) -> bool:
         """Whether to skip what is in a directory. A temporary file belongs to another companion, or to a crash."""
-        name = os.path.basename(path)
-        return name == resolving.GIT or replacing.is_leftover(name) or self._is_excluded(os.path.normpath(path))
+        if entry.name == resolving.GIT or replacing.is_leftover(entry.name) and entry.is_file(follow_symlinks=False):
+            return True
+        return self._is_excluded(os.path.normpath(os.path.join(below, entry.name)))
 
     def _add(self, path: str, target: str, refusal: str) -> None:
         self.found.setdefault(target, []).append((path, refusal))
