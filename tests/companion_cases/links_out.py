@@ -1,4 +1,4 @@
-"""Links that lead out of a repository, or out of what was named: no companion reads or writes through them.
+"""Links that lead out of a repository, or out of what was named: no companion shows or writes their files.
 
 The links are in a directory `project`, which is a repository or not. Each companion gets each kind of link, and
 `expected` says what happens, by the rule in the manual page of ansible-vault-with.
