@@ -180,6 +180,28 @@ def test_hook(place: Place, name: str) -> None:
     assert results[0][0] == 1, "the files of the project are plaintext"
 
 
+@pytest.mark.usefixtures("git")
+@pytest.mark.parametrize("target", ("clone/a.yml", "clone"))
+def test_nested_repository(place: Place, target: str) -> None:
+    """A repository below another one is not the same: none leads into the other, but each into itself."""
+    place.shell("git init -q project; git init -q project/clone; ln -s a.yml project/clone/own.yml")
+    (place.tree / "project/l").symlink_to(target)
+    (place.tree / "project/clone/l").symlink_to("../a.yml")
+    path = "l/a.yml" if target == "clone" else "l"
+    for command, (words, content, _, status) in COMMANDS.items():
+        place.put("project/a.yml", content)
+        place.put("project/clone/a.yml", content)
+        before = list_contents(place)
+        for link, bound, file in ((path, "project", "clone/a.yml"), ("clone/l", "project/clone", "a.yml")):
+            result, _, message = run_command(place, words, link)
+            why = f": {link}: a link leads out of {place.tree}/{bound}; name {place.tree}/project/{file} instead\n"
+            assert result == (status or 1) and why in message, (command, message)
+            assert list_contents(place) == before, command
+    place.put("project/clone/a.yml", VAULT)
+    done = place.run(TEXTCONV, *place.by_file("old"), "clone/own.yml", folder="project")
+    assert (done.returncode, done.stdout, done.stderr) == (0, TEXT.decode(), "")
+
+
 # The content of a file outside of the repository, and whether a link to it makes a search fail.
 LINKED = {
     "plaintext": (TEXT, False),

@@ -107,8 +107,11 @@ class _BoundedWalk(_Walk):
         self.named = named
 
     def _check_link(self, folder: str, target: str) -> None:
-        bound = find_repository(folder) or self._bound_outside(folder)
-        if bound and not is_within(target, bound):
+        repository = find_repository(folder)
+        bound = repository or self._bound_outside(folder)
+        # Below a repository, there may be another one, such as a submodule.
+        enters_other = repository is not None and find_repository(target) != repository
+        if bound and (enters_other or not is_within(target, bound)):
             raise LeadsOut(bound, find_target(self.path))
 
     def _bound_outside(self, folder: str) -> str | None:
