@@ -5,6 +5,9 @@ from __future__ import annotations
 import re
 from typing import Union
 
+# The key that merges a mapping into another, and the tag with which any other key does.
+MERGE, MERGE_TAG = "<<", "tag:yaml.org,2002:merge"
+
 # A key that needs no quotes in a typed path.
 UNQUOTED = re.compile(r'[^."\[\]\x00-\x1f]+')
 

@@ -15,7 +15,7 @@ from typing import Any, Iterator, Union
 
 from ansible_vault_companions import limits
 from ansible_vault_companions.envelopes.header import LINE_END, MAGIC, WITH_DIGITS
-from ansible_vault_companions.envelopes.key_paths import KeyPath
+from ansible_vault_companions.envelopes.key_paths import MERGE, MERGE_TAG, KeyPath
 from ansible_vault_companions.envelopes.node import ALIAS, FOLDED, JSON_KEY, LITERAL, NO_SCALAR, PLAIN, TAGS, Node
 from ansible_vault_companions.limits import TooMuch
 from ansible_vault_companions.refusals import Refused
@@ -65,8 +65,8 @@ def require_pyyaml() -> Any:
 
 
 def read_nodes(data: bytes, every: bool = False) -> Iterator[Node]:
-    """The envelopes among the scalars; or every node, but of the keys only envelopes, those with a tag, and aliases.
-    Raises NotYaml, or TooMuch."""
+    """The envelopes among the scalars; or every node, but of the keys only envelopes and aliases. Raises NotYaml, or
+    TooMuch."""
     if BINARY in data:
         raise NotYaml(NOT_YAML.format(NULL))
     if len(data) > limits.LONGEST_PLAINTEXT:
@@ -78,7 +78,7 @@ def read_nodes(data: bytes, every: bool = False) -> Iterator[Node]:
     size = 0
     try:
         for path, is_key, event in _read_nodes(yaml, data[skipped:]):
-            if every and not (is_key and _is_own_name(event)) or _is_envelope(path, event):
+            if every and not (is_key and hasattr(event, "tag")) or _is_envelope(path, event):
                 size += 1 + len(path)
                 if size > limits.MOST_KEYS:
                     raise TooMuch(limits.TOO_MANY)
@@ -146,7 +146,12 @@ def _read_nodes(yaml: Any, data: bytes) -> Iterator[tuple[Steps, bool, Any]]:
             steps.pop()
             _pass_node(steps, "")
         elif kind in nodes:
-            _pass_node(steps, event.value if kind is scalar else "")
+            _pass_node(steps, _find_name(event))
+
+
+def _find_name(event: Any) -> str:
+    """What a scalar or an alias is called as a key."""
+    return MERGE if getattr(event, "tag", None) == MERGE_TAG else getattr(event, "value", "")
 
 
 def _parse(yaml: Any, data: bytes) -> Iterator[Any]:
@@ -187,11 +192,6 @@ def _pass_node(steps: Steps, key: str) -> None:
         steps[-1] = sys.intern(_remove_shadow(key).decode(errors="replace"))
     else:
         steps[-1] = None
-
-
-def _is_own_name(event: Any) -> bool:
-    """Whether the text of a key is its name. An alias has neither a tag nor a text."""
-    return getattr(event, "tag", "") is None
 
 
 def _is_envelope(steps: Steps, event: Any) -> bool:

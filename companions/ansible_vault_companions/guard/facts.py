@@ -31,7 +31,7 @@ from ansible_vault_companions.limits import TooMuch
 # Characters at which Ansible ends a line, or that it skips at the beginning of one, while here they are read as bytes.
 HIDDEN_BREAK = re.compile(rb"\xc2\x85|\xe2\x80[\xa8\xa9]|(?!\A)\xef\xbb\xbf")
 HAS_HIDDEN_BREAK = "line {}: it has U+0085, U+2028, U+2029 or U+FEFF, behind which a key may begin"
-HAS_UNCLEAR_KEY = "line {}: a key has a tag or is an alias"
+HAS_ALIAS = "line {}: a key has an alias"
 
 # For each text at some keys, a number that stands for it, and how often it is there.
 Texts = Mapping[Keys, "Counter[int]"]
@@ -83,7 +83,7 @@ def _read_facts(data: bytes, needs_plain: bool) -> Facts:
     document, leaves, keys = _read_leaves(data)
     return Facts(
         fault=document.fault,
-        ambiguity=_find_hidden_break(data) or _find_unclear_key(keys),
+        ambiguity=_find_hidden_break(data) or _find_alias(keys),
         envelopes=data.count(HEADER) if document.fault else sum(value.is_envelope for value in document.values),
         damage=find_damage(document),
         tagged=find_tagged(document),
@@ -98,8 +98,8 @@ def _find_hidden_break(data: bytes) -> str:
     return HAS_HIDDEN_BREAK.format(len(LINE_END.findall(data, 0, found.start())) + 1) if found else ""
 
 
-def _find_unclear_key(keys: list[Node]) -> str:
-    return next((HAS_UNCLEAR_KEY.format(key.line) for key in keys if key.tag or key.style == ALIAS), "")
+def _find_alias(keys: list[Node]) -> str:
+    return next((HAS_ALIAS.format(key.line) for key in keys if key.style == ALIAS), "")
 
 
 def _count_texts(leaves: list[Leaf], are_encrypted: bool) -> Texts:

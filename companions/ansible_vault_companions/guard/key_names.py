@@ -8,14 +8,12 @@ from __future__ import annotations
 import re
 from typing import Iterable, Optional
 
-from ansible_vault_companions.envelopes.key_paths import KeyPath
+from ansible_vault_companions.envelopes.key_paths import MERGE, KeyPath
 from ansible_vault_companions.envelopes.node import JSON_KEY
 
 # What every list item has in place of a key, and how .gitattributes names it.
 ITEM = None
 WRITTEN_ITEM = "[]"
-# The key that merges a mapping into another, which is not part of a path.
-MERGE = "<<"
 # What the value of an attribute cannot have, or what separates keys.
 UNWRITTEN = re.compile(r"[^\w$@/:+*-]")
 
@@ -26,6 +24,7 @@ def make_keys(path: KeyPath) -> Keys:
     keys = list[Optional[str]]()
     before: str | int | None = None
     for step in path:
+        # The key that merges is not part of a path.
         is_merged_item = isinstance(step, int) and before == MERGE
         if step not in (MERGE, JSON_KEY) and not is_merged_item:
             keys.append(ITEM if isinstance(step, int) else step)
