@@ -100,7 +100,7 @@ DAMAGED, CUT_VALUE, UNMERGED = "is a damaged vault", "has a damaged value in lin
 NOT_YAML = "had encrypted values, but can no longer be checked: line 1: it cannot be read as YAML: "
 UNREAD = "had encrypted values, but can no longer be checked: line {}: {}"
 HIDDEN_BREAK = "it has U+0085, U+2028, U+2029 or U+FEFF, behind which a key may begin"
-KEY_ALIAS = "a key has an alias"
+UNCLEAR_KEY = "a key is or has an alias, or is a list or a mapping that merges another one"
 FEWER = "has fewer envelopes than in HEAD, and cannot be compared with what it was there: "
 LFS, TOKEN = "is a pointer of git-lfs, so its content cannot be checked", "found character that cannot start any token"
 # The same of commits that are to be refused, with the reason, and with the file if that is not a.yml.
@@ -239,10 +239,11 @@ REFUSED: dict[str, tuple[Content, Content, str]] = {
         "\ufeff---\n\ufeffpw: plain\n".encode(),
         UNREAD.format(2, HIDDEN_BREAK),
     ),
-    "an alias as a key": (PW, b"n: &k pw\n*k : plain\n", UNREAD.format(2, KEY_ALIAS)),
-    "an alias as a merging key": (PW, b"n: &k <<\n*k : {pw: plain}\n", UNREAD.format(2, KEY_ALIAS)),
+    "an alias as a key": (PW, b"n: &k pw\n*k : plain\n", UNREAD.format(2, UNCLEAR_KEY)),
+    "an alias as a merging key": (PW, b"n: &k <<\n*k : {pw: plain}\n", UNREAD.format(2, UNCLEAR_KEY)),
+    "a merging list": (PW, b"? !!merge [x]\n: {pw: plain}\n", UNREAD.format(1, UNCLEAR_KEY)),
     "a merging key of another name": (PW, b"!!merge x: {pw: plain}\n", pw),
-    "an alias deep in a key": (PW, b"n: &k pw\nx:\n- ? [*k]\n  : plain\n", UNREAD.format(3, KEY_ALIAS)),
+    "an alias deep in a key": (PW, b"n: &k pw\nx:\n- ? [*k]\n  : plain\n", UNREAD.format(3, UNCLEAR_KEY)),
     "no YAML any more": (PW, b"\t" + PLAIN, f"{NOT_YAML}found character that cannot start any token"),
 }
 CHANGES = {what: (*change, "") for what, change in PASSING.items()} | REFUSED

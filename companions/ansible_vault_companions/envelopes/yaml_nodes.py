@@ -65,8 +65,8 @@ def require_pyyaml() -> Any:
 
 
 def read_nodes(data: bytes, every: bool = False) -> Iterator[Node]:
-    """The envelopes among the scalars; or every node, but of the keys only envelopes and aliases. Raises NotYaml, or
-    TooMuch."""
+    """The envelopes among the scalars; or every node, but of the scalars that are keys only envelopes. Raises NotYaml,
+    or TooMuch."""
     if BINARY in data:
         raise NotYaml(NOT_YAML.format(NULL))
     if len(data) > limits.LONGEST_PLAINTEXT:
@@ -78,7 +78,7 @@ def read_nodes(data: bytes, every: bool = False) -> Iterator[Node]:
     size = 0
     try:
         for path, is_key, event in _read_nodes(yaml, data[skipped:]):
-            if every and not (is_key and hasattr(event, "tag")) or _is_envelope(path, event):
+            if every and not (is_key and hasattr(event, "value")) or _is_envelope(path, event):
                 size += 1 + len(path)
                 if size > limits.MOST_KEYS:
                     raise TooMuch(limits.TOO_MANY)

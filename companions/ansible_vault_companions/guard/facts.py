@@ -20,7 +20,7 @@ from ansible_vault_companions.envelopes.damage import (
 )
 from ansible_vault_companions.envelopes.detection import may_have_envelope
 from ansible_vault_companions.envelopes.header import LINE_END, MAGIC
-from ansible_vault_companions.envelopes.key_paths import KeyPath
+from ansible_vault_companions.envelopes.key_paths import MERGE_TAG, KeyPath
 from ansible_vault_companions.envelopes.node import ALIAS, NO_SCALAR, Node
 from ansible_vault_companions.envelopes.strays import find_strays
 from ansible_vault_companions.envelopes.yaml_nodes import BINARY, NotYaml, read_nodes
@@ -31,7 +31,7 @@ from ansible_vault_companions.limits import TooMuch
 # Characters at which Ansible ends a line, or that it skips at the beginning of one, while here they are read as bytes.
 HIDDEN_BREAK = re.compile(rb"\xc2\x85|\xe2\x80[\xa8\xa9]|(?!\A)\xef\xbb\xbf")
 HAS_HIDDEN_BREAK = "line {}: it has U+0085, U+2028, U+2029 or U+FEFF, behind which a key may begin"
-HAS_ALIAS = "line {}: a key has an alias"
+HAS_UNCLEAR_KEY = "line {}: a key is or has an alias, or is a list or a mapping that merges another one"
 
 # For each text at some keys, a number that stands for it, and how often it is there.
 Texts = Mapping[Keys, "Counter[int]"]
@@ -83,7 +83,7 @@ def _read_facts(data: bytes, needs_plain: bool) -> Facts:
     document, leaves, keys = _read_leaves(data)
     return Facts(
         fault=document.fault,
-        ambiguity=_find_hidden_break(data) or _find_alias(keys),
+        ambiguity=_find_hidden_break(data) or _find_unclear_key(keys),
         envelopes=data.count(HEADER) if document.fault else sum(value.is_envelope for value in document.values),
         damage=find_damage(document),
         tagged=find_tagged(document),
@@ -98,8 +98,9 @@ def _find_hidden_break(data: bytes) -> str:
     return HAS_HIDDEN_BREAK.format(len(LINE_END.findall(data, 0, found.start())) + 1) if found else ""
 
 
-def _find_alias(keys: list[Node]) -> str:
-    return next((HAS_ALIAS.format(key.line) for key in keys if key.style == ALIAS), "")
+def _find_unclear_key(keys: list[Node]) -> str:
+    unclear = (key for key in keys if key.style == ALIAS or key.style == NO_SCALAR and key.tag == MERGE_TAG)
+    return next((HAS_UNCLEAR_KEY.format(key.line) for key in unclear), "")
 
 
 def _count_texts(leaves: list[Leaf], are_encrypted: bool) -> Texts:
