@@ -12,6 +12,9 @@ from ansible_vault_companions.refusals import Refused
 DEEPEST = 64
 # The texts of a file, and the keys above them, which count for each text and again for each alias.
 MOST_KEYS = 1_000_000
+# The texts that the aliases of a file add, which are not in proportion to its bytes, so many small files would take as
+# much as a large one each. A list of 1,000 hosts, each with an alias of 50 values, adds as many.
+MOST_ALIASED = 50_000
 # The characters of a key, as many as libyaml allows for one that does not follow a question mark. A message names a key
 # for each value below it.
 LONGEST_KEY = 1_024
@@ -35,6 +38,7 @@ MEGABYTES = 256
 TOO_DEEP = f"it is nested over {DEEPEST} levels"
 KEY_TOO_LONG = f"it has a key of over {LONGEST_KEY:,} characters"
 TOO_MANY = f"it has over {MOST_KEYS:,} keys and texts"
+TOO_MANY_ALIASED = f"its aliases stand for over {MOST_ALIASED:,} texts"
 TOO_LONG = f"it has over {LONGEST_PLAINTEXT:,} bytes"
 TOO_SLOW = "it takes over {} s of processor time"
 TOO_MUCH = f"it takes over {MEGABYTES} MB of memory"

@@ -68,6 +68,17 @@ def test_longest_key(place: Place, size: int, why: str) -> None:
     ended("the check", done, int(bool(why)), *([f"a.yml: {why}\n"] if why else []))
 
 
+@pytest.mark.parametrize("rest, why", [(b"", ""), (b"z: *c\n", "its aliases stand for over 50,000 texts")])
+def test_most_aliased(place: Place, rest: bytes, why: str) -> None:
+    """What aliases of lists, and of lists of aliases, stand for is counted text by text."""
+    place.shell("git init -q")
+    lists = b"c: &c 1\na: &a [%s]\nb: &b [%s]\nx: *b\ny: *b\n" % (b",".join([b"1"] * 1_000), b",".join([b"*a"] * 16))
+    place.put("a.yml", BLOCK + lists + b"v: [*a, *a]\n" + rest)
+    place.shell("git add a.yml")
+    done = place.run(HOOK)
+    assert done.returncode == int(bool(why)) and why in done.stderr, done.stderr
+
+
 def test_sparse_gigabyte(place: Place) -> None:
     """It is read in pieces, and only as far as a vault may be long."""
     for name, start, status in (("image", b"", 0), ("a.yml", BLOCK, 1)):

@@ -297,6 +297,15 @@ def put_removed_values(place: Place, _command: str) -> None:
         place.put(f"c/{number}.yml", b"x: {z%d: {a: 1}}\n" % number)
 
 
+def put_aliases(place: Place, _command: str) -> None:
+    """Many files of 10 KB whose aliases stand for 300,000 texts each."""
+    keys, aliases = (
+        b"".join(line % n for n in range(size)) for line, size in ((b" k%d: 1\n", 600), (b"x%d: *m\n", 500))
+    )
+    for number in range(12):
+        place.put(f"{number}.yml", b"# !vault %d\nm: &m\n" % number + keys + aliases)
+
+
 def put_links_in_ring(place: Place, _command: str) -> None:
     """Links that lead to each other, in place of files."""
     for number in range(7_000):
@@ -307,7 +316,7 @@ OTHERS: dict[str, Make] = {f"the name {name!r}": partial(put_name, name) for nam
 OTHERS |= {f"a link to {target[:40]!r}": partial(put_link, target) for target in LINKS}
 OTHERS |= {f"attributes, {what}": partial(put_attributes, line) for what, line in ATTRIBUTES.items()}
 OTHERS |= {"a long link": put_long_link, "many names": put_many_names, "deep folders": put_deep_folders}
-OTHERS |= {"removed values": put_removed_values, "links in a ring": put_links_in_ring}
+OTHERS |= {"removed values": put_removed_values, "links in a ring": put_links_in_ring, "aliases": put_aliases}
 
 
 @pytest.mark.parametrize("part", range(PARTS))

@@ -118,6 +118,8 @@ def _read_leaves(data: bytes) -> tuple[Content, list[Leaf], list[Node]]:
     document, leaves, keys = Content(data), list[Leaf](), list[Node]()
     # How many keys and texts the leaves have.
     number = 0
+    # How many of the leaves aliases add.
+    aliased = 0
     # For each anchor its path, and the number of its first text.
     anchors: dict[str, tuple[KeyPath, int]] = {}
     try:
@@ -130,6 +132,10 @@ def _read_leaves(data: bytes) -> tuple[Content, list[Leaf], list[Node]]:
                 number += 1 + len(leaf[0])
                 if number > limits.MOST_KEYS:
                     raise TooMuch(limits.TOO_MANY)
+                if node.style == ALIAS:
+                    aliased += 1
+                if aliased > limits.MOST_ALIASED:
+                    raise TooMuch(limits.TOO_MANY_ALIASED)
                 leaves.append(leaf)
     except NotYaml as fault:
         document, leaves = Content(data, fault=str(fault)), []
