@@ -94,7 +94,10 @@ def list_records(*words: str, data: bytes = b"", index: str | None = None, folde
 
 def find_object(*name: str) -> str:
     """The ID of the object that git knows by this name, perhaps with an option; empty if there is none."""
-    return run_git("rev-parse", "--verify", "--quiet", *name, may_be_none=True).decode().strip()
+    output = run_git("rev-parse", "--verify", "--quiet", *name, may_be_none=True).decode()
+    if output and not output.endswith("\n"):
+        raise Refused(CUT.format("rev-parse"))
+    return output.strip()
 
 
 def find_warning(name: str) -> str:
