@@ -52,12 +52,19 @@ def read_password(source: Source, encrypts: bool) -> Password:
     """Keeps a password in memory, since `<(..)` can be read only once. To encrypt, the user has to type it twice."""
     try:
         content = _read(source, encrypts)
+        descriptor = _keep_in_memory(content)
     except (Refused, OSError) as fault:
         return Password(source, b"", -1, describe_fault(fault))
-    descriptor = os.memfd_create("password")
-    os.write(descriptor, content)
     why = _find_fault(source.label, content)
     return Password(source, content.strip(), descriptor, why, source.is_prompt and not encrypts and not why)
+
+
+def _keep_in_memory(content: bytes) -> int:
+    """The descriptor of a file in memory with this whole content. A limit on the length of files is an error."""
+    descriptor = os.memfd_create("password")
+    with open(descriptor, "wb", closefd=False) as file:
+        file.write(content)
+    return descriptor
 
 
 def _read(source: Source, encrypts: bool) -> bytes:
