@@ -5,6 +5,7 @@ from __future__ import annotations
 import errno
 import os
 import stat
+from select import select
 from collections.abc import Iterator
 
 from ansible_vault_companions.limits import LONGEST_VAULT
@@ -47,9 +48,21 @@ def read_if_begins(path: str, beginning: bytes) -> bytes:
 
 
 def read_input(file: str | int) -> bytes:
-    """The whole of an input such as standard input, or a bit more than any vault has."""
-    with open(file, "rb", closefd=file != 0) as opened_file:
-        return opened_file.read(LONGEST_VAULT + 1)
+    """The whole of an input such as standard input, or a bit more than any vault has. Waits if another program has set
+    it not to wait for data."""
+    pieces: list[bytes] = []
+    left = LONGEST_VAULT + 1
+    with open(file, "rb", buffering=0, closefd=file != 0) as stream:
+        while left > 0:
+            piece = stream.read(min(left, CHUNK_SIZE))
+            if piece == b"":
+                break
+            if piece is None:
+                select([stream], [], [])
+            else:
+                pieces.append(piece)
+                left -= len(piece)
+    return b"".join(pieces)
 
 
 def read_pieces(path: str) -> Iterator[bytes]:
