@@ -393,3 +393,14 @@ def test_merge(place: Place) -> None:
     merge = committed(place, "x.txt", b"2\n")
     lines = told(place.run(HOOK, "--since", ours))
     assert [line.replace(theirs, "HEAD").replace(ours, "HEAD") for line in lines] == [f"{merge}: {x}" for x in wanted]
+
+
+def test_replaced_objects(place: Place) -> None:
+    """What refs/replace says of a commit does not count."""
+    under_git(place, "")
+    committed(place, "a.yml", sealed("old"))
+    first = place.shell("git rev-parse HEAD").stdout.strip()
+    committed(place, "a.yml", TEXT)
+    place.shell("git replace HEAD $(git commit-tree -p HEAD~1 -m x HEAD~1^{tree})")
+    for words in (["--since", first], ["--all"]):
+        assert any("is not a vault" in line for line in told(place.run(HOOK, *words))), words

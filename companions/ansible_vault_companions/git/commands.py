@@ -26,7 +26,8 @@ OF_HOOKS = ("rev-parse", "config")
 WARNS = "core.warnAmbiguousRefs=true"
 CUT = "git {} failed: its output is cut"
 
-NO_TRANSPORT = {"GIT_NO_LAZY_FETCH": "1", "GIT_ALLOW_PROTOCOL": "none"}
+# No transport is started, and no object counts as another one, as refs/replace might say.
+ONLY_WHAT_IS_THERE = {"GIT_NO_LAZY_FETCH": "1", "GIT_ALLOW_PROTOCOL": "none", "GIT_NO_REPLACE_OBJECTS": "1"}
 
 
 def build_command(words: tuple[str, ...]) -> list[str]:
@@ -37,7 +38,7 @@ def build_command(words: tuple[str, ...]) -> list[str]:
 
 
 def build_environment(index: str | None = None) -> dict[str, str]:
-    return {**os.environ, **NO_TRANSPORT, **({"GIT_INDEX_FILE": index} if index else {})}
+    return {**os.environ, **ONLY_WHAT_IS_THERE, **({"GIT_INDEX_FILE": index} if index else {})}
 
 
 def run_git_command(
