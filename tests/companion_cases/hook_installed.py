@@ -5,7 +5,7 @@ import shlex
 
 import pytest
 
-from companion_cases import HOOK, MERGE, TEXT, TEXTCONV, Place, ended, sealed, silent
+from companion_cases import HOOK, MERGE, TEXT, TEXTCONV, Place, ended, run_changed, sealed, silent
 from companion_cases.repository import BASE, OURS, THEIRS, add_and_commit, fork, told, under_git
 
 pytestmark = pytest.mark.usefixtures("git")
@@ -121,3 +121,13 @@ def test_refused_secrets(place: Place) -> None:
     for line, why in (whys | {"--all --vault-id=/pass": "only --install takes passwords"}).items():
         ended(line, place.run(HOOK, *line.split()), 2, why)
     assert place.get(".git/config") == before and ".git/hooks/pre-commit" not in place.names(), "nothing is done"
+
+
+def test_installed_again(place: Place) -> None:
+    """Until the new hook takes its place, the old one stays."""
+    under_git(place, "")
+    place.run(HOOK, "--install")
+    done = run_changed(place, HOOK, "def fail(*_): raise OSError(28, 'no space')\nos.symlink = fail", ["--install"])
+    assert done.returncode == 1 and "no space" in done.stderr
+    assert all((place.tree / ".git/hooks" / name).exists() for name in ("pre-commit", "pre-merge-commit"))
+    ended("it is installed again", place.run(HOOK, "--install"), 0, "installed")

@@ -7,6 +7,7 @@ from __future__ import annotations
 
 import os
 import shlex
+from contextlib import suppress
 
 from ansible_vault_companions.files import resolving
 from ansible_vault_companions.git.commands import read_line, run_git
@@ -48,12 +49,14 @@ def _find_folder() -> str:
 
 
 def install_hook(hook: str, program: str) -> str:
-    """Installs a hook, and says what was done."""
-    if _is_ours(hook, program):
-        os.unlink(hook)
-    elif os.path.lexists(hook):
+    """Installs a hook, and says what was done. One that is there already works until the new one takes its place."""
+    if os.path.lexists(hook) and not _is_ours(hook, program):
         raise Refused(f"exists already; add this line to it: {quote_word(program)} || exit 1")
-    os.symlink(program, hook)
+    beside = f"{hook}.new"
+    with suppress(FileNotFoundError):
+        os.unlink(beside)
+    os.symlink(program, beside)
+    os.replace(beside, hook)
     return "installed"
 
 
