@@ -9,6 +9,7 @@ from contextlib import contextmanager
 from typing import Iterator
 
 from ansible_vault_companions.limits import MEGABYTES, SECONDS, TOO_MUCH, TOO_SLOW, TooMuch
+from ansible_vault_companions.refusals import Refused
 
 
 class TimeOver(Exception):
@@ -63,5 +64,9 @@ def _limit_time(seconds: int) -> Iterator[None]:
 
 def _measure_memory() -> int:
     """The bytes of data that this process has."""
-    with open("/proc/self/statm", encoding="ascii") as file:
-        return int(file.read().split()[5]) * resource.getpagesize()
+    try:
+        with open("/proc/self/statm", encoding="ascii") as file:
+            return int(file.read().split()[5]) * resource.getpagesize()
+    except OSError as fault:
+        # Not the exception itself, which would be taken for that of the file that is read.
+        raise Refused(f"its memory cannot be limited: /proc/self/statm: {fault.strerror}") from None

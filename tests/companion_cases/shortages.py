@@ -1,11 +1,12 @@
 """Too few processes, or too little memory: a companion says so in a line, or does its work. No file is torn."""
 
+import shlex
 from random import Random
 
 import pytest
 
 from companion_cases import CHANGE, CHANGED, CHECK, COMPANIONS, EDIT, HOOK, MERGE, ROTATE, TEXT, TEXTCONV, WITH
-from companion_cases import Companions, Done, Place, sealed, texts, to_new, versions
+from companion_cases import Companions, Done, Place, block, sealed, texts, to_new, versions
 from lib.needs import needs
 
 NAMES = (EDIT, ROTATE, MERGE, CHECK, TEXTCONV, HOOK, WITH)
@@ -74,3 +75,32 @@ def test_recursion(place: Place) -> None:
     code = f"{START} as it; it.prepare_process(); recurse = lambda: recurse(); recurse()"
     done = place.run("python3", "-IBc", code)
     assert (done.returncode, done.stderr) == (1, "-c: maximum recursion depth exceeded\n")
+
+
+def test_length_of_files(place: Place) -> None:
+    """A password is the whole one, or none."""
+    needs("prlimit")
+    place.put("../long", b"x" * 1_500)
+    place.put("a.txt", TEXT)
+    done = place.run("prlimit", "--fsize=1024", WITH, "encrypt", "--vault-password-file=../long", "a.txt")
+    assert (done.returncode, done.stderr.splitlines()) == (1, [f"{WITH}: ../long: File too large"])
+    assert place.get("a.txt") == TEXT
+
+
+def test_input_that_does_not_wait(place: Place) -> None:
+    """Standard input is read to its end, even if another program has set it not to wait for data."""
+    place.put("a.yml", block("old"))
+    unblocked = "import os, sys; os.set_blocking(0, False); os.execvp(sys.argv[1], sys.argv[1:])"
+    words = shlex.join(["python3", "-c", unblocked, EDIT, *place.by_file("old"), "--value=secret", "a.yml"])
+    done = place.shell(f"(sleep 0.3; printf abc; sleep 0.3; printf def) | {words}")
+    assert (done.returncode, done.stderr) == (0, "")
+    assert texts(place.get("a.yml"), "old") == [b"abcdef"]
+
+
+def test_no_proc(place: Place) -> None:
+    """What is needed to limit the work on a file is named. The file is there."""
+    needs("unshare")
+    place.put("a.yml", block("old"))
+    words = " ".join([CHECK, *place.by_file("old"), "."])
+    done = place.run("unshare", "-m", "sh", "-c", f"mount -t tmpfs none /proc && exec {words}")
+    assert done.returncode == 1 and "/proc" in done.stderr, done
