@@ -22,6 +22,14 @@ def encrypt(*words):
 Tool.encrypt = encrypt
 """
 SILENT = UNSEALED.replace('MemoryError("no memory")', "MemoryError")
+UNREAD = """
+read = reading.read
+def fail(path):
+    if os.path.basename(os.path.dirname(path)).startswith("ansible-vault-"):
+        raise MemoryError("no memory to read")
+    return read(path)
+reading.read = fail
+"""
 FULL = """
 write = replacing.write_new
 def full(folder, *words, **options):
@@ -38,6 +46,7 @@ STOPS = {
     "a removal": (f"{CHANGE}; rm all.yml", "", CHANGED_MEANWHILE, SEALED, {}),
     "an exception": (CHANGE, BROKEN, "too deep", SEALED, STAYS),
     "a full disk": (CHANGE, FULL, "no space", SEALED, STAYS),
+    "no memory to read it": (CHANGE, UNREAD, "no memory to read", PLAIN, STAYS),
     "no vault": (CHANGE, UNSEALED, "no memory; an encrypted copy cannot be kept: no memory", PLAIN, STAYS),
     "no text": (CHANGE, SILENT, "MemoryError; an encrypted copy cannot be kept: MemoryError", PLAIN, STAYS),
     "no directory for copies": (f"{CHANGE}; rm all.yml", "", CHANGED_MEANWHILE, PLAIN, {}),

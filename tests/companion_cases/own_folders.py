@@ -219,7 +219,7 @@ def test_kinds(of_nobody: Place, owner: int, mode: int, is_used: bool, is_used_b
 # What is no directory for them, or is missing, so that one is made for a copy; the umask; and which of them are there.
 OTHERS = {
     "missing": ("022", (False, True)),
-    "missing/too": ("000", (False, False)),
+    "missing/too": ("000", (False, True)),
     "all.yml": ("022", (False, False)),
     "../runtime": ("022", (False, False)),
 }
@@ -227,7 +227,7 @@ OTHERS = {
 
 @pytest.mark.parametrize("name", OTHERS)
 def test_others(place: Place, name: str) -> None:
-    """With a umask of 000, others can write to the directories that are made."""
+    """The directories that are made are closed to others, even with a umask of 000."""
     place.put("all.yml", sealed("old"))
     umask, wanted = OTHERS[name]
     where = name if name.startswith(".") else str(place.tree / name)

@@ -58,12 +58,20 @@ def save_copy(tool: Tool, key: Key, target: str, base: bytes, text: bytes) -> st
     envelope = tool.encrypt(_make_head(base) + text, key)
     path = find_folder()
     try:
-        os.makedirs(path, 0o700, exist_ok=True)
+        _make_folders(path)
         # Nothing of the path is missing any more.
         require_own_folder(path)
         return replacing.write_new(path, envelope, prefix=_make_prefix(target))
     except OSError as fault:
         raise _make_refusal(path, fault) from None
+
+
+def _make_folders(path: str) -> None:
+    """Makes a directory and those above it that are missing, all closed to others, whatever the umask says."""
+    if os.path.isdir(path):
+        return
+    _make_folders(os.path.dirname(path))
+    os.mkdir(path, 0o700)
 
 
 def read_copy(path: str, base: bytes, keys: list[Key], decrypt: Decrypt) -> bytes:

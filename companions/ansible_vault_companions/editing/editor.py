@@ -43,14 +43,20 @@ class Edit:
         # As on the command line.
         self.path = path
         self.folder = folder
+        # Whether an editor may have saved something.
+        self.has_run = False
 
     def run_editor(self) -> EditorResult:
         editor = os.environ.get("VISUAL") or os.environ.get("EDITOR") or "vi"
-        status = self._run(editor)
         try:
+            status = self._run(editor)
+            self.has_run = True
             text = reading.read(self.folder.file)
-        except (Refused, OSError) as unread:
-            raise self.folder.keep(refusals.describe_fault(unread)) from None
+        # Whatever went wrong, what was saved must not be lost.
+        except Exception as failed:
+            if not self.has_run:
+                raise
+            raise self.folder.keep(describe_failure(failed)) from None
         if status:
             return EditorResult(text, f"the editor failed ({editor}, status {status})")
         # Even the directory may be gone: logging out removes files in memory.
