@@ -81,9 +81,10 @@ def _copy_metadata(descriptor: int, target: str, is_private: bool) -> None:
     # A directory may give this access control list to each new file.
     with suppress(OSError):
         os.removexattr(descriptor, "system.posix_acl_access")
-    os.fchmod(descriptor, 0o600 if is_private else stat.S_IMODE(old.st_mode))
     for name in [] if is_private else _list_attributes(target):
         os.setxattr(descriptor, name, os.getxattr(target, name))
+    # Last, since a mode may forbid to set attributes.
+    os.fchmod(descriptor, 0o600 if is_private else stat.S_IMODE(old.st_mode))
 
 
 def _list_attributes(path: str) -> list[str]:

@@ -114,7 +114,11 @@ def _open_terminal() -> Iterator[FileIO]:
 @contextmanager
 def _switch_echo_off(terminal: FileIO) -> Iterator[None]:
     """A context without echo. Ctrl-Z has no effect in it: after Ctrl-Z and `fg`, a shell would show what is typed."""
-    shown = termios.tcgetattr(terminal)
+    try:
+        shown = termios.tcgetattr(terminal)
+    except termios.error as fault:
+        # The terminal is gone.
+        raise OSError(*fault.args) from None
     keys = [*shown[6]]
     keys[termios.VSUSP] = NO_KEY
     termios.tcsetattr(terminal, termios.TCSAFLUSH, [*shown[:3], shown[3] & ~termios.ECHO, *shown[4:6], keys])
