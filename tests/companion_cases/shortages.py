@@ -14,6 +14,8 @@ LIMITS = 8
 # In kilobytes: from less than Python needs to more than any companion does.
 LEAST, MOST = 8_000, 120_000
 START = f"import sys; sys.path.insert(0, {str(COMPANIONS)!r}); import ansible_vault_companions.startup"
+# Python reads the program before the first statement, and has a bit of memory left.
+READ = START + "; compile(open({!r}).read(), '', 'exec'); bytes(1 << 20)"
 
 
 def prepare(place: Place, name: str) -> list[str]:
@@ -59,13 +61,13 @@ def test_processes(cases: Companions, git: None, name: str) -> None:
 
 @pytest.mark.parametrize("name", NAMES)
 def test_memory(cases: Companions, git: None, pytestconfig: pytest.Config, name: str) -> None:
-    """Once Python itself can start, and read a module."""
+    """Once Python itself can start, and read a module and the program."""
     needs("prlimit")
     random = Random(f"{pytestconfig.getoption('--seed')} {name}")
     for limit in [random.randrange(LEAST, MOST) for _ in range(2 * LIMITS)]:
         place = cases.place()
         words, limiting = prepare(place, name), ["prlimit", f"--as={1024 * limit}"]
-        start = place.run(*limiting, "python3", "-IBc", START)
+        start = place.run(*limiting, "python3", "-IBc", READ.format(str(COMPANIONS / name)))
         if (start.returncode, start.stderr) == (0, ""):
             check(place, name, place.run(*limiting, *words), limit)
 
