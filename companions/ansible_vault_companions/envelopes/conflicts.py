@@ -10,10 +10,10 @@ from ansible_vault_companions.envelopes.content import Content, parse_content
 from ansible_vault_companions.envelopes.node import Node
 
 # How each marker begins, before each side and at the end.
-OURS = b"<" * 7
-BASE = b"|" * 7
-THEIRS = b"=" * 7
-END = b">" * 7
+OURS_MARKER = b"<" * 7
+BASE_MARKER = b"|" * 7
+THEIRS_MARKER = b"=" * 7
+END_MARKER = b">" * 7
 # A line that is a marker; and one that is a marker or, by the attribute `conflict-marker-size`, a longer one. A longer
 # line of equal signs is a title.
 MARKER = re.compile(rb"^(<{7}|\|{7}|={7}|>{7})(?:[ \t][^\r\n]*)?\r?$", re.MULTILINE)
@@ -30,7 +30,7 @@ STILL = "it still has git's conflict markers: choose between the sides, and remo
 
 def is_unmerged(text: bytes) -> bool:
     """Whether a text has a marker other than equal signs, which may also be a title."""
-    return any(marker in text for marker in (OURS, BASE, END)) and LONGER.search(text) is not None
+    return any(marker in text for marker in (OURS_MARKER, BASE_MARKER, END_MARKER)) and LONGER.search(text) is not None
 
 
 def count_markers(text: bytes) -> Counter[bytes]:
@@ -45,8 +45,8 @@ def mark_lines(text: bytes, is_unmerged: bool = True) -> list[tuple[bytes, bytes
     lines: list[tuple[bytes, bytes]] = []
     for line in LINES.findall(text):
         match = MARKER.match(line)
-        if match and is_unmerged and (side or match[1] == OURS):
-            side = NO_SIDE if match[1] == END else match[1]
+        if match and is_unmerged and (side or match[1] == OURS_MARKER):
+            side = NO_SIDE if match[1] == END_MARKER else match[1]
             lines.append((IS_MARKER, line))
         else:
             lines.append((side, line))
@@ -56,13 +56,13 @@ def mark_lines(text: bytes, is_unmerged: bool = True) -> list[tuple[bytes, bytes
 def split_sides(text: bytes, is_masked: bool = False) -> dict[bytes, bytes]:
     """The text of each side, by its marker; empty if there is no whole conflict. If they are masked, the bytes of other
     lines become newlines, so that all places stay."""
-    if OURS not in text:
+    if OURS_MARKER not in text:
         return {}
     lines = mark_lines(text)
-    markers = [line[: len(END)] for side, line in lines if side == IS_MARKER]
-    if not {OURS, THEIRS, END} <= {*markers} or markers[-1] != END:
+    markers = [line[: len(END_MARKER)] for side, line in lines if side == IS_MARKER]
+    if not {OURS_MARKER, THEIRS_MARKER, END_MARKER} <= {*markers} or markers[-1] != END_MARKER:
         return {}
-    sides = [side for side in dict.fromkeys(markers) if side != END]
+    sides = [side for side in dict.fromkeys(markers) if side != END_MARKER]
     return {side: _join_lines(lines, side, is_masked) for side in sides}
 
 
@@ -81,7 +81,7 @@ def join_sides(ours: bytes, theirs: bytes) -> bytes:
     """A conflict of two whole files."""
     end = b"\r\n" if b"\r\n" in ours else b"\n"
     texts = [text if not text or text.endswith(b"\n") else text + end for text in (ours, theirs)]
-    return OURS + b" ours" + end + texts[0] + THEIRS + end + texts[1] + END + b" theirs" + end
+    return OURS_MARKER + b" ours" + end + texts[0] + THEIRS_MARKER + end + texts[1] + END_MARKER + b" theirs" + end
 
 
 def parse_sides(data: bytes, every: bool = False) -> Content:

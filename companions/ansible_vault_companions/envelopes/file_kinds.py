@@ -5,7 +5,7 @@ from __future__ import annotations
 from ansible_vault_companions.envelopes.content import Content
 from ansible_vault_companions.envelopes.yaml_nodes import BINARY
 
-# Documents. An envelope in one that no password opens is an example.
+# Documents. An envelope in one that no password decrypts is an example.
 PROSE = (".md", ".rst", ".adoc", ".html")
 YAML = (".yml", ".yaml", ".json")
 

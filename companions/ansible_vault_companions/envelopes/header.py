@@ -5,6 +5,8 @@ from __future__ import annotations
 import binascii
 import re
 
+from ansible_vault_companions.limits import LONGEST_LABEL
+
 # The first word of an envelope.
 MAGIC = b"$ANSIBLE_VAULT"
 LINE_END = re.compile(rb"\r\n?|\n")
@@ -18,8 +20,7 @@ WITH_DIGITS = re.compile(
 # What docs/formats.md says of a header. The tool ignores further fields, which may be plaintext.
 VERSIONS = (b"1.1", b"1.2")
 CIPHER = b"AES256"
-# The most characters of a label.
-LONGEST_LABEL = 128
+# The label in a header, which is what is left of its field without blanks around it.
 LABEL = re.compile(rb"[\x20-\x7e]{0,%d}" % LONGEST_LABEL)
 # What an envelope without a label has.
 DEFAULT_LABEL = "default"

@@ -9,14 +9,14 @@ from typing import Union
 MERGE, MERGE_TAG = "<<", "tag:yaml.org,2002:merge"
 
 # A key that needs no quotes in a typed path.
-UNQUOTED = re.compile(r'[^."\[\]\x00-\x1f]+')
+UNQUOTED_KEY = re.compile(r'[^."\[\]\x00-\x1f]+')
 
 # The keys and the numbers of list items that lead to a node. A key that is no scalar is empty.
 KeyPath = tuple[Union[str, int], ...]
 
 
 def type_key(key: str) -> str:
-    return key if UNQUOTED.fullmatch(key) else quote_key(key)
+    return key if UNQUOTED_KEY.fullmatch(key) else quote_key(key)
 
 
 def quote_key(key: str) -> str:

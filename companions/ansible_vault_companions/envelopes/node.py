@@ -10,11 +10,18 @@ from ansible_vault_companions.quoting import escape
 from ansible_vault_companions.refusals import Refused
 
 # The styles of scalars; of a list or a mapping; and of an alias.
-LITERAL, FOLDED, PLAIN, NO_SCALAR, ALIAS = "|", ">", "", "none", "alias"
+LITERAL = "|"
+FOLDED = ">"
+PLAIN = ""
+NO_SCALAR = "none"
+ALIAS = "alias"
 # A whole file; an envelope elsewhere whose lines have one margin, so that it can be replaced; and any other.
-WHOLE, STRAY, LOOSE = "vault", "stray", "loose"
+WHOLE = "vault"
+STRAY = "stray"
+LOOSE = "loose"
 # The tags of an encrypted value in YAML, and its key in JSON.
-TAGS, JSON_KEY = ("!vault", "!vault-encrypted"), "__ansible_vault"
+TAGS = ("!vault", "!vault-encrypted")
+JSON_KEY = "__ansible_vault"
 
 ELSEWHERE = "an envelope within other text; write it as a value (`NAME: !vault |`), or encrypt the whole file"
 LINES_JOINED = (

@@ -20,7 +20,7 @@ FILE = b".gitattributes"
 # git ignores longer lines.
 LONGEST_LINE = 2_047
 # What needs no escape in a pattern, and what has a meaning there.
-PLAIN = re.compile(rb"[\w/.@+,-]+", re.ASCII)
+UNQUOTED = re.compile(rb"[\w/.@+,-]+", re.ASCII)
 SPECIAL = re.compile(rb"[*?\[\\]")
 
 
@@ -113,7 +113,7 @@ def make_line(name: bytes, attribute: str, names: Container[bytes]) -> str:
 
 def _make_pattern(name: bytes) -> str:
     """A pattern for .gitattributes that matches only this file. In quotes, git reads escapes as C does."""
-    if PLAIN.fullmatch(name):
+    if UNQUOTED.fullmatch(name):
         return f"/{name.decode()}"
     escaped = SPECIAL.sub(rb"\\\g<0>", name)
     text = "".join(chr(byte) if 0x20 <= byte < 0x7F and byte not in b'"\\' else f"\\{byte:03o}" for byte in escaped)

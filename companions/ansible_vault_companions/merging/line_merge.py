@@ -5,14 +5,19 @@ from __future__ import annotations
 import os
 from typing import NamedTuple
 
+from ansible_vault_companions.envelopes.conflicts import END_MARKER
 from ansible_vault_companions.git import commands
 from ansible_vault_companions.refusals import Refused
 
 # The names of the sides in git's conflict markers.
-SIDES = OURS, BASE, THEIRS = ("ours", "base", "theirs")
+OURS = "ours"
+BASE = "base"
+THEIRS = "theirs"
+SIDES = (OURS, BASE, THEIRS)
 # The status of `git merge-file` is the number of conflicts, up to this. A greater status means failure. So does one
 # without as many conflicts in the text.
-MOST_CONFLICTS, END_OF_CONFLICT = 127, f"{'>' * 7} {THEIRS}".encode()
+MOST_CONFLICTS = 127
+END_OF_CONFLICT = END_MARKER + b" " + THEIRS.encode()
 
 
 class Versions(NamedTuple):

@@ -17,7 +17,7 @@ from ansible_vault_companions.envelopes.node import LITERAL, STRAY, Node
 from ansible_vault_companions.merging.line_merge import BASE, OURS, SIDES, THEIRS
 from ansible_vault_companions.tool import Decryption, Key, Tool
 
-OF_MARKER = {conflicts.OURS: OURS, conflicts.BASE: BASE, conflicts.THEIRS: THEIRS}
+OF_MARKER = {conflicts.OURS_MARKER: OURS, conflicts.BASE_MARKER: BASE, conflicts.THEIRS_MARKER: THEIRS}
 
 
 class KeyAndText(NamedTuple):

@@ -14,7 +14,7 @@ def find_versions(target: str, data: bytes) -> Versions | None:
     sides = conflicts.split_sides(data)
     if not sides:
         return None
-    ours, theirs = sides[conflicts.OURS], sides[conflicts.THEIRS]
+    ours, theirs = sides[conflicts.OURS_MARKER], sides[conflicts.THEIRS_MARKER]
     base, *stages = _read_stages(target)
     # Ends of lines may differ from those in the file.
     is_same = [stage.split() for stage in stages] == [ours.split(), theirs.split()]
