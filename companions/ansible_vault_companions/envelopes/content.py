@@ -1,8 +1,8 @@
 """The envelopes of a file, or of a plaintext.
 
-A file that begins like a vault is one. Otherwise PyYAML reads it, and an envelope is a scalar with the tag `!vault` or
-below the key `__ansible_vault`, or one whose text begins with a header and digits. Whatever else has a header and
-digits is a stray.
+A file that begins like a vault is one. Otherwise PyYAML reads it, and a value is a scalar with the tag `!vault` or
+below the key `__ansible_vault`, or one whose text begins with a header and digits. An envelope is a value that begins
+with a header. Whatever else has a header and digits is a stray.
 """
 
 from __future__ import annotations
@@ -47,7 +47,7 @@ class Content:
 
     def number_envelopes(self) -> dict[int, Node]:
         """The envelopes by their numbers. A value that only has the tag is none."""
-        return {n: value for n, value in enumerate(self.values) if value.style == WHOLE or value.is_envelope}
+        return {number: value for number, value in enumerate(self.values) if value.is_envelope}
 
     def replace_envelopes(self, new: dict[int, bytes]) -> bytes:
         """The data with new envelopes, by the numbers of their values. It is read again: only these may differ."""

@@ -44,18 +44,33 @@ def read_label(text: bytes) -> str | None:
 def is_whole_envelope(text: bytes) -> bool:
     """Whether a text is an envelope with a valid header and a salt, tag and ciphertext of the right form."""
     fields = _split_fields(text)
-    header = _read_first_line(text)
-    if not (fields and text.startswith(MAGIC) and header.count(b";") < MOST_FIELDS):
+    if not (fields and text.startswith(MAGIC) and _read_first_line(text).count(b";") < MOST_FIELDS):
         return False
     if not (fields[1] in VERSIONS and fields[2] == CIPHER and LABEL.fullmatch(fields[3])):
         return False
-    try:
-        inner = binascii.unhexlify(text[len(header) :].translate(None, b"\r\n"))
-        salt, tag, ciphertext = map(binascii.unhexlify, inner.split(b"\n", 2))
-    except ValueError:
-        return False
+    salt, tag, ciphertext = _read_digits(text)
     has_lengths = 0 < len(salt) <= LONGEST_SALT and len(tag) == TAG_LENGTH
     return has_lengths and len(ciphertext) > 0 and len(ciphertext) % CIPHER_BLOCK == 0
+
+
+def measure_ciphertext(text: bytes) -> int:
+    """How many bytes are encrypted in an envelope, with their padding. The number is 0 if its digits are damaged."""
+    return len(_read_digits(text)[2])
+
+
+def measure_padded(length: int) -> int:
+    """How long a text of this length is with the padding that encryption adds, which is 1 to 16 bytes."""
+    return length - length % CIPHER_BLOCK + CIPHER_BLOCK
+
+
+def _read_digits(text: bytes) -> tuple[bytes, ...]:
+    """The salt, tag and ciphertext; empty if the digits have another form."""
+    try:
+        inner = binascii.unhexlify(text[len(_read_first_line(text)) :].translate(None, b"\r\n"))
+        salt, tag, ciphertext = map(binascii.unhexlify, inner.split(b"\n", 2))
+    except ValueError:
+        return b"", b"", b""
+    return salt, tag, ciphertext
 
 
 def _read_first_line(text: bytes) -> bytes:

@@ -83,7 +83,7 @@ class Node(NamedTuple):
     @property
     def is_envelope(self) -> bool:
         """Whether it is meant as an envelope, even if it is damaged."""
-        return START.match(self.text) is not None
+        return self.style == WHOLE or self.is_value and START.match(self.text) is not None
 
     @property
     def is_whole(self) -> bool:
@@ -97,7 +97,7 @@ class Node(NamedTuple):
         """What ansible-vault reads."""
         if self.style == LOOSE:
             raise Refused(ELSEWHERE)
-        if self.style != WHOLE and not self.is_envelope:
+        if not self.is_envelope:
             raise Refused("it has the tag `!vault` but is plaintext")
         if JOINED_LINES.match(self.text):
             raise Refused(LINES_JOINED)

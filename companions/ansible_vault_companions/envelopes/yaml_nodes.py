@@ -78,7 +78,7 @@ def read_nodes(data: bytes, every: bool = False) -> Iterator[Node]:
     size = 0
     try:
         for path, is_key, event in _read_nodes(yaml, data[skipped:]):
-            if every and not (is_key and hasattr(event, "value")) or _is_envelope(path, event):
+            if every and not (is_key and hasattr(event, "value")) or _is_value(path, event):
                 size += 1 + len(path)
                 if size > limits.MOST_KEYS:
                     raise TooMuch(limits.TOO_MANY)
@@ -194,7 +194,7 @@ def _pass_node(steps: Steps, key: str) -> None:
         steps[-1] = None
 
 
-def _is_envelope(steps: Steps, event: Any) -> bool:
+def _is_value(steps: Steps, event: Any) -> bool:
     text = getattr(event, "value", None)
     if text is None:
         return False
@@ -223,7 +223,7 @@ def _make_node(data: bytes, skipped: int, ending: bytes, steps: Steps, event: An
         end=end,
         margin=line["margin"] if line else b"",
         ending=own_ending[0] if own_ending else ending,
-        text=_read_text(event),
+        text=_read_text(steps, event),
         tag=getattr(event, "tag", None) or "",
         anchor=event.anchor or "",
         is_key=None in steps,
@@ -236,10 +236,10 @@ def _find_style(event: Any) -> str:
     return NO_SCALAR if hasattr(event, "tag") else ALIAS
 
 
-def _read_text(event: Any) -> bytes:
+def _read_text(steps: Steps, event: Any) -> bytes:
     """The text of a scalar. White space around an envelope does not count."""
     text = _remove_shadow(getattr(event, "value", ""))
-    return text.strip() + b"\n" if text.strip().startswith(MAGIC) else text
+    return text.strip() + b"\n" if _is_value(steps, event) and text.strip().startswith(MAGIC) else text
 
 
 def _make_path(steps: Steps) -> KeyPath:
