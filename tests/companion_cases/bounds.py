@@ -2,10 +2,12 @@
 
 import os
 import sys
+from random import Random
 
 import pytest
 
-from companion_cases import CHECK, EDIT, HOOK, ROTATE, TEXTCONV, WITH, Place, block, ended, sealed, to_new
+from companion_cases import CHECK, EDIT, HOOK, MERGE, NOT_ENCRYPTED, ROTATE, TEXTCONV, WITH, Place, block, ended
+from companion_cases import run_changed, sealed, to_new
 
 SECONDS, KILOBYTES = 8, 100_000
 BLOCK, COMMENT = block("old"), b"".join(b"# " + line for line in block("old").splitlines(keepends=True))
@@ -60,12 +62,65 @@ def test_long_keys(place: Place) -> None:
     assert used(place, EDIT, *place.by_file("old"), "a.yml") == 0
 
 
-@pytest.mark.parametrize("size, why", [(1_024, ""), (1_025, "it has a key of over 1,024 characters")])
+@pytest.mark.parametrize("size, why", [(1_024, ""), (1_025, "it has a key of over 1,024 bytes")])
 def test_longest_key(place: Place, size: int, why: str) -> None:
     """A key that libyaml reads without a question mark is never too long."""
     place.put("a.yml", b"? " + b"k" * size + b"\n: 1\n" + BLOCK)
     done = place.run(CHECK, *place.by_file("old"), "a.yml")
     ended("the check", done, int(bool(why)), *([f"a.yml: {why}\n"] if why else []))
+
+
+TOO_MANY_KEYS = "it has over 1,000,000 keys and texts, with those above each"
+
+
+@pytest.mark.parametrize("items, why", [(999_994, ""), (999_995, TOO_MANY_KEYS)])
+def test_most_keys(place: Place, items: int, why: str) -> None:
+    """Whatever is read of a file counts, even if only its values are kept."""
+    place.put("a.yml", BLOCK + b"x: [%s]\n" % (b"~," * items))
+    done = place.run(CHECK, *place.by_file("old"), "a.yml")
+    ended("the check", done, int(bool(why)), *([f"a.yml: {why}\n"] if why else []))
+
+
+def test_keys_of_sides(place: Place) -> None:
+    """What is between git's conflict markers and around them counts for each side."""
+    place.environment["EDITOR"] = place.script('echo "# x" >> "$1"', "editor")
+    text = BLOCK + b"x: [%s]\n" % (b"~," * 170_000)
+    place.put("a.yml", text)
+    ended("the edit", place.run(EDIT, *place.by_file("old"), "a.yml"), 0)
+    place.put("a.yml", b"<<<<<<< ours\ny: 1\n=======\ny: 2\n>>>>>>> theirs\n" + text)
+    ended("the edit", place.run(EDIT, *place.by_file("old"), "a.yml"), 1, TOO_MANY_KEYS)
+
+
+# A clock that is looked at twice for each reading, and the limits that it leads to.
+CLOCK = """
+import itertools, types
+from ansible_vault_companions import bounding
+
+looks = itertools.count()
+bounding.time = types.SimpleNamespace(thread_time=lambda: next(looks) * {})
+limit = bounding._limit_thread_time
+
+def note_and_limit(seconds):
+    with open("../limits", "a") as file:
+        print(seconds, file=file)
+    return limit(seconds)
+
+bounding._limit_thread_time = note_and_limit
+"""
+
+
+@pytest.mark.parametrize("interval, left", [(0.5, "10.0 9.0 8.0 7.0 6.0"), (1, "10.0 8.0")])
+def test_time_of_readings(place: Place, interval: float, left: str) -> None:
+    """All readings of an edit together have the time that one may take. If the first two take over a third of it, no
+    editor runs."""
+    place.put("a.yml", BLOCK)
+    # No block can be where this is typed, which takes one more reading.
+    editor = place.script('echo "a: [!vault b]" >> "$1"', "editor")
+    done = run_changed(place, EDIT, CLOCK.format(interval), [*place.by_file("old"), "a.yml"], EDITOR=editor)
+    assert place.get("../limits").decode().split() == left.split(), done
+    is_refused = interval == 1
+    assert (b"a: [!vault" in place.get("a.yml"), done.returncode) == (not is_refused, int(is_refused)), done
+    assert "saved" not in done.stderr and ("before it is even edited" in done.stderr) == is_refused, done
 
 
 @pytest.mark.parametrize("rest, why", [(b"", ""), (b"z: *c\n", "its aliases stand for over 50,000 texts")])
@@ -79,6 +134,102 @@ def test_most_aliased(place: Place, rest: bytes, why: str) -> None:
     assert done.returncode == int(bool(why)) and why in done.stderr, done.stderr
 
 
+# What answers in place of the program, and notes each run.
+STAND_IN = """
+echo "$1" >> {path}/runs
+case $1 in
+--version) echo ansible-vault 0 ;;
+view) cat > /dev/null; echo text ;;
+encrypt) exec {program} "$@" ;;
+esac
+"""
+# What is repeated to have a value more, with its number.
+VALUES = {
+    "values": b"k%d: !vault |\n  $ANSIBLE_VAULT;1.1;AES256\n  61616161616161616161\n",
+    "other values": b"k%d: !vault |\n  $ANSIBLE_VAULT;1.1;AES256\n  %032d\n",
+    "text": b"k%d: !vault v\n",
+    "comments": b"# $ANSIBLE_VAULT;1.1;AES256\n# 61616161616161616161\n# %d\n",
+    "headers": b"# $ANSIBLE_VAULT;1.1;AES256 61616161616161616161 %d\n",
+    "sides": b"<<<<<<< a\nk: !vault $ANSIBLE_VAULT;%d\n=======\nk: !vault $ANSIBLE_VAULT;\n>>>>>>> b\n",
+}
+TOO_MANY = "it has over 400 values"
+BY_OLD = "--vault-password-file ../secrets/old"
+# A command line of each companion, and which of these it opens or encrypts.
+OPENED = ["values", "other values", "comments", "headers"]
+OPENING = {
+    CHECK: (f"{CHECK} {BY_OLD} a.yml", OPENED),
+    ROTATE: (f"{ROTATE} {BY_OLD} --new-vault-password-file ../secrets/new --dry-run a.yml", OPENED),
+    TEXTCONV: (f"{TEXTCONV} {BY_OLD} a.yml", OPENED),
+    EDIT: (f"{EDIT} {BY_OLD} a.yml", ["values", "other values", "text", "sides"]),
+    MERGE: (f"{MERGE} {BY_OLD} ../base ../theirs a.yml a.yml", ["values", "other values", "comments"]),
+}
+
+
+def runs(place: Place, line: str, content: bytes) -> tuple[str, int]:
+    """Return what a companion prints, and how often it runs the program on a file, or on its versions."""
+    place.script(STAND_IN.format(path=place.path, program=place.program), "program")
+    (place.tools / "ansible-vault").unlink(missing_ok=True)
+    (place.tools / "ansible-vault").symlink_to(place.path / "program")
+    (place.path / "runs").write_text("")
+    place.put("../base", b"x: 1\n")
+    place.put("../theirs", content)
+    place.put("a.yml", content if MERGE not in line else b"y: 1\n")
+    done = place.shell(line)
+    noted = (place.path / "runs").read_text().split()
+    return done.stdout + done.stderr, len(noted) - noted.count("--version")
+
+
+def repeated(name: str, count: int) -> bytes:
+    piece = VALUES[name]
+    return b"".join(piece.replace(b"%d", b"%d" % n).replace(b"%032d", b"%032d" % n) for n in range(count))
+
+
+@pytest.mark.parametrize("line, opened", OPENING.values(), ids=OPENING)
+def test_most_values(place: Place, line: str, opened: list[str]) -> None:
+    """So many values are each opened once, and of more none is, whatever they are."""
+    place.environment["EDITOR"] = place.script('echo "# x" >> "$1"', "editor")
+    output, count = runs(place, line, repeated("other values", 400))
+    assert count == 400 and TOO_MANY not in output, output
+    for name in VALUES:
+        size = 401 if name == "values" else Random(name).randint(401, 3_000)
+        output, count = runs(place, line, repeated(name, size))
+        assert count == 0 and (TOO_MANY in output or name not in opened), (name, output)
+
+
+def test_most_typed_values(place: Place) -> None:
+    """So many texts are encrypted at once. With one more, only what was saved is."""
+    for count in (400, 401):
+        place.environment["EDITOR"] = place.script(f"echo k{count}: !vault v >> $1", "editor")
+        output, encrypted = runs(place, OPENING[EDIT][0], repeated("text", count - 1))
+        assert encrypted == (400 if count == 400 else 1), output
+        assert (f"a.yml: {TOO_MANY}; what you saved is encrypted in " in output) == (count > 400), output
+
+
+# Counts how often PyYAML reads a text.
+COUNT_READINGS = """
+import yaml
+parse = yaml.parse
+
+def count_and_parse(*words):
+    with open("../readings", "a") as file:
+        file.write("x")
+    return parse(*words)
+
+yaml.parse = count_and_parse
+"""
+
+
+@pytest.mark.parametrize("typed, most", [("", 4), ("a: !vault |\n  b\n", 4), ("a: [!vault b]\n", 5)])
+def test_readings(place: Place, typed: str, most: int) -> None:
+    """An edit reads the file, what it shows, what was saved, and what it writes: once more without blocks if no block
+    can be where a value is typed."""
+    place.put("a.yml", BLOCK)
+    editor = place.script(f"sed -i s/correct/wrong/ $1; printf '{typed}' >> $1", "editor")
+    ended("the edit", run_changed(place, EDIT, COUNT_READINGS, [*place.by_file("old"), "a.yml"], EDITOR=editor), 0)
+    readings = (place.path / "readings").read_text()
+    assert place.get("a.yml") != BLOCK and 0 < len(readings) <= most, readings
+
+
 def test_sparse_gigabyte(place: Place) -> None:
     """It is read in pieces, and only as far as a vault may be long."""
     for name, start, status in (("image", b"", 0), ("a.yml", BLOCK, 1)):
@@ -88,4 +239,5 @@ def test_sparse_gigabyte(place: Place) -> None:
     assert used(place, TEXTCONV, *place.by_file("old"), "image") == 0
     too_long = "image: it has more than 100,671,488 bytes, more than any vault\n"
     ended("decrypt", place.run(WITH, "decrypt", *place.by_file("old"), "image"), 1, too_long)
-    assert place.shell(f"{TEXTCONV} --vault-id {place.secret('old')} image | wc -c").stdout == f"{1 << 30}\n"
+    done = place.shell(f"{TEXTCONV} --vault-id {place.secret('old')} image | wc -c")
+    assert done.stdout == f"{(1 << 30) + len(NOT_ENCRYPTED)}\n"

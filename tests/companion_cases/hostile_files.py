@@ -77,6 +77,8 @@ CONTENTS = {
     "keys": (b"", b"k: 1\n", b""),
     "long key": (b"", b"k", b": 1\n"),
     "list": (b"x:\n", b"- 1\n", b""),
+    "items": (b"x: [", b"~,", b"]\n"),
+    "items below a conflict": (SIDES + b"x: [", b"~,", b"]\n"),
     "text in no ASCII": (b"x: '", "ä".encode(), b"'\n"),
     "astral characters": (b"x: '", "😀".encode(), b"'\n"),
     "null characters": (b"", b"\0", b""),
@@ -179,11 +181,9 @@ def find_fault(place: Place, forks: Forks, command: str) -> str:
     return f"it prints {lines[0][:300]!r}" if lines else ""
 
 
-def content_of(name: str, command: str) -> bytes:
+def content_of(name: str) -> bytes:
     before, piece, after = CONTENTS[name]
-    # An edit derives a key for each text with the tag, to encrypt it.
-    size = 2_000 if command == "edit" and b" v" in piece else LONGEST
-    return before + piece * ((size - len(before) - len(after)) // len(piece)) + after
+    return before + piece * ((LONGEST - len(before) - len(after)) // len(piece)) + after
 
 
 def beside_envelope(content: bytes, random: Random) -> bytes:
@@ -230,8 +230,8 @@ def test_contents(
 ) -> None:
     random = Random(int(pytestconfig.getoption("--seed")))
 
-    def make(name: str, place: Place, command: str) -> None:
-        place.put("a.yml", beside_envelope(content_of(name, command), random))
+    def make(name: str, place: Place, _command: str) -> None:
+        place.put("a.yml", beside_envelope(content_of(name), random))
 
     makes: dict[str, Make] = {name: partial(make, name) for name in [*CONTENTS][part::PARTS]}
     record_property("hostile files", try_all(cases, forks, pytestconfig, makes, "the hook", "edit"))

@@ -6,7 +6,7 @@ from dataclasses import dataclass
 
 from ansible_vault_companions.batch.reports import Report, Work
 from ansible_vault_companions.envelopes import conflicts, damage, file_kinds
-from ansible_vault_companions.envelopes.content import Content, parse_content
+from ansible_vault_companions.envelopes.content import Content, parse_envelopes
 from ansible_vault_companions.envelopes.node import Node
 from ansible_vault_companions.files.searching import FoundFile
 from ansible_vault_companions.git.pathspecs import make_pathspec
@@ -76,7 +76,7 @@ class Check(Work):
         def describe_place(value: Node) -> str:
             return _name_value(value, f"{where}: in its plaintext, line {max(value.line, 1)}")
 
-        self.change_envelopes(parse_content(result.text), describe_place, report)
+        self.change_envelopes(parse_envelopes(result.text), describe_place, report)
 
 
 def _name_value(value: Node, where: str) -> str:

@@ -9,7 +9,7 @@ from typing import Callable, Collection, NamedTuple
 
 from ansible_vault_companions import refusals
 from ansible_vault_companions.envelopes import detection, file_kinds
-from ansible_vault_companions.envelopes.content import Content, parse_content
+from ansible_vault_companions.envelopes.content import Content, parse_envelopes
 from ansible_vault_companions.envelopes.node import Node
 from ansible_vault_companions.files.searching import FoundFile, Search
 from ansible_vault_companions.output import write_error, write_line
@@ -152,7 +152,7 @@ class Reports:
     def _begin(self, found: FoundFile, work: Work) -> Future[Outcome]:
         """Reads a file and begins the work on it. A failure is in its report, so other files are still processed."""
         try:
-            content = parse_content(detection.read_envelope_file(found.target))
+            content = parse_envelopes(detection.read_envelope_file(found.target))
         except (Refused, OSError) as fault:
             return _finish(found, self._report_unread(found, fault))
         if found.refusal:

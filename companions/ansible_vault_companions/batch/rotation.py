@@ -7,7 +7,7 @@ from dataclasses import dataclass
 
 from ansible_vault_companions.batch.reports import CHANGED, HAD_IT, Report, Work
 from ansible_vault_companions.envelopes import file_kinds
-from ansible_vault_companions.envelopes.content import Content, parse_content
+from ansible_vault_companions.envelopes.content import Content, parse_envelopes
 from ansible_vault_companions.envelopes.node import Node
 from ansible_vault_companions.files import replacing
 from ansible_vault_companions.files.searching import FoundFile
@@ -81,7 +81,7 @@ class Rotation(Work):
 
     def _within(self, plaintext: bytes, where: str, report: Report) -> bytes:
         """The plaintext of an envelope, with the envelopes in it rotated."""
-        text = parse_content(plaintext)
+        text = parse_envelopes(plaintext)
         if text.is_vault:
             raise Refused("its plaintext is itself a vault, which ansible-vault does not encrypt; decrypt it first")
         return self.change_envelopes(text, lambda value: f"{where}: in its plaintext, line {value.line}", report)

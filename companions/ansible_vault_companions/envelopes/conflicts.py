@@ -5,9 +5,11 @@ from __future__ import annotations
 import re
 from bisect import bisect_left
 from collections import Counter
+from collections.abc import Callable, Hashable
 
-from ansible_vault_companions.envelopes.content import Content, parse_content
+from ansible_vault_companions.envelopes.content import Content, parse_envelopes, parse_nodes
 from ansible_vault_companions.envelopes.node import Node
+from ansible_vault_companions.limits import Effort
 
 # How each marker begins, before each side and at the end.
 OURS_MARKER = b"<" * 7
@@ -84,18 +86,30 @@ def join_sides(ours: bytes, theirs: bytes) -> bytes:
     return OURS_MARKER + b" ours" + end + texts[0] + THEIRS_MARKER + end + texts[1] + END_MARKER + b" theirs" + end
 
 
-def parse_sides(data: bytes, every: bool = False) -> Content:
-    """The envelopes of a file, or every node, on all sides. If one of its sides is no YAML, nor is the file."""
+def parse_envelopes_of_sides(data: bytes) -> Content:
+    """The envelopes of a file on all sides. If one of its sides is no YAML, nor is the file."""
+    # A line of several sides may be part of a longer text on one of them.
+    return _parse_sides(data, parse_envelopes, lambda value: value.end, Effort())
+
+
+def parse_nodes_of_sides(data: bytes, effort: Effort) -> Content:
+    """The same of every node."""
+    return _parse_sides(data, parse_nodes, lambda value: (value.end, value.start), effort)
+
+
+def _parse_sides(
+    data: bytes, parse: Callable[[bytes, Effort], Content], identify: Callable[[Node], Hashable], effort: Effort
+) -> Content:
+    """The values of all sides, those that are the same once."""
+    effort.number = 0
     texts = split_sides(data, is_masked=True).values()
     if not texts:
-        return parse_content(data, every)
+        return parse(data, effort)
     line_ends = [end.start() for end in re.finditer(b"\n", data)]
-    values: dict[tuple[int, int], Node] = {}
-    for side in (parse_content(text, every) for text in texts):
+    values: dict[Hashable, Node] = {}
+    for side in (parse(text, effort) for text in texts):
         if side.fault:
-            return parse_content(data, every)
+            return parse(data, effort)
         for value in side.values:
-            # A line of several sides may be part of a longer text on one of them.
-            place = (value.end, value.start if every else 0)
-            values.setdefault(place, value._replace(line=bisect_left(line_ends, value.start) + 1))
+            values.setdefault(identify(value), value._replace(line=bisect_left(line_ends, value.start) + 1))
     return Content(data, sorted(values.values(), key=lambda value: (value.start, value.end)))

@@ -8,7 +8,7 @@ with a header. Whatever else has a header and digits is a stray.
 from __future__ import annotations
 
 import re
-from collections.abc import Iterable
+from collections.abc import Callable, Iterable, Iterator
 
 from ansible_vault_companions import bounding
 from ansible_vault_companions.envelopes.detection import may_have_envelope
@@ -16,8 +16,8 @@ from ansible_vault_companions.envelopes.header import MAGIC
 from ansible_vault_companions.envelopes.layout import apply_replacements, replace_envelope
 from ansible_vault_companions.envelopes.node import WHOLE, Node
 from ansible_vault_companions.envelopes.strays import find_strays
-from ansible_vault_companions.envelopes.yaml_nodes import BINARY, NotYaml, read_nodes
-from ansible_vault_companions.limits import TooMuch
+from ansible_vault_companions.envelopes.yaml_nodes import BINARY, NotYaml, read_envelopes, read_nodes
+from ansible_vault_companions.limits import Effort, TooMuch
 from ansible_vault_companions.quoting import escape
 from ansible_vault_companions.refusals import Refused
 
@@ -36,10 +36,11 @@ class Content:
 
     def __init__(self, data: bytes, values: Iterable[Node] = (), fault: str = "") -> None:
         self.data = data
-        # The envelopes, and the scalars that have the tag; or every node, if the parser was asked for every one.
+        # What parse_envelopes or parse_nodes finds.
         self.values = [*values]
-        # Why it cannot be read as YAML; empty if it can, or need not be.
+        # Why it cannot be read as YAML, empty if it can or need not be; and whether it exceeds a limit.
         self.fault = fault
+        self.is_too_much = False
 
     @property
     def is_vault(self) -> bool:
@@ -55,7 +56,7 @@ class Content:
         after = apply_replacements(self.data, replacements)
         if not self.is_vault:
             wanted = [(value.path, new.get(number, value.text).strip()) for number, value in enumerate(self.values)]
-            if [(value.path, value.text.strip()) for value in parse_content(after).values] != wanted:
+            if [(value.path, value.text.strip()) for value in parse_envelopes(after).values] != wanted:
                 raise Refused(NOT_REPLACEABLE)
         return after
 
@@ -79,23 +80,43 @@ class Content:
         return values[0]
 
 
-def parse_content(data: bytes, every: bool = False) -> Content:
-    """The envelopes of a file or of a plaintext, or every node of one that is not a vault."""
+def parse_envelopes(data: bytes, effort: Effort | None = None) -> Content:
+    """The envelopes of a file or of a plaintext, and the scalars that have the tag. This may be one of several texts of
+    a file, which share an effort."""
     if data.startswith(MAGIC):
         return Content(data, [_make_vault(data)])
     content = Content(data)
-    if not (every or may_have_envelope(data)):
-        return content
+    if may_have_envelope(data):
+        effort = effort or Effort()
+        _read_yaml(content, read_envelopes, effort)
+        with bounding.limit_work(effort):
+            _add_strays(content)
+    return content
+
+
+def parse_nodes(data: bytes, effort: Effort | None = None) -> Content:
+    """Every node of a text in YAML, which may be one of several texts of a file, which share an effort."""
+    if data.startswith(MAGIC):
+        return Content(data, [_make_vault(data)])
+    content = Content(data)
+    _read_yaml(content, read_nodes, effort or Effort())
+    return content
+
+
+def _read_yaml(content: Content, read: Callable[[bytes, Effort], Iterator[Node]], effort: Effort) -> None:
     try:
-        with bounding.limit_work():
-            content.values = list(read_nodes(data, every))
+        with bounding.limit_work(effort):
+            content.values = list(read(content.data, effort))
     except (NotYaml, TooMuch) as fault:
         content.fault = str(fault)
-    if not every and BINARY not in data:
-        with bounding.limit_work():
-            content.values += find_strays(data, content.values)
+        content.is_too_much = isinstance(fault, TooMuch)
+
+
+def _add_strays(content: Content) -> None:
+    """Adds the envelopes outside of YAML values, unless the data is no text."""
+    if BINARY not in content.data:
+        content.values += find_strays(content.data, content.values)
         content.values.sort(key=lambda value: value.start)
-    return content
 
 
 def _make_vault(data: bytes) -> Node:

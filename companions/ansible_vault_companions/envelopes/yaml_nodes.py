@@ -11,13 +11,13 @@ import json
 import re
 import sys
 from functools import lru_cache
-from typing import Any, Iterator, Union
+from typing import Any, Callable, Iterator, Union
 
 from ansible_vault_companions import limits
 from ansible_vault_companions.envelopes.header import LINE_END, MAGIC, WITH_DIGITS
 from ansible_vault_companions.envelopes.key_paths import MERGE, MERGE_TAG, KeyPath
 from ansible_vault_companions.envelopes.node import ALIAS, FOLDED, JSON_KEY, LITERAL, NO_SCALAR, PLAIN, TAGS, Node
-from ansible_vault_companions.limits import TooMuch
+from ansible_vault_companions.limits import Effort, TooMuch
 from ansible_vault_companions.refusals import Refused
 
 BYTE_ORDER_MARK = b"\xef\xbb\xbf"
@@ -64,29 +64,39 @@ def require_pyyaml() -> Any:
     return yaml
 
 
-def read_nodes(data: bytes, every: bool = False) -> Iterator[Node]:
-    """The envelopes among the scalars; or every node, but of the scalars that are keys only envelopes. Raises NotYaml,
-    or TooMuch."""
+def read_envelopes(data: bytes, effort: Effort | None = None) -> Iterator[Node]:
+    """The values among the scalars: those that have the tag or an envelope. Raises NotYaml, or TooMuch. This may be one
+    of several texts of a file, which share an effort."""
+    return _read_wanted(data, effort, lambda path, _is_key, event: _is_value(path, event))
+
+
+def read_nodes(data: bytes, effort: Effort | None = None) -> Iterator[Node]:
+    """Every node, but of the scalars that are keys only values. Otherwise like read_envelopes."""
+    return _read_wanted(data, effort, _is_node)
+
+
+def _is_node(path: Steps, is_key: bool, event: Any) -> bool:
+    return not (is_key and hasattr(event, "value")) or _is_value(path, event)
+
+
+def _read_wanted(data: bytes, effort: Effort | None, is_wanted: Callable[[Steps, bool, Any], bool]) -> Iterator[Node]:
+    _require_readable(data)
+    effort = effort or Effort()
+    skipped = len(BYTE_ORDER_MARK) if data.startswith(BYTE_ORDER_MARK) else 0
+    ending = b"\r\n" if b"\r\n" in data else b"\n"
+    for path, is_key, event in _walk(require_pyyaml(), data[skipped:]):
+        if is_wanted(path, is_key, event):
+            effort.add(1 + len(path))
+            yield _make_node(data, skipped, ending, path, event)
+        else:
+            effort.add(1)
+
+
+def _require_readable(data: bytes) -> None:
     if BINARY in data:
         raise NotYaml(NOT_YAML.format(NULL))
     if len(data) > limits.LONGEST_PLAINTEXT:
         raise TooMuch(limits.TOO_LONG)
-    yaml = require_pyyaml()
-    skipped = len(BYTE_ORDER_MARK) if data.startswith(BYTE_ORDER_MARK) else 0
-    ending = b"\r\n" if b"\r\n" in data else b"\n"
-    # How many keys and texts there are so far.
-    size = 0
-    try:
-        for path, is_key, event in _read_nodes(yaml, data[skipped:]):
-            if every and not (is_key and hasattr(event, "value")) or _is_value(path, event):
-                size += 1 + len(path)
-                if size > limits.MOST_KEYS:
-                    raise TooMuch(limits.TOO_MANY)
-                yield _make_node(data, skipped, ending, path, event)
-    except yaml.YAMLError as fault:
-        mark = getattr(fault, "problem_mark", None)
-        where = f"line {mark.line + 1}: " if mark else ""
-        raise NotYaml(where + NOT_YAML.format(getattr(fault, "problem", None) or fault)) from None
 
 
 class _Shadow(io.RawIOBase):
@@ -123,7 +133,7 @@ def _remove_shadow(text: str) -> bytes:
     return text.encode() if text.isascii() else codecs.charmap_encode(text, "strict", characters)[0]
 
 
-def _read_nodes(yaml: Any, data: bytes) -> Iterator[tuple[Steps, bool, Any]]:
+def _walk(yaml: Any, data: bytes) -> Iterator[tuple[Steps, bool, Any]]:
     """Each scalar, alias and beginning of a collection, the steps to it, and whether it is a key."""
     steps: Steps = []
     mapping = yaml.MappingStartEvent
@@ -155,8 +165,12 @@ def _find_name(event: Any) -> str:
 
 
 def _parse(yaml: Any, data: bytes) -> Iterator[Any]:
-    events: Iterator[Any] = yaml.parse(_Shadow(data), getattr(yaml, "CSafeLoader", yaml.SafeLoader))
-    return events
+    try:
+        yield from yaml.parse(_Shadow(data), getattr(yaml, "CSafeLoader", yaml.SafeLoader))
+    except yaml.YAMLError as fault:
+        mark = getattr(fault, "problem_mark", None)
+        where = f"line {mark.line + 1}: " if mark else ""
+        raise NotYaml(where + NOT_YAML.format(getattr(fault, "problem", None) or fault)) from None
 
 
 def _read_quoted(yaml: Any, data: bytes, event: Any) -> str:

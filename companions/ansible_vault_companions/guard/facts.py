@@ -26,7 +26,7 @@ from ansible_vault_companions.envelopes.strays import find_strays
 from ansible_vault_companions.envelopes.yaml_nodes import BINARY, NotYaml, read_nodes
 from ansible_vault_companions.guard.key_names import Keys, make_keys
 from ansible_vault_companions.guard.placeholders import is_placeholder
-from ansible_vault_companions.limits import TooMuch
+from ansible_vault_companions.limits import Effort, TooMuch
 
 # Characters at which Ansible ends a line, or that it skips at the beginning of one, while here they are read as bytes.
 HIDDEN_BREAK = re.compile(rb"\xc2\x85|\xe2\x80[\xa8\xa9]|(?!\A)\xef\xbb\xbf")
@@ -63,7 +63,7 @@ class Facts(NamedTuple):
 def find_facts(data: bytes, needs_plain: bool = False) -> Facts:
     """Reads a content that may have an envelope, or the plaintexts of any."""
     try:
-        with bounding.limit_work(limits.HOOK_SECONDS):
+        with bounding.limit_work(Effort()):
             return _read_facts(data, needs_plain)
     except TooMuch as fault:
         return Facts(fault=str(fault), is_too_much=True, envelopes=data.count(HEADER))
@@ -116,22 +116,19 @@ def _read_leaves(data: bytes) -> tuple[Content, list[Leaf], list[Node]]:
     """The envelopes, the texts at each path that leads to them, and the nodes within keys, from one look at the
     nodes."""
     document, leaves, keys = Content(data), list[Leaf](), list[Node]()
-    # How many keys and texts the leaves have.
-    number = 0
+    effort = Effort()
     # How many of the leaves aliases add.
     aliased = 0
     # For each anchor its path, and the number of its first text.
     anchors: dict[str, tuple[KeyPath, int]] = {}
     try:
-        for node in read_nodes(data, every=True):
+        for node in read_nodes(data):
             if node.is_value:
                 document.values.append(node)
             if node.is_key:
                 keys.append(node)
             for leaf in _list_leaves(node, leaves, anchors):
-                number += 1 + len(leaf[0])
-                if number > limits.MOST_KEYS:
-                    raise TooMuch(limits.TOO_MANY)
+                effort.add(1 + len(leaf[0]))
                 if node.style == ALIAS:
                     aliased += 1
                 if aliased > limits.MOST_ALIASED:

@@ -5,10 +5,11 @@ from __future__ import annotations
 from collections import Counter
 
 from ansible_vault_companions.envelopes import conflicts
-from ansible_vault_companions.envelopes.content import parse_content
+from ansible_vault_companions.envelopes.content import parse_envelopes
 from ansible_vault_companions.envelopes.layout import apply_replacements
 from ansible_vault_companions.envelopes.node import LOOSE, Node
 from ansible_vault_companions.merging.common_key import find_common_key
+from ansible_vault_companions.limits import require_few_values
 from ansible_vault_companions.merging.line_merge import OURS, SIDES, THEIRS, MergedLines, Versions, merge_lines
 from ansible_vault_companions.merging.tokens import KeyAndText, Meaning, Restoration, Tokens
 from ansible_vault_companions.parallel import work_at_once
@@ -24,12 +25,15 @@ class ValueMerge:
     """Three versions of a file, and what their envelopes mean."""
 
     def __init__(self, decrypt: Decrypt, versions: Versions, chosen: Key | None) -> None:
-        self.contents = {side: parse_content(data) for side, data in zip(SIDES, versions)}
+        self.contents = {side: parse_envelopes(data) for side, data in zip(SIDES, versions)}
         self.values = {side: [*filter(_has_token, self.contents[side].values)] for side in SIDES}
         self.decryptions = self._decrypt_all(decrypt)
         # The key of the result for the values with each label, unless each keeps its own.
         labels = {decryption.key.label for decryption in self.decryptions.values()}
         self.keys = {label: self._choose_key(label, chosen) for label in labels}
+        # A merged value may be encrypted again.
+        for values in self.values.values():
+            require_few_values(len(values))
 
     def merge(self, tool: Tool) -> MergedLines:
         """The merged file."""
@@ -83,7 +87,7 @@ class ValueMerge:
 
     def _check(self, content: bytes, envelopes: list[bytes], has_conflict: bool) -> None:
         """Refuses a result that is no YAML though both sides are, or that has other envelopes than these."""
-        result = conflicts.parse_sides(content)
+        result = conflicts.parse_envelopes_of_sides(content)
         are_yaml = not any(self.contents[side].fault for side in (OURS, THEIRS))
         if result.fault and are_yaml and not has_conflict:
             raise Refused(MERGED_NOT_YAML.format(result.fault))
