@@ -45,11 +45,10 @@ FEWER_RECORDS = {
     "diff-index --cached": "nothing differs",
     "diff-tree --stdin": "no commit changes a file",
     "ls-files -s": "there is no other file",
-    "ls-files --unmerged": "the file has no conflict",
     "rev-list": "there is no earlier commit",
     "rev-list --reverse": "there is no later commit",
 }
-TEXTS = ("cat-file", "merge-file -p")
+TEXTS = ("merge-file -p",)
 # The kind of a call is its command and the first option; calls of a kind are numbered. Without FAILS, git answers, and
 # its answers are noted. A call that fails prints so many BYTES of the noted answer.
 STAND_IN = """

@@ -47,6 +47,7 @@ CONTENTS = {
     "comments behind a header": (b"# " + HEADER, b"# 61\n", b""),
     "headers in a line": (b"# ", HEADER.strip() + b" ", b"\n"),
     "headers with digits in a line": (b"# ", HEADER.strip() + b" 6161616161616161 ", b"\n"),
+    "headers behind a margin": (b"#" * (LONGEST // 2), HEADER.strip() + b" 6161616161616161 ", b"\n"),
     "headers in lines": (b"", b"# " + HEADER + b"# 6161616161616161\n", b""),
     "semicolons": (b"# $ANSIBLE_VAULT", b";", b"\n"),
     "digits": (b"x: !vault |\n  " + HEADER + b"  ", b"61", b"\n"),

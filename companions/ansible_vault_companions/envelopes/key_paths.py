@@ -3,6 +3,7 @@
 from __future__ import annotations
 
 import re
+from functools import lru_cache
 from typing import Union
 
 # The key that merges a mapping into another, and the tag with which any other key does.
@@ -15,6 +16,7 @@ UNQUOTED_KEY = re.compile(r'[^."\[\]\x00-\x1f]+')
 KeyPath = tuple[Union[str, int], ...]
 
 
+@lru_cache(maxsize=1024)
 def type_key(key: str) -> str:
     return key if UNQUOTED_KEY.fullmatch(key) else quote_key(key)
 

@@ -4,7 +4,7 @@ from __future__ import annotations
 
 import re
 from bisect import bisect_right
-from typing import Iterator
+from typing import Iterator, NamedTuple
 
 from ansible_vault_companions.envelopes.header import WITH_DIGITS
 from ansible_vault_companions.envelopes.node import LOOSE, STRAY, Node
@@ -16,45 +16,62 @@ LINES_OF_STRAY = re.compile(
 )
 
 
+class _Header(NamedTuple):
+    """A header with digits, and the line that it is in."""
+
+    match: re.Match[bytes]
+    number: int
+    # Where the line begins; None if another header precedes this one in it.
+    line_start: int | None
+
+
 def find_strays(data: bytes, values: list[Node]) -> Iterator[Node]:
     """The envelopes outside of these values, and those within the text of one that is no envelope, but has the tag."""
     starts = [value.start for value in values]
     # After empty lines alone, Ansible reads neither a vault nor a value.
     first = len(data) - len(data.lstrip())
-    number = 1
-    place = 0
-    line_start = 0
-    for header in WITH_DIGITS.finditer(data):
-        number += data.count(b"\n", place, header.start())
-        line_start = max(line_start, data.rfind(b"\n", place, header.start()) + 1)
-        place = header.start()
+    for header in _find_headers(data):
+        place = header.match.start()
         before = bisect_right(starts, place) - 1
         value = values[before] if before >= 0 and place < values[before].end else None
         if value and value.is_envelope:
             continue
-        lines = None if value or place == first else _match_lines(data, line_start, place)
+        lines = None if value or place == first else _match_lines(data, header)
         if lines:
-            yield _make_stray(number, place, line_start, lines)
+            yield _make_stray(header.number, place, lines)
         else:
-            yield _make_loose(number, header)
+            yield _make_loose(header.number, header.match)
 
 
-def _match_lines(data: bytes, line_start: int, place: int) -> re.Match[bytes] | None:
-    """The lines of an envelope whose header is here, if a margin alone precedes it and each line has this margin."""
-    if data[line_start:place].strip(b" \t#"):
+def _find_headers(data: bytes) -> Iterator[_Header]:
+    number, place = 1, 0
+    line_start: int | None = 0
+    for match in WITH_DIGITS.finditer(data):
+        line_ends = data.count(b"\n", place, match.start())
+        number += line_ends
+        if line_ends:
+            line_start = data.rfind(b"\n", place, match.start()) + 1
+        yield _Header(match, number, line_start)
+        place, line_start = match.start(), None
+
+
+def _match_lines(data: bytes, header: _Header) -> re.Match[bytes] | None:
+    """The lines of an envelope that has this header, if a margin alone precedes it and each line has this margin. So
+    only the first header in a line can have them, and each line is read once."""
+    if header.line_start is None:
         return None
-    lines = LINES_OF_STRAY.match(data, line_start)
-    return lines if lines and lines.end("margin") == place else None
+    lines = LINES_OF_STRAY.match(data, header.line_start)
+    return lines if lines and lines.end("margin") == header.match.start() else None
 
 
-def _make_stray(number: int, place: int, line_start: int, lines: re.Match[bytes]) -> Node:
+def _make_stray(number: int, place: int, lines: re.Match[bytes]) -> Node:
     margin = lines["margin"]
     return Node(
         path=(),
         style=STRAY,
         line=number,
         begin=place,
-        start=line_start,
+        start=lines.start(),
         end=lines.end(),
         margin=margin,
         ending=b"\r\n" if b"\r\n" in lines[0] else b"\n",

@@ -4,7 +4,8 @@ from __future__ import annotations
 
 import os
 import re
-from typing import Collection, Container, Iterable, NamedTuple
+from typing import Callable, Collection, Container, Iterable, NamedTuple
+from functools import cache
 
 from ansible_vault_companions.files import resolving
 from ansible_vault_companions.git.commands import CUT, list_records
@@ -69,9 +70,11 @@ def _group_by_repository(paths: list[str], follows: bool = True) -> dict[str, di
     """The paths in each repository, by their names there: for a link, the name of the file that it points to, or its
     own. Files outside of repositories are left out, and so is what leads nowhere."""
     repositories: dict[str, dict[bytes, str]] = {}
+    # Many files may be in one directory, and deep.
+    find_folder = cache(resolving.find_target)
     for path in paths:
         try:
-            target = _find_name(path, follows)
+            target = _find_name(path, follows, find_folder)
         except OSError:
             continue
         repository = find_repository(os.path.dirname(target))
@@ -81,12 +84,12 @@ def _group_by_repository(paths: list[str], follows: bool = True) -> dict[str, di
     return repositories
 
 
-def _find_name(path: str, follows: bool) -> str:
+def _find_name(path: str, follows: bool, find_folder: Callable[[str], str]) -> str:
     """The real path of a file or, if it may be a link that is not followed, of its name."""
-    if follows:
+    if follows and os.path.islink(path):
         return resolving.find_target(path)
     folder, name = os.path.split(path)
-    return os.path.join(resolving.find_target(folder), name)
+    return os.path.join(find_folder(folder), name)
 
 
 def list_attribute_files(names: Iterable[bytes]) -> list[bytes]:
@@ -96,7 +99,10 @@ def list_attribute_files(names: Iterable[bytes]) -> list[bytes]:
         folder = name
         while folder:
             folder = os.path.dirname(folder)
-            paths.add(os.path.join(folder, FILE))
+            path = os.path.join(folder, FILE)
+            if path in paths:
+                break
+            paths.add(path)
     return sorted(paths)
 
 

@@ -3,10 +3,17 @@
 from __future__ import annotations
 
 import os
+import re
+import string
 
 from ansible_vault_companions.envelopes import conflicts
 from ansible_vault_companions.git import commands, repository
+from ansible_vault_companions.limits import LONGEST_VAULT, TooMuch
 from ansible_vault_companions.merging.line_merge import Versions
+from ansible_vault_companions.refusals import Refused
+
+SIZE = re.compile(rb"^[0-9a-f]{40,} blob (\d+)$", re.MULTILINE)
+HEAD_OF_CONTENT = re.compile(rb"[0-9a-f]{40,} blob (?P<size>\d+)\n")
 
 
 def find_versions(target: str, data: bytes) -> Versions | None:
@@ -17,19 +24,44 @@ def find_versions(target: str, data: bytes) -> Versions | None:
     ours, theirs = sides[conflicts.OURS_MARKER], sides[conflicts.THEIRS_MARKER]
     base, *stages = _read_stages(target)
     # Ends of lines may differ from those in the file.
-    is_same = [stage.split() for stage in stages] == [ours.split(), theirs.split()]
+    is_same = [_strip_blanks(stage) for stage in stages] == [_strip_blanks(ours), _strip_blanks(theirs)]
     return Versions(ours, base if is_same else b"", theirs)
 
 
 def _read_stages(target: str) -> list[bytes]:
     """Base, ours and theirs of a file in the index, each empty if the index has none."""
-    contents = [b"", b"", b""]
     folder = repository.find_repository(os.path.dirname(target))
-    if folder:
-        name = os.path.relpath(target, folder)
-        for record in commands.list_records("ls-files", "--unmerged", "-z", "--", name, folder=folder):
-            about, _, found = record.partition(b"\t")
-            if found == os.fsencode(name):
-                _, blob, stage = about.decode().split()
-                contents[int(stage) - 1] = commands.run_git("cat-file", "blob", blob, folder=folder)
+    if not folder:
+        return [b"", b"", b""]
+    name = os.fsencode(os.path.relpath(target, folder))
+    questions = [b":%d:%s" % (stage, name) for stage in (1, 2, 3)]
+    # A question is a line, unless the name has a line end.
+    options, end = (["-z"], b"\0") if b"\n" in name else ([], b"\n")
+    data = b"".join(question + end for question in questions)
+    sizes = SIZE.findall(commands.run_git("cat-file", "--batch-check", *options, data=data, folder=folder))
+    if any(int(size) > LONGEST_VAULT for size in sizes):
+        raise TooMuch(f"git has a version of it with over {LONGEST_VAULT:,} bytes")
+    output = commands.run_git("cat-file", "--batch", *options, data=data, folder=folder)
+    return _split_answers(output, questions)
+
+
+def _strip_blanks(text: bytes) -> bytes:
+    return text.translate(None, string.whitespace.encode())
+
+
+def _split_answers(output: bytes, questions: list[bytes]) -> list[bytes]:
+    """The contents that git gives, each after its size. A question without one is repeated."""
+    contents, place = [], 0
+    for question in questions:
+        missing = question + b" missing\n"
+        content = HEAD_OF_CONTENT.match(output, place)
+        if content:
+            begin, end = content.end(), content.end() + int(content["size"])
+            contents.append(output[begin:end])
+            place = end + 1
+        else:
+            contents.append(b"")
+            place += len(missing)
+        if not (content or output.endswith(missing, 0, place)) or place > len(output):
+            raise Refused(commands.CUT.format("cat-file"))
     return contents
