@@ -121,6 +121,11 @@ def test_help(name: str) -> None:
 VANISHED = {
     "a file": ("rm -f t/z.yml", ["t"], 0, "41 decrypted, 0 failed\n"),
     "a directory": ("rm -rf t/z", ["t"], 0, "41 decrypted, 0 failed\n"),
+    "a directory that is renamed": ("mv t/z y", ["t"], 0, "41 decrypted, 0 failed\n"),
+    "a directory that becomes a file": ("rm -rf t/z; : > t/z", ["t"], 1, "t/x.yml: Not a directory\n"),
+    "a directory that becomes a link to nothing": ("mv t/z y; ln -s x t/z", ["t"], 0, "41 decrypted, 0 failed\n"),
+    "a directory that becomes a loop": ("mv t/z y; ln -s z t/z", ["t"], 1, "it is not a regular file\n"),
+    "the directory that is named": ("mv t y", ["t"], 0, "0 failed\n"),
     "a file that becomes a directory": ("rm -rf t/z.yml; mkdir -p t/z.yml", ["t"], 1, "t/z.yml: Is a directory\n"),
     "a named file": ("rm -f t/z.yml", ["t", "t/z.yml"], 1, "t/z.yml: No such file or directory\n"),
     "one of its paths": ("rm -f t/x.yml", ["t"], 0, "42 decrypted, 0 failed\n"),

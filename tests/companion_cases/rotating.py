@@ -77,14 +77,18 @@ def test_what_cannot_be_rotated(place: Place) -> None:
     assert place.files() == before, "they stay"
 
 
-@pytest.mark.parametrize(
-    "change, why", [("rm -f t/a.yml", CHANGED_MEANWHILE), ("rm -rf t", "No such file or directory")]
-)
-def test_vanished_while_rotated(place: Place, change: str, why: str) -> None:
+@pytest.mark.parametrize("change", ["rm -f t/a.yml", "rm -rf t"])
+def test_vanished_while_rotated(place: Place, change: str) -> None:
     """It may be elsewhere now, under the old password, so it is a failure, and it does not come back."""
     place.put("t/a.yml", sealed("old"))
     place.wrap_tool(f'[ "$1" != encrypt ] || {change}')
-    ended("it is gone", place.run(ROTATE, *to_new(place), "."), 1, f"./t/a.yml: {why}\n", summary(0, failed=1))
+    ended(
+        "it is gone",
+        place.run(ROTATE, *to_new(place), "."),
+        1,
+        f"./t/a.yml: {CHANGED_MEANWHILE}\n",
+        summary(0, failed=1),
+    )
     assert place.files() == {}
 
 
@@ -152,7 +156,7 @@ def test_copies(place: Place) -> None:
     # A run that only checks a secret has no input.
     place.wrap_tool('cat > "$0.$$"; [ -s "$0.$$" ] && echo "$1" >> ../runs; exec < "$0.$$"; rm "$0.$$"')
     done = place.run(ROTATE, *to_new(place), *place.by_id("prd", "prod2", "new-"), ".")
-    ended("rotate", done, 1, summary(8), f"{ROTATE}: no vault or value has the label prd\n")
+    ended("rotate", done, 1, summary(8, failed=1), f"{ROTATE}: no vault or value has the label prd\n")
     assert Counter((place.path / "runs").read_text().split()) == {"view": 4, "encrypt": 4}
     assert place.get("a.yml") == place.get("b.yml"), "a copy stays a copy"
     assert place.get("d.yml").split()[1:] != place.get("e.yml").split()[1:], "equal texts"

@@ -4,7 +4,9 @@ from __future__ import annotations
 
 from dataclasses import dataclass
 
-from ansible_vault_companions.batch.reports import Report, Work
+from ansible_vault_companions.batch.places import Place
+from ansible_vault_companions.batch.report import DECRYPTED, FAILED, LISTED, OTHER_LABEL, Report, Total
+from ansible_vault_companions.batch.work import Work
 from ansible_vault_companions.envelopes import conflicts, damage, file_kinds
 from ansible_vault_companions.envelopes.content import Content, parse_envelopes
 from ansible_vault_companions.envelopes.node import Node
@@ -20,13 +22,15 @@ RESOLVE = "resolve with ansible-vault-edit; or set up ansible-vault-merge, and r
 
 @dataclass
 class Check(Work):
-    """Checks files with these passwords."""
+    """Checks files with these passwords; or lists what is in them, without any."""
 
     passwords: list[Password]
+    is_list: bool
     # Only envelopes with these labels are decrypted; if the list is empty, all are.
     labels: list[str]
     # The paths that git's attributes mark.
     marked: set[str]
+    names_values = True
 
     def process_file(self, found: FoundFile, content: Content, report: Report) -> None:
         """Checks a file. It is marked if one of its paths is."""
@@ -34,50 +38,51 @@ class Check(Work):
         is_marked = path in self.marked
         is_prose = file_kinds.is_prose(found.target) and not (is_marked or content.is_vault)
         why = file_kinds.find_yaml_fault(content, path, found.target)
-
-        def describe_place(value: Node) -> str:
-            return _name_value(value, value.describe_place(path))
-
         try:
-            self.change_envelopes(content, describe_place, report, is_prose)
+            self.change_envelopes(content, path, report, is_prose=is_prose)
         except Refused as fault:
             why = why or str(fault)
         if damage.is_unmerged(content):
             why = f"{conflicts.UNMERGED}; {RESOLVE.format(make_pathspec(path))}"
-        if is_marked and content.data.strip() and not (why or report.faults):
+        if is_marked and content.data.strip() and not (why or report.count(FAILED)):
             why = damage.find_unencrypted(content)
         if why:
-            report.faults.append(f"{escape(path)}: {why}")
+            report.add_file(FAILED, path, why)
 
-    def process_envelope(self, value: Node, where: str, report: Report, is_prose: bool) -> bytes | None:
+    def list_lines(self, found: FoundFile, report: Report) -> list[str]:
+        return [entry.write_text(self.names_values) for entry in report.entries if entry.result in (DECRYPTED, LISTED)]
+
+    def process_envelope(self, value: Node, place: Place, report: Report, is_prose: bool) -> bytes | None:
         """The envelope itself. Putting it back shows whether a rotation could put another one in its place."""
         label = value.label
         same = value.text if value.is_whole and not is_prose else None
         if label is not None and self.labels and label not in self.labels:
-            report.others[label] += 1
+            report.add_envelope(OTHER_LABEL, place)
             return same
         report.labels.add(label)
+        if self.is_list:
+            report.add_envelope(LISTED, place)
+            return same
         result = self.decrypt(value, self.passwords, may_fail=is_prose)
         if result:
-            self._check_plaintext(where, result, report)
+            self._check_plaintext(place, result, report)
         else:
             report.labels.clear()
         return same
 
-    def _check_plaintext(self, where: str, result: Decryption, report: Report) -> None:
+    def _check_plaintext(self, place: Place, result: Decryption, report: Report) -> None:
         try:
             result.require_label()
-            report.lines.append(f"{where}: decrypted by {escape(result.password.source.text)}")
+            report.add_envelope(DECRYPTED, place, f"decrypted by {escape(result.password.source.text)}")
         except Refused as fault:
-            report.faults.append(f"{where}: {fault}")
+            report.add_envelope(FAILED, place, str(fault))
         if conflicts.is_unmerged(result.text):
-            report.faults.append(f"{where}: its plaintext {conflicts.UNMERGED}")
-
-        def describe_place(value: Node) -> str:
-            return _name_value(value, f"{where}: in its plaintext, line {max(value.line, 1)}")
-
-        self.change_envelopes(parse_envelopes(result.text), describe_place, report)
+            report.add_envelope(FAILED, place, f"its plaintext {conflicts.UNMERGED}")
+        self.change_envelopes(parse_envelopes(result.text), place.path, report, outer=place)
 
 
-def _name_value(value: Node, where: str) -> str:
-    return ": ".join([where, *(escape(name) for name in (value.name, value.label or "no label") if name)])
+def summarize(total: Total, is_list: bool, has_labels: bool) -> str:
+    """The last line that ansible-vault-check prints. Envelopes with other labels count if labels were given."""
+    others = f", {total.count_others()}" if has_labels else ""
+    done = f"{total.counts[LISTED]} listed" if is_list else f"{total.counts[DECRYPTED]} decrypted"
+    return f"{done}, {total.counts[FAILED]} failed{others}"

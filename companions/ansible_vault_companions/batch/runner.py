@@ -1,0 +1,163 @@
+"""Takes the files of check and rotate in turn: reads each, has the work on it done, and prints what is reported."""
+
+from __future__ import annotations
+
+import os
+from collections import deque
+from dataclasses import dataclass, field
+from typing import Collection, NamedTuple
+
+from ansible_vault_companions import refusals
+from ansible_vault_companions.batch.report import FAILED, ROTATED, SKIPPED, TO_BE_ROTATED, Entry, Report, Total
+from ansible_vault_companions.batch.work import Work
+from ansible_vault_companions.envelopes import detection, file_kinds
+from ansible_vault_companions.envelopes.content import Content, parse_envelopes
+from ansible_vault_companions.files import replacing
+from ansible_vault_companions.files.searching import FoundFile, Search
+from ansible_vault_companions.output import write_error, write_line
+from ansible_vault_companions.quoting import escape
+from ansible_vault_companions.refusals import Refused
+from ansible_vault_companions.workers import Task
+
+# How many files are read ahead of the work on them, and how many bytes of them.
+AHEAD, AHEAD_BYTES = 32, 1 << 26
+LABEL_NOT_FOUND = "no vault or value has the label {}{}"
+
+
+@dataclass
+class Outcome:
+    """What came of the work on a file."""
+
+    file: FoundFile
+    report: Report = field(default_factory=Report)
+    # Its content, and what is to replace that; None if it stays.
+    before: bytes = b""
+    after: bytes | None = None
+
+    def fail(self, fault: Exception) -> None:
+        """Reports a failure. Nothing is written, so no envelope is changed."""
+        self.report.remove(ROTATED, TO_BE_ROTATED)
+        self.report.add_file(FAILED, self.file.paths[0], refusals.describe_fault(fault, self.file.paths[0]))
+
+
+class Begun(NamedTuple):
+    """The work on a file, and the bytes of the file, which are kept until it is done."""
+
+    task: Task[Outcome]
+    size: int = 0
+
+
+class Runner:
+    """Has a companion's work done on files, and adds the reports up."""
+
+    def __init__(
+        self, companion: str, work: Work, named: list[str], is_json: bool, marked: Collection[str] = ()
+    ) -> None:
+        self.companion = companion
+        self.work = work
+        # The paths of the command line. Files that are found below them may vanish.
+        self.named = named
+        # Whether standard output gets each result as an object, and nothing else.
+        self.is_json = is_json
+        # The paths of files that must be encrypted.
+        self.marked = marked
+        self.total = Total()
+
+    def process_files(self, files: list[FoundFile]) -> None:
+        """Works on each file, and reports on it. The files are read here, in the main thread, where the limit of time
+        holds."""
+        begun: deque[Begun] = deque()
+        for found in files:
+            begun.append(self._begin(found))
+            while len(begun) > AHEAD or sum(each.size for each in begun) > AHEAD_BYTES:
+                self._finish(begun.popleft().task.take())
+        while begun:
+            self._finish(begun.popleft().task.take())
+
+    def _begin(self, found: FoundFile) -> Begun:
+        """Reads a file and begins the work on it. A failure is in its report, so other files are still processed."""
+        try:
+            content = parse_envelopes(detection.read_envelope_file(found.target))
+        except (Refused, OSError) as fault:
+            return Begun(Task(Outcome, found, self._report_unread(found, fault)))
+        if found.refusal:
+            return Begun(Task(Outcome, found, self._report_refused(found, content)))
+        return Begun(self.work.workers.begin(_do_work, found, content, self.work), len(content.data))
+
+    def _report_unread(self, found: FoundFile, fault: Exception) -> Report:
+        """The report on a file that cannot be read."""
+        report = Report()
+        if self._is_failure(found, fault):
+            path = found.paths[0]
+            report.add_file(FAILED, path, found.refusal or refusals.describe_fault(fault, path))
+        elif found.refusal:
+            report.add_file(SKIPPED, found.paths[0], found.refusal)
+        return report
+
+    def _is_failure(self, found: FoundFile, fault: Exception) -> bool:
+        """Whether it is a failure that a file cannot be read. It is none that one was found and is gone, or, unless it
+        is marked, that it is a pointer of git-lfs."""
+        return not _is_gone(found.paths[0], fault) or any(path in self.named for path in found.paths)
+
+    def _is_marked(self, found: FoundFile) -> bool:
+        return any(path in self.marked for path in found.paths)
+
+    def _report_refused(self, found: FoundFile, content: Content) -> Report:
+        """The report on a link that leads out: a failure if there is something to do in its file."""
+        path = found.paths[0]
+        fails = (
+            self._is_marked(found)
+            or content.number_envelopes()
+            or file_kinds.find_yaml_fault(content, path, found.target)
+        )
+        report = Report()
+        report.add_file(FAILED if fails else SKIPPED, path, found.refusal)
+        return report
+
+    def _finish(self, outcome: Outcome) -> None:
+        """Writes a file's new content, and prints the report on it."""
+        if outcome.after is not None:
+            try:
+                self.work.write_file(outcome.file, outcome.after, outcome.before)
+            except replacing.NotSynced as fault:
+                outcome.report.add_file(FAILED, outcome.file.paths[0], str(fault))
+            except (Refused, OSError) as fault:
+                outcome.fail(fault)
+        if not self.is_json:
+            for line in self.work.list_lines(outcome.file, outcome.report):
+                write_line(line)
+        self.total.add(outcome.report)
+        self._print(outcome.report.entries)
+
+    def _print(self, entries: list[Entry]) -> None:
+        for entry in entries:
+            if self.is_json:
+                write_line(entry.write_json())
+            elif entry.result in (SKIPPED, FAILED):
+                write_error(f"{self.companion}: {entry.write_text(self.work.names_values)}")
+
+    def report_unsearched(self, search: Search) -> None:
+        """Names each link to a directory that is not searched. That is no failure."""
+        self._print([Entry(SKIPPED, why, path) for path, why in search.list_unsearched().items()])
+
+    def report_missing(self, labels: Collection[str], others: str = "") -> None:
+        """Names each of these labels that no envelope has, as a failure, and says this of those with others."""
+        about = others if self.total.others else ""
+        missing = sorted(set(labels) - self.total.labels)
+        report = Report([Entry(FAILED, LABEL_NOT_FOUND.format(escape(label), about), label=label) for label in missing])
+        self.total.add(report)
+        self._print(report.entries)
+
+
+def _is_gone(path: str, fault: Exception) -> bool:
+    """Whether a file is no longer there, or a file is in the place of a directory above it."""
+    return isinstance(fault, FileNotFoundError) or isinstance(fault, NotADirectoryError) and not os.path.lexists(path)
+
+
+def _do_work(found: FoundFile, content: Content, work: Work) -> Outcome:
+    outcome = Outcome(found, before=content.data)
+    try:
+        outcome.after = work.process_file(found, content, outcome.report)
+    except (Refused, OSError) as fault:
+        outcome.fail(fault)
+    return outcome

@@ -1,0 +1,80 @@
+"""What check and rotate share: they decrypt each envelope of a file, and go on after one that fails."""
+
+from __future__ import annotations
+
+from dataclasses import dataclass
+
+from ansible_vault_companions.batch.places import Place, find_place
+from ansible_vault_companions.batch.report import FAILED, KEPT, ROTATED, TO_BE_ROTATED, Report
+from ansible_vault_companions.envelopes.content import Content
+from ansible_vault_companions.envelopes.node import Node
+from ansible_vault_companions.files.searching import FoundFile
+from ansible_vault_companions.passwords.labels import Policy
+from ansible_vault_companions.passwords.password import Password
+from ansible_vault_companions.refusals import Refused
+from ansible_vault_companions.tool import Decryption, NotDecrypted, Tool
+from ansible_vault_companions.workers import Workers
+
+
+@dataclass
+class Work:
+    """What is done with each envelope of a file, and with those in its plaintext."""
+
+    tool: Tool
+    workers: Workers
+    # What labels mean to the passwords.
+    policy: Policy
+    # Whether messages name values and labels.
+    names_values = False
+
+    def process_file(self, found: FoundFile, content: Content, report: Report) -> bytes | None:
+        """Works on a file, in a thread. Returns its new content; None if it stays."""
+        raise NotImplementedError
+
+    def write_file(self, found: FoundFile, after: bytes, before: bytes) -> None:
+        """Writes new content to a file, in the main thread, where signals can be postponed."""
+        raise NotImplementedError
+
+    def list_lines(self, found: FoundFile, report: Report) -> list[str]:
+        """What standard output says of a file."""
+        raise NotImplementedError
+
+    def process_envelope(self, value: Node, place: Place, report: Report, is_prose: bool) -> bytes | None:
+        """The text that takes the place of an envelope; None if it stays."""
+        raise NotImplementedError
+
+    def decrypt(self, value: Node, passwords: list[Password], may_fail: bool) -> Decryption | None:
+        """An envelope in plaintext. If that may fail, None for one that is damaged or that nothing decrypts."""
+        try:
+            return self.tool.decrypt(value.require_readable(), passwords, self.policy)
+        except Refused as fault:
+            if may_fail and (isinstance(fault, NotDecrypted) or not value.is_whole):
+                return None
+            raise
+
+    def change_envelopes(
+        self, content: Content, path: str, report: Report, outer: Place | None = None, is_prose: bool = False
+    ) -> bytes:
+        """The data of a file, or of an envelope's plaintext, with the texts that take the places of envelopes. What
+        fails stays, and is reported."""
+
+        def process(value: Node) -> tuple[bytes | None, Report]:
+            return self._report_on(value, find_place(value, path, outer), is_prose)
+
+        envelopes = content.number_envelopes()
+        new: dict[int, bytes] = {}
+        for number, (text, own) in zip(envelopes, self.workers.share(process, [*envelopes.values()])):
+            report.add(own)
+            if text is not None:
+                new[number] = text
+        return content.replace_envelopes(new) if new else content.data
+
+    def _report_on(self, value: Node, place: Place, is_prose: bool) -> tuple[bytes | None, Report]:
+        report = Report()
+        try:
+            return self.process_envelope(value, place, report, is_prose), report
+        except Refused as fault:
+            # Changes within it are not written either.
+            report.remove(ROTATED, TO_BE_ROTATED, KEPT)
+            report.add_envelope(FAILED, place, str(fault))
+            return None, report
