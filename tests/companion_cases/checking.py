@@ -40,7 +40,10 @@ def test_labels_and_secrets(place: Place) -> None:
     found = done.stdout.splitlines(), len(done.stderr.splitlines()), place.files()
     assert found == (wanted, 3, before), "what is decrypted, and nothing is written"
     tried = f"(label stage; tried {dev}, {prod}, {default}, {old}): name its password with --vault-id LABEL@SOURCE\n"
-    parts = [f"./e.yml:2: secret: stage: no secret decrypts this vault {tried}", "./header.yml: no label: vault header"]
+    parts = [
+        f"./e.yml:2: secret: stage: no secret decrypts this vault {tried}",
+        "./header.yml: no label: it is damaged: vault header",
+    ]
     ended("what is not", done, 1, *(f"{CHECK}: {part}" for part in (*parts, "missing: No such file or directory\n")))
 
 

@@ -23,7 +23,7 @@ def test_marked_files(place: Place) -> None:
     (place.tree / "one/link.vault.yml").symlink_to("a.yml")
     done = place.run(CHECK, *place.by_file("old"), "one", "two", "outside.vault.yml")
     wanted = [f"one/{name}: is not encrypted" for name in ("b.vault.yml", "link.vault.yml", "secrets/deep/vars.yml")]
-    wanted.append("one/in_lfs.vault.yml: is a pointer of git-lfs, so its content cannot be checked")
+    wanted.append("one/in_lfs.vault.yml: it is a pointer of git-lfs, which says nothing about the file")
     wanted += [f"one/{what} has git's conflict markers" for what in ("d.yml:", "secrets/ok: default: its plaintext")]
     assert sorted(line.partition(";")[0] for line in done.stderr.splitlines()) == sorted(
         f"{CHECK}: {each}" for each in wanted
@@ -58,4 +58,10 @@ def test_some_labels(place: Place) -> None:
     ended("a label that nothing has", done, 1, f"{CHECK}: no vault or value has the label prdo\n")
     place.put("d.yml", b"$ANSIBLE_VAULT;1.1\n")
     done = place.run(*dev, "dev", ".")
-    ended("one without a header", done, 1, "./d.yml: no label: vault header line is malformed", "2 decrypted, 1 failed")
+    ended(
+        "one without a header",
+        done,
+        1,
+        "./d.yml: no label: it is damaged: vault header line is malformed; ",
+        "2 decrypted, 1 failed",
+    )

@@ -21,6 +21,7 @@ KEPT = "kept"
 OTHER_LABEL = "other label"
 SKIPPED = "skipped"
 FAILED = "failed"
+HIDDEN = "mentions an envelope but is not searched, because it contains a null character"
 NO_POSITION: dict[str, object] = {"line": None, "key_path": None, "within": None}
 
 
@@ -74,6 +75,11 @@ class Report:
 
     def add_file(self, result: str, path: str, message: str) -> None:
         self.entries.append(Entry(result, message, path))
+
+    def add_hidden(self, path: str, outer: Place | None) -> None:
+        """Names a file, or the envelope of a plaintext, in which no envelope is looked for."""
+        what = "its plaintext" if outer else "it"
+        self.entries.append(Entry(SKIPPED, f"{what} {HIDDEN}", path, outer))
 
     def count(self, *results: str) -> int:
         return sum(entry.result in results for entry in self.entries)

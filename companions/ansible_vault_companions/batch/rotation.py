@@ -16,7 +16,7 @@ from ansible_vault_companions.files.searching import FoundFile
 from ansible_vault_companions.passwords.password import Password
 from ansible_vault_companions.quoting import escape
 from ansible_vault_companions.refusals import Refused
-from ansible_vault_companions.tool import Key
+from ansible_vault_companions.tool import DAMAGED, Key
 
 # A placeholder for the new envelope in a dry run.
 DRY = b"$ANSIBLE_VAULT;1.1;AES256\n%s\n" % (b"61" * 16)
@@ -56,7 +56,7 @@ class Rotation(Work):
     def process_envelope(self, value: Node, place: Place, report: Report, is_prose: bool) -> bytes | None:
         label = value.label
         if label is None:
-            raise Refused("its first line is malformed")
+            raise Refused(f"{DAMAGED}: its first line is malformed")
         new = self.new.get(label)
         if new:
             report.labels.add(label)

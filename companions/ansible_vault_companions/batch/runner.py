@@ -12,6 +12,7 @@ from ansible_vault_companions.batch.report import FAILED, ROTATED, SKIPPED, TO_B
 from ansible_vault_companions.batch.work import Work
 from ansible_vault_companions.envelopes import detection, file_kinds
 from ansible_vault_companions.envelopes.content import Content, parse_envelopes
+from ansible_vault_companions.envelopes.pointers import Pointer
 from ansible_vault_companions.files import replacing
 from ansible_vault_companions.files.searching import FoundFile, Search
 from ansible_vault_companions.output import write_error, write_line
@@ -90,13 +91,15 @@ class Runner:
         if self._is_failure(found, fault):
             path = found.paths[0]
             report.add_file(FAILED, path, found.refusal or refusals.describe_fault(fault, path))
-        elif found.refusal:
-            report.add_file(SKIPPED, found.paths[0], found.refusal)
+        elif found.refusal or isinstance(fault, Pointer):
+            report.add_file(SKIPPED, found.paths[0], found.refusal or str(fault))
         return report
 
     def _is_failure(self, found: FoundFile, fault: Exception) -> bool:
         """Whether it is a failure that a file cannot be read. It is none that one was found and is gone, or, unless it
         is marked, that it is a pointer of git-lfs."""
+        if isinstance(fault, Pointer):
+            return self._is_marked(found)
         return not _is_gone(found.paths[0], fault) or any(path in self.named for path in found.paths)
 
     def _is_marked(self, found: FoundFile) -> bool:

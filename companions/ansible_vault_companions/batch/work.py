@@ -58,6 +58,9 @@ class Work:
         """The data of a file, or of an envelope's plaintext, with the texts that take the places of envelopes. What
         fails stays, and is reported."""
 
+        if content.hides_envelope:
+            report.add_hidden(path, outer)
+
         def process(value: Node) -> tuple[bytes | None, Report]:
             return self._report_on(value, find_place(value, path, outer), is_prose)
 

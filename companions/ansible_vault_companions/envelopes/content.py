@@ -12,7 +12,7 @@ from collections.abc import Callable, Iterable, Iterator
 
 from ansible_vault_companions import bounding
 from ansible_vault_companions.envelopes.detection import may_have_envelope
-from ansible_vault_companions.envelopes.header import MAGIC
+from ansible_vault_companions.envelopes.header import MAGIC, WITH_DIGITS
 from ansible_vault_companions.envelopes.layout import apply_replacements, replace_envelope
 from ansible_vault_companions.envelopes.node import WHOLE, Node
 from ansible_vault_companions.envelopes.strays import find_strays
@@ -41,6 +41,8 @@ class Content:
         # Why it cannot be read as YAML, empty if it can or need not be; and whether it exceeds a limit.
         self.fault = fault
         self.is_too_much = False
+        # Whether a null character keeps an envelope that is mentioned elsewhere from being found.
+        self.hides_envelope = False
 
     @property
     def is_vault(self) -> bool:
@@ -114,7 +116,9 @@ def _read_yaml(content: Content, read: Callable[[bytes, Effort], Iterator[Node]]
 
 def _add_strays(content: Content) -> None:
     """Adds the envelopes outside of YAML values, unless the data is no text."""
-    if BINARY not in content.data:
+    if BINARY in content.data:
+        content.hides_envelope = WITH_DIGITS.search(content.data) is not None
+    else:
         content.values += find_strays(content.data, content.values)
         content.values.sort(key=lambda value: value.start)
 

@@ -9,11 +9,8 @@ from ansible_vault_companions.envelopes.header import MAGIC
 from ansible_vault_companions.envelopes.node import LOOSE, STRAY
 
 HEADER = MAGIC + b";"
-# How the pointer begins that git-lfs stores in place of a file.
-POINTER = b"version https://git-lfs.github.com/spec/"
 
 NOT_ENCRYPTED = "is not encrypted"
-IN_LFS = "is a pointer of git-lfs, so its content cannot be checked"
 NOT_READ = "cannot be checked: {}"
 TAGGED = "has plaintext with the tag `!vault` in line {}"
 DAMAGED_VAULT = "is a damaged vault"
@@ -47,8 +44,6 @@ def find_tagged(document: Content) -> str:
 
 def find_unencrypted(document: Content) -> str:
     """Why to refuse a file that is marked and not empty. The result is empty if nothing is wrong."""
-    if document.data.startswith(POINTER):
-        return IN_LFS
     if not document.is_vault:
         if document.fault and document.values:
             return NOT_READ.format(document.fault)

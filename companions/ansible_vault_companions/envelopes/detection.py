@@ -4,6 +4,7 @@ from __future__ import annotations
 
 import re
 
+from ansible_vault_companions.envelopes.pointers import refuse_pointer
 from ansible_vault_companions.envelopes.yaml_nodes import BINARY
 from ansible_vault_companions.files.reading import open_regular, read_parts, read_whole
 
@@ -20,11 +21,12 @@ def may_have_envelope(data: bytes) -> bool:
 
 def read_envelope_file(path: str) -> bytes:
     """The content of a file with envelopes; of any other, only a part, which is not blank unless the whole is. It is
-    searched in pieces, since it may be long, and no further than a vault reaches."""
+    searched in pieces, since it may be long, and no further than a vault reaches. Refuses a pointer of git-lfs."""
     text = before = b""
     with open_regular(path) as file:
         for piece in read_parts(file):
             if may_have_envelope(before[-OVERLAP:] + piece):
                 return read_whole(file, path)
             text, before = text if text.strip() else piece, piece
+    refuse_pointer(text)
     return text

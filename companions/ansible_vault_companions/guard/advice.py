@@ -8,6 +8,8 @@ from typing import NamedTuple
 
 from ansible_vault_companions.git.pathspecs import make_pathspec
 
+IN_LFS = "is a pointer of git-lfs, so its content cannot be checked"
+
 
 class Remedy(Enum):
     """What to do, with words that depend on the command in braces."""

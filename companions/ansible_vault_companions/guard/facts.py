@@ -11,9 +11,7 @@ from ansible_vault_companions import bounding, limits
 from ansible_vault_companions.envelopes.content import Content
 from ansible_vault_companions.envelopes.damage import (
     HEADER,
-    IN_LFS,
     NOT_ENCRYPTED,
-    POINTER,
     find_damage,
     find_tagged,
     find_unencrypted,
@@ -22,9 +20,11 @@ from ansible_vault_companions.envelopes.detection import may_have_envelope
 from ansible_vault_companions.envelopes.header import LINE_END, MAGIC
 from ansible_vault_companions.envelopes.key_paths import MERGE_TAG, KeyPath
 from ansible_vault_companions.envelopes.node import ALIAS, NO_SCALAR, Node
+from ansible_vault_companions.envelopes.pointers import is_pointer
 from ansible_vault_companions.envelopes.strays import find_strays
 from ansible_vault_companions.envelopes.yaml_nodes import BINARY, NotYaml, read_nodes
 from ansible_vault_companions.guard.key_names import Keys, make_keys
+from ansible_vault_companions.guard.advice import IN_LFS
 from ansible_vault_companions.guard.placeholders import is_placeholder
 from ansible_vault_companions.limits import Effort, TooMuch
 
@@ -76,7 +76,7 @@ def _read_facts(data: bytes, needs_plain: bool) -> Facts:
         raise TooMuch(limits.TOO_LONG)
     if not data.strip():
         return Facts(is_empty=True, unencrypted="")
-    if data.startswith(POINTER):
+    if is_pointer(data):
         return Facts(is_pointer=True, fault=IN_LFS, unencrypted=IN_LFS)
     if not (needs_plain or may_have_envelope(data)):
         return Facts()

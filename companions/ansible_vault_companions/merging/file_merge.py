@@ -9,6 +9,7 @@ from typing import NamedTuple
 
 from ansible_vault_companions.envelopes import conflicts
 from ansible_vault_companions.envelopes.header import MAGIC
+from ansible_vault_companions.envelopes.pointers import refuse_pointer
 from ansible_vault_companions.merging.line_merge import MOST_CONFLICTS, Versions
 from ansible_vault_companions.merging.value_merge import ValueMerge
 from ansible_vault_companions.merging.vault_merge import VaultMerge
@@ -33,6 +34,8 @@ def merge_file(tool: Tool, decrypt: Decrypt, versions: Versions, chosen: Key | N
     if base in (ours, theirs) or ours == theirs:
         return MergedFile(theirs if base == ours else ours)
     try:
+        for text in versions:
+            refuse_pointer(text)
         are_vaults = [text.startswith(MAGIC) for text in (ours, theirs)]
         if all(are_vaults):
             return MergedFile(_merge_vaults(tool, decrypt, versions, chosen))
