@@ -8,6 +8,9 @@ from companion_cases.repository import under_git
 pytestmark = pytest.mark.usefixtures("git")
 
 ATTRIBUTES = "*.vault.yml diff=ansible-vault\nsecrets/** ansible-vault\n"
+NO_MATCH = (
+    "(label default; tried none: no password has its label; --require-id-match or vault_id_match forbids the others)"
+)
 MERGE = b"<<<<<<< HEAD\na: 1\n=======\na: 2\n>>>>>>> branch\n"
 
 
@@ -51,9 +54,7 @@ def test_some_labels(place: Place) -> None:
     done = place.run(*dev, "dev", ".")
     ended("one label", done, 0, "\n2 decrypted, 0 failed, 4 with other labels (default 2, prod 2)\n")
     done = place.run(CHECK, *place.by_id("dev", "old"), "c.yml", ANSIBLE_VAULT_ID_MATCH="False")
-    ended(
-        "labels must match", done, 1, "(label default; tried none: no password has its label)", "0 decrypted, 3 failed"
-    )
+    ended("labels must match", done, 1, NO_MATCH, "0 decrypted, 3 failed")
     done = place.run(*dev, "prdo", "a.yml")
     ended("a label that nothing has", done, 1, f"{CHECK}: no vault or value has the label prdo\n")
     place.put("d.yml", b"$ANSIBLE_VAULT;1.1\n")

@@ -1,4 +1,8 @@
-"""Re-encrypts the envelopes of files with new passwords, according to their labels, including those in plaintexts."""
+"""Re-encrypts the envelopes of files with new passwords, according to their labels, including those in plaintexts.
+
+`tool` refuses a new envelope that is not whole, and a file is read again before it is written: only its envelopes may
+differ. Nothing is decrypted again.
+"""
 
 from __future__ import annotations
 
@@ -16,7 +20,7 @@ from ansible_vault_companions.files.searching import FoundFile
 from ansible_vault_companions.passwords.password import Password
 from ansible_vault_companions.quoting import escape
 from ansible_vault_companions.refusals import Refused
-from ansible_vault_companions.tool import DAMAGED, Key
+from ansible_vault_companions.tool import DAMAGED, Decryption, Key, NotDecrypted
 
 # A placeholder for the new envelope in a dry run.
 DRY = b"$ANSIBLE_VAULT;1.1;AES256\n%s\n" % (b"61" * 16)
@@ -27,7 +31,9 @@ class Rotation(Work):
     """Rotates files with these passwords."""
 
     old: list[Password]
+    # The new passwords by their labels; and the one that also replaces the old ones of other labels, if that is wanted.
     new: dict[str, Password]
+    new_for_any: Password | None
     is_dry: bool
 
     def process_file(self, found: FoundFile, content: Content, report: Report) -> bytes | None:
@@ -60,27 +66,46 @@ class Rotation(Work):
         new = self.new.get(label)
         if new:
             report.labels.add(label)
-            # Passwords with its label are tried first, so most envelopes are decrypted by the first one.
-            result = self.decrypt(value, [*self.old, new], may_fail=is_prose)
-        else:
-            # One with another label stays, and is decrypted only for the envelopes in its plaintext, if it can be.
+        result = self._decrypt_own(value, new, is_prose) if new else self._decrypt_other(value, is_prose)
+        if result and not new:
+            new = self.new_for_any
+        if not new:
             report.add_envelope(OTHER_LABEL, place)
-            passwords = [password for password in self.old if password.label == label]
-            result = self.decrypt(value, passwords, may_fail=True) if value.is_whole else None
         if not result:
             report.labels.clear()
             return None
-        result.require_label()
+        return self._encrypt_again(result, new, place, report)
+
+    def _decrypt_own(self, value: Node, new: Password, is_prose: bool) -> Decryption | None:
+        """What has the label of a new password. Those with its label are tried first, so most need a single try."""
+        return self.decrypt(value, [*self.old, new], may_fail=is_prose)
+
+    def _decrypt_other(self, value: Node, is_prose: bool) -> Decryption | None:
+        """What has another label. It stays if no old password decrypts it. If only what is in its plaintext may change,
+        it is decrypted for that alone."""
+        if not self.new_for_any:
+            passwords = [password for password in self.old if password.label == value.label]
+            return self.decrypt(value, passwords, may_fail=True) if value.is_whole else None
+        try:
+            return self.decrypt(value, self.old, may_fail=is_prose)
+        except NotDecrypted:
+            return None
+
+    def _encrypt_again(self, result: Decryption, new: Password | None, place: Place, report: Report) -> bytes | None:
+        """An envelope with its new password, or with new ones in its plaintext; None if it stays."""
+        if self.new_for_any:
+            report.labels.add(self.new_for_any.label)
+        else:
+            result.require_label()
         after = self._within(result.text, place, report)
-        keeps = not new or result.password.content == new.content
+        key = Key(new, new.label) if new else result.key
+        keeps = (result.password.content, result.key.label) == (key.password.content, key.label)
         if new:
             done = TO_BE_ROTATED if self.is_dry else ROTATED
             report.add_envelope(KEPT if keeps else done, place)
         if keeps and after == result.text:
             return None
-        if self.is_dry:
-            return DRY
-        return self.tool.encrypt_again(value.text, after, Key(new or result.password, label))
+        return DRY if self.is_dry else self.tool.encrypt_again(result.envelope, after, key)
 
     def _within(self, plaintext: bytes, place: Place, report: Report) -> bytes:
         """The plaintext of an envelope, with the envelopes in it rotated."""
