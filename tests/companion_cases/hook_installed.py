@@ -5,7 +5,7 @@ import shlex
 
 import pytest
 
-from companion_cases import HOOK, MERGE, TEXT, TEXTCONV, Place, ended, run_changed, sealed, silent
+from companion_cases import HOOK, MERGE, ROTATE, TEXT, TEXTCONV, Place, ended, run_changed, sealed, silent
 from companion_cases.repository import BASE, OURS, THEIRS, add_and_commit, fork, told, under_git
 
 pytestmark = pytest.mark.usefixtures("git")
@@ -65,6 +65,24 @@ def test_drivers(place: Place) -> None:
     done = place.run(HOOK, "--uninstall")
     ended("it is undone", done, 0, f"{DIFF}: removed", f"{DRIVER}: removed")
     assert place.get(".git/config") == before, "nothing is left of it"
+
+
+@pytest.mark.parametrize("names, lacks", [([], False), (["old"], True), (["new"], False), (["old", "new"], False)])
+def test_rotation(place: Place, names: list[str], lacks: bool) -> None:
+    """A rotation says if git diff lacks the new password, since it would show digits from now on."""
+    under_git(place, ATTRIBUTES)
+    place.put("a.vault.yml", sealed("old"))
+    if names:
+        place.run(HOOK, "--install", *(f"--vault-password-file=~/secrets/{name}" for name in names))
+    line = [ROTATE, "--vault-id=~/secrets/old", "--new-vault-id=~/secrets/new", "."]
+    runs = {
+        "a dry run": place.run(*line, "--dry-run"),
+        "a rotation": place.run(*line),
+        "another, with nothing to do": place.run(*line),
+    }
+    for what, done in runs.items():
+        is_said = "git diff in this clone lacks the new password" in done.stdout
+        assert is_said == (lacks and what == "a rotation"), what
 
 
 def test_links(place: Place) -> None:

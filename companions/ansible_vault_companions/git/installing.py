@@ -11,15 +11,17 @@ from contextlib import suppress
 
 from ansible_vault_companions.files import resolving
 from ansible_vault_companions.git.commands import read_line, run_git
+from ansible_vault_companions.passwords.settings import expand_path
 from ansible_vault_companions.quoting import escape, quote_word
 from ansible_vault_companions.refusals import Refused
 
 # If the driver does not start, git's own merge leaves a conflict; otherwise git would keep ours without a word.
 OR_ELSE = ' || { s=$?; [ "$s" -lt 2 ] || [ "$s" -gt 127 ] || git merge-file -q %A %O %B; exit 1; }'
+TEXTCONV = "diff.ansible-vault.textconv"
 # The git settings, each with the companion that it runs and the arguments after the passwords.
 SETTINGS = {
-    "diff.ansible-vault.textconv": ("ansible-vault-textconv", ""),
     "merge.ansible-vault.driver": ("ansible-vault-merge", f" %O %A %B %P{OR_ELSE}"),
+    TEXTCONV: ("ansible-vault-textconv", ""),
 }
 # Where hooks are in git's own directory, unless core.hooksPath is set.
 HOOKS = "hooks"
@@ -84,6 +86,13 @@ def make_setting(setting: str, program: str, passwords: list[str]) -> str:
 def read_setting(setting: str, *options: str) -> str:
     """The value of a setting; empty if it is not set. Without a default, git would have the status of a failure."""
     return read_line("config", *options, "--default", "", "--get", setting)
+
+
+def lacks_passwords(paths: list[str]) -> bool:
+    """Whether `git diff` is set up in this clone, but without one of these password files."""
+    value = read_setting(TEXTCONV)
+    is_set = SETTINGS[TEXTCONV][0] in value
+    return is_set and not all(path in value or expand_path(path) in value for path in paths)
 
 
 def install_setting(setting: str, value: str) -> str:
