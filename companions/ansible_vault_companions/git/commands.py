@@ -2,15 +2,17 @@
 
 from __future__ import annotations
 
+import _signal  # type: ignore
 import os
 
-from ansible_vault_companions import processes
+from ansible_vault_companions import bounding, processes
+from ansible_vault_companions.limits import TOO_SLOW_PROGRAM
 from ansible_vault_companions.refusals import Refused
 
 # The module `typing` takes long to import.
 TYPE_CHECKING = False
 if TYPE_CHECKING:
-    from subprocess import CompletedProcess
+    from subprocess import CompletedProcess, Popen
     from typing import Any
 # A stranger's repository has its own settings, hooks and attributes, which name programs. git would start the program
 # in core.fsmonitor to read an index, the hook post-index-change to write one, and a transport (and so core.sshCommand
@@ -25,6 +27,10 @@ OF_HOOKS = ("rev-parse", "config")
 # Otherwise, git may take one of several objects of a name without a word.
 WARNS = "core.warnAmbiguousRefs=true"
 CUT = "git {} failed: its output is cut"
+# The bytes of git's messages that are quoted.
+LONGEST_MESSAGE = 1_000
+# The status of git if it cannot do its work at all.
+FATAL = 128
 
 # No transport is started, and no object counts as another one, as refs/replace might say.
 ONLY_WHAT_IS_THERE = {"GIT_NO_LAZY_FETCH": "1", "GIT_ALLOW_PROTOCOL": "none", "GIT_NO_REPLACE_OBJECTS": "1"}
@@ -41,14 +47,30 @@ def build_environment(index: str | None = None) -> dict[str, str]:
     return {**os.environ, **ONLY_WHAT_IS_THERE, **({"GIT_INDEX_FILE": index} if index else {})}
 
 
+def start_git(
+    words: tuple[str, ...], index: str | None = None, folder: str | None = None, **options: Any
+) -> Popen[bytes]:
+    """Starts a git command, with a limit of processor time."""
+    environment = build_environment(index)
+    seconds = bounding.measure_time_left()
+    git = processes.start_program(build_command(words), env=environment, cwd=folder, **options)
+    bounding.limit_program(git.pid, seconds)
+    return git
+
+
 def run_git_command(
-    *words: str, data: bytes = b"", index: str | None = None, **options: Any
+    *words: str, data: bytes = b"", index: str | None = None, folder: str | None = None, **options: Any
 ) -> CompletedProcess[bytes]:
     """Runs a git command to its end, whatever its status."""
-    try:
-        return processes.run_program(build_command(words), data, env=build_environment(index), **options)
-    except FileNotFoundError:
-        raise Refused("git is not installed; install it") from None
+    from subprocess import PIPE, CompletedProcess
+
+    with start_git(words, index, folder, stdin=PIPE, stdout=PIPE, stderr=PIPE, **options) as git:
+        try:
+            output, errors = git.communicate(data)
+        except BaseException:
+            git.kill()
+            raise
+    return CompletedProcess(words, git.returncode, output, errors)
 
 
 def run_git(
@@ -56,24 +78,35 @@ def run_git(
 ) -> bytes:
     """The output of a git command. If it fails, so does this, with git's own message. Warnings are left out. With the
     status 1, some commands say that there is none of what they look for."""
-    done = run_git_command(*words, data=data, index=index, cwd=folder)
+    done = run_git_command(*words, data=data, index=index, folder=folder)
     if may_be_none and done.returncode == 1:
         return b""
-    _require_success(words[0], done)
+    require_success(words[0], done)
     return done.stdout
 
 
-def _require_success(command: str, done: CompletedProcess[bytes]) -> None:
+def require_success(command: str, done: CompletedProcess[bytes]) -> None:
+    """Raises Refused with git's own message if a command has failed."""
     if done.returncode != 0:
-        raise Refused(f"git {command} failed: {_read_messages(done) or _describe_end(done.returncode)}")
+        raise Refused(describe_failure(command, done.returncode, done.stderr))
 
 
-def _read_messages(done: CompletedProcess[bytes]) -> str:
-    return " ".join(done.stderr.decode(errors="replace").split())
+def describe_failure(command: str, status: int, errors: bytes) -> str:
+    """Why a git command failed, if possible in git's own words."""
+    return f"git {command} failed: {_describe_end(status, errors)}"
 
 
-def _describe_end(status: int) -> str:
-    return f"signal {-status} ended it" if status < 0 else f"it ended with status {status}"
+def _describe_end(status: int, errors: bytes) -> str:
+    if status == -_signal.SIGXCPU:
+        return TOO_SLOW_PROGRAM
+    end = f"signal {-status} ended it" if status < 0 else f"it ended with status {status}"
+    return _read_messages(errors) or end
+
+
+def _read_messages(errors: bytes) -> str:
+    """What git says, or the beginning of it: a line for each line of a file may be megabytes."""
+    messages = " ".join(errors[:LONGEST_MESSAGE].decode(errors="replace").split())
+    return f"{messages} [...]" if len(errors) > LONGEST_MESSAGE else messages
 
 
 def read_line(*words: str) -> str:
@@ -105,5 +138,5 @@ def find_warning(name: str) -> str:
     """What git says of the name of an object that is there; empty if it says nothing."""
     command = "rev-parse"
     done = run_git_command("-c", WARNS, command, "--verify", "--end-of-options", name)
-    _require_success(command, done)
-    return _read_messages(done)
+    require_success(command, done)
+    return _read_messages(done.stderr)
