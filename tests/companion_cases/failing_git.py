@@ -45,6 +45,7 @@ FEWER_RECORDS = {
     "diff-index --cached": "nothing differs",
     "diff-tree --stdin": "no commit changes a file",
     "ls-files -s": "there is no other file",
+    "ls-tree -r": "there is no other file",
     "rev-list": "there is no earlier commit",
     "rev-list --reverse": "there is no later commit",
 }

@@ -4,7 +4,8 @@ from __future__ import annotations
 
 from ansible_vault_companions.files.resolving import MOST_LINKS
 from ansible_vault_companions.git.blobs import Blobs
-from ansible_vault_companions.git.indexes import File, Index
+from ansible_vault_companions.git.differences import File
+from ansible_vault_companions.git.indexes import Index
 from ansible_vault_companions.limits import LONGEST_LINK
 
 

@@ -28,3 +28,9 @@ def find_top() -> str:
     if not folder:
         raise Refused("the current directory is not in a git repository")
     return folder
+
+
+@lru_cache(maxsize=None)
+def is_own_repository(repository: str) -> bool:
+    """Whether a repository is the user's or root's. Anybody may put a `.git` into a directory such as /tmp."""
+    return os.lstat(os.path.join(repository, ".git")).st_uid in (os.geteuid(), 0)

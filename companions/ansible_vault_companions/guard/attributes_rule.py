@@ -6,7 +6,7 @@ from codecs import BOM_UTF8
 from typing import Iterator
 
 from ansible_vault_companions.git.attributes import list_attribute_files
-from ansible_vault_companions.git.indexes import File
+from ansible_vault_companions.git.differences import File
 from ansible_vault_companions.guard.advice import Fault, Remedy
 from ansible_vault_companions.guard.evidence import Evidence
 

@@ -9,7 +9,8 @@ from ansible_vault_companions.envelopes import file_kinds
 from ansible_vault_companions.git import indexes
 from ansible_vault_companions.git.attributes import Attributes, read_attributes
 from ansible_vault_companions.git.blobs import Blobs
-from ansible_vault_companions.git.indexes import Differences, File, Index
+from ansible_vault_companions.git.differences import Differences, File
+from ansible_vault_companions.git.indexes import Index
 from ansible_vault_companions.guard import facts
 from ansible_vault_companions.guard.facts import Facts
 

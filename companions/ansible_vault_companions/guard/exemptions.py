@@ -7,8 +7,8 @@ only by a line that the change itself adds: an older one may be left over, or a 
 from __future__ import annotations
 
 from ansible_vault_companions.git.attributes import PLAIN_VALUES, VAULT, make_line
-from ansible_vault_companions.git.indexes import File
 from ansible_vault_companions.guard.advice import Fault, Remedy
+from ansible_vault_companions.git.differences import File
 from ansible_vault_companions.guard.evidence import Evidence
 
 EXEMPT = f"-{VAULT}"

@@ -5,7 +5,7 @@ from __future__ import annotations
 import os
 
 from ansible_vault_companions.files import replacing
-from ansible_vault_companions.git.indexes import File
+from ansible_vault_companions.git.differences import File
 from ansible_vault_companions.guard.advice import Fault, Remedy
 
 LEFTOVER = "was left behind by a companion, and may be plaintext"

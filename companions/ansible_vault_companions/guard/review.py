@@ -10,9 +10,11 @@ from ansible_vault_companions.envelopes.header import MAGIC
 from ansible_vault_companions.git import history, indexes
 from ansible_vault_companions.git.blobs import Blobs
 from ansible_vault_companions.git.commands import list_records
+from ansible_vault_companions.git.differences import Differences, File
 from ansible_vault_companions.git.history import DIGITS
-from ansible_vault_companions.git.indexes import Differences, File, Index
+from ansible_vault_companions.git.indexes import Index
 from ansible_vault_companions.git.links import find_target
+from ansible_vault_companions.git.versions import list_former_versions
 from ansible_vault_companions.guard import (
     advice,
     attributes_rule,
@@ -114,7 +116,7 @@ def review_all(review: Review) -> None:
     commit = history.find_commit("HEAD")
     advise = partial(advice.write_advice, words=advice.COMMITTED)
     with indexes.open_index(commit) as index:
-        former = index.list_former_versions(commit)
+        former = list_former_versions(index.files, commit)
         blobs = {file.before for file in former}
         # Of an old vault, no more than this word is read.
         vaults = {blob for blob in blobs if review.blobs.read(blob, is_old=True) == MAGIC}

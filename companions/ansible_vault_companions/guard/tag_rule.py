@@ -2,7 +2,7 @@
 
 from __future__ import annotations
 
-from ansible_vault_companions.git.indexes import File
+from ansible_vault_companions.git.differences import File
 from ansible_vault_companions.guard import exemptions
 from ansible_vault_companions.guard.advice import Fault, Remedy
 from ansible_vault_companions.guard.evidence import Evidence

@@ -5,7 +5,7 @@ template never parses."""
 from __future__ import annotations
 
 from ansible_vault_companions.envelopes.damage import NOT_READ
-from ansible_vault_companions.git.indexes import File
+from ansible_vault_companions.git.differences import File
 from ansible_vault_companions.guard import exemptions
 from ansible_vault_companions.guard.advice import Fault, Remedy
 from ansible_vault_companions.guard.evidence import Evidence, is_yaml

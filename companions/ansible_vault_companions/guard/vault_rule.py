@@ -6,7 +6,7 @@ import os
 from functools import cached_property
 from typing import Iterable
 
-from ansible_vault_companions.git.indexes import File
+from ansible_vault_companions.git.differences import File
 from ansible_vault_companions.guard import exemptions
 from ansible_vault_companions.guard.advice import Fault
 from ansible_vault_companions.guard.evidence import Evidence, is_yaml

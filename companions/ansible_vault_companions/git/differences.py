@@ -1,0 +1,87 @@
+"""The files that differ between two commits, as git prints them in the format RAW."""
+
+from __future__ import annotations
+
+import os
+from typing import Iterable, Iterator, NamedTuple
+
+from ansible_vault_companions.git.commands import CUT, list_records
+from ansible_vault_companions.git.history import DIGITS
+from ansible_vault_companions.git.pathspecs import make_pathspec
+from ansible_vault_companions.quoting import escape
+from ansible_vault_companions.refusals import Refused
+
+# The modes of regular files and of links, as opposed to submodules.
+FILE_MODES, LINK_MODE = ("100644", "100755"), "120000"
+MODES = (*FILE_MODES, LINK_MODE)
+# git compares each removed file with each new one, so it looks for renames only up to this many.
+RENAMES = ("--find-renames", "-l400")
+RAW = ("--raw", "-z", "--no-abbrev")
+
+
+class File(NamedTuple):
+    """A file or link of a commit, with its blob, and that of the file that was there before, or that git calls renamed.
+    A blob is empty if there is no such file."""
+
+    name: bytes
+    blob: str
+    before: str = ""
+    is_link: bool = False
+
+
+class Differences(NamedTuple):
+    """Files that differ from another commit, and how messages refer to it."""
+
+    since: str
+    files: list[File]
+    # The other commit, unless the files are compared with several.
+    parent: str = ""
+
+
+class Difference(NamedTuple):
+    """An entry of git's output. A renamed file has two names."""
+
+    old_name: bytes
+    name: bytes
+    old_mode: str
+    mode: str
+    old_blob: str
+    blob: str
+
+    @property
+    def file(self) -> File:
+        """The file that is there now."""
+        blob = self.blob if self.mode in MODES else ""
+        before = self.old_blob if self.old_mode in FILE_MODES else ""
+        return File(self.name, blob, before, is_link=self.mode == LINK_MODE)
+
+
+def count_names(about: bytes) -> int:
+    """How many names follow the first field of an entry."""
+    return 2 if about.rpartition(b" ")[2].startswith(b"R") else 1
+
+
+def read_difference(about: bytes, names: list[bytes]) -> Difference:
+    """An entry from its fields. Raises Refused if a file is unmerged."""
+    old_mode, mode, old_blob, blob, status = about.decode().removeprefix(":").split()
+    if status == "U":
+        path = os.fsdecode(names[0])
+        to_add = f"`git add -- {make_pathspec(path, is_below_top=True)}`"
+        raise Refused(f"{escape(path)} is unmerged; resolve the conflict, and run {to_add}")
+    return Difference(names[0], names[-1], old_mode, mode, old_blob, blob)
+
+
+def list_differences(*words: str, data: bytes = b"", index: str | None = None) -> Iterator[Difference]:
+    """The entries that a git command prints."""
+    fields = iter(list_records(*words, data=data, index=index))
+    for about in fields:
+        names = [next(fields, b"") for _ in range(count_names(about))]
+        if not all(names):
+            raise Refused(CUT.format(words[0]))
+        yield read_difference(about, names)
+
+
+def make_differences(commit: str, differences: Iterable[Difference]) -> Differences:
+    """The differences from a commit. A file that git calls renamed is not removed."""
+    listed = [*differences]
+    return Differences(commit[:DIGITS], [difference.file for difference in listed], commit)
