@@ -73,7 +73,7 @@ case $FAILS in
         eval "$END" ;;
     '')
         case $* in
-            *--batch) real_git "$@" | tee "$answer"; exit ;;
+            *--batch | *--stdin*) real_git "$@" | tee "$answer"; exit ;;
         esac
         real_git "$@" > "$answer"
         status=$?

@@ -4,20 +4,23 @@ from __future__ import annotations
 
 import os
 import re
-from typing import Callable, Collection, Container, Iterable, NamedTuple
 from functools import cache
+from typing import Callable, Collection, Container, Iterable, Iterator, NamedTuple
 
 from ansible_vault_companions.files import resolving
-from ansible_vault_companions.git.commands import CUT, list_records
+from ansible_vault_companions.git.commands import CUT
 from ansible_vault_companions.git.repository import find_repository
 from ansible_vault_companions.quoting import escape
 from ansible_vault_companions.refusals import Refused
+from ansible_vault_companions.git.servers import Server
 
 # The first attribute marks a file if it has this value, the second if it is set. Unset, the second exempts a file. The
 # third exempts the values at these key paths.
 DIFF, VAULT, PLAIN_VALUES = ATTRIBUTES = ("diff", "ansible-vault", "ansible-vault-plain")
 NAME = b"ansible-vault"
 FILE = b".gitattributes"
+# The bytes that a pipe holds, at least.
+LEAST_PIPE = 4_096
 # git ignores longer lines.
 LONGEST_LINE = 2_047
 # What needs no escape in a pattern, and what has a meaning there.
@@ -31,20 +34,45 @@ class Attributes(NamedTuple):
     plain_values: frozenset[str] = frozenset()
 
 
-def read_attributes(
-    names: Collection[bytes], index: str | None = None, folder: str | None = None
-) -> dict[bytes, Attributes]:
-    """The attributes of each file, from the index or, if a directory is given, from its files."""
-    options = [] if folder else ["--cached"]
-    data = b"".join(name + b"\0" for name in names)
-    fields = list_records("check-attr", *options, "-z", "--stdin", *ATTRIBUTES, data=data, index=index, folder=folder)
-    if len(fields) != 3 * len(ATTRIBUTES) * len(names):
-        raise Refused(CUT.format("check-attr"))
-    values: dict[bytes, dict[bytes, bytes]] = {}
-    triples = iter(fields)
-    for name, attribute, value in zip(triples, triples, triples):
-        values.setdefault(name, {})[attribute] = value
-    return {name: _make_attributes(*given.values()) for name, given in values.items()}
+class AttributeReader(Server):
+    """Reads the attributes of files from an index or, if a directory is given, from its files."""
+
+    def __init__(self, index: str | None = None, folder: str | None = None) -> None:
+        options = [] if folder else ["--cached"]
+        super().__init__("check-attr", *options, "-z", "--stdin", *ATTRIBUTES, index=index, folder=folder)
+
+    def read(self, names: Collection[bytes]) -> dict[bytes, Attributes]:
+        """The attributes of each file."""
+        read = {}
+        for batch in _list_batches(names):
+            self.ask(b"".join(name + b"\0" for name in batch))
+            read.update({name: self._take_attributes(name) for name in batch})
+        return read
+
+    def _take_attributes(self, name: bytes) -> Attributes:
+        values = []
+        for attribute in ATTRIBUTES:
+            if (self.take_until(b"\0"), self.take_until(b"\0")) != (name, attribute.encode()):
+                raise Refused(CUT.format("check-attr"))
+            values.append(self.take_until(b"\0"))
+        return _make_attributes(*values)
+
+
+def _list_batches(names: Iterable[bytes]) -> Iterator[list[bytes]]:
+    """The names in lists that a pipe holds, or of one name, so that git never waits for a reader of its answer."""
+    batch, size = list[bytes](), 0
+    for name in names:
+        size += len(name) + 1
+        if batch and size > LEAST_PIPE:
+            yield batch
+            batch, size = [], len(name) + 1
+        batch.append(name)
+    if batch:
+        yield batch
+
+
+def is_attribute_file(name: bytes) -> bool:
+    return name.rpartition(b"/")[2] == FILE
 
 
 def _make_attributes(diff: bytes, vault: bytes, plain: bytes) -> Attributes:
@@ -58,11 +86,10 @@ def find_marked(paths: list[str]) -> set[str]:
     """Those that are marked in the repository that they are in, if any. A link counts by its own name, too."""
     links = [path for path in paths if os.path.islink(path)]
     groups = [*_group_by_repository(paths).items(), *_group_by_repository(links, follows=False).items()]
-    marked = set()
+    marked = set[str]()
     for folder, names in groups:
-        for name, attributes in read_attributes(names, folder=folder).items():
-            if attributes.is_marked:
-                marked.add(names[name])
+        with AttributeReader(folder=folder) as reader:
+            marked.update(names[name] for name, given in reader.read(names).items() if given.is_marked)
     return marked
 
 

@@ -5,6 +5,7 @@ from __future__ import annotations
 import os
 from typing import Iterable, Iterator, NamedTuple
 
+from ansible_vault_companions.git.attributes import is_attribute_file
 from ansible_vault_companions.git.commands import CUT, list_records
 from ansible_vault_companions.git.history import DIGITS
 from ansible_vault_companions.git.pathspecs import make_pathspec
@@ -36,6 +37,8 @@ class Differences(NamedTuple):
     files: list[File]
     # The other commit, unless the files are compared with several.
     parent: str = ""
+    # Whether the attributes may differ as well.
+    has_attributes: bool = False
 
 
 class Difference(NamedTuple):
@@ -71,9 +74,9 @@ def read_difference(about: bytes, names: list[bytes]) -> Difference:
     return Difference(names[0], names[-1], old_mode, mode, old_blob, blob)
 
 
-def list_differences(*words: str, data: bytes = b"", index: str | None = None) -> Iterator[Difference]:
+def list_differences(*words: str, data: bytes = b"") -> Iterator[Difference]:
     """The entries that a git command prints."""
-    fields = iter(list_records(*words, data=data, index=index))
+    fields = iter(list_records(*words, data=data))
     for about in fields:
         names = [next(fields, b"") for _ in range(count_names(about))]
         if not all(names):
@@ -84,4 +87,6 @@ def list_differences(*words: str, data: bytes = b"", index: str | None = None) -
 def make_differences(commit: str, differences: Iterable[Difference]) -> Differences:
     """The differences from a commit. A file that git calls renamed is not removed."""
     listed = [*differences]
-    return Differences(commit[:DIGITS], [difference.file for difference in listed], commit)
+    names = (name for difference in listed for name in (difference.old_name, difference.name))
+    has_attributes = any(map(is_attribute_file, names))
+    return Differences(commit[:DIGITS], [difference.file for difference in listed], commit, has_attributes)

@@ -37,6 +37,15 @@ def list_parents(commit: str) -> list[str]:
     return read_line("rev-list", "--parents", "--max-count=1", commit, "--").split()[1:]
 
 
+def list_commits(first: str, last: str) -> list[list[str]]:
+    """The commits after the first one, each with its parents behind it, and the last one at the end."""
+    lines = list_records("rev-list", "--reverse", "--topo-order", "--parents", f"{first}..{last}", "--")
+    commits = [line.decode().split() for line in lines]
+    if commits and commits[-1][0] != last:
+        raise Refused(CUT.format("rev-list"))
+    return commits
+
+
 def list_merge_bases(one: str, other: str) -> list[str]:
     """The merge bases of two commits. `git merge-base` has the same status if there are none and if it fails; this
     prints both commits first."""

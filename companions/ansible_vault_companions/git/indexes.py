@@ -1,12 +1,12 @@
-"""What is staged, and what an index has of a commit: the files, and their changes."""
+"""What is staged: the files, and their changes."""
 
 from __future__ import annotations
 
 import os
-from contextlib import contextmanager
 from functools import cached_property
-from typing import Iterator
+from typing import Collection
 
+from ansible_vault_companions.git.attributes import AttributeReader, Attributes
 from ansible_vault_companions.git.commands import find_object, list_records, read_line, run_git
 from ansible_vault_companions.git.differences import (
     LINK_MODE,
@@ -18,7 +18,6 @@ from ansible_vault_companions.git.differences import (
     list_differences,
     make_differences,
 )
-from ansible_vault_companions.git.history import list_parents
 from ansible_vault_companions.git.index_files import find_empty_tree, open_index_file
 from ansible_vault_companions.quoting import escape
 from ansible_vault_companions.refusals import Refused
@@ -28,18 +27,16 @@ MERGED = "GITHEAD_"
 
 
 class Index:
-    """The files that are staged or, in an index of its own, those of a commit; and the parents of that commit."""
+    """The files that are staged, and the parents of the next commit."""
 
-    def __init__(self, parents: list[str], path: str | None = None) -> None:
+    def __init__(self, parents: list[str]) -> None:
         # The parent of a first commit is the empty tree.
         self.parents = parents or [find_empty_tree()]
-        self.path = path
 
     def list_files(self, paths: list[str]) -> list[File]:
         """The files and links at or below these paths. git refuses a path without any."""
-        words = ("ls-files", "-s", "-z", "--full-name", "--error-unmatch", "--", *paths)
         files = []
-        for entry in list_records(*words, index=self.path):
+        for entry in list_records("ls-files", "-s", "-z", "--full-name", "--error-unmatch", "--", *paths):
             about, _, name = entry.partition(b"\t")
             mode, blob, _ = about.decode().split()
             if mode in MODES:
@@ -50,14 +47,17 @@ class Index:
     def files(self) -> dict[bytes, File]:
         return {file.name: file for file in self.list_files([])}
 
-    def compare_with(self, commit: str) -> Differences:
-        """The differences from a commit."""
-        words = ("diff-index", "--cached", *RENAMES, *RAW, commit, "--")
-        return make_differences(commit, list_differences(*words, index=self.path))
-
     def compare_with_parents(self) -> list[Differences]:
         """The differences from each parent."""
-        return [self.compare_with(parent) for parent in self.parents]
+        return [self._compare_with(parent) for parent in self.parents]
+
+    def _compare_with(self, commit: str) -> Differences:
+        differences = list_differences("diff-index", "--cached", *RENAMES, *RAW, commit, "--")
+        return make_differences(commit, differences)
+
+    def read_attributes(self, names: Collection[bytes]) -> dict[bytes, Attributes]:
+        with AttributeReader() as reader:
+            return reader.read(names)
 
 
 def read_staged() -> Index:
@@ -82,8 +82,7 @@ def _has_commit() -> bool:
     return False
 
 
-@contextmanager
-def open_index(commit: str) -> Iterator[Index]:
-    """A context with a temporary index that contains the files of a commit."""
-    with open_index_file(commit) as path:
-        yield Index(list_parents(commit), path)
+def read_attributes_of(tree: str, names: Collection[bytes]) -> dict[bytes, Attributes]:
+    """The attributes of these files in a commit or tree."""
+    with open_index_file(tree) as path, AttributeReader(path) as reader:
+        return reader.read(names)

@@ -6,11 +6,11 @@ import os
 from functools import cached_property
 
 from ansible_vault_companions.envelopes import file_kinds
-from ansible_vault_companions.git import indexes
-from ansible_vault_companions.git.attributes import Attributes, read_attributes
+from ansible_vault_companions.git.attributes import Attributes
 from ansible_vault_companions.git.blobs import Blobs
 from ansible_vault_companions.git.differences import Differences, File
-from ansible_vault_companions.git.indexes import Index
+from ansible_vault_companions.git.indexes import Index, read_attributes_of
+from ansible_vault_companions.git.snapshots import Snapshot
 from ansible_vault_companions.guard import facts
 from ansible_vault_companions.guard.facts import Facts
 
@@ -18,13 +18,13 @@ from ansible_vault_companions.guard.facts import Facts
 class Evidence:
     """It reads each content once, and again only if a plaintext may have moved."""
 
-    def __init__(self, differences: Differences, index: Index, blobs: Blobs) -> None:
+    def __init__(self, differences: Differences, index: Index | Snapshot, blobs: Blobs) -> None:
         self.index = index
         self.blobs = blobs
-        self.parent = differences.parent
+        self.differences = differences
         self.since = f" in {differences.since}" if differences.since else ""
         self.facts_by_blob: dict[tuple[str, bool, bool], Facts] = {}
-        self.attributes = read_attributes([file.name for file in differences.files], index.path)
+        self.attributes = index.read_attributes([file.name for file in differences.files])
         self.before = {file: self.find_facts(file.before, is_old=True) for file in differences.files}
         has_values = any(before.encrypted for before in self.before.values())
         self.now = {file: self.find_facts(file.blob, has_values) for file in differences.files}
@@ -40,10 +40,11 @@ class Evidence:
     @cached_property
     def earlier(self) -> dict[bytes, Attributes]:
         """The attributes before the change."""
-        if not self.parent:
+        if not self.differences.parent:
             return {}
-        with indexes.open_index_file(self.parent) as path:
-            return read_attributes(self.attributes, path)
+        if not self.differences.has_attributes:
+            return self.attributes
+        return read_attributes_of(self.differences.parent, self.attributes)
 
     def find_earlier(self, file: File) -> Attributes:
         return self.earlier.get(file.name, Attributes())

@@ -9,11 +9,11 @@ from typing import Callable, Iterator
 from ansible_vault_companions.envelopes.header import MAGIC
 from ansible_vault_companions.git import history, indexes
 from ansible_vault_companions.git.blobs import Blobs
-from ansible_vault_companions.git.commands import list_records
 from ansible_vault_companions.git.differences import Differences, File
 from ansible_vault_companions.git.history import DIGITS
 from ansible_vault_companions.git.indexes import Index
 from ansible_vault_companions.git.links import find_target
+from ansible_vault_companions.git.snapshots import Snapshot
 from ansible_vault_companions.git.versions import list_former_versions
 from ansible_vault_companions.guard import (
     advice,
@@ -70,7 +70,7 @@ class Review:
         self.reported: set[tuple[bytes, str]] = set()
 
     def check_changes(
-        self, index: Index, changes: list[Differences], advise: Callable[[Fault], str], where: str = ""
+        self, index: Index | Snapshot, changes: list[Differences], advise: Callable[[Fault], str], where: str = ""
     ) -> None:
         """Checks changes with the attributes of an index. `where` precedes each message, and advice follows it. A link
         counts as the file that it leads to, and as none if that is not in the index."""
@@ -100,28 +100,30 @@ def review_since(review: Review, name: str) -> None:
     if not name.strip("0"):
         raise Refused(NO_COMMIT.format(name or "nothing"))
     first, last = history.find_typed_commit(name), history.find_commit("HEAD")
-    for line in list_records("rev-list", "--reverse", "--topo-order", f"{first}..{last}", "--"):
-        commit = line.decode()
-        with indexes.open_index(commit) as index:
+    commits = history.list_commits(first, last)
+    with Snapshot(review.blobs) as snapshot:
+        for commit, *parents in commits:
+            snapshot.move_to(commit, parents)
             advise = partial(advice.advise_on_commit, commit=commit)
-            review.check_changes(index, index.compare_with_parents(), advise, f"{commit[:DIGITS]}: ")
-    with indexes.open_index(last) as index:
+            review.check_changes(snapshot, snapshot.compare_with_parents(), advise, f"{commit[:DIGITS]}: ")
+        snapshot.move_to(last, [])
         for base in history.list_merge_bases(first, last):
             advise = partial(advice.advise_on_commits, base=base, last=last)
-            review.check_changes(index, [index.compare_with(base)], advise, f"{last[:DIGITS]}: ")
+            review.check_changes(snapshot, [snapshot.compare_with(base)], advise, f"{last[:DIGITS]}: ")
 
 
 def review_all(review: Review) -> None:
     """Reviews all files, the changes of the last commit, and every file that was a vault in an earlier commit."""
     commit = history.find_commit("HEAD")
     advise = partial(advice.write_advice, words=advice.COMMITTED)
-    with indexes.open_index(commit) as index:
-        former = list_former_versions(index.files, commit)
+    with Snapshot(review.blobs) as snapshot:
+        snapshot.move_to(commit, history.list_parents(commit))
+        former = list_former_versions(snapshot.files, commit)
         blobs = {file.before for file in former}
         # Of an old vault, no more than this word is read.
         vaults = {blob for blob in blobs if review.blobs.read(blob, is_old=True) == MAGIC}
         # One version is enough.
         were_vaults = {file.name: file for file in sorted(former) if file.before in vaults}
-        review.check_changes(index, [Differences("", index.list_files([]))], advise)
-        review.check_changes(index, index.compare_with_parents(), partial(advice.write_advice, words=advice.LAST))
-        review.check_changes(index, [Differences("an earlier commit", [*were_vaults.values()])], advise)
+        review.check_changes(snapshot, [Differences("", [*snapshot.files.values()])], advise)
+        review.check_changes(snapshot, snapshot.compare_with_parents(), partial(advice.write_advice, words=advice.LAST))
+        review.check_changes(snapshot, [Differences("an earlier commit", [*were_vaults.values()])], advise)
