@@ -1,5 +1,6 @@
 """The index of a commit that the hook makes in memory: git reads from it what it reads from an index of its own."""
 
+import itertools
 import os
 import subprocess
 from pathlib import Path
@@ -9,7 +10,7 @@ import pytest
 from hypothesis import strategies as st
 
 from ansible_vault_companions.git.index_files import open_index_file
-from companion_cases import HOOK, ROTATE, WITH, Place, ended, sealed, silent, to_new
+from companion_cases import HOOK, ROTATE, TEXT, WITH, Place, ended, sealed, silent, to_new
 from companion_cases.repository import add_and_commit, under_git
 from lib.subtests import SubTests
 
@@ -63,6 +64,36 @@ def test_same_as_of_git(
                 assert found == wanted, words
 
     check()
+
+
+def make_tree(entries: list[tuple[str, str, str]]) -> str:
+    """Write a tree, even one that git would not make, and return its ID."""
+    data = b"".join(f"{mode} {name}".encode() + b"\0" + bytes.fromhex(blob) for mode, name, blob in entries)
+    return run_git("hash-object", "-w", "-t", "tree", "--literally", "--stdin", data=data)[:-2].decode()
+
+
+@pytest.mark.parametrize("modes", itertools.product(("100644", "120000", "160000"), repeat=2), ids="-".join)
+def test_name_twice(place: Place, monkeypatch: pytest.MonkeyPatch, subtests: SubTests, modes: tuple[str, str]) -> None:
+    """A tree with two files of a name is refused, if it is that of the last commit, of a later one, of the beginning,
+    or of the parent of what is staged."""
+    monkeypatch.chdir(place.tree)
+    under_git(place, "")
+    add_and_commit(place)
+    first = run_git("rev-parse", "HEAD")[:-2].decode()
+    blobs = [run_git("hash-object", "-w", "--stdin", data=data)[:-2].decode() for data in (sealed("old"), TEXT)]
+    for order, folder in itertools.product((1, -1), ("", "d")):
+        trees = []
+        for entries in ([(mode, "x", blob) for mode, blob in zip(modes, blobs)][::order], [("100644", "x", blobs[1])]):
+            tree = make_tree(entries)
+            trees.append(make_tree([("40000", folder, tree)]) if folder else tree)
+        twice = run_git("commit-tree", "-m", "twice", "-p", first, trees[0])[:-2].decode()
+        later = run_git("commit-tree", "-m", "later", "-p", twice, trees[1])[:-2].decode()
+        why = f" has {folder}{'/' * bool(folder)}x twice, so it cannot be checked"
+        run_git("read-tree", trees[1])
+        for head, words in ((twice, "--all"), (twice, f"--since {first}"), (later, f"--since {twice}"), (twice, "")):
+            run_git("update-ref", "--no-deref", "HEAD", head)
+            with subtests.test(f"{order} {why} {words}"):
+                ended("a tree", place.run(HOOK, *words.split()), 1, why)
 
 
 def test_temporary_files(place: Place, subtests: SubTests) -> None:

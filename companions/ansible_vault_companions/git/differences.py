@@ -3,7 +3,7 @@
 from __future__ import annotations
 
 import os
-from typing import Iterable, Iterator, NamedTuple
+from typing import Container, Iterable, Iterator, NamedTuple
 
 from ansible_vault_companions.git.attributes import is_attribute_file
 from ansible_vault_companions.git.commands import CUT, list_records
@@ -15,9 +15,12 @@ from ansible_vault_companions.refusals import Refused
 # The modes of regular files and of links, as opposed to submodules.
 FILE_MODES, LINK_MODE = ("100644", "100755"), "120000"
 MODES = (*FILE_MODES, LINK_MODE)
+# The mode of what is not there.
+NO_MODE = "000000"
 # git compares each removed file with each new one, so it looks for renames only up to this many.
 RENAMES = ("--find-renames", "-l400")
 RAW = ("--raw", "-z", "--no-abbrev")
+TWICE = "{} has {} twice, so it cannot be checked"
 
 
 class File(NamedTuple):
@@ -52,6 +55,11 @@ class Difference(NamedTuple):
     blob: str
 
     @property
+    def is_new(self) -> bool:
+        """Whether there was no file of this name."""
+        return self.old_mode == NO_MODE or self.old_name != self.name
+
+    @property
     def file(self) -> File:
         """The file that is there now."""
         blob = self.blob if self.mode in MODES else ""
@@ -84,9 +92,19 @@ def list_differences(*words: str, data: bytes = b"") -> Iterator[Difference]:
         yield read_difference(about, names)
 
 
-def make_differences(commit: str, differences: Iterable[Difference]) -> Differences:
-    """The differences from a commit. A file that git calls renamed is not removed."""
+def require_once(tree: str, name: bytes, names: Container[bytes]) -> None:
+    """Refuses a tree that a stranger has made, if a further file has one of these names. git takes one of the two, here
+    this one and there the other."""
+    if name in names:
+        raise Refused(TWICE.format(tree[:DIGITS], escape(os.fsdecode(name))))
+
+
+def make_differences(commit: str, differences: Iterable[Difference], files: Container[bytes]) -> Differences:
+    """The differences of these files from a commit. A file that git calls renamed is not removed."""
     listed = [*differences]
+    for difference in listed:
+        if difference.mode == NO_MODE:
+            require_once(commit, difference.name, files)
     names = (name for difference in listed for name in (difference.old_name, difference.name))
     has_attributes = any(map(is_attribute_file, names))
     return Differences(commit[:DIGITS], [difference.file for difference in listed], commit, has_attributes)

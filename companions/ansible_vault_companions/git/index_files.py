@@ -13,6 +13,7 @@ from contextlib import contextmanager
 from typing import Iterator
 
 from ansible_vault_companions.git.commands import list_records, read_line
+from ansible_vault_companions.git.differences import require_once
 from ansible_vault_companions.refusals import Refused
 
 VERSION = 2
@@ -49,6 +50,7 @@ def _read_entries(tree: str) -> dict[bytes, tuple[int, bytes]]:
     for record in list_records("ls-tree", "-r", "-z", "--full-tree", tree):
         about, _, name = record.partition(b"\t")
         mode, _, number = about.decode().split()
+        require_once(tree, name, entries)
         entries[name] = (int(mode, 8), bytes.fromhex(number))
     return entries
 

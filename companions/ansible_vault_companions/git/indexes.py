@@ -53,7 +53,7 @@ class Index:
 
     def _compare_with(self, commit: str) -> Differences:
         differences = list_differences("diff-index", "--cached", *RENAMES, *RAW, commit, "--")
-        return make_differences(commit, differences)
+        return make_differences(commit, differences, self.files)
 
     def read_attributes(self, names: Collection[bytes]) -> dict[bytes, Attributes]:
         with AttributeReader() as reader:

@@ -7,7 +7,7 @@ from typing import Collection
 
 from ansible_vault_companions.git.attributes import AttributeReader, Attributes, is_attribute_file
 from ansible_vault_companions.git.blobs import Blobs
-from ansible_vault_companions.git.differences import Difference, Differences, File, make_differences
+from ansible_vault_companions.git.differences import Difference, Differences, File, make_differences, require_once
 from ansible_vault_companions.git.index_files import find_empty_tree, open_index_file
 from ansible_vault_companions.git.trees import Trees
 
@@ -36,11 +36,13 @@ class Snapshot:
     def move_to(self, commit: str, parents: list[str]) -> None:
         tree = self.blobs.find_tree(commit)
         for difference in self.trees.compare(self.tree, tree):
-            self._apply(difference)
+            self._apply(commit, difference)
         # The parent of a first commit is the empty tree.
         self.tree, self.parents = tree, parents or [self.nothing]
 
-    def _apply(self, difference: Difference) -> None:
+    def _apply(self, commit: str, difference: Difference) -> None:
+        if difference.is_new:
+            require_once(commit, difference.name, self.files)
         if is_attribute_file(difference.old_name) or is_attribute_file(difference.name):
             self.open.close()
             self.reader = None
@@ -51,7 +53,7 @@ class Snapshot:
 
     def compare_with(self, commit: str) -> Differences:
         """The differences from another commit."""
-        return make_differences(commit, self.trees.compare(self.blobs.find_tree(commit), self.tree))
+        return make_differences(commit, self.trees.compare(self.blobs.find_tree(commit), self.tree), self.files)
 
     def compare_with_parents(self) -> list[Differences]:
         return [self.compare_with(parent) for parent in self.parents]
