@@ -2,8 +2,9 @@
 
 import pytest
 
-from companion_cases import CHECK, TEXT, Place, block, ended, sealed
+from companion_cases import CHECK, HOOK, TEXT, Place, block, ended, sealed
 from companion_cases.repository import under_git
+from lib.needs import needs_root
 
 pytestmark = pytest.mark.usefixtures("git")
 
@@ -43,6 +44,83 @@ def test_broken_repository(place: Place) -> None:
     place.put(".git/config", b"[no config\n")
     done = place.run(CHECK, *place.by_file("old"), ".")
     ended("git fails", done, 1, f"{CHECK}: git check-attr failed: ", "bad config line 1 in file ")
+
+
+# What is at the path of a .gitattributes, and why the check is refused. git overlooks most of them.
+UNREADABLE = {
+    "a pipe": ("mkfifo {}", "it is not a regular file"),
+    "a link": ("echo '* ansible-vault' > marks; ln -s {top}/marks {}", "it is not a regular file"),
+    "a link to a pipe": ("mkfifo pipe; ln -s {top}/pipe {}", "it is not a regular file"),
+    "a loop": ("ln -s .gitattributes {}", "it is not a regular file"),
+    "a directory": ("mkdir {}", "Is a directory"),
+    "a long file": ("truncate -s 200M {}", "it has more than 100,671,488 bytes, more than any vault"),
+    "a device": ("mknod {} c 1 5", "it is not a regular file"),
+    "a closed file": ("echo '* ansible-vault' > {0}; chmod 0 {0}", "Permission denied"),
+}
+
+
+@pytest.mark.parametrize("folder", ("", "deep/", "deep/er/"))
+@pytest.mark.parametrize("line, why", UNREADABLE.values(), ids=UNREADABLE)
+def test_unreadable_attributes(place: Place, line: str, why: str, folder: str) -> None:
+    """What may mark a file is read, or refused by name, if it is at the file or above it."""
+    if "mknod" in line:
+        needs_root()
+    place.shell("git init -q")
+    place.put("deep/er/a.yml", sealed("old"))
+    place.put("other/a.yml", sealed("old"))
+    path = f"{folder}.gitattributes"
+    place.shell(line.format(path, top=place.tree))
+    environment = {"GIT_CONFIG_COUNT": "1", "GIT_CONFIG_KEY_0": "safe.directory", "GIT_CONFIG_VALUE_0": "*"}
+    place.environment |= environment
+    done = place.as_nobody(CHECK, *place.by_file("old"), "deep")
+    assert (done.returncode, done.stderr) == (1, f"{CHECK}: {place.tree}/{path}: {why}\n")
+    done = place.as_nobody(CHECK, *place.by_file("old"), "other")
+    assert done.returncode == (1 if folder == "" else 0), done
+
+
+NO_ACCESS = "unable to access"
+# What makes git overlook a mark, with no more than a warning.
+OVERLOOKED = {
+    "an unreadable file": ("chmod 0 {}", NO_ACCESS),
+    "a link to itself": ('rm {0}; ln -s "$(basename {0})" {0}', NO_ACCESS),
+    "a pattern that git ignores": ("echo '!b.yml ansible-vault' >> {}", "Negative patterns are ignored"),
+    "an attribute that git ignores": ("echo 'b.yml =x' >> {}", "is not a valid attribute name"),
+    "a long line": ("printf 'b.yml %03000d ansible-vault\\n' 1 >> {}", "line"),
+}
+
+
+@pytest.mark.parametrize("name", [".gitattributes", ".git/info/attributes"])
+@pytest.mark.parametrize("what", OVERLOOKED)
+def test_overlooked_marks(place: Place, what: str, name: str) -> None:
+    """If git cannot read a mark, no file passes for one without. The check itself reads each .gitattributes first."""
+    change, warning = OVERLOOKED[what]
+    if name == ".gitattributes" and warning == NO_ACCESS:
+        return
+    under_git(place, "")
+    place.put("a.vault.yml", sealed("old"))
+    place.put(name, ATTRIBUTES.encode())
+    place.shell(f"git add a.vault.yml; chmod -R a+w .; {change.format(name)}")
+    place.environment |= {"GIT_CONFIG_COUNT": "1", "GIT_CONFIG_KEY_0": "safe.directory", "GIT_CONFIG_VALUE_0": "*"}
+    done = place.as_nobody(CHECK, *place.by_file("old"), ".")
+    ended("the check", done, 1, f"{CHECK}: git check-attr failed: ", warning)
+    if name != ".gitattributes":
+        ended("the hook", place.as_nobody(HOOK), 1, f"{HOOK}: git check-attr failed: ", warning)
+
+
+def test_variables_of_git(place: Place) -> None:
+    """A variable that names another repository or index hides no mark, and a trace is no warning."""
+    place.shell("git init -q one && git init -q two && cd two && git commit -q --allow-empty -m 1")
+    place.put("one/.gitattributes", ATTRIBUTES.encode())
+    place.put("one/b.vault.yml", TEXT)
+    place.shell("cd one && git add .")
+    variables = [*place.run("git", "rev-parse", "--local-env-vars").stdout.split(), "GIT_TRACE", "GIT_ATTR_SOURCE"]
+    for name in variables:
+        for value in (str(place.tree / "two/.git"), str(place.tree / "two"), "1", "nowhere"):
+            if "CONFIG" not in name:
+                done = place.run(CHECK, *place.by_file("old"), "one", **{name: value})
+                ended(name, done, 1, "one/b.vault.yml: is not encrypted", "0 decrypted, 1 failed")
+    done = place.run(HOOK, folder="one", GIT_TRACE="1", GIT_TRACE_SETUP="2")
+    ended("the hook", done, 1, "b.vault.yml is not encrypted")
 
 
 def test_some_labels(place: Place) -> None:

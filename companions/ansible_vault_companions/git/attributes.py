@@ -7,12 +7,12 @@ import re
 from functools import cache
 from typing import Callable, Collection, Container, Iterable, Iterator, NamedTuple
 
-from ansible_vault_companions.files import resolving
+from ansible_vault_companions.files import reading, resolving
 from ansible_vault_companions.git.commands import CUT
 from ansible_vault_companions.git.repository import find_repository
 from ansible_vault_companions.quoting import escape
-from ansible_vault_companions.refusals import Refused
 from ansible_vault_companions.git.servers import Server
+from ansible_vault_companions.refusals import Refused, describe_refusal
 
 # The first attribute marks a file if it has this value, the second if it is set. Unset, the second exempts a file. The
 # third exempts the values at these key paths.
@@ -47,6 +47,8 @@ class AttributeReader(Server):
         for batch in _list_batches(names):
             self.ask(b"".join(name + b"\0" for name in batch))
             read.update({name: self._take_attributes(name) for name in batch})
+        # git only warns of a line or a file that it does not read, which may have them.
+        self.refuse_warnings()
         return read
 
     def _take_attributes(self, name: bytes) -> Attributes:
@@ -88,9 +90,23 @@ def find_marked(paths: list[str]) -> set[str]:
     groups = [*_group_by_repository(paths).items(), *_group_by_repository(links, follows=False).items()]
     marked = set[str]()
     for folder, names in groups:
+        _require_readable(folder, names)
         with AttributeReader(folder=folder) as reader:
             marked.update(names[name] for name, given in reader.read(names).items() if given.is_marked)
     return marked
+
+
+def _require_readable(repository: str, names: Iterable[bytes]) -> None:
+    """Refuses a .gitattributes for one of these files that git would overlook with a warning or, if it is a pipe, wait
+    for."""
+    for name in list_attribute_files(names):
+        path = os.path.join(repository, os.fsdecode(name))
+        try:
+            reading.read(path)
+        except NotADirectoryError:
+            pass
+        except (Refused, OSError) as fault:
+            raise Refused(describe_refusal(path, fault)) from None
 
 
 def _group_by_repository(paths: list[str], follows: bool = True) -> dict[str, dict[bytes, str]]:

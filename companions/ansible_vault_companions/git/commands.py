@@ -43,15 +43,21 @@ def build_command(words: tuple[str, ...]) -> list[str]:
     return ["git", "--no-pager", "--literal-pathspecs", *options, *words]
 
 
-def build_environment(index: str | None = None) -> dict[str, str]:
-    return {**os.environ, **ONLY_WHAT_IS_THERE, **({"GIT_INDEX_FILE": index} if index else {})}
+def build_environment(index: str | None = None, folder: str | None = None) -> dict[str, str]:
+    """The variables for git. In a directory, those of git's own count only if they are settings: others may name
+    another repository, which a hook has to take. A trace would look like a warning."""
+    names = [name for name in os.environ if not name.startswith("GIT_TRACE")]
+    if folder:
+        names = [name for name in names if name.startswith("GIT_CONFIG_") or not name.startswith("GIT_")]
+    own = {name: os.environ[name] for name in names}
+    return {**own, **ONLY_WHAT_IS_THERE, **({"GIT_INDEX_FILE": index} if index else {})}
 
 
 def start_git(
     words: tuple[str, ...], index: str | None = None, folder: str | None = None, **options: Any
 ) -> Popen[bytes]:
     """Starts a git command, with a limit of processor time."""
-    environment = build_environment(index)
+    environment = build_environment(index, folder)
     seconds = bounding.measure_time_left()
     git = processes.start_program(build_command(words), env=environment, cwd=folder, **options)
     bounding.limit_program(git.pid, seconds)

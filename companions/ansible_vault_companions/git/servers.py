@@ -74,6 +74,12 @@ class Server:
             self._fail()
         self.data, self.place = self.data[self.place :] + piece, 0
 
+    def refuse_warnings(self) -> None:
+        """Raises Refused if git has warned of anything."""
+        errors = self._read_errors()
+        if errors:
+            raise Refused(describe_failure(self.command, 0, errors))
+
     def _fail(self) -> NoReturn:
         """Raises Refused, with what git says of its end."""
         self.git.communicate()
