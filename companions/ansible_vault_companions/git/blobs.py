@@ -17,6 +17,8 @@ class Blobs:
         self.server: Server | None = None
         # The texts of links, many of which may lead through the same ones.
         self.links: dict[str, bytes] = {}
+        # The one that was read last.
+        self.last = ""
 
     def __enter__(self) -> Blobs:
         return self
@@ -29,6 +31,7 @@ class Blobs:
     def read(self, blob: str, is_old: bool = False) -> bytes:
         """The content of a blob. Of an old vault, and of what is too long for a vault or for YAML, only the beginning,
         which is too long as well."""
+        self.last = blob
         server, _, size = self._ask(blob)
         content = server.take(min(size, len(MAGIC)))
         if content != MAGIC:

@@ -17,8 +17,8 @@ FILE_MODES, LINK_MODE = ("100644", "100755"), "120000"
 MODES = (*FILE_MODES, LINK_MODE)
 # The mode of what is not there.
 NO_MODE = "000000"
-# git compares each removed file with each new one, so it looks for renames only up to this many.
-RENAMES = ("--find-renames", "-l400")
+# git compares each removed file with each new one, so it looks for renames with changes only up to this many.
+RENAMES = ("--find-renames", "-l100")
 RAW = ("--raw", "-z", "--no-abbrev")
 TWICE = "{} has {} twice, so it cannot be checked"
 

@@ -5,8 +5,6 @@ from __future__ import annotations
 import os
 from functools import lru_cache
 
-from ansible_vault_companions.refusals import Refused
-
 
 @lru_cache(maxsize=None)
 def find_repository(folder: str) -> str | None:
@@ -16,17 +14,6 @@ def find_repository(folder: str) -> str | None:
         if above == folder:
             return None
         folder = above
-    return folder
-
-
-def find_top() -> str:
-    """The top directory of the current repository. Only git's variables may name one without `.git`."""
-    # Most of those who look for a repository run no git.
-    from ansible_vault_companions.git.commands import read_line
-
-    folder = read_line("rev-parse", "--show-toplevel") if "GIT_DIR" in os.environ else find_repository(os.getcwd())
-    if not folder:
-        raise Refused("the current directory is not in a git repository")
     return folder
 
 

@@ -68,23 +68,36 @@ class Review:
         self.program = program
         self.blobs = blobs
         self.reported: set[tuple[bytes, str]] = set()
+        # What is being checked.
+        self.changes: list[Differences] = []
 
     def check_changes(
         self, index: Index | Snapshot, changes: list[Differences], advise: Callable[[Fault], str], where: str = ""
     ) -> None:
         """Checks changes with the attributes of an index. `where` precedes each message, and advice follows it. A link
         counts as the file that it leads to, and as none if that is not in the index."""
-        for differences in changes:
-            files = [self._follow(index, file) for file in differences.files]
-            for file, fault in find_faults(Evidence(differences._replace(files=files), index, self.blobs)):
+        self.changes = [self._follow_all(index, differences) for differences in changes if differences.files]
+        for differences in self.changes:
+            for file, fault in find_faults(Evidence(differences, index, self.blobs)):
                 if (file.name, file.blob) not in self.reported:
                     self.reported.add((file.name, file.blob))
                     why = f"is a link to a file that {fault.why}" if file.is_link else fault.why
                     write_error(f"{self.program}: {where}{escape(os.fsdecode(file.name))} {why}")
                     write_error(f"  {advise(fault)}")
 
-    def _follow(self, index: Index, file: File) -> File:
-        return file._replace(blob=find_target(index, file, self.blobs)) if file.is_link else file
+    def describe_last_file(self) -> str:
+        """Which file was read last, for a message; empty if none was."""
+        for differences in self.changes:
+            for file in differences.files:
+                if self.blobs.last in (file.blob, file.before):
+                    return f"; the last file that it read is {escape(os.fsdecode(file.name))}"
+        return ""
+
+    def _follow_all(self, index: Index | Snapshot, differences: Differences) -> Differences:
+        return differences._replace(files=[self._follow(index, file) for file in differences.files])
+
+    def _follow(self, index: Index | Snapshot, file: File) -> File:
+        return file._replace(blob=find_target(index.files, file, self.blobs)) if file.is_link else file
 
 
 def review_staged(review: Review, paths: list[str]) -> None:
