@@ -13,6 +13,7 @@ from ansible_vault_companions.git.indexes import Index, read_attributes_of
 from ansible_vault_companions.git.snapshots import Snapshot
 from ansible_vault_companions.guard import facts
 from ansible_vault_companions.guard.facts import Facts
+from ansible_vault_companions.guard.removed_values import RemovedValues
 
 
 class Evidence:
@@ -36,6 +37,10 @@ class Evidence:
             content = self.blobs.read(blob, is_old) if blob else b""
             self.facts_by_blob[key] = facts.find_facts(content, needs_plain)
         return self.facts_by_blob[key]
+
+    @cached_property
+    def removed_values(self) -> RemovedValues:
+        return RemovedValues(self.before, self.now)
 
     @cached_property
     def earlier(self) -> dict[bytes, Attributes]:

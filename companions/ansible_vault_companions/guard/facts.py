@@ -23,8 +23,9 @@ from ansible_vault_companions.envelopes.node import ALIAS, NO_SCALAR, Node
 from ansible_vault_companions.envelopes.pointers import is_pointer
 from ansible_vault_companions.envelopes.strays import find_strays
 from ansible_vault_companions.envelopes.yaml_nodes import BINARY, NotYaml, read_nodes
-from ansible_vault_companions.guard.key_names import Keys, make_keys
 from ansible_vault_companions.guard.advice import IN_LFS
+from ansible_vault_companions.guard.key_names import Keys, drop_merges, make_keys
+from ansible_vault_companions.guard.list_items import Leaf
 from ansible_vault_companions.guard.placeholders import is_placeholder
 from ansible_vault_companions.limits import Effort, TooMuch
 
@@ -37,8 +38,6 @@ HAS_UNCLEAR_KEY = "line {}: a key is or has an alias, or is a list or a mapping 
 Texts = Mapping[Keys, "Counter[int]"]
 NO_TEXTS: Texts = MappingProxyType({})
 NONE: Counter[int] = Counter()
-# A path, whether an envelope is there, and the number of its text.
-Leaf = tuple[KeyPath, bool, int]
 
 
 class Facts(NamedTuple):
@@ -58,6 +57,8 @@ class Facts(NamedTuple):
     unencrypted: str = NOT_ENCRYPTED
     encrypted: Texts = NO_TEXTS
     plain: Texts = NO_TEXTS
+    # The same texts, each with the numbers of list items.
+    leaves: tuple[Leaf, ...] = ()
 
 
 def find_facts(data: bytes, needs_plain: bool = False) -> Facts:
@@ -90,6 +91,7 @@ def _read_facts(data: bytes, needs_plain: bool) -> Facts:
         unencrypted=find_unencrypted(document),
         encrypted=_count_texts(leaves, are_encrypted=True),
         plain=_count_texts(leaves, are_encrypted=False),
+        leaves=tuple(leaf._replace(path=drop_merges(leaf.path)) for leaf in leaves),
     )
 
 
@@ -151,8 +153,8 @@ def _list_leaves(node: Node, leaves: list[Leaf], anchors: dict[str, tuple[KeyPat
                 break
             if len(node.path) + len(path) - len(base) > limits.DEEPEST:
                 raise TooMuch(limits.TOO_DEEP)
-            yield node.path + path[len(base) :], is_encrypted, text
+            yield Leaf(node.path + path[len(base) :], is_encrypted, text)
         return
     anchors[node.anchor] = node.path, len(leaves)
     if node.style != NO_SCALAR and not is_placeholder(node.text):
-        yield node.path, node.is_value and node.is_envelope, hash(node.text.strip())
+        yield Leaf(node.path, node.is_value and node.is_envelope, hash(node.text.strip()))

@@ -6,7 +6,7 @@ All items of a list have the same keys, so their order does not matter.
 from __future__ import annotations
 
 import re
-from typing import Iterable, Optional
+from typing import Iterable, Optional, TypeVar, Union
 
 from ansible_vault_companions.envelopes.key_paths import MERGE, KeyPath
 from ansible_vault_companions.envelopes.node import JSON_KEY
@@ -18,18 +18,23 @@ WRITTEN_ITEM = "[]"
 UNWRITTEN = re.compile(r"[^\w$@/:+*-]")
 
 Keys = tuple[Optional[str], ...]
+Path = TypeVar("Path", Keys, KeyPath)
 
 
 def make_keys(path: KeyPath) -> Keys:
-    keys = list[Optional[str]]()
+    return tuple(ITEM if isinstance(step, int) else step for step in drop_merges(path))
+
+
+def drop_merges(path: KeyPath) -> KeyPath:
+    """A path without the key that merges and the items of its list, and without JSON's key of an envelope."""
+    steps = list[Union[str, int]]()
     before: str | int | None = None
     for step in path:
-        # The key that merges is not part of a path.
         is_merged_item = isinstance(step, int) and before == MERGE
         if step not in (MERGE, JSON_KEY) and not is_merged_item:
-            keys.append(ITEM if isinstance(step, int) else step)
+            steps.append(step)
         before = step
-    return tuple(keys)
+    return tuple(steps)
 
 
 def write_keys(keys: Keys) -> str:
@@ -47,7 +52,7 @@ def has_name(keys: Keys) -> bool:
     return any(key is not ITEM for key in keys)
 
 
-def list_branches(paths: Iterable[Keys]) -> set[Keys]:
+def list_branches(paths: Iterable[Path]) -> set[Path]:
     """These and those above them."""
     return {keys[:length] for keys in paths for length in range(len(keys) + 1)}
 
@@ -79,12 +84,12 @@ def make_tree(paths: Iterable[Keys]) -> Branch:
 
 def find_at_or_above(tree: Branch, paths: Iterable[Keys]) -> set[Keys]:
     """The paths of a tree that are at or above these, with the same first and last key. Between these keys, a list and
-    a mapping by name stand for each other."""
+    a mapping by name stand for each other. A path that ends with an item has no last key of its own."""
     found = set[Keys]()
     pairs = _match_keys([tree], [make_tree(paths)])
     while pairs:
         branches, others = pairs.pop()
-        keys = {other.key for other in others}
+        keys = {ITEM, *(other.key for other in others)}
         found.update(branch.path for branch in branches if branch.path and branch.key in keys)
         if any(ITEM in branch.below for branch in [*branches, *others]):
             pairs.append((_list_below(branches), _list_below(others)))

@@ -24,10 +24,10 @@ from ansible_vault_companions.guard import (
     pointer_rule,
     tag_rule,
     unreadable_rule,
+    value_rule,
 )
 from ansible_vault_companions.guard.advice import Fault
 from ansible_vault_companions.guard.evidence import Evidence
-from ansible_vault_companions.guard.value_rule import ValueRule
 from ansible_vault_companions.guard.vault_rule import VaultRule
 from ansible_vault_companions.output import write_error
 from ansible_vault_companions.quoting import escape
@@ -43,7 +43,7 @@ def find_faults(evidence: Evidence) -> Iterator[tuple[File, Fault]]:
     """Each refused file, with the first of its faults. A cause comes before its effects: a vault with conflict markers
     or in git-lfs counts as lost, too, and a marked file that has lost its vault counts as unencrypted."""
     yield from attributes_rule.find_faults(evidence)
-    vault_rule, value_rule = VaultRule(evidence), ValueRule(evidence)
+    vault_rule = VaultRule(evidence)
     for file in evidence.now:
         if not file.blob:
             continue
@@ -52,7 +52,7 @@ def find_faults(evidence: Evidence) -> Iterator[tuple[File, Fault]]:
             or damage_rule.find_fault(evidence, file)
             or pointer_rule.find_fault(evidence, file, vault_rule)
             or vault_rule.find_fault(file)
-            or value_rule.find_fault(file)
+            or value_rule.find_fault(evidence, file)
             or unreadable_rule.find_fault(evidence, file)
             or mark_rule.find_fault(evidence, file)
             or tag_rule.find_fault(evidence, file)

@@ -1,0 +1,71 @@
+"""What a file has lost of its encrypted values since an earlier version of it."""
+
+from __future__ import annotations
+
+from collections import Counter
+from typing import Iterable, NamedTuple
+
+from ansible_vault_companions.guard.facts import NONE, Facts, Texts
+from ansible_vault_companions.guard.key_names import Keys, Path, align_paths, list_branches, make_keys
+from ansible_vault_companions.guard.list_items import Leaf, Place, list_places
+
+
+class Loss(NamedTuple):
+    """The keys of values that may be in plaintext now, and of those that are gone."""
+
+    now_plain: set[Keys]
+    removed: set[Keys]
+
+
+def find_loss(before: Facts, after: Facts, gone: Counter[int]) -> Loss:
+    """Compares two versions of a file. `gone` are the envelopes that the whole change removes."""
+    if after.is_vault:
+        return Loss(set(), set())
+    places = [*list_places(before.leaves, after.leaves)]
+    values = [place for place in places if count_texts(place.before, are_encrypted=True)]
+    new_texts = find_new_texts(before, after)
+    new = [place for place in places if _has_new_text(place, new_texts)]
+    removed = {make_keys(place.path) for place in values if _is_removed(place, gone)}
+    in_place = find_related([place.path for place in values], [place.path for place in new])
+    now_plain = {make_keys(path) for path in in_place} | _find_added(removed, new)
+    return Loss(now_plain, removed)
+
+
+def _has_new_text(place: Place, new_texts: Texts) -> bool:
+    texts = count_texts(place.after, are_encrypted=False) - count_texts(place.before, are_encrypted=False)
+    return any(leaf.text in new_texts.get(make_keys(leaf.path), NONE) for leaf in place.after if leaf.text in texts)
+
+
+def _is_removed(place: Place, gone: Counter[int]) -> bool:
+    """Whether a place has fewer values, and an envelope of them is gone."""
+    before, after = count_texts(place.before, are_encrypted=True), count_texts(place.after, are_encrypted=True)
+    return sum(before.values()) > sum(after.values()) and not gone.keys().isdisjoint(before - after)
+
+
+def _find_added(removed: set[Keys], new: list[Place]) -> set[Keys]:
+    """The keys of removed values to which there is new plaintext in another item, unless an item with the same name had
+    plaintext there."""
+    added = set[Keys]()
+    for place in new:
+        if not (place.is_certain and count_texts(place.before, are_encrypted=False)):
+            added.update(make_keys(leaf.path) for leaf in place.after)
+    aligned = align_paths([*removed, *added])
+    related = {*find_related([aligned[keys] for keys in removed], [aligned[keys] for keys in added])}
+    return {keys for keys in removed if aligned[keys] in related}
+
+
+def find_related(paths: Iterable[Path], others: Iterable[Path]) -> list[Path]:
+    """Those that are at, above or below one of the others."""
+    ends = {*others}
+    branches = list_branches(ends)
+    return [path for path in paths if path in branches or not list_branches([path]).isdisjoint(ends)]
+
+
+def find_new_texts(before: Facts, after: Facts) -> Texts:
+    """The plaintexts that are at their keys more often than before."""
+    new = {keys: texts - before.plain.get(keys, NONE) for keys, texts in after.plain.items()}
+    return {keys: texts for keys, texts in new.items() if texts}
+
+
+def count_texts(leaves: Iterable[Leaf], are_encrypted: bool) -> Counter[int]:
+    return Counter(leaf.text for leaf in leaves if leaf.is_encrypted == are_encrypted)
