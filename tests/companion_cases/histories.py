@@ -75,6 +75,17 @@ PASSING: dict[str, tuple[Content, Content]] = {
     "fixtures": (FIXTURES, FIXTURES | {"t/a.yml": VAULT, "t/b.yml": CUT, "t/c.yml": b"pw: !vault x\n" + PW2}),
     "encrypted again": ({"a.yml": PLAIN, **EXEMPT}, {"a.yml": PW, **EXEMPT}),
     "a repaired file with as many values": (TAB + PW, PW2 + X),
+    "a broken file beside a value that stays": ({"a.yml": PW + X, "b.yml": X}, {"a.yml": PW + X, "b.yml": TAB}),
+    "a broken file beside a value encrypted again": ({"a.yml": PW, "b.yml": X}, {"a.yml": PW2, "b.yml": TAB + PLAIN}),
+    "a broken file beside a value that moves": (
+        {"a.yml": PW + X, "b.yml": X},
+        {"a.yml": X, "b.yml": TAB, "c.yml": PW},
+    ),
+    "a template beside a removed value": ({"a.yml": PW + X}, {"a.yml": X, "b.yml.j2": b"{% if x %}\n" + PLAIN}),
+    "a page and binary data beside a removed value": (
+        {"a.yml": PW + X},
+        {"a.yml": X, "b.md": TAB + PLAIN, "c.bin": b"\0" + PLAIN},
+    ),
     "fixtures that change": (FIXTURES | {"t/c.yml": PW}, FIXTURES | {"t/c.yml": PW2 + b"x: !vault x\n"}),
     "two vaults of a name for two": (
         {"a/x.yml": VAULT, "b/x.yml": OTHER},
@@ -101,6 +112,7 @@ NOT_YAML = "had encrypted values, but can no longer be checked: line 1: it canno
 UNREAD = "had encrypted values, but can no longer be checked: line {}: {}"
 HIDDEN_BREAK = "it has U+0085, U+2028, U+2029 or U+FEFF, behind which a key may begin"
 UNCLEAR_KEY = "a key is or has an alias, or is a list or a mapping that merges another one"
+NOT_COMPARED = "cannot be checked for pw of a.yml, which was encrypted in HEAD: "
 FEWER = "has fewer envelopes than in HEAD, and cannot be compared with what it was there: "
 LFS, TOKEN = "is a pointer of git-lfs, so its content cannot be checked", "found character that cannot start any token"
 # The same of commits that are to be refused, with the reason, and with the file if that is not a.yml.
@@ -202,6 +214,21 @@ REFUSED: dict[str, tuple[Content, Content, str]] = {
         TAB + PW,
         TAB + PLAIN + b"# !vault\n",
         f"{FEWER}line 1: it cannot be read as YAML: {TOKEN}",
+    ),
+    "a value, and a new file that cannot be read": (
+        {"a.yml": PW + X, "y": X},
+        {"a.yml": X, "b.yml": TAB + PLAIN, "y": X},
+        f"b.yml {NOT_COMPARED}line 1: it cannot be read as YAML: {TOKEN}",
+    ),
+    "a value, and a changed file that cannot be read": (
+        {"a.yml": PW + X, "b.yml": TAB},
+        {"a.yml": X, "b.yml": TAB + PLAIN},
+        f"b.yml {NOT_COMPARED}line 1: it cannot be read as YAML: {TOKEN}",
+    ),
+    "a value, and a deep file": (
+        {"a.yml": PW + X, "y": X},
+        {"a.yml": X, "b.json": b"[" * 65 + b'{"pw": "plain"}' + b"]" * 65, "y": X},
+        f"b.json {NOT_COMPARED}it is nested over 64 levels",
     ),
     "a null character": (b"\0" + PW, PLAIN, f"{FEWER}it cannot be read as YAML: it has a null character"),
     "a text that begins like a value": (PW, b"pw: $ANSIBLE_VAULT_KEY\n", pw),

@@ -1,31 +1,74 @@
 """What cannot be read as Ansible reads it counts as if it had lost what was encrypted. A limit counts for every file
 with an envelope, an ambiguity for every file that had one, and bad YAML only for what is YAML by its name, since a
-template never parses."""
+template never parses. If a value was removed from any file, what is YAML by its name has to be read even if it never
+had an envelope: it may be there in plaintext."""
 
 from __future__ import annotations
+
+import os
 
 from ansible_vault_companions.envelopes.damage import NOT_READ
 from ansible_vault_companions.git.differences import File
 from ansible_vault_companions.guard import exemptions
 from ansible_vault_companions.guard.advice import Fault, Remedy
 from ansible_vault_companions.guard.evidence import Evidence, is_yaml
+from ansible_vault_companions.guard.key_names import write_keys
+from ansible_vault_companions.quoting import escape
 
 NO_LONGER_READ = "had encrypted values, but can no longer be checked: {}"
+NOT_COMPARED = "cannot be checked for {} of {}, which was encrypted{}: {}"
 FEWER = "has fewer envelopes than{}, and cannot be compared with what it was there: {}"
 
 
 def find_fault(evidence: Evidence, file: File) -> Fault | None:
-    before, now = evidence.before[file], evidence.now[file]
     if evidence.is_example(file) or exemptions.allows_loss(evidence, file):
         return None
-    if now.is_too_much and before.envelopes:
-        return exemptions.make_loss(evidence, file, NOT_READ.format(now.fault))
-    if now.is_too_much and now.envelopes and not exemptions.allows_damage(evidence, file):
-        return exemptions.make_damage(evidence, file, NOT_READ.format(now.fault), Remedy.ALLOW)
-    unreadable = now.ambiguity or (now.fault if is_yaml(file) else "")
-    if unreadable and before.encrypted:
-        return exemptions.make_loss(evidence, file, NO_LONGER_READ.format(unreadable), Remedy.REPAIR)
-    was_unreadable = before.is_too_much or before.fault and is_yaml(file)
-    if was_unreadable and before.envelopes > now.envelopes and not (now.is_vault or now.is_empty):
-        return exemptions.make_loss(evidence, file, FEWER.format(evidence.since, before.fault))
+    return (
+        _find_too_much(evidence, file)
+        or _find_no_longer_read(evidence, file)
+        or _find_fewer(evidence, file)
+        or _find_unsearched(evidence, file)
+    )
+
+
+def _find_too_much(evidence: Evidence, file: File) -> Fault | None:
+    """A limit, which a file with envelopes exceeds, or one that had some."""
+    before, now = evidence.before[file], evidence.now[file]
+    if not now.is_too_much:
+        return None
+    why = NOT_READ.format(now.fault)
+    if before.envelopes:
+        return exemptions.make_loss(evidence, file, why)
+    if now.envelopes and not exemptions.allows_damage(evidence, file):
+        return exemptions.make_damage(evidence, file, why, Remedy.ALLOW)
     return None
+
+
+def _find_no_longer_read(evidence: Evidence, file: File) -> Fault | None:
+    """An ambiguity or bad YAML in a file that had values."""
+    now = evidence.now[file]
+    why = now.ambiguity or (now.fault if is_yaml(file) else "")
+    if not (why and evidence.before[file].encrypted):
+        return None
+    return exemptions.make_loss(evidence, file, NO_LONGER_READ.format(why), Remedy.REPAIR)
+
+
+def _find_fewer(evidence: Evidence, file: File) -> Fault | None:
+    """Fewer envelopes than before in a file that could not be read then, unless no text is left."""
+    before, now = evidence.before[file], evidence.now[file]
+    if not (before.is_too_much or before.fault and is_yaml(file)) or now.is_vault or now.is_empty:
+        return None
+    if before.envelopes <= now.envelopes:
+        return None
+    return exemptions.make_loss(evidence, file, FEWER.format(evidence.since, before.fault))
+
+
+def _find_unsearched(evidence: Evidence, file: File) -> Fault | None:
+    """The fault of a file in which a removed value may be in plaintext."""
+    fault = evidence.now[file].fault
+    sources = evidence.removed_values.sources
+    if not (fault and is_yaml(file) and sources):
+        return None
+    keys, names = next(iter(sources.items()))
+    why = NOT_COMPARED.format(write_keys(keys), escape(os.fsdecode(names[0])), evidence.since, fault)
+    return exemptions.make_loss(evidence, file, why, Remedy.REPAIR)
