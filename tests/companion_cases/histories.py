@@ -55,7 +55,7 @@ PASSING: dict[str, tuple[Content, Content]] = {
     "a plaintext that was there": ({"a.yml": PW + X, "b.yml": PLAIN}, {"a.yml": X, "b.yml": PLAIN + X}),
     "a host in place of another": ({"10.0.0.1.yml": VAULT}, {"10.0.0.2.yml": X, "a.b.yml": X, "a.c.yml": X}),
     "a renamed plain file near a vault": ({"a/x.yml": VAULT, "b/x.yml": LINES}, {"c/x.yml": LINES + X}),
-    "a role in place of another": ({"a/vars/main.yml": VAULT}, {"b/vars/main.yml": TEXT}),
+    "a role in place of another": ({"a/vars/main.yml": VAULT}, {"b/vars/main.yml": TEXT + X}),
     "a template": ({"a.j2": PW}, {"a.j2": b"{% if x %}\n" + PW2 + b"{% endif %}\n"}),
     "a test of the header": (X, {"a.py": b'HEADER = "$ANSIBLE_VAULT;1.1;AES256"\n'}),
     "a document with a cut example": (X, {"a.md": b"```\n" + PW[:200] + b"\n```\n"}),
@@ -114,6 +114,7 @@ HIDDEN_BREAK = "it has U+0085, U+2028, U+2029 or U+FEFF, behind which a key may 
 UNCLEAR_KEY = "a key is or has an alias, or is a list or a mapping that merges another one"
 NOT_COMPARED = "cannot be checked for pw of a.yml, which was encrypted in HEAD: "
 FEWER = "has fewer envelopes than in HEAD, and cannot be compared with what it was there: "
+GONE_ROLE = f"b/vars/main.yml {GONE.format('a/vars/main.yml')}"
 LFS, TOKEN = "is a pointer of git-lfs, so its content cannot be checked", "found character that cannot start any token"
 # The same of commits that are to be refused, with the reason, and with the file if that is not a.yml.
 REFUSED: dict[str, tuple[Content, Content, str]] = {
@@ -126,7 +127,8 @@ REFUSED: dict[str, tuple[Content, Content, str]] = {
     "another suffix of main": ({"main.yml": VAULT}, {"main.json": TEXT}, f"main.json {GONE.format('main.yml')}"),
     "another directory, deeper": ({"a/x.yml": VAULT}, {"b/c/x.yml": TEXT}, f"b/c/x.yml {GONE.format('a/x.yml')}"),
     "another name's pointer": ({"a/x.yml": VAULT}, {"b/x.yml": POINTER}, f"b/x.yml {LFS}"),
-    "a list by another name": ({"a.yml": VAULT}, {"a.txt": b"- plain\n"}, f"a.txt {GONE.format('a.yml')}"),
+    "a renamed role": ({"a/vars/main.yml": VAULT}, {"b/vars/main.yml": TEXT}, GONE_ROLE),
+    "a list by another name": ({"a.yml": VAULT}, {"a.txt": b"- " + TEXT}, f"a.txt {GONE.format('a.yml')}"),
     "a list and a mapping": (
         {"a/x.yml": VAULT},
         {"b/x.yml": b"- plain\n---\nx: 1\n"},
@@ -162,7 +164,7 @@ REFUSED: dict[str, tuple[Content, Content, str]] = {
     ),
     "a mapping with such a key, by the name of a vault": (
         {"a/x.yml": VAULT},
-        {"b/x.yml": b'"[]": plain\n'},
+        {"b/x.yml": b'"[]": plain text\n'},
         f"b/x.yml {GONE.format('a/x.yml')}",
     ),
     "a vault, now in git-lfs": (VAULT, POINTER, LFS),

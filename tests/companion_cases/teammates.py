@@ -12,10 +12,8 @@ import pytest
 from hypothesis import given, settings
 from hypothesis import strategies as st
 
-from ansible_vault_companions.git.blobs import Blobs
-from ansible_vault_companions.guard.review import Review, review_staged
 from companion_cases import lines_of
-from companion_cases.repository import AUTHOR, repository
+from companion_cases.repository import AUTHOR, find_staged_faults, repository
 from model.vaults import serialized
 
 pytestmark = pytest.mark.usefixtures("git")
@@ -115,7 +113,7 @@ class Team:
         """Do what nobody may do. Yield the file that is to be refused, if there is a place for it."""
         paths = [path for path in self.envelopes(*LEAKS[way]) if isinstance(self.head.get(path), int)]
         for name, *keys in self.random.sample(paths, len(paths)):
-            places, plain = [name], self.random.choice(PLAIN)
+            places, plain, stem = [name], self.random.choice(PLAIN), name.removesuffix(".yml")
             if way == "above":
                 keys, plain = keys[:1], self.random.choice(["{}", "[{}]"])
             if way != "value":
@@ -123,9 +121,12 @@ class Team:
             if way == "elsewhere":
                 places = [self.new("f{}.yml")]
             if way == "vault":
-                # In its own file, or in one that takes its place.
-                stem = name.removesuffix(".yml")
-                keys, places = ["k"], [name, f"{stem}.txt", f"{name}.old", f"x/y/{name.upper()}", f"{stem}/main.yml"]
+                # In its own file, or in one that Ansible reads in its place.
+                keys, places = ["k"], [name, f"{stem}.json", f"{stem}/main.yml"]
+            if way == "vault, unchanged":
+                # The envelopes have 32 bytes, and so has this text with its padding.
+                keys, plain = ["k"], "{}"
+                places = [f"{stem}.txt", f"{name}.old", f"x/y/{name.upper()}", f"{stem}/x.yml"]
             place = self.random.choice(places)
             self.files[place, *keys] = plain.format(self.new("text{}"))
             yield place
@@ -133,7 +134,7 @@ class Team:
 
 CHANGES = [Team.add, Team.encrypt_again, Team.take_away, Team.change_text, Team.move, Team.rename, Team.encrypt_file]
 # Where a value or a vault was, above the value, or in another file; and how long the path to it is.
-LEAKS = {"value": (2, 3), "above": (3,), "elsewhere": (2, 3), "vault": (1,)}
+LEAKS = {"value": (2, 3), "above": (3,), "elsewhere": (2, 3), "vault": (1,), "vault, unchanged": (1,)}
 
 
 def refused(folder: Path, files: Contents) -> set[str]:
@@ -143,10 +144,7 @@ def refused(folder: Path, files: Contents) -> set[str]:
         (folder / name).parent.mkdir(parents=True, exist_ok=True)
         (folder / name).write_bytes(written(contents))
     subprocess.run(["git", "add", "-A"], check=True)
-    with Blobs() as blobs:
-        review = Review("hook", blobs)
-        review_staged(review, [])
-    return {name.decode() for name, _ in review.reported}
+    return find_staged_faults()
 
 
 def test_commits(tmp_path: Path, monkeypatch: pytest.MonkeyPatch) -> None:

@@ -5,7 +5,8 @@ from __future__ import annotations
 import os
 from functools import cached_property
 
-from ansible_vault_companions.envelopes import file_kinds
+from ansible_vault_companions.envelopes import file_kinds, header
+from ansible_vault_companions.envelopes.pointers import is_pointer
 from ansible_vault_companions.git.attributes import Attributes
 from ansible_vault_companions.git.blobs import Blobs
 from ansible_vault_companions.git.differences import Differences, File
@@ -14,6 +15,7 @@ from ansible_vault_companions.git.snapshots import Snapshot
 from ansible_vault_companions.guard import facts
 from ansible_vault_companions.guard.facts import Facts
 from ansible_vault_companions.guard.removed_values import RemovedValues
+from ansible_vault_companions.guard.removed_vaults import RemovedVaults, Text
 
 
 class Evidence:
@@ -25,6 +27,8 @@ class Evidence:
         self.differences = differences
         self.since = f" in {differences.since}" if differences.since else ""
         self.facts_by_blob: dict[tuple[str, bool, bool], Facts] = {}
+        # By a blob, how long its text is. Many files may be named like one vault of 100 MB.
+        self.lengths: dict[str, int] = {}
         self.attributes = index.read_attributes([file.name for file in differences.files])
         self.before = {file: self.find_facts(file.before, is_old=True) for file in differences.files}
         has_values = any(before.encrypted for before in self.before.values())
@@ -38,9 +42,43 @@ class Evidence:
             self.facts_by_blob[key] = facts.find_facts(content, needs_plain)
         return self.facts_by_blob[key]
 
+    def measure_padded(self, blob: str) -> int:
+        """How long a text, encrypted or not, is with the padding of a vault; 0 if that is unknown. A plaintext has the
+        same length as its vault."""
+        if blob not in self.lengths:
+            self.lengths[blob] = self._measure_content(blob)
+        return self.lengths[blob]
+
+    def _measure_content(self, blob: str) -> int:
+        content = self.blobs.read(blob)
+        if is_pointer(content):
+            return 0
+        if content.startswith(header.MAGIC):
+            return header.measure_ciphertext(content)
+        return header.measure_padded(len(content))
+
     @cached_property
     def removed_values(self) -> RemovedValues:
         return RemovedValues(self.before, self.now)
+
+    @cached_property
+    def removed_vaults(self) -> RemovedVaults:
+        before, now = self.before, self.now
+        removed = [self._measure_text(file, file.before) for file in before if before[file].is_vault and not file.blob]
+        if not removed:
+            return RemovedVaults([], [], [])
+        new = [file.name for file in now if now[file].is_vault and not before[file].is_vault]
+        others = [file.name for file in now if file.blob and not file.before and not now[file].is_vault]
+        return RemovedVaults(removed, new, others)
+
+    def find_replaced_vault(self, file: File) -> bytes | None:
+        """The removed vault whose place a new file takes."""
+        if file.before or not self.removed_vaults.left_at:
+            return None
+        return self.removed_vaults.find_replaced(self._measure_text(file, file.blob))
+
+    def _measure_text(self, file: File, blob: str) -> Text:
+        return Text(file.name, self.measure_padded(blob))
 
     @cached_property
     def earlier(self) -> dict[bytes, Attributes]:

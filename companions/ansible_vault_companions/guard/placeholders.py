@@ -1,4 +1,5 @@
-"""Texts that may take the place of a secret: nothing, the password of a locked account, or Jinja expressions."""
+"""Texts that may take the place of a secret: nothing, the password of a locked account, Jinja expressions, or what
+is public."""
 
 from __future__ import annotations
 
@@ -26,3 +27,18 @@ def is_placeholder(text: bytes) -> bool:
     """Whether a whole text is no secret."""
     own = text.strip()
     return own.lower() in [*NOTHING, *LOCKED] or EXPRESSIONS.fullmatch(own) is not None
+
+
+# How what is public begins, such as a certificate, and what other programs have encrypted.
+PUBLIC = re.compile(
+    rb"-----BEGIN [A-Z0-9 ]*(?:CERTIFICATE|REQUEST|PUBLIC KEY|PUBLIC KEY BLOCK|MESSAGE|ENCRYPTED FILE)-----"
+    rb"|(?:sk-)?(?:ssh|ecdsa)-"
+)
+PRIVATE = b"PRIVATE KEY-----"
+NAME_IN_EXPRESSION = re.compile(rb"\{\{\s*[A-Za-z_]")
+
+
+def is_public(data: bytes) -> bool:
+    """Whether a file that is no YAML is a template, or has only what is public or encrypted by another program."""
+    begins = PUBLIC.match(data) or NAME_IN_EXPRESSION.search(data)
+    return begins is not None and PRIVATE not in data

@@ -7,15 +7,14 @@ from ansible_vault_companions.git.differences import File
 from ansible_vault_companions.guard import exemptions
 from ansible_vault_companions.guard.advice import IN_LFS, Fault, Remedy
 from ansible_vault_companions.guard.evidence import Evidence
-from ansible_vault_companions.guard.vault_rule import VaultRule
 
 NO_FILTER = "!filter"
 
 
-def find_fault(evidence: Evidence, file: File, vault_rule: VaultRule) -> Fault | None:
+def find_fault(evidence: Evidence, file: File) -> Fault | None:
     if not evidence.now[file].is_pointer:
         return None
-    was_encrypted = evidence.before[file].envelopes > 0 or vault_rule.find_replaced(file) is not None
+    was_encrypted = evidence.before[file].envelopes > 0 or evidence.find_replaced_vault(file) is not None
     is_lost = was_encrypted and not exemptions.allows_loss(evidence, file)
     if not (evidence.attributes[file.name].is_marked or is_lost):
         return None

@@ -22,13 +22,14 @@ from ansible_vault_companions.guard import (
     leftover_rule,
     mark_rule,
     pointer_rule,
+    successor_rule,
     tag_rule,
     unreadable_rule,
     value_rule,
+    vault_rule,
 )
 from ansible_vault_companions.guard.advice import Fault
 from ansible_vault_companions.guard.evidence import Evidence
-from ansible_vault_companions.guard.vault_rule import VaultRule
 from ansible_vault_companions.output import write_error
 from ansible_vault_companions.quoting import escape
 from ansible_vault_companions.refusals import Refused
@@ -43,15 +44,15 @@ def find_faults(evidence: Evidence) -> Iterator[tuple[File, Fault]]:
     """Each refused file, with the first of its faults. A cause comes before its effects: a vault with conflict markers
     or in git-lfs counts as lost, too, and a marked file that has lost its vault counts as unencrypted."""
     yield from attributes_rule.find_faults(evidence)
-    vault_rule = VaultRule(evidence)
     for file in evidence.now:
         if not file.blob:
             continue
         fault = (
             leftover_rule.find_fault(file)
             or damage_rule.find_fault(evidence, file)
-            or pointer_rule.find_fault(evidence, file, vault_rule)
-            or vault_rule.find_fault(file)
+            or pointer_rule.find_fault(evidence, file)
+            or vault_rule.find_fault(evidence, file)
+            or successor_rule.find_fault(evidence, file)
             or value_rule.find_fault(evidence, file)
             or unreadable_rule.find_fault(evidence, file)
             or mark_rule.find_fault(evidence, file)
