@@ -21,6 +21,21 @@ def count_calls(place: Place, *words: str, faults: int = 0) -> int:
     return len(calls.read_text())
 
 
+def test_long_vault(place: Place) -> None:
+    """A vault that is too long to pass over is read as often for one file beside it as for many."""
+    counts = set()
+    for number in (1, 6):
+        place.shell("rm -rf .git *")
+        under_git(place, "")
+        place.put("v.yml", b"$ANSIBLE_VAULT;1.1;AES256\n" + b"0" * 17_000_000)
+        add_and_commit(place)
+        for each in range(number):
+            place.put(f"v.yml.{each}", b"%d" % each)
+        place.shell("git add -A")
+        counts.add(count_calls(place))
+    assert len(counts) == 1, counts
+
+
 DETOURS = {"none": ("", 1000), "short": ("a/../" * 10, 1000), "long": ("a/../" * 800, 1)}
 
 

@@ -27,7 +27,8 @@ class Evidence:
         self.differences = differences
         self.since = f" in {differences.since}" if differences.since else ""
         self.facts_by_blob: dict[tuple[str, bool, bool], Facts] = {}
-        # By a blob, how long its text is. Many files may be named like one vault of 100 MB.
+        # By a blob, whether it is a vault, and how long its text is. Many files may be named like one vault of 100 MB.
+        self.vaults: dict[str, bool] = {}
         self.lengths: dict[str, int] = {}
         self.attributes = index.read_attributes([file.name for file in differences.files])
         self.before = {file: self.find_facts(file.before, is_old=True) for file in differences.files}
@@ -41,6 +42,11 @@ class Evidence:
             content = self.blobs.read(blob, is_old) if blob else b""
             self.facts_by_blob[key] = facts.find_facts(content, needs_plain)
         return self.facts_by_blob[key]
+
+    def is_vault(self, blob: str) -> bool:
+        if blob not in self.vaults:
+            self.vaults[blob] = self.blobs.read(blob, is_old=True) == header.MAGIC
+        return self.vaults[blob]
 
     def measure_padded(self, blob: str) -> int:
         """How long a text, encrypted or not, is with the padding of a vault; 0 if that is unknown. A plaintext has the
@@ -56,6 +62,16 @@ class Evidence:
         if content.startswith(header.MAGIC):
             return header.measure_ciphertext(content)
         return header.measure_padded(len(content))
+
+    @cached_property
+    def changed(self) -> dict[bytes, File]:
+        return {file.name: file for file in self.now}
+
+    def list_versions(self, name: bytes) -> list[str]:
+        """The blobs that a file of this name has now and had before, if it is there."""
+        there, changed = self.index.files.get(name), self.changed.get(name)
+        blobs = [there.blob if there else "", changed.before if changed else ""]
+        return [blob for blob in blobs if blob]
 
     @cached_property
     def removed_values(self) -> RemovedValues:

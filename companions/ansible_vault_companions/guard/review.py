@@ -18,6 +18,7 @@ from ansible_vault_companions.git.versions import list_former_versions
 from ansible_vault_companions.guard import (
     advice,
     attributes_rule,
+    copy_rule,
     damage_rule,
     leftover_rule,
     mark_rule,
@@ -53,6 +54,7 @@ def find_faults(evidence: Evidence) -> Iterator[tuple[File, Fault]]:
             or pointer_rule.find_fault(evidence, file)
             or vault_rule.find_fault(evidence, file)
             or successor_rule.find_fault(evidence, file)
+            or copy_rule.find_fault(evidence, file)
             or value_rule.find_fault(evidence, file)
             or unreadable_rule.find_fault(evidence, file)
             or mark_rule.find_fault(evidence, file)
