@@ -21,6 +21,24 @@ def count_calls(place: Place, *words: str, faults: int = 0) -> int:
     return len(calls.read_text())
 
 
+@pytest.mark.parametrize("option", ("--all", "--since=HEAD~1", "--"))
+def test_processes_for_faults(place: Place, option: str) -> None:
+    """There are as many for one fault as for many."""
+    counts = set()
+    for number in (1, 5):
+        place.shell("rm -rf .git *.yml")
+        under_git(place, "")
+        for content in (sealed("old"), TEXT):
+            for each in range(number):
+                place.put(f"{each}.yml", content)
+            if option == "--" and content == TEXT:
+                place.shell("git add -A")
+            else:
+                place.shell("git add -A && git commit -qm change")
+        counts.add(count_calls(place, option, faults=number))
+    assert len(counts) == 1, counts
+
+
 def test_long_vault(place: Place) -> None:
     """A vault that is too long to pass over is read as often for one file beside it as for many."""
     counts = set()

@@ -6,6 +6,7 @@ import os
 from enum import Enum
 from typing import NamedTuple
 
+from ansible_vault_companions.git.differences import File
 from ansible_vault_companions.git.pathspecs import make_pathspec
 
 IN_LFS = "is a pointer of git-lfs, so its content cannot be checked"
@@ -31,7 +32,7 @@ class Remedy(Enum):
 class Fault(NamedTuple):
     why: str
     remedy: Remedy
-    name: bytes
+    file: File
     # The line that allows it, after the path of its .gitattributes; else why none does.
     line: str = ""
     no_line: str = "a line for it in .gitattributes would be too long for git"
@@ -77,7 +78,7 @@ REWRITE = "rewrite {what}, for example with `git rebase -i {base}`; if that is i
 
 def write_advice(fault: Fault, words: Words) -> str:
     """What to do about a fault of what is staged, or of the current commit."""
-    path = make_pathspec(os.fsdecode(fault.name), is_below_top=True)
+    path = make_pathspec(os.fsdecode(fault.file.name), is_below_top=True)
     allow = words.allow.format(line=fault.line) if fault.line else words.allow_all.format(no_line=fault.no_line)
     restore = words.restore.format(path=path)
     remedy = fault.remedy.value

@@ -2,7 +2,6 @@
 
 from __future__ import annotations
 
-from ansible_vault_companions.envelopes import conflicts
 from ansible_vault_companions.git.differences import File
 from ansible_vault_companions.guard import exemptions
 from ansible_vault_companions.guard.advice import Fault, Remedy
@@ -10,8 +9,8 @@ from ansible_vault_companions.guard.evidence import Evidence
 
 
 def find_fault(evidence: Evidence, file: File) -> Fault | None:
-    damage = evidence.now[file].damage
-    if not damage or exemptions.allows_damage(evidence, file):
+    now = evidence.now[file]
+    if not now.damage or exemptions.allows_damage(evidence, file):
         return None
-    remedy = Remedy.RESOLVE if damage == conflicts.UNMERGED else Remedy.RESTORE
-    return exemptions.make_damage(evidence, file, damage, remedy)
+    remedy = Remedy.RESOLVE if now.is_unmerged else Remedy.RESTORE
+    return exemptions.make_damage(evidence, file, now.damage, remedy)

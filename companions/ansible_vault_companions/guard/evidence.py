@@ -3,11 +3,12 @@
 from __future__ import annotations
 
 import os
+from codecs import BOM_UTF8
 from functools import cached_property
 
 from ansible_vault_companions.envelopes import file_kinds, header
 from ansible_vault_companions.envelopes.pointers import is_pointer
-from ansible_vault_companions.git.attributes import Attributes
+from ansible_vault_companions.git.attributes import Attributes, list_attribute_files
 from ansible_vault_companions.git.blobs import Blobs
 from ansible_vault_companions.git.differences import Differences, File
 from ansible_vault_companions.git.indexes import Index, read_attributes_of
@@ -62,6 +63,12 @@ class Evidence:
         if content.startswith(header.MAGIC):
             return header.measure_ciphertext(content)
         return header.measure_padded(len(content))
+
+    @cached_property
+    def attribute_files_with_mark(self) -> list[File]:
+        """The files of attributes that concern these files and begin with a byte order mark."""
+        sources = (self.index.files.get(name) for name in list_attribute_files(self.attributes))
+        return [source for source in sources if source and self.blobs.read(source.blob).startswith(BOM_UTF8)]
 
     @cached_property
     def changed(self) -> dict[bytes, File]:

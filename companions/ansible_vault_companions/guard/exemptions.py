@@ -31,20 +31,20 @@ def list_losable_values(evidence: Evidence, file: File) -> frozenset[str]:
 
 def make_damage(evidence: Evidence, file: File, why: str, remedy: Remedy) -> Fault:
     """A fault that any line allows."""
-    return Fault(why, remedy, file.name, make_line(file.name, EXEMPT, evidence.index.files))
+    return Fault(why, remedy, file, make_line(file.name, EXEMPT, evidence.index.files))
 
 
 def make_loss(evidence: Evidence, file: File, why: str, remedy: Remedy = Remedy.ALLOW) -> Fault:
     """A fault that a new line allows."""
     if evidence.attributes[file.name].is_exempt:
-        return Fault(why, remedy, file.name, no_line=TOO_OLD)
-    return Fault(why, remedy, file.name, make_line(file.name, EXEMPT, evidence.index.files))
+        return Fault(why, remedy, file, no_line=TOO_OLD)
+    return Fault(why, remedy, file, make_line(file.name, EXEMPT, evidence.index.files))
 
 
 def make_loss_of_values(evidence: Evidence, file: File, why: str, lost: set[str]) -> Fault:
     """The same of values. The line keeps what another one gives already."""
     given = evidence.attributes[file.name].plain_values
     if not given.isdisjoint(lost):
-        return Fault(why, Remedy.ALLOW, file.name, no_line=TOO_OLD)
+        return Fault(why, Remedy.ALLOW, file, no_line=TOO_OLD)
     attribute = f"{PLAIN_VALUES}={','.join(sorted({*lost, *given}))}"
-    return Fault(why, Remedy.ALLOW, file.name, make_line(file.name, attribute, evidence.index.files))
+    return Fault(why, Remedy.ALLOW, file, make_line(file.name, attribute, evidence.index.files))

@@ -15,6 +15,7 @@ from ansible_vault_companions.envelopes.damage import (
     find_damage,
     find_tagged,
     find_unencrypted,
+    is_unmerged,
 )
 from ansible_vault_companions.envelopes.detection import may_have_envelope
 from ansible_vault_companions.envelopes.header import LINE_END, MAGIC
@@ -51,8 +52,10 @@ class Facts(NamedTuple):
     ambiguity: str = ""
     # How many envelopes it has; if it cannot be read, how many headers of some.
     envelopes: int = 0
-    # What is wrong with its envelopes, with what only has their tag, and with the whole if it is marked.
+    # What is wrong with its envelopes, and whether that is git's conflict markers; with what only has their tag; and
+    # with the whole if it is marked.
     damage: str = ""
+    is_unmerged: bool = False
     tagged: str = ""
     unencrypted: str = NOT_ENCRYPTED
     encrypted: Texts = NO_TEXTS
@@ -72,7 +75,14 @@ def find_facts(data: bytes, needs_plain: bool = False) -> Facts:
 
 def _read_facts(data: bytes, needs_plain: bool) -> Facts:
     if data.startswith(MAGIC):
-        return Facts(is_vault=True, envelopes=1, damage=find_damage(Content(data)), unencrypted="")
+        vault = Content(data)
+        return Facts(
+            is_vault=True,
+            envelopes=1,
+            damage=find_damage(vault),
+            is_unmerged=is_unmerged(vault),
+            unencrypted="",
+        )
     if len(data) > limits.LONGEST_PLAINTEXT:
         raise TooMuch(limits.TOO_LONG)
     if not data.strip():
@@ -87,6 +97,7 @@ def _read_facts(data: bytes, needs_plain: bool) -> Facts:
         ambiguity=_find_hidden_break(data) or _find_unclear_key(keys),
         envelopes=data.count(HEADER) if document.fault else sum(value.is_envelope for value in document.values),
         damage=find_damage(document),
+        is_unmerged=is_unmerged(document),
         tagged=find_tagged(document),
         unencrypted=find_unencrypted(document),
         encrypted=_count_texts(leaves, are_encrypted=True),

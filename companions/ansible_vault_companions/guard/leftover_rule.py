@@ -7,11 +7,12 @@ import os
 from ansible_vault_companions.files import replacing
 from ansible_vault_companions.git.differences import File
 from ansible_vault_companions.guard.advice import Fault, Remedy
+from ansible_vault_companions.guard.evidence import Evidence
 
 LEFTOVER = "was left behind by a companion, and may be plaintext"
 
 
-def find_fault(file: File) -> Fault | None:
+def find_fault(_: Evidence, file: File) -> Fault | None:
     if replacing.is_leftover(os.path.basename(os.fsdecode(file.name))):
-        return Fault(LEFTOVER, Remedy.REMOVE, file.name)
+        return Fault(LEFTOVER, Remedy.REMOVE, file)
     return None

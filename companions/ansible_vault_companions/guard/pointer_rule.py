@@ -18,4 +18,4 @@ def find_fault(evidence: Evidence, file: File) -> Fault | None:
     is_lost = was_encrypted and not exemptions.allows_loss(evidence, file)
     if not (evidence.attributes[file.name].is_marked or is_lost):
         return None
-    return Fault(IN_LFS, Remedy.OUT_OF_LFS, file.name, make_line(file.name, NO_FILTER, evidence.index.files))
+    return Fault(IN_LFS, Remedy.OUT_OF_LFS, file, make_line(file.name, NO_FILTER, evidence.index.files))

@@ -17,11 +17,11 @@ from ansible_vault_companions.git.snapshots import Snapshot
 from ansible_vault_companions.git.versions import list_former_versions
 from ansible_vault_companions.guard import (
     advice,
-    attributes_rule,
+    byte_order_mark_rule,
     copy_rule,
     damage_rule,
     leftover_rule,
-    mark_rule,
+    marked_file_rule,
     pointer_rule,
     successor_rule,
     tag_rule,
@@ -41,27 +41,30 @@ NO_COMMIT = (
 )
 
 
-def find_faults(evidence: Evidence) -> Iterator[tuple[File, Fault]]:
-    """Each refused file, with the first of its faults. A cause comes before its effects: a vault with conflict markers
-    or in git-lfs counts as lost, too, and a marked file that has lost its vault counts as unencrypted."""
-    yield from attributes_rule.find_faults(evidence)
+# A cause comes before its effects: a vault with conflict markers or in git-lfs counts as lost, too, and a marked file
+# that has lost its vault counts as unencrypted.
+RULES: tuple[Callable[[Evidence, File], Fault | None], ...] = (
+    byte_order_mark_rule.find_fault,
+    leftover_rule.find_fault,
+    damage_rule.find_fault,
+    pointer_rule.find_fault,
+    vault_rule.find_fault,
+    successor_rule.find_fault,
+    copy_rule.find_fault,
+    value_rule.find_fault,
+    unreadable_rule.find_fault,
+    marked_file_rule.find_fault,
+    tag_rule.find_fault,
+)
+
+
+def find_faults(evidence: Evidence) -> Iterator[Fault]:
+    """The first fault of each file, and those of the files that give it attributes."""
     for file in evidence.now:
-        if not file.blob:
-            continue
-        fault = (
-            leftover_rule.find_fault(file)
-            or damage_rule.find_fault(evidence, file)
-            or pointer_rule.find_fault(evidence, file)
-            or vault_rule.find_fault(evidence, file)
-            or successor_rule.find_fault(evidence, file)
-            or copy_rule.find_fault(evidence, file)
-            or value_rule.find_fault(evidence, file)
-            or unreadable_rule.find_fault(evidence, file)
-            or mark_rule.find_fault(evidence, file)
-            or tag_rule.find_fault(evidence, file)
-        )
-        if fault:
-            yield file, fault
+        found = (rule(evidence, file) for rule in RULES if file.blob)
+        faults = [fault for fault in found if fault]
+        yield from (fault for fault in faults if fault.file != file)
+        yield from [fault for fault in faults if fault.file == file][:1]
 
 
 class Review:
@@ -81,7 +84,8 @@ class Review:
         counts as the file that it leads to, and as none if that is not in the index."""
         self.changes = [self._follow_all(index, differences) for differences in changes if differences.files]
         for differences in self.changes:
-            for file, fault in find_faults(Evidence(differences, index, self.blobs)):
+            for fault in find_faults(Evidence(differences, index, self.blobs)):
+                file = fault.file
                 if (file.name, file.blob) not in self.reported:
                     self.reported.add((file.name, file.blob))
                     why = f"is a link to a file that {fault.why}" if file.is_link else fault.why

@@ -14,4 +14,4 @@ def find_fault(evidence: Evidence, file: File) -> Fault | None:
     why = evidence.now[file].unencrypted
     if not (why and evidence.attributes[file.name].is_marked):
         return None
-    return Fault(why, Remedy.UNMARK, file.name, make_line(file.name, UNMARKED, evidence.index.files))
+    return Fault(why, Remedy.UNMARK, file, make_line(file.name, UNMARKED, evidence.index.files))
