@@ -193,7 +193,7 @@ def test_history(place: Place) -> None:
     assert told(place.run(HOOK, "--since", first, folder="deep")) == wanted
     assert told(place.run(HOOK, "--since", leak)) == [in_last], "nor what came before"
     silent("nothing since", place.run(HOOK, "--since", "HEAD"))
-    wanted = ["deep/a.vault.yml is not encrypted", f"b.yml {WHOLE.replace('HEAD', 'an earlier commit')}"]
+    wanted = [f"b.yml {WHOLE.replace('HEAD', 'an earlier commit')}", "deep/a.vault.yml is not encrypted"]
     done = place.run(HOOK, "--all", folder="deep")
     assert told(done) == wanted and "deep/.gitattributes: /a.vault.yml !diff" in done.stderr, "the nearest one"
     place.shell("git reset -q --hard && git sparse-checkout set other")
@@ -231,7 +231,7 @@ def test_versions(place: Place) -> None:
     committed(place, "b.yml", TEXT)
     done = run_below(place, "--all")
     assert told(done) == [f"a.yml {WHOLE.replace('HEAD', 'an earlier commit')}"]
-    assert "commit this line at the end of .gitattributes: /a.yml -ansible-vault" in done.stderr
+    assert "commit this line at the end of ./.gitattributes: /a.yml -ansible-vault" in done.stderr
     committed(place, ".gitattributes", b"/a.yml -ansible-vault\n")
     silent("the line is committed", run_below(place, "--all"))
 

@@ -32,10 +32,12 @@ Act = Callable[[Place, str], None]
 
 
 def paste(place: Place, advice: str) -> None:
-    """Add the line to the file that is named before it."""
-    [(path, line)] = re.findall("at the end of (.*?gitattributes): (.*)", advice)
+    """Add the line to the file that is named before it, as `echo LINE >> FILE` does."""
+    [(path, hint, line)] = re.findall(
+        r"at the end of (.*?gitattributes)( \(first end its last line.*?\))?: (.*)", advice
+    )
     with open(place.tree / path, "ab") as file:
-        file.write(os.fsencode(line) + b"\n")
+        file.write((b"\n" if hint else b"") + os.fsencode(line) + b"\n")
 
 
 def type_it(place: Place, advice: str) -> None:
@@ -164,6 +166,53 @@ def test_keys(place: Place) -> None:
     assert list_advice(place) == []
 
 
+# Contents of a file, each in place of each other one.
+CONTENTS = [VAULT, VALUE, VALUE + block("old", name="x"), VAULT[:-100], VALUE + block("old", name="x")[:-100] + b"\n"]
+CONTENTS += [b"pw: plain\n", b"pw: !vault plain\n" + block("old", name="x"), VALUE + b"x: !vault plain\n", TAB + VALUE]
+CONTENTS += ["x: plain\n# \u2028pw: plain\n".encode(), b"pw: plain\nx: " + b"[" * 70 + b"]" * 70 + VALUE, TAB + TEXT]
+CONTENTS += [b"pw: plain\n" + block("old", name="y")[:-100] + b"\n", b""]
+
+
+@pytest.mark.parametrize("folder", ["", "in/"])
+def test_one_line(place: Place, folder: str) -> None:
+    """Where a line is shown, it is all that is needed, whatever the file was and is, marked or not, moved or not."""
+    under_git(place, "m*.yml diff=ansible-vault\n")
+    pairs = [(kind, old, new) for kind in "mx" for old in CONTENTS for new in CONTENTS if old != new]
+    for number, (kind, old, _) in enumerate(pairs):
+        place.put(f"{kind}{number}.yml", old)
+    add_and_commit(place)
+    for number, (kind, _, new) in enumerate(pairs):
+        (place.tree / f"{kind}{number}.yml").unlink()
+        place.put(f"{folder}{kind}{number}.yml", new)
+    place.shell("git add -A")
+    advice = list_advice(place)
+    lines = [line for line in advice if " at the end of " in line]
+    assert len(lines) > len(pairs) / 3
+    for line in lines:
+        paste(place, line)
+    place.shell("git add -A")
+    assert len(list_advice(place)) == len(advice) - len(lines)
+
+
+def test_one_line_for_all(place: Place) -> None:
+    """The same of files that were vaults in an earlier commit, marked or not."""
+    under_git(place, "m*.yml diff=ansible-vault\n")
+    files = {f"{kind}{number}.yml": content for kind in "mx" for number, content in enumerate(CONTENTS[1:])}
+    for name in files:
+        place.put(name, VAULT)
+    add_and_commit(place)
+    for name, content in files.items():
+        place.put(name, content)
+    place.shell("git add -A && git commit -qm after --no-verify")
+    committed(place, "x", b"")
+    advice = list_advice(place, "--all")
+    lines = [line for line in advice if " at the end of " in line]
+    for line in lines:
+        paste(place, line)
+    place.shell("git add -A && git commit -qm lines --no-verify")
+    assert lines and len(list_advice(place, "--all")) == len(advice) - len(lines)
+
+
 def test_no_line(place: Place) -> None:
     """If no line helps, no line is shown."""
     names = [f"a_long_name_{number}" for number in range(150)]
@@ -213,3 +262,73 @@ def test_rewritten_commit(place: Place) -> None:
     place.put("a.yml", sealed("new"))
     place.shell("git commit -qa --amend --no-edit && git rebase --continue")
     assert list_advice(place, "--since", first) == [] and place.get("a.yml") == sealed("new")
+
+
+# How a file of attributes ends, in the directory of the vault or at the top.
+ENDS = [b"", b"\n", b"\n\n", b"\r\n", b" "]
+
+
+@pytest.mark.parametrize("end", ENDS)
+@pytest.mark.parametrize("folder", ["", "in/"])
+def test_last_line(place: Place, folder: str, end: bytes) -> None:
+    """The line becomes one of its own in the nearest file, also if somebody else's last line has no end."""
+    under_git(place, "")
+    names = ["in/a.yml", "in/b.yml"]
+    for name in names:
+        place.put(name, VAULT)
+    place.put("other/.gitattributes", b"")
+    place.put(f"{folder}.gitattributes", b"*.txt text" + end)
+    add_and_commit(place)
+    place.put("in/a.yml", TEXT)
+    place.shell("git add -A")
+    [advice] = list_advice(place)
+    assert f"at the end of {folder or './'}.gitattributes" in advice
+    paste(place, advice)
+    place.shell("git add -A")
+    assert list_advice(place) == []
+    place.shell("git commit -qm one")
+    committed(place, "in/b.yml", TEXT)
+    [advice] = list_advice(place, "--all")
+    paste(place, advice)
+    place.shell("git add -A && git commit -qm line --no-verify")
+    assert list_advice(place, "--all") == []
+    attributes = place.shell("git check-attr text ansible-vault -- a.txt in/a.yml in/a.txt").stdout
+    assert f"{folder}a.txt: text: set" in attributes
+
+
+def list_rewriting(place: Place, first: str) -> list[tuple[str, str]]:
+    """What each advice of --since names as the base of a rebase, and as the later beginning."""
+    form = "`git rebase -i (.*)`; if that is intended, begin later: (--since .*)"
+    return [re.findall(form, line)[0] for line in list_advice(place, "--since", first)]
+
+
+def test_merged_commits(place: Place) -> None:
+    """One later beginning is enough, whatever branches the refused commits are on."""
+    under_git(place, "")
+    first = committed(place, "x", b"")
+    for name in ("one", "two"):
+        place.shell(f"git checkout -qb {name} {first}")
+        committed(place, f"{name}.yml", VAULT)
+        committed(place, f"{name}.yml", TEXT)
+    place.shell("git merge -q --no-edit --no-verify one")
+    committed(place, "y", b"")
+    advice = list_rewriting(place, first)
+    assert len(advice) == 2
+    for _, later in advice:
+        assert list_advice(place, *later.split()) == []
+
+
+def test_first_commit(place: Place) -> None:
+    """A first commit, which may be that of a merged history, is rewritten from the root."""
+    under_git(place, "")
+    first = committed(place, "x", b"")
+    place.shell("git checkout -q --orphan other && git rm -rfq .")
+    committed(place, LEFTOVER, TEXT)
+    committed(place, "y", b"")
+    [(base, later)] = list_rewriting(place, first)
+    assert list_advice(place, *later.split()) == []
+    done = place.shell(f"git rebase -i {base}", GIT_SEQUENCE_EDITOR="sed -i '1s/^pick/edit/'")
+    assert done.returncode == 0, done
+    place.shell(f"git rm -qf {LEFTOVER} && touch z && git add z && git commit -q --amend --no-edit")
+    assert place.shell("git rebase --continue").returncode == 0
+    assert list_advice(place, "--since", first) == []

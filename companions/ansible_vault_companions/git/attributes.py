@@ -10,7 +10,6 @@ from typing import Callable, Collection, Container, Iterable, Iterator, NamedTup
 from ansible_vault_companions.files import reading, resolving
 from ansible_vault_companions.git.commands import CUT
 from ansible_vault_companions.git.repository import find_repository
-from ansible_vault_companions.quoting import escape
 from ansible_vault_companions.git.servers import Server
 from ansible_vault_companions.refusals import Refused, describe_refusal
 
@@ -149,15 +148,15 @@ def list_attribute_files(names: Iterable[bytes]) -> list[bytes]:
     return sorted(paths)
 
 
-def make_line(name: bytes, attribute: str, names: Container[bytes]) -> str:
-    """The line that gives an attribute to this file alone, after the path of its .gitattributes; empty if it would be
-    too long. Of those with these names, git prefers the nearest one."""
+def make_line(name: bytes, attribute: str, names: Container[bytes]) -> tuple[bytes, str]:
+    """The path of a .gitattributes, and the line for it that gives an attribute to this file alone; empty if it would
+    be too long. Of those with these names, git prefers the nearest one."""
     *folders, _ = name.split(b"/")
     while folders and b"/".join([*folders, FILE]) not in names:
         folders.pop()
     above = b"".join(folder + b"/" for folder in folders)
     line = f"{_make_pattern(name[len(above):])} {attribute}"
-    return f"{escape(os.fsdecode(above + FILE))}: {line}" if len(os.fsencode(line)) <= LONGEST_LINE else ""
+    return above + FILE, line if len(os.fsencode(line)) <= LONGEST_LINE else ""
 
 
 def _make_pattern(name: bytes) -> str:

@@ -18,22 +18,27 @@ class Remedy(Enum):
     ALLOW = "{allow}"
     ENCRYPT = "encrypt it, as each change with ansible-vault-edit does, or remove the tag"
     OUT_OF_LFS = (
-        "run `git add --renormalize -- {path}` after you {add} this line, which keeps it out of git-lfs, at the end of "
-        "{line}"
+        "run `git add --renormalize -- {path}` after you {add} this line, which keeps it out of git-lfs, {line}"
     )
     REMOVE = "look at its content, and remove it with `git rm -f -- {path}`"
     REPAIR = "repair it; {allow}"
     RESOLVE = "resolve the conflict with ansible-vault-edit"
     RESTORE = "{restore}; {allow}"
     SAVE = "save it without this mark, and {add} it"
-    UNMARK = "encrypt it, or unmark it: {add} this line at the end of {line}"
+    UNMARK = "encrypt it, or unmark it: {add} this line {line}"
+
+
+# What a line may allow, or unmark, while the content stays.
+ALLOWABLE = (Remedy.ALLOW, Remedy.REPAIR, Remedy.RESTORE, Remedy.UNMARK)
 
 
 class Fault(NamedTuple):
     why: str
     remedy: Remedy
     file: File
-    # The line that allows it, after the path of its .gitattributes; else why none does.
+    # The attributes that a line for it needs.
+    attributes: frozenset[str] = frozenset()
+    # That line, after the place for it; else why none helps.
     line: str = ""
     no_line: str = "a line for it in .gitattributes would be too long for git"
 
@@ -49,30 +54,27 @@ class Words(NamedTuple):
     allow_all: str
 
 
-FROM_EARLIER = "restore it from a commit that `git log --oneline -- {path}` lists"
 STAGED = Words(
     before="",
     add="stage",
     restore="restore it, for example with `git checkout HEAD -- {path}` if it is whole there",
-    allow="if that is intended, commit with --no-verify, or stage this line for the same commit, at the end of {line}",
+    allow="if that is intended, commit with --no-verify, or stage this line for the same commit, {line}",
     allow_all="if that is intended, commit with --no-verify: {no_line}",
 )
 COMMITTED = Words(
     before="",
     add="commit",
-    restore=FROM_EARLIER,
-    allow="if that is intended, commit this line at the end of {line}",
+    restore="restore it from a commit that `git log --oneline -- {path}` lists",
+    allow="if that is intended, commit this line {line}",
     allow_all="it cannot be allowed: {no_line}",
 )
 # Of the last commit alone, which may still be changed.
-LAST = Words(
+LAST = COMMITTED._replace(
     before="rewrite the commit, for example with `git commit --amend`; ",
-    add="commit",
-    restore=FROM_EARLIER,
-    allow="if that is intended, commit this line at the end of {line}",
     allow_all="if that is intended, do nothing: only the last commit is compared with the one before",
 )
-# No later commit changes what the hook says of these. The IDs are whole: a tag may have the name of a shorter one.
+# No later commit changes what --since says of these. It has checked all commits up to the last one, which alone has all
+# of them behind it if there are merges. The IDs are whole: a tag may have the name of a shorter one.
 REWRITE = "rewrite {what}, for example with `git rebase -i {base}`; if that is intended, begin later: --since {last}"
 
 
@@ -88,9 +90,6 @@ def write_advice(fault: Fault, words: Words) -> str:
     return words.before + advice
 
 
-def advise_on_commit(_: Fault, commit: str) -> str:
-    return REWRITE.format(what="the commit", base=f"{commit}~1", last=commit)
-
-
-def advise_on_commits(_: Fault, base: str, last: str) -> str:
-    return REWRITE.format(what="the commits", base=base, last=last)
+def advise_to_rewrite(_: Fault, what: str, base: str, last: str) -> str:
+    """What to do about a fault of what earlier commits changed after a base."""
+    return REWRITE.format(what=what, base=base, last=last)

@@ -13,4 +13,4 @@ def find_fault(evidence: Evidence, file: File) -> Fault | None:
     if not now.damage or exemptions.allows_damage(evidence, file):
         return None
     remedy = Remedy.RESOLVE if now.is_unmerged else Remedy.RESTORE
-    return exemptions.make_damage(evidence, file, now.damage, remedy)
+    return exemptions.make_damage(file, now.damage, remedy)

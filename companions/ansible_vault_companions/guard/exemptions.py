@@ -6,13 +6,20 @@ only by a line that the change itself adds: an older one may be left over, or a 
 
 from __future__ import annotations
 
+import os
+from typing import Iterable
+
 from ansible_vault_companions.git.attributes import PLAIN_VALUES, VAULT, make_line
-from ansible_vault_companions.guard.advice import Fault, Remedy
 from ansible_vault_companions.git.differences import File
+from ansible_vault_companions.guard.advice import ALLOWABLE, Fault, Remedy
 from ansible_vault_companions.guard.evidence import Evidence
+from ansible_vault_companions.quoting import escape
 
 EXEMPT = f"-{VAULT}"
+UNMARKED = f"!diff !{VAULT}"
 TOO_OLD = "a line in .gitattributes counts only in the commit that adds it"
+# What the line would otherwise become a part of.
+UNENDED = " (first end its last line, which has no line break)"
 
 
 def allows_damage(evidence: Evidence, file: File) -> bool:
@@ -29,16 +36,16 @@ def list_losable_values(evidence: Evidence, file: File) -> frozenset[str]:
     return given - evidence.find_earlier(file).plain_values if given else given
 
 
-def make_damage(evidence: Evidence, file: File, why: str, remedy: Remedy) -> Fault:
+def make_damage(file: File, why: str, remedy: Remedy) -> Fault:
     """A fault that any line allows."""
-    return Fault(why, remedy, file, make_line(file.name, EXEMPT, evidence.index.files))
+    return Fault(why, remedy, file, frozenset([EXEMPT]))
 
 
 def make_loss(evidence: Evidence, file: File, why: str, remedy: Remedy = Remedy.ALLOW) -> Fault:
     """A fault that a new line allows."""
     if evidence.attributes[file.name].is_exempt:
         return Fault(why, remedy, file, no_line=TOO_OLD)
-    return Fault(why, remedy, file, make_line(file.name, EXEMPT, evidence.index.files))
+    return Fault(why, remedy, file, frozenset([EXEMPT]))
 
 
 def make_loss_of_values(evidence: Evidence, file: File, why: str, lost: set[str]) -> Fault:
@@ -46,5 +53,43 @@ def make_loss_of_values(evidence: Evidence, file: File, why: str, lost: set[str]
     given = evidence.attributes[file.name].plain_values
     if not given.isdisjoint(lost):
         return Fault(why, Remedy.ALLOW, file, no_line=TOO_OLD)
-    attribute = f"{PLAIN_VALUES}={','.join(sorted({*lost, *given}))}"
-    return Fault(why, Remedy.ALLOW, file, make_line(file.name, attribute, evidence.index.files))
+    return Fault(why, Remedy.ALLOW, file, frozenset([f"{PLAIN_VALUES}={','.join(sorted({*lost, *given}))}"]))
+
+
+def join_faults(evidence: Evidence, faults: list[Fault]) -> Fault:
+    """The first fault of a file, with its line. If the file may stay as it is, the line allows the other ones, too,
+    which are named unless they need no more than the first."""
+    fault, *others = faults
+    if fault.remedy in ALLOWABLE:
+        for other in others:
+            fault = _join_fault(fault, other)
+    line = write_line(evidence, fault.file, fault.attributes) if fault.attributes else ""
+    return fault._replace(line=line)
+
+
+def _join_fault(fault: Fault, other: Fault) -> Fault:
+    if not fault.attributes:
+        return fault
+    if not other.attributes:
+        return fault._replace(attributes=other.attributes, no_line=other.no_line)
+    attributes = fault.attributes | other.attributes
+    if EXEMPT in attributes:
+        attributes -= {UNMARKED}
+    is_named = attributes != fault.attributes and other.why != fault.why
+    why = f"{fault.why}, and {other.why}" if is_named else fault.why
+    return fault._replace(why=why, attributes=attributes)
+
+
+def write_line(evidence: Evidence, file: File, attributes: Iterable[str]) -> str:
+    """The line that gives attributes to this file alone, after the place where it is to be added; empty if git would
+    overlook it. There may be several .gitattributes, so even the one at the top is given as a path."""
+    source, line = make_line(file.name, " ".join(sorted(attributes)), evidence.index.files)
+    path = source if b"/" in source else b"./" + source
+    hint = UNENDED if _has_unended_line(evidence, source) else ""
+    return f"at the end of {escape(os.fsdecode(path))}{hint}: {line}" if line else ""
+
+
+def _has_unended_line(evidence: Evidence, source: bytes) -> bool:
+    file = evidence.index.files.get(source)
+    content = evidence.blobs.read(file.blob) if file else b""
+    return content != b"" and not content.endswith(b"\n")

@@ -2,16 +2,14 @@
 
 from __future__ import annotations
 
-from ansible_vault_companions.git.attributes import VAULT, make_line
 from ansible_vault_companions.git.differences import File
 from ansible_vault_companions.guard.advice import Fault, Remedy
 from ansible_vault_companions.guard.evidence import Evidence
-
-UNMARKED = f"!diff !{VAULT}"
+from ansible_vault_companions.guard.exemptions import UNMARKED
 
 
 def find_fault(evidence: Evidence, file: File) -> Fault | None:
     why = evidence.now[file].unencrypted
     if not (why and evidence.attributes[file.name].is_marked):
         return None
-    return Fault(why, Remedy.UNMARK, file, make_line(file.name, UNMARKED, evidence.index.files))
+    return Fault(why, Remedy.UNMARK, file, frozenset([UNMARKED]))

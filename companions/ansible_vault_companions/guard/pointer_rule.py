@@ -2,7 +2,6 @@
 
 from __future__ import annotations
 
-from ansible_vault_companions.git.attributes import make_line
 from ansible_vault_companions.git.differences import File
 from ansible_vault_companions.guard import exemptions
 from ansible_vault_companions.guard.advice import IN_LFS, Fault, Remedy
@@ -18,4 +17,4 @@ def find_fault(evidence: Evidence, file: File) -> Fault | None:
     is_lost = was_encrypted and not exemptions.allows_loss(evidence, file)
     if not (evidence.attributes[file.name].is_marked or is_lost):
         return None
-    return Fault(IN_LFS, Remedy.OUT_OF_LFS, file, make_line(file.name, NO_FILTER, evidence.index.files))
+    return Fault(IN_LFS, Remedy.OUT_OF_LFS, file, frozenset([NO_FILTER]))

@@ -20,6 +20,7 @@ from ansible_vault_companions.guard import (
     byte_order_mark_rule,
     copy_rule,
     damage_rule,
+    exemptions,
     leftover_rule,
     marked_file_rule,
     pointer_rule,
@@ -35,6 +36,7 @@ from ansible_vault_companions.output import write_error
 from ansible_vault_companions.quoting import escape
 from ansible_vault_companions.refusals import Refused
 
+EARLIER = "an earlier commit"
 NO_COMMIT = (
     "--since has {} in place of a commit, as pipelines give it for a new branch: give the branch that it leaves, as in "
     "`--since origin/main`, or use --all"
@@ -59,12 +61,14 @@ RULES: tuple[Callable[[Evidence, File], Fault | None], ...] = (
 
 
 def find_faults(evidence: Evidence) -> Iterator[Fault]:
-    """The first fault of each file, and those of the files that give it attributes."""
+    """The faults of each file, as one; and those of the files that give it attributes."""
     for file in evidence.now:
         found = (rule(evidence, file) for rule in RULES if file.blob)
         faults = [fault for fault in found if fault]
         yield from (fault for fault in faults if fault.file != file)
-        yield from [fault for fault in faults if fault.file == file][:1]
+        own = [fault for fault in faults if fault.file == file]
+        if own:
+            yield exemptions.join_faults(evidence, own)
 
 
 class Review:
@@ -124,11 +128,12 @@ def review_since(review: Review, name: str) -> None:
     with Snapshot(review.blobs) as snapshot:
         for commit, *parents in commits:
             snapshot.move_to(commit, parents)
-            advise = partial(advice.advise_on_commit, commit=commit)
+            base = f"{commit}~1" if parents else "--root"
+            advise = partial(advice.advise_to_rewrite, what="the commit", base=base, last=last)
             review.check_changes(snapshot, snapshot.compare_with_parents(), advise, f"{commit[:DIGITS]}: ")
         snapshot.move_to(last, [])
         for base in history.list_merge_bases(first, last):
-            advise = partial(advice.advise_on_commits, base=base, last=last)
+            advise = partial(advice.advise_to_rewrite, what="the commits", base=base, last=last)
             review.check_changes(snapshot, [snapshot.compare_with(base)], advise, f"{last[:DIGITS]}: ")
 
 
@@ -144,6 +149,12 @@ def review_all(review: Review) -> None:
         vaults = {blob for blob in blobs if review.blobs.read(blob, is_old=True) == MAGIC}
         # One version is enough.
         were_vaults = {file.name: file for file in sorted(former) if file.before in vaults}
-        review.check_changes(snapshot, [Differences("", [*snapshot.files.values()])], advise)
-        review.check_changes(snapshot, snapshot.compare_with_parents(), partial(advice.write_advice, words=advice.LAST))
-        review.check_changes(snapshot, [Differences("an earlier commit", [*were_vaults.values()])], advise)
+        changes = snapshot.compare_with_parents()
+        changed = {file.name for differences in changes for file in differences.files}
+        # What the last commit has changed may be compared with the one before first, since it can be rewritten.
+        earlier = {name: file for name, file in were_vaults.items() if name not in changed}
+        files = [earlier.get(name, file) for name, file in snapshot.files.items()]
+        left = [file for name, file in were_vaults.items() if name in changed]
+        review.check_changes(snapshot, [Differences(EARLIER, files)], advise)
+        review.check_changes(snapshot, changes, partial(advice.write_advice, words=advice.LAST))
+        review.check_changes(snapshot, [Differences(EARLIER, left)], advise)

@@ -13,4 +13,4 @@ def find_fault(evidence: Evidence, file: File) -> Fault | None:
     has_or_had = now.envelopes or evidence.before[file].envelopes
     if not (now.tagged and has_or_had) or exemptions.allows_damage(evidence, file):
         return None
-    return exemptions.make_damage(evidence, file, now.tagged, Remedy.ENCRYPT)
+    return exemptions.make_damage(file, now.tagged, Remedy.ENCRYPT)

@@ -40,7 +40,7 @@ def _find_too_much(evidence: Evidence, file: File) -> Fault | None:
     if before.envelopes:
         return exemptions.make_loss(evidence, file, why)
     if now.envelopes and not exemptions.allows_damage(evidence, file):
-        return exemptions.make_damage(evidence, file, why, Remedy.ALLOW)
+        return exemptions.make_damage(file, why, Remedy.ALLOW)
     return None
 
 
