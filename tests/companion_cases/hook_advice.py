@@ -332,3 +332,58 @@ def test_first_commit(place: Place) -> None:
     place.shell(f"git rm -qf {LEFTOVER} && touch z && git add z && git commit -q --amend --no-edit")
     assert place.shell("git rebase --continue").returncode == 0
     assert list_advice(place, "--since", first) == []
+
+
+# The attributes in HEAD, by the path of their file; and a commit that removes no protection by itself, but by which a
+# line that a stranger has planted concerns the plaintext of a vault or a value.
+PLANTED = {
+    "a directory with its own line": (
+        {"roles/db/.gitattributes": b"*.yml -ansible-vault ansible-vault-plain=pw\n"},
+        "git mv roles/db roles/database",
+    ),
+    "a line for another directory": (
+        {".gitattributes": b"prod/* -ansible-vault ansible-vault-plain=pw\n"},
+        "git mv roles/db prod",
+    ),
+    "a line that hides another": (
+        {
+            ".gitattributes": b"roles/** -ansible-vault ansible-vault-plain=pw\n",
+            "roles/db/.gitattributes": b"* !ansible-vault !ansible-vault-plain\n",
+        },
+        "git rm -q roles/db/.gitattributes",
+    ),
+}
+
+
+@pytest.mark.parametrize("attributes, command", PLANTED.values(), ids=PLANTED)
+@pytest.mark.parametrize("before, after", [(VAULT, TEXT), (VALUE, b"pw: text\n")], ids=["vault", "value"])
+def test_planted_lines(place: Place, attributes: dict[str, bytes], command: str, before: bytes, after: bytes) -> None:
+    """A line allows nothing in a commit that does not add it, wherever it was."""
+    under_git(place, "")
+    for name, content in attributes.items():
+        place.put(name, content)
+    place.put("roles/db/x.yml", before)
+    add_and_commit(place)
+    place.put("roles/db/x.yml", after)
+    done = place.shell(f"{command} && git add -A && {HOOK}")
+    assert done.returncode == 1 and "x.yml " in done.stderr, done
+
+
+@pytest.mark.parametrize("before, after", [(VAULT, TEXT), (VALUE, b"pw: text\n")], ids=["vault", "value"])
+@pytest.mark.parametrize("order", ["line, removal, text", "removal, line, text", "removal, text, line", "all at once"])
+def test_lines_of_other_commits(place: Place, before: bytes, after: bytes, order: str) -> None:
+    """For --since, a line counts in no other commit than the one that changes the file, either."""
+    under_git(place, "")
+    place.put("y.yml", before)
+    first = committed(place, "x.yml", before)
+    for step in order.split(", "):
+        if step in ("line", "all at once"):
+            place.put(".gitattributes", b"x.yml -ansible-vault ansible-vault-plain=pw\n")
+        if step == "removal":
+            (place.tree / "x.yml").unlink()
+        if step in ("text", "all at once"):
+            place.put("x.yml", after)
+        place.shell("git add -A && git commit -qm step --no-verify")
+    done = place.run(HOOK, "--since", first)
+    is_refused = order != "all at once"
+    assert (done.returncode, "x.yml " in done.stderr) == (is_refused, is_refused), done

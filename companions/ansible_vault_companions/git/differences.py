@@ -3,7 +3,7 @@
 from __future__ import annotations
 
 import os
-from typing import Container, Iterable, Iterator, NamedTuple
+from typing import AbstractSet, Container, Iterable, Iterator, NamedTuple
 
 from ansible_vault_companions.git.attributes import is_attribute_file
 from ansible_vault_companions.git.commands import CUT, list_records
@@ -42,6 +42,8 @@ class Differences(NamedTuple):
     parent: str = ""
     # Whether the attributes may differ as well.
     has_attributes: bool = False
+    # If these are the changes of several commits, the files that one of them exempts.
+    exempt: AbstractSet[bytes] | None = None
 
 
 class Difference(NamedTuple):

@@ -67,5 +67,14 @@ def find_new_texts(before: Facts, after: Facts) -> Texts:
     return {keys: texts for keys, texts in new.items() if texts}
 
 
+def has_other_text(facts: Facts, versions: list[Facts]) -> bool:
+    """Whether a plaintext is at keys where none of these versions has it."""
+    for keys, texts in facts.plain.items():
+        known = [version.plain.get(keys, NONE) for version in versions]
+        if any(not any(text in own for own in known) for text in texts):
+            return True
+    return False
+
+
 def count_texts(leaves: Iterable[Leaf], are_encrypted: bool) -> Counter[int]:
     return Counter(leaf.text for leaf in leaves if leaf.is_encrypted == are_encrypted)

@@ -4,11 +4,13 @@ from __future__ import annotations
 
 import os
 from codecs import BOM_UTF8
+from collections import Counter
 from functools import cached_property
+from typing import Iterator, Sequence
 
 from ansible_vault_companions.envelopes import file_kinds, header
 from ansible_vault_companions.envelopes.pointers import is_pointer
-from ansible_vault_companions.git.attributes import Attributes, list_attribute_files
+from ansible_vault_companions.git.attributes import Attributes, is_attribute_file, list_attribute_files
 from ansible_vault_companions.git.blobs import Blobs
 from ansible_vault_companions.git.differences import Differences, File
 from ansible_vault_companions.git.indexes import Index, read_attributes_of
@@ -22,10 +24,14 @@ from ansible_vault_companions.guard.removed_vaults import RemovedVaults, Text
 class Evidence:
     """It reads each content once, and again only if a plaintext may have moved."""
 
-    def __init__(self, differences: Differences, index: Index | Snapshot, blobs: Blobs) -> None:
+    def __init__(
+        self, differences: Differences, index: Index | Snapshot, blobs: Blobs, others: Sequence[Differences] = ()
+    ) -> None:
+        """`others` are the differences from the other parents of a merge."""
         self.index = index
         self.blobs = blobs
         self.differences = differences
+        self.others = others
         self.since = f" in {differences.since}" if differences.since else ""
         self.facts_by_blob: dict[tuple[str, bool, bool], Facts] = {}
         # By a blob, whether it is a vault, and how long its text is. Many files may be named like one vault of 100 MB.
@@ -104,6 +110,17 @@ class Evidence:
         return Text(file.name, self.measure_padded(blob))
 
     @cached_property
+    def merged(self) -> list[Evidence]:
+        """What is known of a merge compared with each other parent."""
+        return [Evidence(other, self.index, self.blobs) for other in self.others]
+
+    def list_merged(self, file: File) -> Iterator[tuple[Evidence, File]]:
+        """The same for the parents from which a file differs, too."""
+        for other in self.merged:
+            if file.name in other.changed:
+                yield other, other.changed[file.name]
+
+    @cached_property
     def earlier(self) -> dict[bytes, Attributes]:
         """The attributes before the change."""
         if not self.differences.parent:
@@ -114,6 +131,23 @@ class Evidence:
 
     def find_earlier(self, file: File) -> Attributes:
         return self.earlier.get(file.name, Attributes())
+
+    def counts_lines(self, file: File) -> bool:
+        """Whether a line may exempt a file. Of several commits together, one has to add it and change the file."""
+        return self.differences.exempt is None or file.name in self.differences.exempt
+
+    @cached_property
+    def added_lines(self) -> list[bytes]:
+        """The lines that the change adds to any .gitattributes. One that moves, even with its file, is none."""
+        counts = Counter[bytes]()
+        for file in filter(lambda file: is_attribute_file(file.name), self.now):
+            counts.update(self.blobs.read(file.blob).splitlines() if file.blob else [])
+            counts.subtract(self.blobs.read(file.before).splitlines() if file.before else [])
+        return [line for line, count in counts.items() if count > 0]
+
+    def adds_attribute(self, attribute: str) -> bool:
+        """Whether the change adds a line with this attribute. Without a change, any line counts."""
+        return not self.differences.parent or any(attribute.encode() in line for line in self.added_lines)
 
     def is_example(self, file: File) -> bool:
         """Whether a file is a document, which may have envelopes that are none."""

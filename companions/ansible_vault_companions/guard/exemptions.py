@@ -1,7 +1,9 @@
 """What a line in .gitattributes allows.
 
 Any line allows damage, plaintext with the tag of an envelope, and what exceeds a limit. What was encrypted may be lost
-only by a line that the change itself adds: an older one may be left over, or a stranger may have planted it.
+only by a line that the change itself adds. An older one may be left over, or a stranger may have planted it, even where
+it does not concern the file until that moves. A merge adds what no parent has: a line of one parent allows only what
+this parent has already in plaintext, which is the whole file or, of a file with values, each text.
 """
 
 from __future__ import annotations
@@ -12,6 +14,7 @@ from typing import Iterable
 from ansible_vault_companions.git.attributes import PLAIN_VALUES, VAULT, make_line
 from ansible_vault_companions.git.differences import File
 from ansible_vault_companions.guard.advice import ALLOWABLE, Fault, Remedy
+from ansible_vault_companions.guard.comparison import has_other_text
 from ansible_vault_companions.guard.evidence import Evidence
 from ansible_vault_companions.quoting import escape
 
@@ -27,13 +30,40 @@ def allows_damage(evidence: Evidence, file: File) -> bool:
 
 
 def allows_loss(evidence: Evidence, file: File) -> bool:
-    return evidence.attributes[file.name].is_exempt and not evidence.find_earlier(file).is_exempt
+    if not _adds_exemption(evidence, file):
+        return False
+    return all(_adds_exemption(other, own) for other, own in evidence.list_merged(file))
+
+
+def _adds_exemption(evidence: Evidence, file: File) -> bool:
+    if not (evidence.attributes[file.name].is_exempt and evidence.counts_lines(file)):
+        return False
+    return not evidence.find_earlier(file).is_exempt and evidence.adds_attribute(EXEMPT)
 
 
 def list_losable_values(evidence: Evidence, file: File) -> frozenset[str]:
     """The key paths that the change itself exempts."""
+    names = _list_added_values(evidence, file)
+    if not names:
+        return names
+    for other, own in evidence.list_merged(file):
+        versions = [evidence.before[file], other.find_facts(own.before, needs_plain=True)]
+        if has_other_text(evidence.now[file], versions):
+            names &= _list_added_values(other, own)
+    return names
+
+
+def _list_added_values(evidence: Evidence, file: File) -> frozenset[str]:
     given = evidence.attributes[file.name].plain_values
-    return given - evidence.find_earlier(file).plain_values if given else given
+    if not (given and evidence.counts_lines(file) and evidence.adds_attribute(f"{PLAIN_VALUES}=")):
+        return frozenset()
+    return given - evidence.find_earlier(file).plain_values
+
+
+def list_exempt_files(evidence: Evidence) -> set[bytes]:
+    """The files that the change exempts as a whole or in part."""
+    files = [file for file in evidence.now if file.blob]
+    return {file.name for file in files if allows_loss(evidence, file) or list_losable_values(evidence, file)}
 
 
 def make_damage(file: File, why: str, remedy: Remedy) -> Fault:

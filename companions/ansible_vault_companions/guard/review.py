@@ -78,6 +78,8 @@ class Review:
         self.program = program
         self.blobs = blobs
         self.reported: set[tuple[bytes, str]] = set()
+        # The files that a change has exempted.
+        self.exempt: set[bytes] = set()
         # What is being checked.
         self.changes: list[Differences] = []
 
@@ -88,7 +90,10 @@ class Review:
         counts as the file that it leads to, and as none if that is not in the index."""
         self.changes = [self._follow_all(index, differences) for differences in changes if differences.files]
         for differences in self.changes:
-            for fault in find_faults(Evidence(differences, index, self.blobs)):
+            others = [other for other in self.changes if differences.parent and other.parent and other != differences]
+            evidence = Evidence(differences, index, self.blobs, others)
+            self.exempt |= exemptions.list_exempt_files(evidence)
+            for fault in find_faults(evidence):
                 file = fault.file
                 if (file.name, file.blob) not in self.reported:
                     self.reported.add((file.name, file.blob))
@@ -134,7 +139,8 @@ def review_since(review: Review, name: str) -> None:
         snapshot.move_to(last, [])
         for base in history.list_merge_bases(first, last):
             advise = partial(advice.advise_to_rewrite, what="the commits", base=base, last=last)
-            review.check_changes(snapshot, [snapshot.compare_with(base)], advise, f"{last[:DIGITS]}: ")
+            combined = snapshot.compare_with(base)._replace(exempt=frozenset(review.exempt))
+            review.check_changes(snapshot, [combined], advise, f"{last[:DIGITS]}: ")
 
 
 def review_all(review: Review) -> None:
