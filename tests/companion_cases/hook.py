@@ -44,7 +44,9 @@ def test_leftovers(place: Place) -> None:
     [name] = place.files().keys() - {"a.yml", ".gitattributes"}
     assert place.get(name) == TEXT
     others = dict.fromkeys((".ansible-vault-abcdefgh-new", "-ansible-vault-abcdefgh.new"), TEXT)
-    why = [f"{name} was left behind by a companion, and may be plaintext"]
+    like_it = {name, ".ansible-vault-x1y2z3.new", ".ansible-vault-.new", "inner/.ansible-vault-a b.new"}
+    others |= dict.fromkeys(like_it - {name}, TEXT)
+    why = [f"{name} was left behind by a companion, and may be plaintext" for name in sorted(like_it)]
     assert staged(place, others) == why
     assert staged(place, {".gitattributes": b"* -ansible-vault\n"}) == why, "no line exempts it"
 

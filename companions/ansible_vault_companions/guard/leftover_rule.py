@@ -1,4 +1,4 @@
-"""No file is added that a companion left behind when it was killed."""
+"""No file is added that has the name of one that a companion left behind when it was killed."""
 
 from __future__ import annotations
 
@@ -13,6 +13,7 @@ LEFTOVER = "was left behind by a companion, and may be plaintext"
 
 
 def find_fault(_: Evidence, file: File) -> Fault | None:
-    if replacing.is_leftover(os.path.basename(os.fsdecode(file.name))):
+    name = os.path.basename(os.fsdecode(file.name))
+    if name.startswith(replacing.PREFIX) and name.endswith(replacing.SUFFIX):
         return Fault(LEFTOVER, Remedy.REMOVE, file)
     return None
