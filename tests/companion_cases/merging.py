@@ -68,7 +68,9 @@ REFUSED: dict[str, Sequence[bytes]] = {
     "base: no secret decrypts this vault (label default; ": [sealed("dev2"), *OLD[1:]],
     "theirs: no secret decrypts this vault (label default; ": [*OLD[:2], sealed("dev2", THEIRS)],
     "one side is a vault and the other is not": [OLD[0], OLD[1].rstrip(), THEIRS.rstrip()],
-    "the passwords of the two sides differ; choose": [sealed(name) for name in ("old", "new", "prod2")],
+    "the passwords of the two sides differ; CONFLICTS in `man ansible-vault-edit` says how": [
+        sealed(name) for name in ("old", "new", "prod2")
+    ],
     "git merge-file cannot merge it; it may be binary": [sealed("old", b"\0%d" % number) for number in range(3)],
     # The secret of another label decrypts a side.
     "theirs: its label is prod, but dev@": [sealed("old"), sealed("old", OURS), sealed("dev", THEIRS, "prod")],
@@ -112,7 +114,8 @@ def test_chosen_secret(place: Place) -> None:
     words = [*secrets, *versions(place, "a.yml", *vaults)]
     ended("no label", place.run(MERGE, "--encrypt-vault-id", "x", *words), 1, "no secret has the label of --encrypt")
     place.put("a.yml", vaults[1])
-    silent("prod", place.run(MERGE, "--encrypt-vault-id", "prod", *words))
+    # Without the second one of the label.
+    silent("prod", place.run(MERGE, "--encrypt-vault-id", "prod", *secrets[:4], *versions(place, "a.yml", *vaults)))
     assert decrypted("prod", place.get("a.yml")) == BOTH
     one_label = [sealed(name, text, "prod") for name, text in zip(("prod", "prod", "dev"), (BASE, OURS, THEIRS))]
     done = place.run(MERGE, "--any-label", *secrets, *versions(place, "c.yml", *one_label))
@@ -121,8 +124,8 @@ def test_chosen_secret(place: Place) -> None:
     words = [*secrets, *versions(place, "b.yml", b"", *same)]
     ended("two passwords of a value", place.run(MERGE, *words), 1, "b.yml: 1 conflict")
     place.put("b.yml", same[0])
-    silent("one of them is chosen", place.run(MERGE, "--encrypt-vault-id", "prod", *words))
-    assert place.get("b.yml") == same[0]
+    why = "have the label prod; name only the password to encrypt with"
+    ended("neither is chosen", place.run(MERGE, "--encrypt-vault-id", "prod", *words), 1, why)
 
 
 def test_conflict_as_base(tmp_path: Path, monkeypatch: pytest.MonkeyPatch) -> None:

@@ -51,7 +51,7 @@ def _merge_vaults(tool: Tool, decrypt: Decrypt, versions: Versions, chosen: Key 
     key = vaults.choose_key(chosen)
     if vaults.merged_lines.conflicts:
         raise Refused(vaults.why)
-    return vaults.seal(tool, vaults.merged_lines.text, key)
+    return vaults.encrypt(tool, vaults.merged_lines.text, key)
 
 
 def _merge_values(tool: Tool, decrypt: Decrypt, versions: Versions, chosen: Key | None) -> MergedFile:

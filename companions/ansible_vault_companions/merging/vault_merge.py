@@ -4,9 +4,8 @@ from __future__ import annotations
 
 from ansible_vault_companions.envelopes import conflicts
 from ansible_vault_companions.envelopes.header import MAGIC
-from ansible_vault_companions.merging.common_key import VersionKeys, find_common_key
 from ansible_vault_companions.merging.line_merge import OURS, THEIRS, Versions, merge_lines
-from ansible_vault_companions.quoting import escape
+from ansible_vault_companions.merging.result_key import VersionKeys, choose_vault_key
 from ansible_vault_companions.refusals import Refused
 from ansible_vault_companions.tool import Decrypt, Decryption, Key, NotDecrypted, Tool
 
@@ -24,16 +23,9 @@ class VaultMerge:
         self.merged_lines = merge_lines(texts)
 
     def choose_key(self, chosen: Key | None) -> Key:
-        """The key of the result. The chosen one counts only if the sides have none in common."""
-        key = find_common_key({self.ours.key}, self.base_keys, {self.theirs.key}) or chosen
-        if key:
-            return key
-        ours, theirs = escape(self.ours.key.label), escape(self.theirs.key.label)
-        labels = f"labels differ: {ours} in ours, {theirs} in theirs"
-        what = "passwords of the two sides differ" if ours == theirs else labels
-        raise Refused(f"the {what}; choose one with --encrypt-vault-id")
+        return choose_vault_key(self.ours.key, self.base_keys, self.theirs.key, chosen)
 
-    def seal(self, tool: Tool, text: bytes, key: Key) -> bytes:
+    def encrypt(self, tool: Tool, text: bytes, key: Key) -> bytes:
         """The vault of a side, if it has this text under this key, or else a new one."""
         for vault in (self.ours, self.theirs):
             if (vault.text, vault.key) == (text, key):

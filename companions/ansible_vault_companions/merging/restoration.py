@@ -1,0 +1,70 @@
+"""Puts envelopes in place of the tokens of a merged text, and chooses the envelope where several mean the same."""
+
+from __future__ import annotations
+
+from collections import Counter
+
+from ansible_vault_companions.envelopes import conflicts
+from ansible_vault_companions.merging.equality import KeyAndText, Meaning
+from ansible_vault_companions.merging.line_merge import BASE, OURS, SIDES, THEIRS
+from ansible_vault_companions.merging.tokens import Tokens
+from ansible_vault_companions.tool import Decryption, Tool
+
+SIDE_BY_MARKER = {conflicts.OURS_MARKER: OURS, conflicts.BASE_MARKER: BASE, conflicts.THEIRS_MARKER: THEIRS}
+
+
+class Restoration:
+    """Puts envelopes in place of the tokens of a merged text."""
+
+    def __init__(self, tokens: Tokens, decryptions: dict[bytes, Decryption], tool: Tool) -> None:
+        self.tokens = tokens
+        self.decryptions = decryptions
+        self.tool = tool
+        # How many envelopes of each side and meaning are used, and all that are, in order.
+        self.uses: Counter[tuple[str, Meaning]] = Counter()
+        self.envelopes: list[bytes] = []
+
+    def restore(self, text: bytes, has_conflict: bool) -> bytes:
+        """The text with envelopes in place of its tokens."""
+        lines: list[bytes] = []
+        for side, line in conflicts.mark_lines(text, has_conflict):
+            if not line.startswith(self.tokens.separator):
+                lines.append(self._restore_line(line, SIDE_BY_MARKER.get(side, "")))
+            elif not line.endswith(b"\n"):
+                # The last line of the file has no end.
+                lines.append(lines.pop().removesuffix(b"\n").removesuffix(b"\r"))
+        return b"".join(lines)
+
+    def _restore_line(self, line: bytes, side: str) -> bytes:
+        """A line of a side of a conflict, or of the merged text if no side is given."""
+        pieces = self.tokens.pattern.split(line)
+        # Every other piece is the number of a token.
+        for place in range(1, len(pieces), 2):
+            number = int(pieces[place])
+            envelope = self._choose(self.tokens.tokens[number].meaning, side)
+            self.envelopes.append(envelope)
+            pieces[place] = self.tokens.write(number, envelope)
+        return b"".join(pieces)
+
+    def _choose(self, meaning: Meaning, side: str) -> bytes:
+        """The next envelope with a meaning, or the last one again; a new one if there is none."""
+        if isinstance(meaning, bytes):
+            return meaning
+        number = self.uses[side or OURS, meaning]
+        for each in [side] if side else SIDES:
+            self.uses[each, meaning] += 1
+        for envelopes in self._list_choices(meaning, side):
+            if envelopes:
+                return envelopes[min(number, len(envelopes) - 1)]
+        return self.tool.encrypt(meaning.text, meaning.key)
+
+    def _list_choices(self, meaning: KeyAndText, side: str) -> list[list[bytes]]:
+        """The envelopes with a meaning, the best first: in a conflict those of its side, and otherwise those under the
+        key of the result, if possible of the side that changed them."""
+        if side:
+            return [self.tokens.envelopes[side, meaning]]
+        ours, base, theirs = (self.tokens.envelopes[each, meaning] for each in SIDES)
+        by_preference = [theirs if ours == base else ours, ours, theirs]
+        return [
+            [each for each in envelopes if self.decryptions[each].key == meaning.key] for envelopes in by_preference
+        ]
