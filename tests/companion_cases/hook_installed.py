@@ -12,7 +12,7 @@ pytestmark = pytest.mark.usefixtures("git")
 
 ATTRIBUTES = "*.vault.yml diff=ansible-vault merge=ansible-vault\n"
 NAMES = ["pre-commit", "pre-merge-commit"]
-OR_ELSE = '|| { s=$?; [ "$s" -lt 2 ] || [ "$s" -gt 127 ] || git merge-file -q %A %O %B; exit 1; }'
+OR_ELSE = '|| { [ "$?" -eq 128 ] || git merge-file -q %A %O %B; exit 1; }'
 DIFF, DRIVER = SETTINGS = ["diff.ansible-vault.textconv", "merge.ansible-vault.driver"]
 
 

@@ -13,7 +13,8 @@ from typing import NamedTuple
 
 import pytest
 
-from companion_cases import CHECK, EDIT, HOOK, MERGE, ROTATE, TEXT, TEXTCONV, Companions, Place, block, sealed
+from companion_cases import CHECK, CONFLICT, EDIT, HOOK, MERGE, ROTATE, TEXT, TEXTCONV, Companions, Place
+from companion_cases import block, sealed
 from companion_cases.forks import Forks
 from companion_cases.repository import add_and_commit, under_git
 
@@ -144,7 +145,7 @@ COMMANDS = {
     "textconv of a value": Command(TEXTCONV, f"{OLD} --value secret a.yml"),
     "rotate": Command(ROTATE, f"{OLD} {NEW} ."),
     "edit": Command(EDIT, f"{OLD} a.yml"),
-    "merge": Command(MERGE, f"{OLD} ../base ../ours a.yml a.yml"),
+    "merge": Command(MERGE, f"{OLD} ../base ../ours a.yml a.yml", (0, CONFLICT)),
 }
 
 
@@ -177,7 +178,7 @@ def find_fault(place: Place, forks: Forks, command: str) -> str:
     # A line of advice follows one of the hook, or of an edit that leaves an encrypted copy.
     lines = [line for line in run.errors.splitlines() if not re.match(rf"{companion}: |  \S|--resume reopens", line)]
     lines += [line for line in run.errors.splitlines() if not line.isprintable()]
-    if run.status == 1 and not run.errors:
+    if run.status and not run.errors:
         return "it fails without a word"
     return f"it prints {lines[0][:300]!r}" if lines else ""
 

@@ -7,7 +7,7 @@ from pathlib import Path
 
 import pytest
 
-from companion_cases import EDIT, MERGE, Place, block, decrypted, ended, sealed, silent, versions
+from companion_cases import CONFLICT, EDIT, MERGE, Place, block, decrypted, ended, sealed, silent, versions
 from companion_cases.random_merges import Model, Value, common
 from companion_cases.repository import BASE, BOTH, OURS, THEIRS, fork, repository, set_driver, under_git
 
@@ -85,7 +85,7 @@ def test_those_that_fail(place: Place, why: str) -> None:
     secrets += [*place.by_id("dev", "dev"), *place.by_id("prod", "prod")]
     base, ours, theirs = REFUSED[why]
     done = place.run(MERGE, *secrets, *versions(place, "a.yml", base, ours, theirs))
-    assert (done.returncode, done.stdout, done.stderr.count("\n")) == (1, "", 1), done
+    assert (done.returncode, done.stdout, done.stderr.count("\n")) == (CONFLICT, "", 1), done
     assert done.stderr.startswith(f"{MERGE}: a.yml: {WHOLE}{why}"), done.stderr
     assert place.files() == {"a.yml": both([ours, theirs])}, "both are whole"
 
@@ -94,16 +94,17 @@ def test_what_fails(place: Place) -> None:
     """There is no secret, the tool fails, or a signal ends the driver. Whatever git does then, both sides are in the
     file, even if an earlier setting gives the size of markers. Without one of the versions, the file stays."""
     words = [*place.by_file("old"), *versions(place, "a.yml", *OLD)]
-    ended("no base", place.run(MERGE, *words[:2], "../missing", *words[3:]), 1, "missing: No such file or directory")
+    ended("no base", place.run(MERGE, *words[:2], "../missing", *words[3:]), 2, "missing: No such file or directory")
     assert place.files() == {"a.yml": OLD[1]}
     for tool, why in {"exit 4": "ansible-vault ended with status 4", "kill -9 $PPID": "", ":": "no password"}.items():
         place.put("a.yml", OLD[1])
         place.wrap_tool(f'[ "$1" != view ] || {tool}')
         done = place.run(MERGE, *(words[2:-1] if tool == ":" else words[:-1]), "9", words[-1])
-        ended(tool, done, 1 if why else -9, why)
+        ended(tool, done, CONFLICT if why else -9, why)
         assert place.files() == {"a.yml": both(OLD[1:])}, tool
     place.wrap_tool('case " $* " in *" merge-file "*) kill -9 $$;; esac', "git")
-    ended("git is killed", place.run(MERGE, *words[:2], *versions(place, "a.yml", *FILES["values.yml"])), 1, WHOLE)
+    done = place.run(MERGE, *words[:2], *versions(place, "a.yml", *FILES["values.yml"]))
+    ended("git is killed", done, CONFLICT, WHOLE)
     assert place.files() == {"a.yml": both(FILES["values.yml"][1:])}
 
 
@@ -112,20 +113,21 @@ def test_chosen_secret(place: Place) -> None:
     secrets = [*place.by_id("dev", "dev"), *place.by_id("prod", "prod"), *place.by_id("prod", "prod2")]
     vaults = [sealed(name, text, name) for name, text in zip(("dev", "dev", "prod"), (BASE, OURS, THEIRS))]
     words = [*secrets, *versions(place, "a.yml", *vaults)]
-    ended("no label", place.run(MERGE, "--encrypt-vault-id", "x", *words), 1, "no secret has the label of --encrypt")
+    done = place.run(MERGE, "--encrypt-vault-id", "x", *words)
+    ended("no label", done, CONFLICT, "no secret has the label of --encrypt")
     place.put("a.yml", vaults[1])
     # Without the second one of the label.
     silent("prod", place.run(MERGE, "--encrypt-vault-id", "prod", *secrets[:4], *versions(place, "a.yml", *vaults)))
     assert decrypted("prod", place.get("a.yml")) == BOTH
     one_label = [sealed(name, text, "prod") for name, text in zip(("prod", "prod", "dev"), (BASE, OURS, THEIRS))]
     done = place.run(MERGE, "--any-label", *secrets, *versions(place, "c.yml", *one_label))
-    ended("another's password", done, 1, "the passwords of the two sides differ")
+    ended("another's password", done, CONFLICT, "the passwords of the two sides differ")
     same = [block(name, b"new", "prod", name="a") for name in ("prod", "prod2")]
     words = [*secrets, *versions(place, "b.yml", b"", *same)]
-    ended("two passwords of a value", place.run(MERGE, *words), 1, "b.yml: 1 conflict")
+    ended("two passwords of a value", place.run(MERGE, *words), CONFLICT, "b.yml: 1 conflict")
     place.put("b.yml", same[0])
     why = "have the label prod; name only the password to encrypt with"
-    ended("neither is chosen", place.run(MERGE, "--encrypt-vault-id", "prod", *words), 1, why)
+    ended("neither is chosen", place.run(MERGE, "--encrypt-vault-id", "prod", *words), CONFLICT, why)
 
 
 def test_conflict_as_base(tmp_path: Path, monkeypatch: pytest.MonkeyPatch) -> None:
@@ -154,7 +156,7 @@ def test_many_conflicts(place: Place) -> None:
     )
     value = block("dev", b"new", "dev")
     words = [*place.by_id("dev", "dev"), *versions(place, "a.yml", *(value + text for text in (base, ours, theirs)))]
-    ended("300 conflicts", place.run(MERGE, *words), 1, "a.yml: 127 conflicts or more")
+    ended("300 conflicts", place.run(MERGE, *words), CONFLICT, "a.yml: 127 conflicts or more")
     assert place.get("a.yml").count(b"<<<<<<<") == 300
 
 

@@ -10,18 +10,17 @@ import shlex
 from contextlib import suppress
 
 from ansible_vault_companions.files import resolving
+from ansible_vault_companions.git import merge_driver
 from ansible_vault_companions.git.commands import read_line, run_git
 from ansible_vault_companions.passwords.settings import expand_path
 from ansible_vault_companions.quoting import escape, quote_word
 from ansible_vault_companions.refusals import Refused
 
-# If the driver does not start, git's own merge leaves a conflict; otherwise git would keep ours without a word.
-OR_ELSE = ' || { s=$?; [ "$s" -lt 2 ] || [ "$s" -gt 127 ] || git merge-file -q %A %O %B; exit 1; }'
 TEXTCONV = "diff.ansible-vault.textconv"
 # The git settings, each with the companion that it runs and the arguments after the passwords.
 SETTINGS = {
-    "merge.ansible-vault.driver": ("ansible-vault-merge", f" %O %A %B %P{OR_ELSE}"),
     TEXTCONV: ("ansible-vault-textconv", ""),
+    "merge.ansible-vault.driver": ("ansible-vault-merge", merge_driver.ARGUMENTS),
 }
 # Where hooks are in git's own directory, unless core.hooksPath is set.
 HOOKS = "hooks"

@@ -46,6 +46,8 @@ def merge_lines(versions: Versions) -> MergedLines:
     finally:
         for file in files:
             os.close(file)
+    if done.returncode == commands.FATAL:
+        commands.require_success(words[0], done)
     if not 0 <= done.returncode <= min(MOST_CONFLICTS, done.stdout.count(END_OF_CONFLICT)):
         raise Refused("git merge-file cannot merge it; it may be binary")
     return MergedLines(done.stdout, done.returncode)
