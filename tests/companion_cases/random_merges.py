@@ -72,11 +72,15 @@ class Value(NamedTuple):
         return (self.label or "default") != LABELS.get(self.password, self.label)
 
 
-def common(*used: set[str | None]) -> str | None:
+def common(base: set[str | None], ours: set[str | None], theirs: set[str | None]) -> str | None:
     """Return the one password of both sides, or the one that a side alone changed it to; None if that is unclear."""
-    base, ours, theirs = used
-    new = ours if theirs in (base, ours) else theirs if ours == base else set()
-    return next(iter(new), None) if len(ours) == len(theirs) == 1 and None not in ours | theirs else None
+    if len(ours) != 1 or len(theirs) != 1 or None in ours | theirs:
+        return None
+    if theirs in (base, ours):
+        return next(iter(ours))
+    if ours == base:
+        return next(iter(theirs))
+    return None
 
 
 class Merge(NamedTuple):
@@ -90,26 +94,39 @@ class Merge(NamedTuple):
         """Return the versions as YAML, with these lines in place of the values. Without any, a file is empty."""
         contents = []
         for values, is_ended in zip(self.versions, self.are_ended):
-            keyed, items = ([shown(value) for value in values if bool(value.key) == each] for each in (True, False))
-            content = b"".join([b"start: 1\n", *keyed, b"list:\n", *items] if values else [])
-            contents.append((content if is_ended else content.removesuffix(b"\n")).replace(b"\n", self.end))
+            keyed = [shown(value) for value in values if value.key != ITEM]
+            items = [shown(value) for value in values if value.key == ITEM]
+            content = b"".join([b"start: 1\n", *keyed, b"list:\n", *items]) if values else b""
+            if not is_ended:
+                content = content.removesuffix(b"\n")
+            contents.append(content.replace(b"\n", self.end))
         return contents
 
     def is_opened(self, value: Value) -> bool:
         """Return whether a secret opens it, and not all versions have it."""
+        if value.password == UNNAMED or value.is_mislabelled():
+            return False
         is_everywhere = all(value.elsewhere() in map(Value.elsewhere, values) for values in self.versions)
-        return not (value.password == UNNAMED or value.is_mislabelled() or is_everywhere)
+        return not is_everywhere
+
+    def passwords_of(self, label: str, values: list[Value]) -> set[str | None]:
+        """Return the passwords of the values of a version with a label, with None for those that are not opened."""
+        of_label = [value for value in values if value.label == label]
+        return {value.password if self.is_opened(value) else None for value in of_label}
 
     def common(self, label: str) -> str | None:
         """Return the password of all values with a label; None if each keeps its own."""
-        of_label = ([value for value in values if value.label == label] for values in self.versions)
-        return common(*({value.password if self.is_opened(value) else None for value in values} for values in of_label))
+        base, ours, theirs = (self.passwords_of(label, values) for values in self.versions)
+        return common(base, ours, theirs)
 
     def known_by(self, value: Value, is_result: bool = False) -> bytes:
         """Return what stays the same if nothing is changed: label, text and the password of the result. Of an envelope
         that is not opened, that is all."""
-        own = self.is_opened(value) and not is_result and self.common(value.label) or value.password
-        salt = "" if self.is_opened(value) else value.salt
+        own, salt = value.password, str(value.salt)
+        if self.is_opened(value):
+            salt = ""
+            if not is_result:
+                own = self.common(value.label) or own
         return f"{value.label or 'default'} {own} {salt} {value.indentation} {value.text!r}".encode()
 
     def plain(self, value: Value) -> bytes:
@@ -164,10 +181,14 @@ def changes(value: Value, new: Value) -> list[list[Value]]:
     """Return what may replace a value. Most often, it stays."""
     anew = value._replace(salt=(value.salt + 1) % len(SALTS))
     other_text = anew._replace(text=new.text)
-    added = new._replace(key=value.key and f"{value.key}{new.text.split()[-1][:1].decode()}", text=value.text)
     often = [value, value, value, other_text, other_text, rekeyed(value), rekeyed(value)]
     seldom = [anew, value._replace(indentation=new.indentation), value._replace(label="")]
-    return [*([each] for each in often + seldom), [], [added, value]]
+    # A value that is added has a key of its own, unless it is an item.
+    ending = new.text.split()[-1][:1].decode()
+    key = f"{value.key}{ending}" if value.key != ITEM else ITEM
+    added = new._replace(key=key, text=value.text)
+    removed: list[Value] = []
+    return [*([each] for each in often + seldom), removed, [added, value]]
 
 
 @st.composite
@@ -191,6 +212,23 @@ def random_merge(draw: st.DrawFn) -> Merge:
     return Merge([base if draw(st.integers(0, 9)) else [], *sides], draw(st.sampled_from(ENDS)), are_ended)
 
 
+def end_of(line: bytes) -> bytes:
+    return line[len(line.rstrip()) :]
+
+
+def describe_blocks(merge: Merge, result: MergedFile, known: dict[bytes, Value]) -> bytes:
+    """Return the result with what each block is known by in its place. Each is one of these values."""
+
+    def describe(match: re.Match[bytes]) -> bytes:
+        lines = match[2].splitlines(keepends=True)
+        envelope = b"".join(line.strip() + b"\n" for line in lines)
+        value = known[envelope]._replace(indentation=len(lines[0]) - len(lines[0].lstrip()))
+        return match[1] + merge.known_by(value, is_result=not result.why) + end_of(lines[-1])
+
+    assert len(BLOCK.findall(result.content)) == result.content.count(MAGIC), "all are whole"
+    return BLOCK.sub(describe, result.content)
+
+
 def check_merge(folder: Path, merge: Merge) -> list[str]:
     """Check a merge, and return of which kinds it was."""
     import yaml
@@ -198,19 +236,9 @@ def check_merge(folder: Path, merge: Merge) -> list[str]:
     tool = Model()
     result = tool.merged(merge.written(Value.block))
     known = {value.envelope(): value for values in merge.versions for value in values} | tool.made
-    found: list[bytes] = []
-
-    def shown(match: re.Match[bytes]) -> bytes:
-        """Return what a block is known by."""
-        lines = match[2].splitlines(keepends=True)
-        found.append(b"".join(line.strip() + b"\n" for line in lines))
-        value = known[found[-1]]._replace(indentation=len(lines[0]) - len(lines[0].lstrip()))
-        return match[1] + merge.known_by(value, is_result=not result.why) + lines[-1][len(lines[-1].rstrip()) :]
-
     text, count = by_git(folder, merge.written(merge.plain))
-    assert BLOCK.sub(shown, result.content) == BELOW.sub(b"", text), "the merge is git's"
-    assert bool(result.why) == (count > 0)
-    assert len(found) == result.content.count(MAGIC), "all are whole"
+    assert describe_blocks(merge, result, known) == BELOW.sub(b"", text), "the merge is git's"
+    assert bool(result.why) == (count > 0), f"{count} conflicts by git: {result.why}"
     assert b"clear" not in result.content, "nothing is in plaintext"
     if not result.why:
         yaml.load(result.content, Loader=yaml.BaseLoader)
@@ -233,4 +261,5 @@ def test_of_values(request: pytest.FixtureRequest, tmp_path: Path, monkeypatch: 
         counts.update(check_merge(folder, merge))
 
     check()
-    assert all(counts[kind] >= least for kind, least in LEAST.items()), counts
+    too_few = {kind: counts[kind] for kind, least in LEAST.items() if counts[kind] < least}
+    assert too_few == {}, "merges of these kinds"

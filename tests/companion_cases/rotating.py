@@ -15,7 +15,6 @@ from model.vaults import seal
 
 CHANGED_MEANWHILE = "another program changed it in the meantime"
 # A plaintext with blocks, the last of which is under another secret than its label says.
-NAMES = [b"a", b"b", b"stray"]
 INNER = (
     block("prod", label="prod", name="a")
     + b"middle: 2\n"
@@ -24,36 +23,67 @@ INNER = (
 )
 
 
+def place_within(name: str) -> str:
+    """Return how a message names the place of a block."""
+    line = INNER.splitlines().index(f"{name}: !vault |".encode()) + 2
+    return f"in its plaintext, line {line}: "
+
+
+# Why the last block fails.
+STRAY = f"{place_within('stray')}no secret decrypts this vault (label prod; "
+STRAY_CHECKED = f"{place_within('stray')}stray: prod: no secret decrypts this vault (label prod; "
+
+
+def by_label(place: Place) -> list[str]:
+    return [*place.by_id("prod", "prod"), *place.by_id("dev", "dev")]
+
+
+def test_check_within_a_vault(place: Place) -> None:
+    """The check finds the blocks within a vault, and says which secret decrypts each."""
+    place.put("all.yml", sealed("prod", INNER, "prod"))
+    done = place.run(CHECK, *by_label(place), "all.yml")
+    for wanted in (
+        f"decrypted by prod@{place.secret('prod')}\n",
+        f"{place_within('a')}a: prod: decrypted by prod@{place.secret('prod')}\n",
+        f"{place_within('b')}b: dev: decrypted by dev@{place.secret('dev')}\n",
+        STRAY_CHECKED,
+    ):
+        ended("the check", done, 1, f"all.yml: prod: {wanted}")
+    ended("its summary", done, 1, "\n3 decrypted, 1 failed\n")
+
+
 def test_by_label(place: Place) -> None:
     """All that has the label of the new secret gets this secret, even if it is within a vault that has the secret
-    already. The check finds the same blocks within a vault."""
-    lines = [INNER.splitlines().index(name + b": !vault |") + 2 for name in NAMES]
-    a, b, stray = (f"in its plaintext, line {line}: " for line in lines)
+    already, or within a vault with another label."""
     place.put("all.yml", sealed("prod", INNER, "prod"))
     place.put("done.yml", sealed("prod2", INNER, "prod"))
     place.put("other.yml", sealed("dev", INNER, "dev"))
-    prod, dev = place.by_id("prod", "prod"), place.by_id("dev", "dev")
-    why = "no secret decrypts this vault (label prod; "
-    done = place.run(CHECK, *prod, *dev, "all.yml")
-    wanted = [f"{what}decrypted by {prod[1]}" for what in ("", f"{a}a: prod: ")]
-    wanted += [f"{b}b: dev: decrypted by {dev[1]}", f"{stray}stray: prod: {why}"]
-    ended("the check", done, 1, *(f"all.yml: prod: {each}" for each in wanted), "\n3 decrypted, 1 failed\n")
-    rotate = [ROTATE, *prod, *dev, *place.by_id("prod", "prod2", "new-"), "."]
-    names = ["all.yml", "done.yml"]
-    reported = ["./all.yml: 2 rotated\n", "./done.yml: rotated\n", *(f"./{name}: {stray}{why}" for name in names)]
-    ended("both", place.run(*rotate), 1, *reported, summary(4, 1, 4, " (dev 4)", 3))
+    rotate = [ROTATE, *by_label(place), *place.by_id("prod", "prod2", "new-")]
+    done = place.run(*rotate, ".")
+    ended("what is rotated", done, 1, "./all.yml: 2 rotated\n", "./done.yml: rotated\n")
+    ended("what is not", done, 1, f"./all.yml: {STRAY}", f"./done.yml: {STRAY}", f"./other.yml: {STRAY}")
+    ended("its summary", done, 1, summary(4, 1, 4, " (dev 4)", 3))
+    for name, password in {"all.yml": "prod2", "done.yml": "prod2", "other.yml": "dev"}.items():
+        check_rotated(name, decrypted(password, place.get(name)))
+    for name in ("all.yml", "done.yml"):
+        assert place.get(name).startswith(b"$ANSIBLE_VAULT;1.2;AES256;prod\n"), f"{name}: its label stays"
     before = place.files()
-    for name in names:
-        after = decrypted("prod2", before[name]) or b""
-        assert before[name].startswith(b"$ANSIBLE_VAULT;1.2;AES256;prod\n"), "the label stays"
-        around = [re.sub(rb"(?m)^ +[0-9a-f]{20,}$", b"digits", text) for text in (after, INNER)]
-        assert around[0] == around[1], "all around the digits stays"
-        found = [texts(after, password).index(TEXT) for password in ("prod2", "dev", "old")]
-        assert found == [0, 1, 2], "one is rotated, and the others stay"
-    assert texts(decrypted("dev", before["other.yml"]) or b"", "prod2")[0] == TEXT, "and in a vault that is not rotated"
-    again = place.run(*rotate[:-1], *place.by_id("prod", "prod2"), ".")
+    again = place.run(*rotate, *place.by_id("prod", "prod2"), ".")
     ended("again", again, 1, summary(0, 5, 4, " (dev 4)", 3))
-    assert place.files() == before, "all stays"
+    assert place.files() == before, "once more, all stays"
+
+
+def check_rotated(name: str, after: bytes | None) -> None:
+    """Check what a rotation left of the plaintext with blocks."""
+    assert after is not None, f"{name}: its password"
+    assert mask_digits(after) == mask_digits(INNER), f"{name}: all around the digits stays"
+    # Each block by its number, and the password that it has then.
+    for number, password in enumerate(["prod2", "dev", "old"]):
+        assert texts(after, password)[number] == TEXT, f"{name}: the block {number} under {password}"
+
+
+def mask_digits(text: bytes) -> bytes:
+    return re.sub(rb"(?m)^ +[0-9a-f]{20,}$", b"digits", text)
 
 
 def test_what_cannot_be_rotated(place: Place) -> None:
@@ -111,6 +141,9 @@ def test_owners_that_cannot_be_kept(place: Place) -> None:
     place.tree.chmod(0o777)
     why = "a.yml: its owner 0:0 cannot be kept: Operation not permitted; run this as that user, or as root\n"
     ended("it is refused", place.as_nobody(ROTATE, *to_new(place), "a.yml"), 1, why, summary(0, failed=1))
+    os.chown(place.tree / "a.yml", NOBODY, 0)
+    why = "a.yml: its group 0 cannot be kept: Operation not permitted; run this as a member of it, or as root\n"
+    ended("its group", place.as_nobody(ROTATE, *to_new(place), "a.yml"), 1, why, summary(0, failed=1))
     assert place.files() == {"a.yml": sealed("old")}, "it stays, and nothing is left"
 
 

@@ -1,0 +1,123 @@
+"""Messages of ansible-vault-hook are acted on, as `acted_on.py` says."""
+
+import re
+
+import pytest
+
+from companion_cases import HOOK, TEXT, Place, block, sealed
+from companion_cases.acted_on import OLD, OLD_VAULT, TAKE_THEIRS, Case, Row, Stand, again, check_row, each_stand
+from companion_cases.acted_on import in_shell, merged, staged
+from companion_cases.repository import BASE, OURS, THEIRS
+
+VAULTS = [sealed("old", text) for text in (BASE, OURS, THEIRS)]
+LEFTOVER = ".d/.ansible-vault-abcdefgh.new"
+MARKED = "*.yml diff=ansible-vault\n"
+# Values whose paths need escapes, and the same in plaintext.
+KEY = '"a b,%=.c[]": '
+VALUES = KEY.encode() + block("old", name="").lstrip(b": ") + b"x:\n- " + block("old", name="pw") + b"y: 1\n"
+PLAIN = f"{KEY}plain\nx: [pw: plain]\ny: 1\n".encode()
+TAGGED = block("old") + b"b: !vault x\ny: 1\n"
+ORIGIN = "git clone -q . ../other && git -C ../other branch more && git remote add origin $PWD/../other"
+SHALLOW = """git commit -q --allow-empty -m second && git clone -q --bare . ../all && rm -rf .git
+git clone -q --depth 1 file://$PWD/../all ../one && mv ../one/.git .git && git reset -q"""
+
+
+def stage_leftover(case: Case) -> None:
+    case.stage(TEXT, case.name + LEFTOVER)
+
+
+def use_shallow_clone(case: Case) -> None:
+    case.shell(SHALLOW, ".")
+
+
+def add_origin(case: Case) -> None:
+    case.shell(ORIGIN, ".")
+
+
+def put_another_hook(case: Case) -> None:
+    """A hook of somebody else's, and companions in a directory with an awkward name that PATH does not have."""
+    case.place.put(".git/hooks/pre-commit", b"#!/usr/bin/env bash\n", 0o755)
+    case.place.tools.rename(case.place.tree / case.name)
+
+
+def paste(case: Case, told: "re.Match[str]") -> None:
+    """Add a line to a file, which is named before it."""
+    path, _, line = told[1].partition(": ")
+    case.stage(case.place.get(path) + f"{line}\n".encode(), path)
+
+
+def paste_into_hook(case: Case, told: "re.Match[str]") -> None:
+    """Add the line to the hook, which refuses plaintext then. Only a further installation needs that it is gone."""
+    case.place.put(".git/hooks/pre-commit", f"#!/usr/bin/env bash\n{told[1]}\n".encode(), 0o755)
+    case.stage(MARKED.encode(), ".gitattributes")
+    case.stage(TEXT, "a.yml")
+    assert "a.yml is not encrypted\n" in case.place.shell("git commit -qm plaintext").stderr
+    case.shell("rm .git/hooks/pre-commit", ".")
+
+
+def resolve(case: Case, told: "re.Match[str]") -> None:
+    case.run(f"{told[1]} {OLD}")
+    case.stage(case.place.get(case.name))
+
+
+def restore_and_add(case: Case, told: "re.Match[str]") -> None:
+    case.put(OLD_VAULT)
+    case.shell(told[1])
+
+
+ROWS = {
+    "damage": Row(
+        fault=staged(OLD_VAULT, OLD_VAULT[:-99]), command=HOOK, told="`(git .*)` if it is whole", act=in_shell
+    ),
+    "a damaged value": Row(
+        fault=staged(block("old"), block("old")[:-99]), command=HOOK, told="`(git .*)` if it is whole", act=in_shell
+    ),
+    "a leftover": Row(fault=stage_leftover, command=HOOK, told="remove it with `(.*)`", act=in_shell),
+    "plaintext": Row(fault=staged(OLD_VAULT, TEXT), command=HOOK, told="at the end of (.*)", act=paste, plaintexts=[]),
+    "plain values": Row(fault=staged(VALUES, PLAIN), command=HOOK, told="at the end of (.*)", act=paste, plaintexts=[]),
+    "a tag": Row(
+        fault=staged(block("old"), TAGGED),
+        command=HOOK,
+        told="change with (.*?) does",
+        act=resolve,
+        plaintexts=[TEXT, b"x"],
+        editor="sed -i 's/y: 1/y: 2/' \"$1\"",
+    ),
+    "marked": Row(
+        fault=staged(b"", TEXT),
+        command=HOOK,
+        told="at the end of (.*)",
+        act=paste,
+        plaintexts=[],
+        attributes=MARKED,
+    ),
+    "markers": Row(
+        fault=merged(*VAULTS, is_added=True),
+        command=HOOK,
+        told="conflict with (.*)",
+        act=resolve,
+        plaintexts=[THEIRS],
+        editor=TAKE_THEIRS,
+    ),
+    "unmerged": Row(fault=merged(*VAULTS), command=HOOK, told="and run `(.*)`", act=restore_and_add),
+    "no settings": Row(
+        fault=lambda case: case.put(OLD_VAULT),
+        command=f"{HOOK} --install",
+        told="only with passwords: (.*)",
+        act=again(rf"{HOOK} \1"),
+    ),
+    "another hook": Row(
+        fault=put_another_hook,
+        command=f"./A_FILE/{HOOK} --install",
+        told="add this line to it: (.*)",
+        act=paste_into_hook,
+    ),
+    "no commit": Row(fault=add_origin, command=f"{HOOK} --since origin/more", told="run `(.*)`", act=in_shell),
+    "a shallow clone": Row(fault=use_shallow_clone, command=f"{HOOK} --all", told="run `(.*?)`, or", act=in_shell),
+}
+
+
+@each_stand
+@pytest.mark.parametrize("row", ROWS.values(), ids=ROWS)
+def test_hook(place: Place, row: Row, stand: Stand) -> None:
+    check_row(place, row, stand)
