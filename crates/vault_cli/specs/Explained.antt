@@ -1,5 +1,5 @@
 -- How the program ends before it loads a file: one record for each way.
-use Rattle.std.specs.Prelude.{◌≡◌, ◌≢◌, ◌⊎◌, ℕ, false, List, All}
+use Rattle.std.specs.Prelude.{◌≡◌, ◌≢◌, ◌⊎◌, ◌++◌, ℕ, false, List, All}
 use Rattle.std.specs.Prelude.{Option, Some, Result, Err}
 use Rattle.clap.specs.Words.{IsAmong, Kinds}
 use Rattle.clap.specs.declared.error.kind.ErrorKind.{ErrorKind}
@@ -10,7 +10,7 @@ use Rattle.vault_fault.specs.declared.fault.Fault.TheVariants.{Memory, Write}
 use Rattle.vault_request.specs.Refusal.{is_control}
 use Rattle.vault_request.specs.Request.{Request}
 use Rattle.vault_cli.specs.Call.{SinkCall}
-use Rattle.vault_cli.specs.runs.Reports.{Reports, line_of}
+use Rattle.vault_cli.specs.runs.Reports.{Reports, companions_line, line_of}
 use Rattle.vault_cli.specs.runs.OutputEnd.{to_sink}
 use Rattle.vault_cli.specs.runs.Status.{status_of}
 use Rattle.vault_cli.specs.declared.runs.status.Status.{Status}
@@ -59,7 +59,8 @@ module _ {K E : Type 0} (out : SinkCall K) (err : SinkCall E) (result : Status)
     pub output : (to_sink out).cut text
     pub message : Reports err (line_of Write)
 
-  -- The arguments are wrong. A text on standard error says so, without control bytes except LF.
+  -- The arguments are wrong. A text on standard error says so, without control bytes except LF, and
+  -- then a line names the companions.
   pub record Rejects : Type 0 where
     pub kind : ErrorKind
     pub is_among : IsAmong kind kinds
@@ -68,7 +69,7 @@ module _ {K E : Type 0} (out : SinkCall K) (err : SinkCall E) (result : Status)
     pub is_shown : All IsShown text
     pub status : result ≡ ParseFault
     pub output : out.new ≡ out.old
-    pub message : Reports err text
+    pub message : Reports err (text ++ companions_line)
 
   -- one of these four
   pub data Explains : Type 0 where

@@ -1,5 +1,6 @@
 //! What the program prints if its arguments do not parse.
-ghost use Rattle.std.specs.Prelude.{◌≡◌, ◌≢◌, ◌⊎◌, ℕ, [], List, All, IfOk, MatchOption, map, true};
+ghost use Rattle.std.specs.Prelude.{◌≡◌, ◌≢◌, ◌⊎◌, ◌++◌, ℕ, [], List, All, IfOk, MatchOption};
+ghost use Rattle.std.specs.Prelude.{map, true};
 ghost use Rattle.std.specs.IoError.{error_kind};
 ghost use Rattle.std.specs.String.{string_bytes};
 ghost use Rattle.std.specs.declared.io.ErrorKind.TheVariants.{OutOfMemory};
@@ -10,7 +11,8 @@ ghost use Rattle.vault_fault.specs.declared.fault.Fault.TheVariants.{Memory};
 ghost use Rattle.vault_cli.specs.Call.{sink};
 ghost use Rattle.vault_cli.specs.Escaped.{escaped_text};
 ghost use Rattle.vault_cli.specs.Explained.{Explains, IsShown};
-ghost use Rattle.vault_cli.specs.runs.Reports.{Reports, line_of, not_text_line};
+ghost use Rattle.vault_cli.specs.runs.Reports.{Reports, companions_line, line_of};
+ghost use Rattle.vault_cli.specs.runs.Reports.{not_text_line};
 
 use crate::escaping::escaped_words;
 use crate::runs::{Status, report};
@@ -22,6 +24,10 @@ use std::io;
 use vault_core::Fault;
 use vault_request::parse;
 use vault_text::{Sink, SinkFailed, Stage};
+
+/// The last line of help, and of a message about a mistake.
+const COMPANIONS: &str = "ansible-vault-edit creates and edits vaults; \
+    ansible-vault-with has Ansible's other options.\n";
 
 /// Reports on `err` that an argument is not UTF-8, or that there is no memory for the arguments,
 /// and returns the status for that. A failure of `err` changes nothing else.
@@ -62,7 +68,7 @@ pub(crate) fn explain<K: Sink, E: Sink>(
     if error.use_stderr() {
         return reject(alloc, words, err);
     }
-    let Ok(text) = error.to_string(alloc) else {
+    let Ok(text) = help_text(alloc, error) else {
         return report(Fault::Memory, err);
     };
     match write_text(text.as_bytes(), out) {
@@ -71,11 +77,21 @@ pub(crate) fn explain<K: Sink, E: Sink>(
     }
 }
 
+/// The parser's help, which then names the companions, or the version.
+fn help_text(alloc: Global, error: &Error) -> Result<String, AllocError> {
+    let mut text = error.to_string(alloc)?;
+    if matches!(error.kind(), ErrorKind::DisplayHelp) {
+        write!(text, "\n{}", COMPANIONS)?;
+    }
+    Ok(text)
+}
+
 /// Reports on `err` what is wrong with the arguments.
 fn reject<E: Sink>(alloc: Global, words: &[String], err: &mut E) -> Status
     requires { E.stage err.old ≡ Stage.Unbegun }
     ensures { ((result ≡ Status.ParseFault)
-        × ((shown : List ℕ) × All IsShown shown × Reports (sink E.Sink err.old err.new) shown))
+        × ((shown : List ℕ) × All IsShown shown
+        × Reports (sink E.Sink err.old err.new) (shown ++ companions_line)))
         ⊎ ((result ≡ Status.OutOfMemory)
         × Reports (sink E.Sink err.old err.new) (line_of Memory)) }
 {
@@ -86,18 +102,40 @@ fn reject<E: Sink>(alloc: Global, words: &[String], err: &mut E) -> Status
     Status::ParseFault
 }
 
+/// The text about a mistake in the arguments, which then names the companions.
+fn mistake_text(alloc: Global, words: &[String]) -> Result<String, AllocError>
+    ensures { IfOk result (λ text. (shown : List ℕ) × All IsShown shown
+        × (string_bytes text ≡ shown ++ companions_line)) }
+{
+    let mut text = shown_mistake(alloc, words)?;
+    text.push_str(COMPANIONS)?;
+    Ok(text)
+}
+
 /// The parser's text of the mistake, with the arguments escaped. No contract says what such a text
 /// contains, so it is shown only if it passes `is_shown`.
-fn mistake_text(alloc: Global, words: &[String]) -> Result<String, AllocError>
+fn shown_mistake(alloc: Global, words: &[String]) -> Result<String, AllocError>
     ensures { IfOk result (λ text. All IsShown (string_bytes text)) }
 {
     if let Some(error) = escaped_mistake(alloc, words)? {
         let text = error.to_string(alloc)?;
+        let text = without_tips(alloc, text.as_str())?;
         if is_shown(text.as_str()) {
             return Ok(text);
         }
     }
     String::from_str(alloc, "error: the arguments are invalid\n")
+}
+
+/// The parser's text without its paragraph of tips. They go by the letters of a name, and would
+/// answer Ansible's `create` with `rekey`.
+fn without_tips(alloc: Global, text: &str) -> Result<String, AllocError> {
+    if let Some((mistake, tips)) = text.split_once("\n\n  tip: ") {
+        if let Some((_, usage)) = tips.split_once("\n\n") {
+            return format!(in alloc; "{mistake}\n\n{usage}");
+        }
+    }
+    String::from_str(alloc, text)
 }
 
 /// The mistake in the escaped arguments, so that each line end in its text is the parser's.

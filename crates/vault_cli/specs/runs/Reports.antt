@@ -1,5 +1,5 @@
--- The lines on standard error, for a fault and for arguments that are not UTF-8, and how much of a
--- line a sink took.
+-- The lines on standard error, for a fault and for arguments that are wrong, and how much of a line
+-- a sink took.
 use Rattle.std.specs.Prelude.{◌⊎◌, ℕ, List, [], ◌∷◌, ◌++◌, codes}
 use Rattle.vault_fault.specs.Fault.{text_of}
 use Rattle.vault_fault.specs.declared.fault.Fault.{Fault}
@@ -13,6 +13,12 @@ line_of fault = codes "ERROR! " ++ text_of fault ++ 10 ∷ []
 -- the line about arguments that are not UTF-8
 abbrev pub not_text_line : List ℕ
 not_text_line = codes "error: an argument is not UTF-8" ++ 10 ∷ []
+
+-- the last line about arguments that do not parse, which names the companions with what is missing
+abbrev pub companions_line : List ℕ
+companions_line =
+    codes "ansible-vault-edit creates and edits vaults; ansible-vault-with has Ansible's other "
+    ++ codes "options." ++ 10 ∷ []
 
 -- the sink received the line, or took only its first bytes and failed
 abbrev pub Reports : {E : Type 0} → SinkCall E → List ℕ → Type 0

@@ -1,4 +1,4 @@
-use Rattle.std.proofs.Common.{ℕ, List, Result, Ok, Err, inl, inr, refl}
+use Rattle.std.proofs.Common.{◌++◌, ℕ, List, Result, Ok, Err, inl, inr, refl}
 use Rattle.std.specs.Prelude.{OnErr, OnOk}
 use Rattle.vault_cli.specs.Call.{SinkCall, sink}
 use Rattle.vault_cli.specs.runs.OutputEnd.{to_sink}
@@ -12,12 +12,15 @@ reports err text (Ok value) received cut = inl received
 reports err text (Err error) received cut = inr cut
 
 pub returns : goal.returns
-returns g c = inl (
-  refl,
-  (
-    c.as_bytes.result.now,
-    rw c.as_bytes.ensures.value c.in-Ok.ensures,
-    reports (sink g.E.Sink c.args.err.now c.write_text.new.out) c.as_bytes.result.now
-        c.write_text.result c.write_text.ensures.received c.write_text.ensures.cut,
-  ),
-)
+returns g c =
+    let (shown, is_shown, whole) = c.in-Ok.ensures in
+    inl (
+      refl,
+      (
+        shown,
+        is_shown,
+        rw (← whole, ← c.as_bytes.ensures.value)
+            (reports (sink g.E.Sink c.args.err.now c.write_text.new.out) c.as_bytes.result.now
+            c.write_text.result c.write_text.ensures.received c.write_text.ensures.cut),
+      ),
+    )
