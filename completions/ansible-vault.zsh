@@ -24,8 +24,8 @@ _ansible_vault_listed() {
             'encrypt:Encrypts a file'
             'decrypt:Decrypts a vault'
             'view:Prints the plaintext of a vault'
-            'rekey:Re-encrypts a vault with a new secret'
-            'encrypt_string:Encrypts text as a YAML block'
+            'rekey:Re-encrypts a vault with a new password'
+            'encrypt_string:Encrypts text as a value for YAML'
         ) ;;
         'ansible-vault-with') listed=(
             'encrypt:encrypt files in place'
@@ -47,50 +47,50 @@ _ansible_vault_specifications() {
             '(- *)'{-V,--version}'[Print version]'
         ) ;;
         'ansible-vault encrypt') specifications=(
-            '*--vault-id=[A password file, with the label of its secret (default: `default`)]:[LABEL@]SOURCE:_ansible_vault_id'
+            '*--vault-id=[A password file, with its label (default: `default`)]:[LABEL@]SOURCE:_ansible_vault_id'
             '*--vault-password-file=[A password file, with the label `default`]:PATH:_ansible_vault_files'
             '(--salt --salt-file)--salt-file=[Take the first 32 bytes of this file as the salt (default: /dev/urandom)]:PATH:_ansible_vault_files'
             '(--salt --salt-file)--salt=[Take this text, 1 to 64 bytes, as the salt]:TEXT: '
-            '--encrypt-vault-id=[The label of the secret to encrypt with]:LABEL: '
+            '--encrypt-vault-id=[The label of the password to encrypt with]:LABEL: '
             '--output=[The file to write, or - for standard output (default: -)]:PATH:_ansible_vault_files'
             '(- *)'{-h,--help}'[Print help]'
             '1:file:_ansible_vault_files'
         ) ;;
         'ansible-vault decrypt') specifications=(
-            '*--vault-id=[A password file, with the label of its secret (default: `default`)]:[LABEL@]SOURCE:_ansible_vault_id'
+            '*--vault-id=[A password file, with its label (default: `default`)]:[LABEL@]SOURCE:_ansible_vault_id'
             '*--vault-password-file=[A password file, with the label `default`]:PATH:_ansible_vault_files'
-            '--require-id-match[Try only secrets that have the vault'\''s label]'
+            '--require-id-match[Try only passwords that have the vault'\''s label]'
             '--output=[The file to write, or - for standard output (default: -)]:PATH:_ansible_vault_files'
             '(- *)'{-h,--help}'[Print help]'
             '1:file:_ansible_vault_files'
         ) ;;
         'ansible-vault view') specifications=(
-            '*--vault-id=[A password file, with the label of its secret (default: `default`)]:[LABEL@]SOURCE:_ansible_vault_id'
+            '*--vault-id=[A password file, with its label (default: `default`)]:[LABEL@]SOURCE:_ansible_vault_id'
             '*--vault-password-file=[A password file, with the label `default`]:PATH:_ansible_vault_files'
-            '--require-id-match[Try only secrets that have the vault'\''s label]'
+            '--require-id-match[Try only passwords that have the vault'\''s label]'
             '(- *)'{-h,--help}'[Print help]'
             '1:file:_ansible_vault_files'
         ) ;;
         'ansible-vault rekey') specifications=(
-            '*--vault-id=[A password file, with the label of its secret (default: `default`)]:[LABEL@]SOURCE:_ansible_vault_id'
+            '*--vault-id=[A password file, with its label (default: `default`)]:[LABEL@]SOURCE:_ansible_vault_id'
             '*--vault-password-file=[A password file, with the label `default`]:PATH:_ansible_vault_files'
             '(--salt --salt-file)--salt-file=[Take the first 32 bytes of this file as the salt (default: /dev/urandom)]:PATH:_ansible_vault_files'
             '(--salt --salt-file)--salt=[Take this text, 1 to 64 bytes, as the salt]:TEXT: '
-            '(--new-vault-id --new-vault-password-file)--new-vault-id=[The password file of the new secret, with its label (default: `default`)]:[LABEL@]SOURCE:_ansible_vault_id'
-            '(--new-vault-id --new-vault-password-file)--new-vault-password-file=[The password file of the new secret, with the label `default`]:PATH:_ansible_vault_files'
-            '--require-id-match[Try only secrets that have the vault'\''s label]'
+            '(--new-vault-id --new-vault-password-file)--new-vault-id=[The file of the new password, with its label (default: `default`)]:[LABEL@]SOURCE:_ansible_vault_id'
+            '(--new-vault-id --new-vault-password-file)--new-vault-password-file=[The file of the new password, with the label `default`]:PATH:_ansible_vault_files'
+            '--require-id-match[Try only passwords that have the vault'\''s label]'
             '--output=[The file to write, or - for standard output (default: -)]:PATH:_ansible_vault_files'
             '(- *)'{-h,--help}'[Print help]'
             '1:file:_ansible_vault_files'
         ) ;;
         'ansible-vault encrypt_string') specifications=(
-            '*--vault-id=[A password file, with the label of its secret (default: `default`)]:[LABEL@]SOURCE:_ansible_vault_id'
+            '*--vault-id=[A password file, with its label (default: `default`)]:[LABEL@]SOURCE:_ansible_vault_id'
             '*--vault-password-file=[A password file, with the label `default`]:PATH:_ansible_vault_files'
             '(--salt --salt-file)--salt-file=[Take the first 32 bytes of this file as the salt (default: /dev/urandom)]:PATH:_ansible_vault_files'
             '(--salt --salt-file)--salt=[Take this text, 1 to 64 bytes, as the salt]:TEXT: '
             '(--name --stdin-name -n)'{-n,--name=}'[The name of the variable, if STRING is given (default: none)]:NAME: '
             '(--name --stdin-name -n)--stdin-name=[The name of the variable, if standard input is read (default: none)]:NAME: '
-            '--encrypt-vault-id=[The label of the secret to encrypt with]:LABEL: '
+            '--encrypt-vault-id=[The label of the password to encrypt with]:LABEL: '
             '--output=[The file to write, or - for standard output (default: -)]:PATH:_ansible_vault_files'
             '(- *)'{-h,--help}'[Print help]'
             '1:text: '

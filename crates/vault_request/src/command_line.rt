@@ -139,7 +139,7 @@ fn with_new_secret<'a>(alloc: Global) -> Result<Command<'a>, AllocError>
     ensures { IfOk result (λ command. IsCommand command
         (app_with (codes "rekey") (secret_rules ++ salt_rules ++ new_secret_rules))) }
 {
-    let about = "Re-encrypts a vault with a new secret";
+    let about = "Re-encrypts a vault with a new password";
     with_salt(alloc, "rekey", about)?
         .arg(option(alloc, table::NEW_VAULT_ID))?
         .arg(option(alloc, table::NEW_VAULT_PASSWORD_FILE))
@@ -150,7 +150,7 @@ fn with_name<'a>(alloc: Global) -> Result<Command<'a>, AllocError>
     ensures { IfOk result (λ command. IsCommand command
         (app_with (codes "encrypt_string") (secret_rules ++ salt_rules ++ name_rules))) }
 {
-    let about = "Encrypts text as a YAML block";
+    let about = "Encrypts text as a value for YAML";
     with_salt(alloc, "encrypt_string", about)?
         .arg(arguments::name(alloc))?
         .arg(option(alloc, table::STDIN_NAME))

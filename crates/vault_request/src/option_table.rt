@@ -14,7 +14,7 @@ pub struct OptionEntry {
 pub const VAULT_ID: OptionEntry = OptionEntry {
     name: "vault-id",
     value_name: "[LABEL@]SOURCE",
-    help: "A password file, with the label of its secret (default: `default`); may be repeated",
+    help: "A password file, with its label (default: `default`); may be repeated",
 };
 
 pub const VAULT_PASSWORD_FILE: OptionEntry = OptionEntry {
@@ -26,27 +26,27 @@ pub const VAULT_PASSWORD_FILE: OptionEntry = OptionEntry {
 pub const ENCRYPT_VAULT_ID: OptionEntry = OptionEntry {
     name: "encrypt-vault-id",
     value_name: "LABEL",
-    help: "The label of the secret to encrypt with; required if there are several secrets",
+    help: "The label of the password to encrypt with; required if there are several passwords",
 };
 
 pub const REQUIRE_ID_MATCH: OptionEntry = OptionEntry {
     name: "require-id-match",
     value_name: "",
-    help: "Try only secrets that have the vault's label; by default, they are tried first, and \
+    help: "Try only passwords that have the vault's label; by default, they are tried first, and \
         then the others",
 };
 
 pub const NEW_VAULT_ID: OptionEntry = OptionEntry {
     name: "new-vault-id",
     value_name: "[LABEL@]SOURCE",
-    help: "The password file of the new secret, with its label (default: `default`); give this or \
+    help: "The file of the new password, with its label (default: `default`); give this or \
         --new-vault-password-file",
 };
 
 pub const NEW_VAULT_PASSWORD_FILE: OptionEntry = OptionEntry {
     name: "new-vault-password-file",
     value_name: "PATH",
-    help: "The password file of the new secret, with the label `default`; give this or \
+    help: "The file of the new password, with the label `default`; give this or \
         --new-vault-id",
 };
 
