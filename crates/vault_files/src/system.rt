@@ -32,7 +32,7 @@ pub trait System {
     // Opening the path gives this reader.
     ghost reader_at: { Self → List ℕ → Self.Reader → Type 0 };
 
-    /// Opens a file for reading. Nothing has been read from it yet.
+    /// Opens a file for reading. It has neither ended nor failed yet.
     fn open(&mut self, path: &str) -> io::Result<Self::Reader>
         ensures executes { executes self.old (called (Open path.now) result ∷ []) self.new }
         ensures reader { IfOk result (λ reader. reader_at self.old path.now reader) }

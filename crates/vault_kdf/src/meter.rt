@@ -3,7 +3,7 @@ ghost use Rattle.std.specs.Prelude.{◌≡◌, ℕ, ◌+◌, ◌<◌, ◌^◌};
 
 use std::marker::Model;
 
-/// A count of derivations, which [`derive`](crate::derive) increments.
+/// A count of derivations, which [`Derivation::begin`](crate::Derivation::begin) increments.
 #[derive(Debug, Drop)]
 pub struct Meter {
     derivations: u64,
