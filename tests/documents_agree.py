@@ -164,7 +164,7 @@ def test_options() -> None:
     assert len(named) > 40 and named - set().union(*SPELLINGS.values()) - {*OTHER_OPTIONS} == set()
     of_program = {name: SPELLINGS[f"{PROGRAM} {name}"] - {"-n", "-h", "--help"} for name in OPTIONS}
     assert of_program == {name: options | COMMON for name, options in OPTIONS.items()}
-    lines = re.findall(r"\b(ansible-vault-\w+)((?: +[^\s`|;&'\"<>()]+)*)", re.sub(r" (?:\\e|\\)\n +", " ", TEXT))
+    lines = re.findall(r"\b(ansible-vault-\w+)((?: +[^\s`|;&'\"<>(),]+)*)", re.sub(r" (?:\\e|\\)\n +", " ", TEXT))
     assert sum(name in COMPANIONS and "-" in words for name, words in lines) > 30
     for name, words in ((name, words.split()) for name, words in lines if name in COMPANIONS):
         command = next((word for word in words if f"{name} {word}" in SPELLINGS), "")

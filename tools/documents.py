@@ -144,11 +144,10 @@ def spelled(option: Option) -> str:
 
 
 def options_of(program: str) -> list[Option]:
-    """Return the arguments and options of a companion, or of all of the program's commands, the longest of their texts
-    for each."""
+    """Return the arguments and options of a program and of its commands, the longest of their texts for each."""
     listed: dict[tuple[str, ...], Option] = {}
     for command in commands():
-        if command.program == program and (program == PROGRAM or not command.name):
+        if command.program == program:
             for option in [*filter(None, [command.argument]), *command.options]:
                 key = option.names or (option.value,)
                 listed[key] = max(listed.get(key, option), option, key=lambda each: len(each.text))
