@@ -8,8 +8,6 @@ from __future__ import annotations
 # The module `signal` makes an enumeration of each number, which takes long.
 import _signal  # type: ignore
 import os
-from collections.abc import Iterator
-from contextlib import contextmanager
 from select import select
 
 # The module `typing` takes long to import, and so does `subprocess`, which most runs of ansible-vault-with do not need.
@@ -36,19 +34,34 @@ class Stopped(Exception):
     """A signal has asked the companion to end."""
 
 
+def use_default_actions() -> None:
+    """Gives signals their default actions, except those that are ignored, and lets all through."""
+    # Python's own handler would raise an exception, wherever it is.
+    if _signal.getsignal(_signal.SIGINT) != _signal.SIG_IGN:
+        _signal.signal(_signal.SIGINT, _signal.SIG_DFL)
+    # If it is ignored, the system keeps no exit statuses of child processes.
+    _signal.signal(_signal.SIGCHLD, _signal.SIG_DFL)
+    _signal.pthread_sigmask(_signal.SIG_SETMASK, ())
+
+
 def let_signals_through() -> None:
     """Undoes what a program inherits if it is started where signals are postponed."""
     _signal.pthread_sigmask(_signal.SIG_UNBLOCK, ENDING)
 
 
-@contextmanager
-def postpone_signals() -> Iterator[None]:
+class Postponement:
+    """What `postpone_signals` returns. The module `contextlib` takes long to import, and this comes first of all."""
+
+    def __enter__(self) -> None:
+        self.mask = _signal.pthread_sigmask(_signal.SIG_BLOCK, ENDING)
+
+    def __exit__(self, *_: object) -> None:
+        _signal.pthread_sigmask(_signal.SIG_SETMASK, self.mask)
+
+
+def postpone_signals() -> Postponement:
     """A context at whose end signals arrive. Programs and threads that are started in it block them for good."""
-    mask = _signal.pthread_sigmask(_signal.SIG_BLOCK, ENDING)
-    try:
-        yield
-    finally:
-        _signal.pthread_sigmask(_signal.SIG_SETMASK, mask)
+    return Postponement()
 
 
 def find_postponed_signal() -> int | None:

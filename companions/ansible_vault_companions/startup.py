@@ -2,7 +2,6 @@
 
 from __future__ import annotations
 
-import _signal  # type: ignore
 import os
 import sys
 
@@ -13,14 +12,12 @@ if TYPE_CHECKING:
 
 
 def prepare_process() -> None:
-    """Gives signals their default action, except those that are ignored, and exceptions that nothing catches a line."""
+    """Turns exceptions that nothing catches into a line, and sets the actions of signals."""
     sys.excepthook = report_failure
-    # Python's own handler would raise an exception, wherever it is.
-    if _signal.getsignal(_signal.SIGINT) != _signal.SIG_IGN:
-        _signal.signal(_signal.SIGINT, _signal.SIG_DFL)
-    # If it is ignored, the system keeps no exit statuses of child processes.
-    _signal.signal(_signal.SIGCHLD, _signal.SIG_DFL)
-    _signal.pthread_sigmask(_signal.SIG_SETMASK, ())
+    # This may lack memory, too.
+    from ansible_vault_companions import signals
+
+    signals.use_default_actions()
 
 
 def report_failure(kind: type[BaseException], fault: BaseException, trace: TracebackType | None) -> None:
