@@ -7,9 +7,8 @@ import os
 import resource
 import sys
 from collections.abc import Callable
-from contextlib import suppress
 
-from ansible_vault_companions.output import discard_stream, write_data, write_error
+from ansible_vault_companions.output import LOST, discard_stream, write_data, write_error
 from ansible_vault_companions.quoting import escape
 from ansible_vault_companions.refusals import Refused, describe_fault, describe_refusal
 
@@ -28,6 +27,15 @@ def run_companion(name: str, main: Callable[[list[str]], int]) -> None:
     _prepare_streams()
     # A core dump would contain plaintext and passwords.
     resource.setrlimit(resource.RLIMIT_CORE, (0, resource.getrlimit(resource.RLIMIT_CORE)[1]))
+    status = _attempt_all(name, main)
+    # A failure of which nobody can be told is one, too.
+    if not _flush_streams() or LOST:
+        status = status or 1
+    sys.exit(status)
+
+
+def _attempt_all(name: str, main: Callable[[list[str]], int]) -> int:
+    """The status of all the work or, after a message, of what has ended it."""
     try:
         try:
             status = main(sys.argv[1:])
@@ -35,18 +43,22 @@ def run_companion(name: str, main: Callable[[list[str]], int]) -> None:
             # argparse exits after the help and after an invalid command line.
             status = int(end.code or 0)
         write_data(b"")
+        return status
     except (Refused, OSError) as fault:
-        status = fault.status if isinstance(fault, Refused) else 1
-        where = f"{escape(fault.filename)}: " if isinstance(fault, OSError) and isinstance(fault.filename, str) else ""
-        with suppress(OSError):
-            write_error(f"{name}: {where}{escape(describe_fault(fault))}")
+        write_error(f"{name}: {escape(describe_fault(fault))}")
+        return fault.status if isinstance(fault, Refused) else 1
+
+
+def _flush_streams() -> bool:
+    """Whether all that was printed could be written."""
+    is_written = True
     for stream in (sys.stdout, sys.stderr):
         try:
             stream.flush()
         except OSError:
             discard_stream(stream.fileno())
-            status = status or 1
-    sys.exit(status)
+            is_written = False
+    return is_written
 
 
 def _prepare_streams() -> None:

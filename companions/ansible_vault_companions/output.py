@@ -1,11 +1,17 @@
-"""Writes to the standard streams. What a message names is printable."""
+"""Writes to the standard streams."""
 
 from __future__ import annotations
 
 import os
 import sys
+from select import PIPE_BUF
 
+from ansible_vault_companions import signals
+from ansible_vault_companions.quoting import escape_lines
 from ansible_vault_companions.refusals import Refused, describe_fault
+
+# Messages that could not be written. A companion that has any fails at its end.
+LOST: list[str] = []
 
 
 def write_data(data: bytes) -> None:
@@ -24,9 +30,22 @@ def write_line(text: str) -> None:
 
 
 def write_error(text: str) -> None:
-    """Prints a message on standard error, in one write. Its only control characters are the ends of its lines."""
-    lines = "".join(sign if sign.isprintable() or sign == "\n" else ascii(sign)[1:-1] for sign in text)
-    print(f"{lines}\n", end="", file=sys.stderr)
+    """Prints a message on standard error, in one write unless it is long. If that fails, or a signal arrives first,
+    work goes on."""
+    data = f"{escape_lines(text)}\n".encode(sys.stderr.encoding, "backslashreplace")
+    try:
+        sys.stderr.flush()
+        write_when_possible(sys.stderr.fileno(), data)
+    except (OSError, signals.Stopped):
+        LOST.append(text)
+
+
+def write_when_possible(descriptor: int, data: bytes) -> None:
+    """Writes to what may not take it at once, in pieces that do not wait for its reader, since a write cannot be ended
+    by a signal that is postponed. Raises Stopped if there is one."""
+    while data:
+        signals.wait_for_output(descriptor)
+        data = data[os.write(descriptor, data[:PIPE_BUF]) :]
 
 
 def discard_stream(descriptor: int) -> None:

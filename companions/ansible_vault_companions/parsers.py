@@ -7,6 +7,7 @@ import os
 from collections.abc import Iterable
 
 from ansible_vault_companions import VERSION
+from ansible_vault_companions.output import write_error
 from ansible_vault_companions.quoting import escape, quote_word
 
 # The module `typing` takes long to import.
@@ -57,7 +58,8 @@ class Parser(argparse.ArgumentParser):
                 return
 
     def error(self, message: str) -> NoReturn:
-        self.exit(2, f"{self.format_usage()}{self.prog}: error: {escape(message)}\n")
+        write_error(f"{self.format_usage()}{self.prog}: error: {escape(message)}")
+        self.exit(2)
 
 
 def make_parser(name: str, summary: str, example: str, allow_abbrev: bool = False, usage: str | None = None) -> Parser:

@@ -1,4 +1,4 @@
-"""Puts names into messages: in printable form, or as words of a shell command, ready to type."""
+"""Puts texts and names into messages: in printable form, or as words of a shell command, ready to type."""
 
 from __future__ import annotations
 
@@ -13,6 +13,11 @@ ESCAPED = re.compile(r"[^ -&(-\[\]-~]")
 def escape(name: str) -> str:
     """A printable name as it is, and any other as Python writes it: in quotes, with escapes."""
     return name if name.isprintable() else ascii(name)
+
+
+def escape_lines(text: str) -> str:
+    """A message in printable form. Its only control characters are the ends of its lines."""
+    return "".join(sign if sign.isprintable() or sign == "\n" else ascii(sign)[1:-1] for sign in text)
 
 
 def quote_word(text: str) -> str:

@@ -8,7 +8,7 @@ from __future__ import annotations
 # The module `signal` makes an enumeration of each number, which takes long.
 import _signal  # type: ignore
 import os
-from select import select
+from select import POLLIN, POLLOUT, poll
 
 # The module `typing` takes long to import, and so does `subprocess`, which most runs of ansible-vault-with do not need.
 TYPE_CHECKING = False
@@ -77,7 +77,19 @@ def check_for_signal() -> None:
 
 def wait_for_input(descriptor: int) -> None:
     """Waits until there is something to read."""
-    while not select([descriptor], [], [], INTERVAL)[0]:
+    _wait_for(descriptor, POLLIN)
+
+
+def wait_for_output(descriptor: int) -> None:
+    """Waits until something can be written: a pipe may be full, and a terminal be stopped."""
+    _wait_for(descriptor, POLLOUT)
+
+
+def _wait_for(descriptor: int, event: int) -> None:
+    # `select` refuses descriptors over 1,023.
+    waiting = poll()
+    waiting.register(descriptor, event)
+    while not waiting.poll(INTERVAL * 1000):
         check_for_signal()
 
 

@@ -23,6 +23,8 @@ COMPANIONS = ROOT / "companions"
 EDIT, ROTATE, CHECK, TEXTCONV, HOOK, WITH, MERGE = (
     f"ansible-vault-{name}" for name in ("edit", "rotate", "check", "textconv", "hook", "with", "merge")
 )
+# The status of a merge that leaves a conflict.
+CONFLICT = 128
 # A finished run of a companion.
 Done = subprocess.CompletedProcess[str]
 NOBODY = 65_534

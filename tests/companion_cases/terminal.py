@@ -49,7 +49,7 @@ def ask(place: Place, *words: str, answers: list[tuple[str, bytes]], **variables
         os.close(terminal)
         try:
             for question, answer in answers:
-                shown += _shown_until(controller, question.encode())
+                shown += shown_until(controller, question.encode())
                 os.write(controller, answer)
             output, errors = program.communicate(timeout=SECONDS)
         except BaseException:
@@ -62,7 +62,7 @@ def ask(place: Place, *words: str, answers: list[tuple[str, bytes]], **variables
     return Session(program.returncode, output, errors, shown.decode().replace("\r", ""), echoes)
 
 
-def _shown_until(controller: int, question: bytes) -> bytes:
+def shown_until(controller: int, question: bytes) -> bytes:
     """Wait until what is shown ends with the question, and return it."""
     shown = b""
     with suppress(OSError):

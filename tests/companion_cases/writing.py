@@ -6,8 +6,8 @@ import re
 
 import pytest
 
-from companion_cases import CHANGE, CHANGED, CHECK, EDIT, MERGE, NOBODY, ROTATE, TEXT, TEXTCONV, WITH, Place
-from companion_cases import decrypted, ended, run_changed, sealed, silent, summary, to_new, versions
+from companion_cases import CHANGE, CHANGED, CHECK, CONFLICT, EDIT, HOOK, MERGE, NOBODY, ROTATE, TEXT, TEXTCONV, WITH
+from companion_cases import Place, block, decrypted, ended, run_changed, sealed, silent, summary, to_new, versions
 from lib.needs import needs
 from lib.subtests import SubTests
 
@@ -107,7 +107,10 @@ def test_changed_meanwhile(place: Place, subtests: SubTests) -> None:
         (place.tree / "new.yml").unlink(missing_ok=True)
         place.put("a.yml", sealed("old", CHANGED + LINES))
         with subtests.test(" ".join(words[:2])):
-            ended("it is refused", place.run(*words), 1, f"{words[-1]}: another program changed it in the meantime")
+            # For git, it is a conflict, and the file stays as it is.
+            status = CONFLICT if MERGE in words else 1
+            why = f"{words[-1]}: another program changed it in the meantime"
+            ended("it is refused", place.run(*words), status, why)
             theirs = dict.fromkeys(["a.yml", "new.yml"], b"other\n")
             assert place.files() == theirs, "their change stays, and nothing is left"
 
@@ -126,6 +129,36 @@ def test_outputs_that_fail(place: Place, line: str, redirection: str) -> None:
     name = f"{TEXTCONV}: a.yml" if TEXTCONV in line else line.split()[0]
     assert done.stderr == f"{name}: standard output cannot be written: {OUTPUTS[redirection]}\n1\n"
     assert [place.shell(f"{line} > /dev/full {other}").returncode for other in ("2>&-", "2> /dev/full")] == [1, 1]
+
+
+NO_MESSAGE = ("2>&-", "2> /dev/full")
+# Command lines with a message, and their statuses.
+STATUSES = {f"{name} --no-such-option": 2 for name in (CHECK, EDIT, HOOK, MERGE, ROTATE, TEXTCONV, WITH)}
+STATUSES |= {f"{CHECK} .": 2, f"{WITH} view {OLD} missing.yml": 3, f"{CHECK} {OLD} missing.yml": 1}
+
+
+@pytest.mark.parametrize("where", NO_MESSAGE)
+@pytest.mark.parametrize("line, status", STATUSES.items())
+def test_messages_that_fail(place: Place, line: str, status: int, where: str) -> None:
+    """The status is the same."""
+    assert [place.shell(f"{line} {each}").returncode for each in ("2> ../told", where)] == [status] * 2
+    assert place.get("../told") != b""
+
+
+@pytest.mark.parametrize("where", NO_MESSAGE)
+def test_work_without_messages(place: Place, where: str) -> None:
+    """It is done all the same, but nobody is told, and that is a failure."""
+    for number in range(3):
+        place.put(f"{number}.yml", sealed("old"))
+    (place.tree / "folder").symlink_to("/usr")
+    place.put("missing/a.yml", sealed("dev", label="dev"))
+    words = " ".join([*to_new(place), "--vault-id", f"dev@{place.secret('dev2')}", "."])
+    ended("a note", place.shell(f"{ROTATE} --dry-run {words}"), 1, "it is a link to a directory", "3 to be rotated")
+    ended("a rotation", place.shell(f"{ROTATE} {words} {where}"), 1, "3 rotated, 0 already under", ", 0 failed")
+    assert [decrypted("new", place.get(f"{number}.yml")) for number in range(3)] == [TEXT] * 3
+    place.put("values.yml", block("dev") + block("old"))
+    done = place.shell(f"{TEXTCONV} {OLD} values.yml {where}")
+    assert (done.returncode, done.stdout.count("correct horse")) == (1, 1), "a value that nothing decrypts"
 
 
 @pytest.mark.parametrize("streams", ("<&-", ">&-", "<&- >&- 2>&-"))
