@@ -2,6 +2,8 @@
 
 from __future__ import annotations
 
+import os
+
 from ansible_vault_companions.quoting import escape
 
 
@@ -13,11 +15,33 @@ class Refused(Exception):
         self.status = status
 
 
-def describe_fault(fault: Exception) -> str:
-    """The reason for a failure, without the path, since messages begin with the path anyway."""
-    return fault.strerror if isinstance(fault, OSError) and fault.strerror else str(fault)
+def describe_fault(fault: BaseException, path: str = "") -> str:
+    """The reason for a failure, and for one that it came after, which may say what is done or where a text is kept. It
+    names the file that the system refused, unless that is the one at this path, with which the message begins anyway.
+    """
+    before = fault.__context__
+    if isinstance(before, Refused) and not fault.__suppress_context__:
+        return f"{_describe_alone(fault, path)}; {before}"
+    return _describe_alone(fault, path)
+
+
+def _describe_alone(fault: BaseException, path: str) -> str:
+    if not isinstance(fault, OSError) or not fault.strerror:
+        return str(fault)
+    if fault.filename is None or isinstance(fault.filename, int) or _is_same(os.fsdecode(fault.filename), path):
+        return fault.strerror
+    return f"{escape(os.fsdecode(fault.filename))}: {fault.strerror}"
 
 
 def describe_refusal(path: str, fault: Exception) -> str:
     """The path of a refused file, with the reason."""
-    return f"{escape(path)}: {describe_fault(fault)}"
+    return f"{escape(path)}: {describe_fault(fault, path)}"
+
+
+def _is_same(first: str, second: str) -> bool:
+    """Whether two paths lead to the same place. If the current directory is gone, a relative one leads nowhere, and
+    Python cannot follow a long chain of links."""
+    try:
+        return second != "" and os.path.realpath(first) == os.path.realpath(second)
+    except (OSError, RecursionError):
+        return first == second

@@ -24,6 +24,8 @@ def report_failure(kind: type[BaseException], fault: BaseException, trace: Trace
     """Says in one line what the system refused, such as memory. Anything else is a bug, with a traceback to report."""
     # Python's import of a module may end in a SystemError if there is too little memory.
     if issubclass(kind, (MemoryError, RecursionError, SystemError, ImportError, OSError)):
-        sys.stderr.write(f"{os.path.basename(sys.argv[0])}: {str(fault) or 'out of memory'}\n")
+        # It may have come while another one was reported, which may say where a text is kept.
+        reasons = [str(fault) or "out of memory", str(fault.__context__ or "")]
+        sys.stderr.write(f"{os.path.basename(sys.argv[0])}: {'; '.join(filter(None, reasons))}\n")
     else:
         sys.__excepthook__(kind, fault, trace)

@@ -42,7 +42,7 @@ def find_folder() -> str:
 
 
 def _make_refusal(path: str, fault: OSError) -> Refused:
-    return Refused(NO_FOLDER.format(escape(path), refusals.describe_fault(fault)))
+    return Refused(NO_FOLDER.format(escape(path), refusals.describe_fault(fault, path)))
 
 
 def list_copies(target: str) -> list[str]:

@@ -50,7 +50,7 @@ def _make(name: str, text: bytes) -> str:
         try:
             return _make_in(place, name, text)
         except OSError as fault:
-            faults.append(f"{place}: {refusals.describe_fault(fault)}")
+            faults.append(f"{place}: {refusals.describe_fault(fault, place)}")
     raise Refused(NO_PRIVATE_FOLDER.format("; ".join(faults)))
 
 

@@ -52,7 +52,10 @@ def write_new(
     folder: str, content: bytes, like: str | None = None, is_private: bool = False, prefix: str = PREFIX
 ) -> str:
     """Writes a new file, and returns its path. Only its owner may read it, unless it is to be like another one."""
-    descriptor, path = tempfile.mkstemp(SUFFIX, prefix, folder)
+    try:
+        descriptor, path = tempfile.mkstemp(SUFFIX, prefix, folder)
+    except OSError as fault:
+        raise OSError(fault.errno, fault.strerror, folder) from None
     try:
         with open(descriptor, "wb") as file:
             file.write(content)

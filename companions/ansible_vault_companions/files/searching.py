@@ -133,7 +133,7 @@ def _resolve(path: str, resolve: Callable[[str], str]) -> tuple[str, str]:
     except resolving.LeadsOut as fault:
         return fault.target, str(fault)
     except OSError as fault:
-        return path, describe_fault(fault)
+        return path, describe_fault(fault, path)
 
 
 def _is_file(path: str) -> bool:

@@ -29,7 +29,7 @@ def run_script(path: str, label: str) -> bytes:
         done = processes.run_script(words, **streams)
     except OSError as fault:
         to_do = f"if it is not a script, run `chmod -x {quote_word(path)}`"
-        raise Refused(f"this script cannot be run: {describe_fault(fault)}; {to_do}") from None
+        raise Refused(f"this script cannot be run: {describe_fault(fault, words[0])}; {to_do}") from None
     if done.returncode:
         raise Refused(_describe_failure(done.returncode, done.stderr or b""))
     password = done.stdout.strip(b"\r\n")
