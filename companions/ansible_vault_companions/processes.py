@@ -12,6 +12,8 @@ import os
 from collections.abc import Iterable
 
 from ansible_vault_companions import signals
+from ansible_vault_companions.quoting import escape
+from ansible_vault_companions.refusals import Refused
 
 # The module `typing` takes long to import, and so does `subprocess`, which most runs of ansible-vault-with do not need.
 TYPE_CHECKING = False
@@ -20,11 +22,18 @@ if TYPE_CHECKING:
     from typing import Any, NoReturn
 
 
+class NotStarted(Refused):
+    """A program cannot be started."""
+
+
 def run_program(words: list[str], data: bytes = b"", **options: Any) -> CompletedProcess[bytes]:
     """Runs a program that reads this data, to its end, and keeps its output."""
     import subprocess
 
-    return subprocess.run(words, input=data, stdout=subprocess.PIPE, stderr=subprocess.PIPE, **options)
+    try:
+        return subprocess.run(words, input=data, stdout=subprocess.PIPE, stderr=subprocess.PIPE, **options)
+    except OSError as fault:
+        raise Refused(describe_start(fault, words[0])) from None
 
 
 def run_script(words: list[str], **streams: Any) -> CompletedProcess[bytes]:
@@ -55,12 +64,28 @@ def _communicate(program: Popen[bytes]) -> tuple[bytes, bytes]:
 def run_on_terminal(words: list[str]) -> int:
     """Runs a program that owns the terminal, and waits for it, whatever arrives. Signals must be postponed. Raises
     Stopped if one has arrived before."""
-    from subprocess import Popen
-
     signals.check_for_signal()
-    program = Popen(words, preexec_fn=signals.let_signals_through)
+    program = start_program(words, preexec_fn=signals.let_signals_through)
     signals.pass_signals_on_until_end(program)
     return program.returncode
+
+
+def start_program(words: list[str], **options: Any) -> Popen[bytes]:
+    from subprocess import Popen
+
+    try:
+        return Popen(words, **options)
+    except OSError as fault:
+        raise NotStarted(describe_start(fault, words[0])) from None
+
+
+def describe_start(fault: OSError, program: str) -> str:
+    """Why a program cannot be started. What is missing may also be /dev/null, or the directory to start it in."""
+    if fault.filename not in (None, program):
+        return f"{program} cannot be started: {escape(fault.filename)}: {fault.strerror}"
+    if isinstance(fault, FileNotFoundError) and os.sep not in program:
+        return f"{program} is not installed; install it"
+    return f"{program} cannot be started: {fault.strerror}"
 
 
 def find_beside(companion: str, name: str) -> str | None:

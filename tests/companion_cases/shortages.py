@@ -1,6 +1,8 @@
 """Too few processes, or too little memory: a companion says so in a line, or does its work. No file is torn."""
 
 import shlex
+import shutil
+import sys
 from random import Random
 
 import pytest
@@ -109,3 +111,77 @@ def test_no_proc(place: Place) -> None:
     words = " ".join([CHECK, *place.by_file("old"), "."])
     done = place.run("unshare", "-m", "sh", "-c", f"mount -t tmpfs none /proc && exec {words}")
     assert done.returncode == 1 and "/proc" in done.stderr, done
+
+
+# Two more runs.
+SINCE, SCRIPT = f"{HOOK} --since", "a script"
+
+
+def prepare_in_repository(place: Place) -> dict[str, list[str]]:
+    """Write files, and return the command lines of runs."""
+    merge = versions(place, "a.yml", *(sealed("old", text) for text in (b"1\n2\n3\n", b"1\n2\n4\n", b"5\n2\n3\n")))
+    place.put(".gitattributes", b"a.yml diff=ansible-vault\n")
+    place.script(f"cat {place.secret('old')}")
+    place.environment["EDITOR"] = "true"
+    place.shell("git init -q && git add . && git -c user.name=a -c user.email=b commit -qm c")
+    old = place.by_file("old")
+    return {
+        EDIT: [EDIT, *old, "a.yml"],
+        ROTATE: [ROTATE, *to_new(place), "a.yml"],
+        MERGE: [MERGE, *old, *merge],
+        CHECK: [CHECK, *old, "a.yml"],
+        TEXTCONV: [TEXTCONV, *old, "a.yml"],
+        HOOK: [HOOK],
+        SINCE: [HOOK, "--since", "HEAD"],
+        WITH: [WITH, "view", *old, "a.yml"],
+        SCRIPT: [CHECK, "--vault-id", f"{place.path}/script", "a.yml"],
+    }
+
+
+# What is missing, what a message calls it, and the runs that need it.
+MISSING = {
+    "git": ("git is not installed; install it", {MERGE, CHECK, HOOK, SINCE, SCRIPT}),
+    "sh": ("sh is not installed; install it", {EDIT}),
+    "/dev/null": ("/dev/null", {MERGE, CHECK, HOOK, SINCE, SCRIPT}),
+    "the current directory": ("the current directory: No such file", {EDIT, MERGE, CHECK, HOOK, SINCE, TEXTCONV, WITH}),
+}
+TAKE_AWAY = {
+    "/dev/null": "mount -t tmpfs none /dev; ln -s /proc/self/fd /dev/fd; mknod /dev/urandom c 1 9;",
+    "the current directory": "mkdir gone; cd gone; rmdir ../gone;",
+}
+
+
+@pytest.mark.parametrize("name", (*NAMES, SINCE, SCRIPT))
+@pytest.mark.parametrize("what", MISSING)
+def test_what_is_missing(place: Place, git: None, what: str, name: str) -> None:
+    """A run that fails names what it misses. Any other does its work."""
+    needs("unshare")
+    words = prepare_in_repository(place)[name]
+    told, needing = MISSING[what]
+    few = place.path / "few"
+    few.mkdir()
+    for program in ("cat", "true"):
+        (few / program).symlink_to(f"/bin/{program}")
+    for program, path in {"python3": sys.executable, "git": shutil.which("git"), "sh": "/bin/sh"}.items():
+        if program != what:
+            (few / program).symlink_to(str(path))
+    line = f"{TAKE_AWAY.get(what, '')} PATH={place.tools}:{few}; exec {shlex.join(words)}"
+    done = place.run("unshare", "--mount", "/bin/sh", "-c", line)
+    is_needed = name in needing or done.returncode != 0
+    assert (done.returncode != 0, told in done.stderr) == (is_needed, is_needed), done
+    assert "Traceback" not in done.stderr, done
+
+
+@pytest.mark.parametrize("line", [f"{WITH} view a.yml", f"{WITH} create new.yml", f"{EDIT} a.yml", f"{CHECK} a.yml"])
+def test_no_descriptors(place: Place, line: str) -> None:
+    """ansible-vault gets its passwords through /proc. Without it, no password is named as the fault, and no editor
+    starts."""
+    needs("unshare")
+    place.put("a.yml", sealed("old"))
+    companion, *others = line.split()
+    words = shlex.join([companion, *others[:-1], *place.by_file("old"), others[-1]])
+    editor = place.script("touch ../started", "editor")
+    done = place.run("unshare", "-m", "sh", "-c", f"mount -t tmpfs none /proc && exec {words}", EDITOR=editor)
+    why = "ansible-vault gets passwords through /dev/fd, which leads nowhere; mount /proc, or link /dev/fd to"
+    assert (done.returncode, done.stdout) == (1, "") and why in done.stderr, done
+    assert "secrets/old" not in done.stderr and not (place.path / "started").exists()

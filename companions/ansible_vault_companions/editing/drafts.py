@@ -112,6 +112,7 @@ class Loader:
         if value is not None:
             return SingleValue(target, content, value, self.decrypt, self.chosen)
         if content is None:
+            resolving.require_folder(target)
             return VaultDraft(target, None, [self.choice.choose_key("the new vault", "the vault")])
         sides = find_versions(target, content)
         if sides:

@@ -29,6 +29,14 @@ class LeadsOut(Refused):
         self.target = target
 
 
+def find_current_folder() -> str:
+    """The current directory. The system does not name it if it is gone."""
+    try:
+        return os.getcwd()
+    except OSError as fault:
+        raise Refused(f"the current directory: {fault.strerror}") from None
+
+
 def is_within(path: str, folder: str) -> bool:
     """Whether a real path is that of a directory or below it, but not in git's own directory."""
     below = os.path.join(folder, "")
@@ -54,6 +62,13 @@ def resolve_file(path: str) -> str:
     return path if OF_OPEN_FILES.fullmatch(named) else _BoundedWalk(path, named).follow(named, name)
 
 
+def require_folder(target: str) -> None:
+    """Refuses a real path whose directory is missing: the system would only say that there is no such file."""
+    folder = os.path.dirname(target)
+    if not os.path.lexists(folder):
+        raise Refused(f"there is no directory {escape(folder)}; make it first")
+
+
 def resolve_link(path: str, named: str) -> str:
     """The real path of a link that was found below a directory with this real path. Refuses one that leads out of its
     repository or, outside of git, out of this directory."""
@@ -70,7 +85,7 @@ class _Walk:
     def start(self, text: str) -> str:
         """The real path to which a typed path leads. The current directory may be gone, which does not matter to an
         absolute path."""
-        return self.follow(os.sep if os.path.isabs(text) else os.getcwd(), text)
+        return self.follow(os.sep if os.path.isabs(text) else find_current_folder(), text)
 
     def follow(self, folder: str, text: str) -> str:
         """The real path to which a path, or the text of a link, leads from a directory."""

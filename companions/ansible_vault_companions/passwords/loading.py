@@ -17,6 +17,10 @@ from ansible_vault_companions.passwords.sources import Source
 from ansible_vault_companions.quoting import escape
 from ansible_vault_companions.refusals import Refused, describe_fault
 
+NO_DESCRIPTORS = (
+    "ansible-vault gets passwords through /dev/fd, which leads nowhere; mount /proc, or link /dev/fd to /proc/self/fd"
+)
+
 
 def load_passwords(companion: str, sources: list[Source], encrypts: bool, skips: bool = False) -> list[Password]:
     """Reads the passwords. Those that are ignored stay in the list, since the one to encrypt with is chosen among all
@@ -55,6 +59,7 @@ def read_password(source: Source, encrypts: bool) -> Password:
         descriptor = _keep_in_memory(content)
     except (Refused, OSError) as fault:
         return Password(source, b"", -1, describe_fault(fault))
+    _require_descriptors(descriptor)
     why = _find_fault(source.label, content)
     return Password(source, content.strip(), descriptor, why, source.is_prompt and not encrypts and not why)
 
@@ -65,6 +70,12 @@ def _keep_in_memory(content: bytes) -> int:
     with open(descriptor, "wb", closefd=False) as file:
         file.write(content)
     return descriptor
+
+
+def _require_descriptors(descriptor: int) -> None:
+    """Refuses a system in which ansible-vault would find no password: it would say that a file is missing."""
+    if not os.path.exists(f"/dev/fd/{descriptor}"):
+        raise Refused(NO_DESCRIPTORS)
 
 
 def _read(source: Source, encrypts: bool) -> bytes:

@@ -28,6 +28,8 @@ def run_script(path: str, label: str) -> bytes:
     try:
         done = processes.run_script(words, **streams)
     except OSError as fault:
+        if fault.filename not in (None, words[0]):
+            raise Refused(processes.describe_start(fault, "this script")) from None
         to_do = f"if it is not a script, run `chmod -x {quote_word(path)}`"
         raise Refused(f"this script cannot be run: {describe_fault(fault, words[0])}; {to_do}") from None
     if done.returncode:

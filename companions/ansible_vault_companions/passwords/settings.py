@@ -88,7 +88,7 @@ class Settings:
         path = self._read(PASSWORD_FILE)
         folder = "" if PASSWORD_FILE[0] in os.environ or not self.path else os.path.dirname(self.path)
         counts = path and self._may_count(path, folder)
-        return _expand_setting(path.replace(CURRENT, os.getcwd()), folder) if counts else ""
+        return _expand_setting(path.replace(CURRENT, resolving.find_current_folder()), folder) if counts else ""
 
     def is_asking(self) -> bool:
         """Whether to ask for a password."""
