@@ -10,7 +10,8 @@ from ansible_vault_companions.refusals import Refused
 
 # The levels of YAML, with those of an alias at its place. libyaml takes quadratic time for brackets.
 DEEPEST = 64
-# The texts of a file, and the keys above them, which count for each text and again for each alias.
+# The keys and texts of a file. If each text is kept, the keys above it count once more for it, and so they do for each
+# alias.
 MOST_KEYS = 1_000_000
 # The texts that the aliases of a file add, which are not in proportion to its bytes, so many small files would take as
 # much as a large one each. A list of 1,000 hosts, each with an alias of 50 values, adds as many.
@@ -29,20 +30,43 @@ LONGEST_LINK = 4_096
 # The characters of an ansible.cfg, and of a line in it: Python's parser takes quadratic time for the blanks of a line.
 LONGEST_SETTINGS = 262_144
 LONGEST_SETTING = 2_048
-# Processor time, with more of it for the hook, since a file that it refuses cannot be committed; and memory beyond what
-# the companion has already.
+# Processor time, and memory beyond what the companion has already. A review by the hook has no more for all its work on
+# a repository of less than 1 MB, and as much again for each whole MB. So does each git process. By the limits above,
+# the slowest content takes 5 s.
 SECONDS = 10
-HOOK_SECONDS = 30
 MEGABYTES = 256
 
 TOO_DEEP = f"it is nested over {DEEPEST} levels"
 KEY_TOO_LONG = f"it has a key of over {LONGEST_KEY:,} characters"
-TOO_MANY = f"it has over {MOST_KEYS:,} keys and texts"
+TOO_MANY = f"it has over {MOST_KEYS:,} keys and texts, with those above each"
 TOO_MANY_ALIASED = f"its aliases stand for over {MOST_ALIASED:,} texts"
 TOO_LONG = f"it has over {LONGEST_PLAINTEXT:,} bytes"
 TOO_SLOW = "it takes over {} s of processor time"
-TOO_MUCH = f"it takes over {MEGABYTES} MB of memory"
+TOO_SLOW_TO_EDIT = f"it takes over a third of {SECONDS} s of processor time before it is even edited"
+TOO_SLOW_PROGRAM = "it takes too much processor time"
+TOO_MUCH = "it takes over {} MB of memory"
+NO_MEMORY = "it takes more memory than this program may have"
 
 
 class TooMuch(Refused):
     """A file exceeds a limit."""
+
+
+class Effort:
+    """What the work on a file has taken so far. In an edit, a file is read several times."""
+
+    def __init__(self) -> None:
+        # Keys and texts of what is read, with all sides of a conflict; and processor time, in all.
+        self.number = 0
+        self.seconds = 0.0
+
+    def add(self, number: int) -> None:
+        self.number += number
+        if self.number > MOST_KEYS:
+            raise TooMuch(TOO_MANY)
+
+    def require_third(self) -> None:
+        """Refuses a file that has taken over a third of the time that it may take, since it is to be read twice more:
+        what is saved is, and what is written."""
+        if self.seconds > SECONDS / 3:
+            raise TooMuch(TOO_SLOW_TO_EDIT)

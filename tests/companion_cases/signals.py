@@ -13,7 +13,19 @@ from random import Random
 import pytest
 
 from companion_cases import CHANGE, CHANGED, CHECK, EDIT, HOOK, MERGE, ROTATE, TEXT, TEXTCONV, WITH, Companions, Place
-from companion_cases import block, decrypted, edit, run_changed, sealed, silent, texts, to_new, versions, wait_until
+from companion_cases import (
+    block,
+    decrypted,
+    edit,
+    ended,
+    run_changed,
+    sealed,
+    silent,
+    texts,
+    to_new,
+    versions,
+    wait_until,
+)
 from lib.needs import needs
 from lib.processes import SECONDS, started
 from lib.subtests import SubTests
@@ -349,14 +361,22 @@ def test_later_edits(place: Place) -> None:
     assert (place.left(), os.listdir(place.temporary)) == ([], [])
 
 
-def test_time_of_an_edit(place: Place) -> None:
-    """What was saved is parsed for a limited time, though signals are postponed."""
-    place.put("vars.yml", block("old") + b"x: [%s]\n" % b", ".join([b"1"] * 20_000))
+@pytest.mark.parametrize("number", (1, 2))
+def test_time_of_an_edit(place: Place, number: int) -> None:
+    """What was saved is parsed for a limited time, though signals are postponed, and so is what is to be written."""
+    place.put("vars.yml", block("old") + b"x: [%s]\n" % b", ".join([b"1"] * 100_000))
     # The editor has saved before a time limit that nothing meets applies.
-    change = """
+    change = f"""
 from ansible_vault_companions import bounding
-limited = bounding._limit_time
-bounding._limit_time = lambda seconds: limited(1e-6 if os.path.exists("../saved") else seconds)
+limited = bounding._limit_thread_time
+number = 0
+
+def limit_less(seconds):
+    global number
+    number += os.path.exists("../saved")
+    return limited(1e-6 if number == {number} else seconds)
+
+bounding._limit_thread_time = limit_less
 """
     editor = place.script('echo "a: !vault more" >> "$1"; : > ../saved', "editor")
     done = run_changed(place, EDIT, change, [*place.by_file("old"), "vars.yml"], EDITOR=editor)
@@ -427,3 +447,22 @@ def test_early_interrupts(cases: Companions, git: None, pytestconfig: pytest.Con
         check_end(place, name, signal.SIGINT, done.returncode, done.stderr)
         statuses.add(done.returncode)
     assert -signal.SIGINT in statuses
+
+
+def test_time_of_threads(place: Place) -> None:
+    """The limit of time is that of a file: other threads, which work on other files, may have used any amount."""
+    place.put("vars.yml", block("old"))
+    # The timer ends as soon as it is set, as if they had.
+    change = """
+from ansible_vault_companions.bounding import _signal
+start = _signal.setitimer
+
+def start_and_end(timer, seconds, *interval):
+    start(timer, seconds, *interval)
+    if seconds:
+        os.kill(os.getpid(), signal.SIGPROF)
+
+_signal.setitimer = start_and_end
+"""
+    done = run_changed(place, CHECK, change, [*place.by_file("old"), "vars.yml"])
+    ended("the check", done, 0, "1 decrypted, 0 failed")

@@ -12,11 +12,12 @@ import pytest
 import yaml
 
 from ansible_vault_companions.editing.choosing import Choice
-from ansible_vault_companions.editing.writing import parse_nodes
+from ansible_vault_companions.editing.writing import require_nodes
 from ansible_vault_companions.editing.yaml_draft import YamlDraft
 from ansible_vault_companions.envelopes.header import LINE_END
 from ansible_vault_companions.envelopes.key_paths import KeyPath
 from ansible_vault_companions.envelopes.layout import Replacement, apply_replacements, find_column
+from ansible_vault_companions.limits import Effort
 from ansible_vault_companions.passwords.labels import Policy
 from ansible_vault_companions.passwords.password import Password
 from ansible_vault_companions.passwords.sources import make_path_source
@@ -107,7 +108,7 @@ def shown_text(envelope: str) -> str:
 def check_changed(file: YamlDraft, generator: random.Random) -> bool:
     """Change a value of the shown text. Return whether there is one that PyYAML can still read."""
     text = file.plaintext
-    shown = [value for value in parse_nodes(text).values if value.is_tagged and not value.is_envelope]
+    shown = [value for value in require_nodes(text, Effort()).values if value.is_tagged and not value.is_envelope]
     if not shown:
         return False
     value, typed = generator.choice(shown), generator.choice(TYPED)
@@ -139,6 +140,6 @@ def check_after(file: YamlDraft, edited: bytes, after: bytes, read: list[tuple[K
     envelopes = [text if text.startswith("$ANSIBLE") else envelope(text.encode()).decode() for _, text in read]
     wanted = [(path, text.split()) for (path, _), text in zip(read, envelopes)]
     assert [(path, text.split()) for path, text in tagged(after) or []] == wanted, (edited, after)
-    scalars_before = Counter(file.file.data[old.value.begin : old.value.end] for old in file.opened.values())
-    lost = scalars_before - Counter(after[value.begin : value.end] for value in parse_nodes(after).values)
+    scalars_before = Counter(file.edited[old.value.begin : old.value.end] for old in file.opened.values())
+    lost = scalars_before - Counter(after[value.begin : value.end] for value in require_nodes(after, Effort()).values)
     assert sum(lost.values()) <= 1, (edited, after)

@@ -7,15 +7,15 @@ import os
 import re
 
 from ansible_vault_companions.editing.choosing import Choice
-from ansible_vault_companions.editing.writing import make_sealed_block, parse_nodes, write_values
+from ansible_vault_companions.editing.writing import make_sealed_block, require_nodes, write_values
 from ansible_vault_companions.envelopes import conflicts
-from ansible_vault_companions.envelopes.content import NO_SCALAR_THERE, VALUE_NOT_ENCRYPTED, Content, parse_content
+from ansible_vault_companions.envelopes.content import NO_SCALAR_THERE, VALUE_NOT_ENCRYPTED, Content, parse_nodes
 from ansible_vault_companions.envelopes.header import MAGIC
 from ansible_vault_companions.envelopes.key_paths import KeyPath, quote_key
 from ansible_vault_companions.envelopes.layout import Replacement, apply_replacements
 from ansible_vault_companions.envelopes.node import ALIAS, NO_SCALAR, Node
 from ansible_vault_companions.files import reading, replacing
-from ansible_vault_companions.limits import LONGEST_PLAINTEXT
+from ansible_vault_companions.limits import LONGEST_PLAINTEXT, Effort, TooMuch
 from ansible_vault_companions.quoting import escape
 from ansible_vault_companions.refusals import Refused
 from ansible_vault_companions.tool import Decrypt, Tool
@@ -40,7 +40,8 @@ class SingleValue:
         is_chosen = choice.label is not None
         if content is None and not is_chosen:
             raise FileNotFoundError(errno.ENOENT, os.strerror(errno.ENOENT), target)
-        self.text = _tag(content or b"", path, is_chosen)
+        self.effort = Effort()
+        self.text = _tag(content or b"", path, is_chosen, self.effort)
         self.value = self.text.find_value_at(path)
         # The old text, if the password that opens it is to encrypt the new one.
         self.before: bytes | None = None
@@ -64,18 +65,20 @@ class SingleValue:
         old = self.value if self.value.is_envelope else None
         block = make_sealed_block(self.text.data, self.value, envelope, old)
         try:
-            return write_values(self.text, {number: envelope}, {number: block} if block else {})
+            return write_values(self.text, {number: envelope}, {number: block} if block else {}, self.effort).data
+        except TooMuch:
+            raise
         except Refused:
             raise Refused(NO_PLACE_IN_YAML.format(escape(self.path))) from None
 
 
-def _tag(data: bytes, path: str, is_chosen: bool) -> Content:
+def _tag(data: bytes, path: str, is_chosen: bool, effort: Effort) -> Content:
     """The nodes of a file, with the tag before the value, which may be a new one if its password is chosen."""
     if data.startswith(MAGIC):
         raise Refused("the whole file is a vault; edit it without --value")
     if conflicts.is_unmerged(data):
         raise Refused(f"it {conflicts.UNMERGED}")
-    file = parse_nodes(data)
+    file = require_nodes(data, effort)
     if is_chosen and KEY.fullmatch(path) and not file.list_values_at(path):
         tag = _add_key(data, path)
     else:
@@ -85,7 +88,9 @@ def _tag(data: bytes, path: str, is_chosen: bool) -> Content:
         if not is_chosen:
             raise Refused(VALUE_NOT_ENCRYPTED.format(escape(path)) + HOW_TO_ENCRYPT)
         tag = _add_tag(value, path)
-    after = parse_content(apply_replacements(data, [tag]), every=True)
+    after = parse_nodes(apply_replacements(data, [tag]), effort)
+    if after.is_too_much:
+        raise TooMuch(after.fault)
     if after.fault or _list_others(after, path) != _list_others(file, path):
         raise Refused(NO_PLACE_IN_YAML.format(escape(path)))
     return after

@@ -19,6 +19,7 @@ from ansible_vault_companions.envelopes.layout import (
     put_plaintext,
 )
 from ansible_vault_companions.envelopes.node import LITERAL, Node
+from ansible_vault_companions.limits import Effort, TooMuch
 from ansible_vault_companions.refusals import Refused
 
 NOT_WRITABLE = "its values cannot be written where they are; write each as `NAME: !vault |`"
@@ -26,27 +27,36 @@ NOT_WRITABLE = "its values cannot be written where they are; write each as `NAME
 KeyPathAndText = tuple[KeyPath, bytes]
 
 
-def parse_nodes(data: bytes) -> Content:
+def require_nodes(data: bytes, effort: Effort) -> Content:
     """All nodes of a YAML text, or of the sides of one with a conflict."""
-    text = conflicts.parse_sides(data, every=True)
+    text = conflicts.parse_nodes_of_sides(data, effort)
     if text.fault:
         raise Refused(text.fault)
     return text
 
 
-def write_values(text: Content, contents: dict[int, bytes], blocks: dict[int, list[Replacement]]) -> bytes:
+def write_values(
+    text: Content, contents: dict[int, bytes], blocks: dict[int, list[Replacement]], effort: Effort
+) -> Content:
     """The text with these contents in place of values, by their numbers: as these blocks, or in double quotes where
-    there is no block or where it does not read as expected. All other values stay."""
+    there is no block or where it does not read as expected. All other values stay. It is read at most three times: with
+    all blocks, without those that read otherwise, and without any."""
+    if not contents:
+        return text
     wanted = [(value.path, contents.get(number, value.text)) for number, value in enumerate(text.values)]
+    is_first = True
     while True:
-        after = _put(text, contents, blocks)
-        reading = _list_nodes(after)
-        if reading == wanted:
+        after = conflicts.parse_nodes_of_sides(_put(text, contents, blocks), effort)
+        if after.is_too_much:
+            raise TooMuch(after.fault)
+        nodes = [] if after.fault else [(value.path, value.text) for value in after.values]
+        if nodes == wanted:
             return after
-        wrong = _find_wrong(text, reading, wanted, blocks)
-        if not wrong:
+        if not blocks:
             raise Refused(NOT_WRITABLE)
+        wrong = _find_wrong(text, nodes, wanted, blocks) if is_first else [*blocks]
         blocks = {number: block for number, block in blocks.items() if number not in wrong}
+        is_first = False
 
 
 def _put(text: Content, contents: dict[int, bytes], blocks: dict[int, list[Replacement]]) -> bytes:
@@ -56,18 +66,12 @@ def _put(text: Content, contents: dict[int, bytes], blocks: dict[int, list[Repla
     return apply_replacements(text.data, changes)
 
 
-def _list_nodes(data: bytes) -> list[KeyPathAndText]:
-    """What each node of a text says; empty if it is not YAML."""
-    text = conflicts.parse_sides(data, every=True)
-    return [] if text.fault else [(value.path, value.text) for value in text.values]
-
-
 def _find_wrong(
-    text: Content, reading: list[KeyPathAndText], wanted: list[KeyPathAndText], blocks: dict[int, list[Replacement]]
+    text: Content, nodes: list[KeyPathAndText], wanted: list[KeyPathAndText], blocks: dict[int, list[Replacement]]
 ) -> list[int]:
     """The numbers of the blocks to write in double quotes instead."""
-    if len(reading) == len(wanted):
-        return [number for number in blocks if reading[number] != wanted[number]]
+    if len(nodes) == len(wanted):
+        return [number for number in blocks if nodes[number] != wanted[number]] or [*blocks]
     # A value that is no block yet may be where no block can be, and so break the text around it.
     return [number for number in blocks if text.values[number].style != LITERAL] or [*blocks]
 

@@ -2,14 +2,18 @@
 
 from __future__ import annotations
 
+import copy
+
 from ansible_vault_companions.editing.choosing import Choice
 from ansible_vault_companions.editing.matching import Match, DecryptedValue, describe_place, find_matches
 from ansible_vault_companions.editing.typed_tags import check_tags, refuse_directive
-from ansible_vault_companions.editing.writing import make_plain_block, make_sealed_block, parse_nodes, write_values
+from ansible_vault_companions.editing.writing import make_plain_block, make_sealed_block, require_nodes, write_values
 from ansible_vault_companions.envelopes import conflicts
+from ansible_vault_companions.envelopes.content import Content
 from ansible_vault_companions.envelopes.header import MAGIC
 from ansible_vault_companions.envelopes.layout import NOT_UTF_8, Replacement
 from ansible_vault_companions.envelopes.node import ALIAS, NO_SCALAR, PLAIN, Node
+from ansible_vault_companions.limits import Effort
 from ansible_vault_companions.parallel import work_at_once
 from ansible_vault_companions.refusals import Refused
 from ansible_vault_companions.tool import Decrypt, Key, Tool
@@ -27,13 +31,20 @@ class YamlDraft:
         refuse_directive(edited)
         self.target, self.choice = target, choice
         self.content: bytes | None = content
-        self.file = parse_nodes(edited)
-        self.tagged = {number: value for number, value in enumerate(self.file.values) if value.is_tagged}
+        self.edited = edited
+        self.effort = Effort()
+        file = require_nodes(edited, self.effort)
+        self.tagged = {number: value for number, value in enumerate(file.values) if value.is_tagged}
         # The values that are shown in plaintext; and those that stay encrypted, and why.
         self.opened: dict[int, DecryptedValue] = {}
         self.faults: list[tuple[Node, Refused]] = []
         self._open(decrypt)
-        self.plaintext = self._show()
+        self.shown = self._show(file)
+        self.effort.require_third()
+
+    @property
+    def plaintext(self) -> bytes:
+        return self.shown.data
 
     @property
     def keys(self) -> list[Key]:
@@ -44,7 +55,7 @@ class YamlDraft:
         return list({key.password.content: key for key in reversed(keys)}.values())
 
     def is_as_it_was(self, text: bytes) -> bool:
-        is_done = self.content == self.file.data and all(value.is_envelope for value in self.tagged.values())
+        is_done = self.content == self.edited and all(value.is_envelope for value in self.tagged.values())
         return text == self.plaintext and (is_done or conflicts.is_unmerged(text))
 
     def encrypt(self, tool: Tool, text: bytes) -> bytes:
@@ -53,15 +64,18 @@ class YamlDraft:
         if conflicts.is_unmerged(text):
             raise Refused(conflicts.STILL)
         refuse_directive(text)
-        after = parse_nodes(text)
+        # A text before this one may have been refused.
+        effort = copy.copy(self.effort)
+        after = require_nodes(text, effort)
         closed = {value.text for value, _ in self.faults}
         typed = {number: value for number, value in enumerate(after.values) if _is_to_be_encrypted(value, closed)}
-        check_tags(parse_nodes(self.plaintext), after)
+        check_tags(self.shown, after)
         found = find_matches([*self.opened.values()], [*typed.values()], self.choice)
         matches = dict(zip(typed, found))
         envelopes = dict(zip(typed, work_at_once(lambda number: _seal(tool, typed[number], matches[number]), typed)))
         blocks = {number: self._block(text, typed[number], envelopes[number], matches[number]) for number in typed}
-        return write_values(after, envelopes, {number: block for number, block in blocks.items() if block})
+        blocks = {number: block for number, block in blocks.items() if block}
+        return write_values(after, envelopes, blocks, effort).data
 
     def _open(self, decrypt: Decrypt) -> None:
         closed = {number: value for number, value in self.tagged.items() if value.is_envelope}
@@ -72,17 +86,19 @@ class YamlDraft:
             else:
                 self.faults.append((value, result))
 
-    def _show(self) -> bytes:
-        """The text with plaintexts in place of the values that were opened."""
+    def _show(self, file: Content) -> Content:
+        """The text with plaintexts in place of the values that were opened, and its tagged values: with all nodes, an
+        edit would need much memory."""
         texts = {number: old.decrypted.text for number, old in self.opened.items()}
-        blocks = {number: make_plain_block(self.file.data, self.tagged[number], texts[number]) for number in texts}
-        return write_values(self.file, texts, {number: block for number, block in blocks.items() if block})
+        blocks = {number: make_plain_block(file.data, self.tagged[number], texts[number]) for number in texts}
+        shown = write_values(file, texts, {number: block for number, block in blocks.items() if block}, self.effort)
+        return Content(shown.data, [value for value in shown.values if value.is_tagged])
 
     def _block(self, text: bytes, value: Node, envelope: bytes, match: Match) -> list[Replacement]:
         """The changes that write an envelope as a block. One that stays is written as it was."""
         kept = match.kept_value
         if kept:
-            return [Replacement(value.begin, value.end, self.file.data[kept.begin : kept.end])]
+            return [Replacement(value.begin, value.end, self.edited[kept.begin : kept.end])]
         return make_sealed_block(text, value, envelope, match.before.value if match.before else None)
 
 

@@ -1,0 +1,64 @@
+"""The time that reading takes is linear in the length of a file, whatever it contains."""
+
+from collections.abc import Callable
+from contextlib import suppress
+from time import process_time
+from timeit import repeat
+
+import pytest
+
+from ansible_vault_companions.editing.typed_tags import check_tags
+from ansible_vault_companions.envelopes import conflicts, content, header
+from ansible_vault_companions.envelopes.content import Content
+from ansible_vault_companions.refusals import Refused
+from lib.needs import needs_pyyaml
+
+needs_pyyaml()
+
+
+def check_new_tags(data: bytes) -> None:
+    with suppress(Refused):
+        check_tags(Content(b""), Content(data))
+
+
+# Each piece is repeated to make a hostile file.
+PIECES = [
+    b"$ANSIBLE_VAULT",
+    b"$ANSIBLE_VAULT;1.1;AES256",
+    b'"\\x24ANSIBLE_VAULT',
+    b"  $ANSIBLE_VAULT;1.1;AES256\n  6162\n",
+    b'"$ANSIBLE_VAULT;1.1;AES256\\n' + b"61" * 40 + b'", ',
+    b"a: !vault |\n  $ANSIBLE_VAULT;1.1;AES256\n  6162\n",
+    b" " * 4000 + b"$ANSIBLE_VAULT;1.1;AES256\n",
+    b"!vault &" + b"x" * 4000 + b"\n$ANSIBLE_VAULT;1.1;AES256\n",
+    b"$ANSIBLE_VAULT;1.1;AES256 # # # " + b"61" * 20 + b"\n",
+    b"$ANSIBLE_VAULT;1 6161616161616161 ",
+    *[b"!vault | ", b"!vault &a ", b"!vault", b"# \\n", b" ", b"\t", b"\n", b"- ", b"61", b"<<<<<<< ", b"<<<<<<< a\n"],
+    *[b"[", b"{a: ", b"? ", b"&a ", b",&", b", &a", b"%TAG ! !", b"  - ", b"\r", b"'"],
+]
+SMALL, TIMES = 1 << 15, 8
+START = b"x: !vault |\n  $ANSIBLE_VAULT;1.1;AES256\n  61\n"
+WORKS: dict[str, Callable[[bytes], object]] = {
+    "the envelopes": lambda data: content.parse_envelopes(START + data),
+    "every node": lambda data: content.parse_nodes(START + data),
+    "a file that is no YAML": lambda data: content.parse_envelopes(b"[$ANSIBLE_VAULT;1.1;AES256" + data),
+    "a line with a margin": lambda data: content.parse_envelopes(b"#" * len(data) + data),
+    "a whole vault": lambda data: header.is_whole_envelope(b"$ANSIBLE_VAULT;1.1;AES256\n" + data),
+    "typed tags": lambda data: check_tags(Content(data), Content(data)),
+    "tags in new lines": lambda data: check_new_tags(data),
+    "conflict markers": lambda data: (conflicts.is_unmerged(data), conflicts.split_sides(b"<<<<<<<\n" + data)),
+}
+
+
+@pytest.mark.parametrize("piece", PIECES, ids=lambda piece: repr(piece[:40]))
+@pytest.mark.parametrize("work", WORKS.values(), ids=WORKS)
+def test_linear_time(work: Callable[[bytes], object], piece: bytes) -> None:
+    """A file that is eight times as long takes eight times as long, whatever it contains."""
+    small = (piece * (SMALL // len(piece) + 1))[:SMALL]
+
+    def seconds(data: bytes) -> float:
+        return min(repeat(lambda: work(data), repeat=2, number=1, timer=process_time))
+
+    # In quadratic time, it would take 64 times as long. Other processes hardly affect the processor time, and not that
+    # of each of four measurements. Below a few milliseconds the clock says little.
+    assert any(seconds(small * TIMES) < max(0.02, 24 * seconds(small)) for _ in range(4))
