@@ -16,20 +16,28 @@ MOST_KEYS = 1_000_000
 # The texts that the aliases of a file add, which are not in proportion to its bytes, so many small files would take as
 # much as a large one each. A list of 1,000 hosts, each with an alias of 50 values, adds as many.
 MOST_ALIASED = 50_000
-# The characters of a key, as many as libyaml allows for one that does not follow a question mark. A message names a key
-# for each value below it.
+# The values of a file that are decrypted or encrypted. A run of ansible-vault derives a key for each, in some 15 ms.
+MOST_VALUES = 400
+# The bytes of a key, as many as libyaml allows for one that does not follow a question mark. A message names a key for
+# each value below it.
 LONGEST_KEY = 1_024
 # The bytes of the longest plaintext, and so of YAML that is read; and of the longest vault. Of longer files, even
 # endless ones as in /proc, no more is read.
 LONGEST_PLAINTEXT = 16_777_216
 LONGEST_VAULT = 6 * LONGEST_PLAINTEXT + 8_192
-# The bytes of a password file.
+# The passwords that the tool takes, and the bytes of a password file and the characters of a label.
+MOST_PASSWORDS = 16
 LONGEST_PASSWORD = 4_096
+LONGEST_LABEL = 128
 # The bytes of a link that git has, as many as Linux allows.
 LONGEST_LINK = 4_096
+# The directories and links through which a link leads. A text of that length has 2,000 of them, and may name others.
+MOST_STEPS = 1_000
 # The characters of an ansible.cfg, and of a line in it: Python's parser takes quadratic time for the blanks of a line.
 LONGEST_SETTINGS = 262_144
 LONGEST_SETTING = 2_048
+# The characters of a value in it, which may have several lines. A variable in it is expanded by itself.
+LONGEST_VALUE = 16_384
 # Processor time, and memory beyond what the companion has already. A review by the hook has no more for all its work on
 # a repository of less than 1 MB, and as much again for each whole MB. So does each git process. By the limits above,
 # the slowest content takes 5 s.
@@ -37,9 +45,10 @@ SECONDS = 10
 MEGABYTES = 256
 
 TOO_DEEP = f"it is nested over {DEEPEST} levels"
-KEY_TOO_LONG = f"it has a key of over {LONGEST_KEY:,} characters"
+KEY_TOO_LONG = f"it has a key of over {LONGEST_KEY:,} bytes"
 TOO_MANY = f"it has over {MOST_KEYS:,} keys and texts, with those above each"
 TOO_MANY_ALIASED = f"its aliases stand for over {MOST_ALIASED:,} texts"
+TOO_MANY_VALUES = f"it has over {MOST_VALUES} values"
 TOO_LONG = f"it has over {LONGEST_PLAINTEXT:,} bytes"
 TOO_SLOW = "it takes over {} s of processor time"
 TOO_SLOW_TO_EDIT = f"it takes over a third of {SECONDS} s of processor time before it is even edited"
@@ -50,6 +59,12 @@ NO_MEMORY = "it takes more memory than this program may have"
 
 class TooMuch(Refused):
     """A file exceeds a limit."""
+
+
+def require_few_values(count: int) -> None:
+    """Refuses a file with too many values to decrypt or encrypt."""
+    if count > MOST_VALUES:
+        raise TooMuch(TOO_MANY_VALUES)
 
 
 class Effort:

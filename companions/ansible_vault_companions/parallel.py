@@ -1,4 +1,4 @@
-"""Works on several items at once."""
+"""Works on several values of a file at once."""
 
 from __future__ import annotations
 
@@ -14,7 +14,7 @@ if TYPE_CHECKING:
 
 
 def work_at_once(work: Callable[[Item], Result], items: Iterable[Item]) -> list[Result]:
-    """The results of some work on each item."""
+    """The results of some work on each value."""
     items = [*items]
     if len(items) < 2:
         return [work(item) for item in items]

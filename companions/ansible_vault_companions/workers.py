@@ -7,6 +7,7 @@ from concurrent.futures import Future, ThreadPoolExecutor
 from typing import Callable, Sequence, TypeVar
 
 from ansible_vault_companions import signals
+from ansible_vault_companions.limits import require_few_values
 from ansible_vault_companions.refusals import Refused
 
 Item = TypeVar("Item")
@@ -32,7 +33,9 @@ class Workers(ThreadPoolExecutor):
             raise Refused(f"{fault}: there are too many processes, or too little memory") from None
 
     def share(self, work: Callable[[Item], Result], items: Sequence[Item]) -> list[Result]:
-        """The results for the parts of a worker's own work. It does itself what no other worker has begun."""
+        """The results for the values of a file, each of which takes a run of ansible-vault. The caller, which may be a
+        worker, does itself what no other worker has begun."""
+        require_few_values(len(items))
         others = items[1:]
         futures = [self.begin(work, item) for item in others]
         results = [work(item) for item in items[:1]]

@@ -118,7 +118,7 @@ REFUSED = [
     ("< /dev/tty", "--value db_password vars.yml", "use a pipe or a file"),
     ("< vault.yml", "--value db_password vars.yml", "what you gave is a vault"),
     ("< /dev/null", "--value db_password vars.yml", "standard input is empty"),
-    ("< ../long", "--value db_password vars.yml", "more bytes than a vault can hold"),
+    ("< ../long", "--value db_password vars.yml", "more than a vault can hold"),
 ]
 
 

@@ -21,7 +21,7 @@ from ansible_vault_companions.refusals import Refused
 from ansible_vault_companions.tool import Decrypt, Tool
 
 A_VAULT = "what you gave is a vault, which ansible-vault does not encrypt again; decrypt it first"
-INPUT_TOO_LONG = "standard input has more bytes than a vault can hold; split it"
+INPUT_TOO_LONG = f"standard input has over {LONGEST_PLAINTEXT:,} bytes, more than a vault can hold; split it"
 NOTHING_GIVEN = "standard input is empty"
 HOW_TO_ENCRYPT = "; to encrypt it there, choose its password with --encrypt-vault-id"
 NO_PLACE_IN_YAML = "there is no place for {} in this YAML; edit the file without --value"

@@ -78,12 +78,11 @@ class YamlDraft:
         return write_values(after, envelopes, blocks, effort).data
 
     def _open(self, decrypt: Decrypt) -> None:
-        closed = {number: value for number, value in self.tagged.items() if value.is_envelope}
-        results = work_at_once(lambda value: _try_to_open(value, decrypt), closed.values())
-        for (number, value), result in zip(closed.items(), results):
+        results = work_at_once(lambda value: _try_to_open(value, decrypt), self.tagged.values())
+        for (number, value), result in zip(self.tagged.items(), results):
             if isinstance(result, DecryptedValue):
                 self.opened[number] = result
-            else:
+            elif result:
                 self.faults.append((value, result))
 
     def _show(self, file: Content) -> Content:
@@ -102,8 +101,10 @@ class YamlDraft:
         return make_sealed_block(text, value, envelope, match.before.value if match.before else None)
 
 
-def _try_to_open(value: Node, decrypt: Decrypt) -> DecryptedValue | Refused:
-    """A value in plaintext, or why it stays encrypted."""
+def _try_to_open(value: Node, decrypt: Decrypt) -> DecryptedValue | Refused | None:
+    """A value in plaintext, or why it stays encrypted; None if it is not encrypted yet."""
+    if not value.is_envelope:
+        return None
     try:
         decrypted = decrypt(value.require_readable())
         decrypted.text.decode()

@@ -11,6 +11,7 @@ import os
 import re
 
 from ansible_vault_companions.git.repository import find_repository
+from ansible_vault_companions.limits import MOST_STEPS
 from ansible_vault_companions.quoting import escape, quote_word
 from ansible_vault_companions.refusals import Refused
 
@@ -80,7 +81,9 @@ class _Walk:
 
     def __init__(self, path: str) -> None:
         self.path = path
+        # How many links were followed, and how many names their texts have.
         self.links = 0
+        self.steps = 0
 
     def start(self, text: str) -> str:
         """The real path to which a typed path leads. The current directory may be gone, which does not matter to an
@@ -102,10 +105,12 @@ class _Walk:
         path = os.path.join(folder, name)
         if not os.path.islink(path):
             return path
+        text = os.readlink(path)
         self.links += 1
-        if self.links > MOST_LINKS:
+        self.steps += text.count(os.sep)
+        if self.links > MOST_LINKS or self.steps > MOST_STEPS:
             raise OSError(errno.ELOOP, os.strerror(errno.ELOOP), self.path)
-        target = self.follow(folder, os.readlink(path))
+        target = self.follow(folder, text)
         self._check_link(folder, target)
         return target
 

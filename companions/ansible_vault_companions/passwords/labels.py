@@ -7,9 +7,10 @@ password that belongs to another label. With one password, no other can be meant
 
 from __future__ import annotations
 
+import os
 from collections.abc import Iterable, Sequence
 
-from ansible_vault_companions.envelopes.header import LONGEST_LABEL
+from ansible_vault_companions.envelopes.header import LABEL
 from ansible_vault_companions.passwords.password import Password
 from ansible_vault_companions.passwords.settings import Settings
 from ansible_vault_companions.quoting import escape
@@ -87,6 +88,5 @@ def describe_attempts(label: str | None, passwords: Sequence[Password]) -> str:
 
 
 def is_allowed(label: str) -> bool:
-    """Whether the tool accepts a label."""
-    is_printable = label.isascii() and label.isprintable()
-    return is_printable and ";" not in label and label == label.strip(" ") and len(label) <= LONGEST_LABEL
+    """Whether the tool accepts a label: one that a header can have, as it is."""
+    return LABEL.fullmatch(os.fsencode(label)) is not None and ";" not in label and label == label.strip(" ")

@@ -13,7 +13,7 @@ import stat
 from collections.abc import Callable
 
 from ansible_vault_companions.files import resolving
-from ansible_vault_companions.limits import LONGEST_SETTING, LONGEST_SETTINGS, TooMuch
+from ansible_vault_companions.limits import LONGEST_SETTING, LONGEST_SETTINGS, LONGEST_VALUE, TooMuch
 from ansible_vault_companions.quoting import escape
 from ansible_vault_companions.refusals import Refused, describe_refusal
 
@@ -162,7 +162,11 @@ def _read_section(path: str) -> dict[str, str]:
         raise Refused(f"{escape(path)}: {_describe_syntax(fault)}") from None
     except (Refused, OSError) as fault:
         raise Refused(describe_refusal(path, fault)) from None
-    return dict(parser[SECTION]) if SECTION in parser else {}
+    keys = dict(parser[SECTION]) if SECTION in parser else {}
+    for key, value in keys.items():
+        if len(value) > LONGEST_VALUE:
+            raise Refused(f"{escape(path)}: {escape(key)} has over {LONGEST_VALUE:,} characters")
+    return keys
 
 
 def _describe_syntax(fault: Exception) -> str:

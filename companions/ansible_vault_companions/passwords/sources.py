@@ -3,6 +3,7 @@
 from __future__ import annotations
 
 from ansible_vault_companions.envelopes.header import DEFAULT_LABEL
+from ansible_vault_companions.limits import MOST_PASSWORDS
 from ansible_vault_companions.passwords.settings import ASK, PROMPT, Settings, split_vault_id
 from ansible_vault_companions.refusals import Refused
 
@@ -11,8 +12,6 @@ TYPE_CHECKING = False
 if TYPE_CHECKING:
     from typing import Final
 
-# The most passwords that the tool takes.
-MOST = 16
 # The options that ask for a password without a label, and the word for them in place of [LABEL@]SOURCE.
 ASKING = ("-J", "--ask-vault-password", "--ask-vault-pass")
 ASKED = f"{DEFAULT_LABEL}@{ASK}"
@@ -56,6 +55,6 @@ def list_sources(ids: list[str], paths: list[str], settings: Settings) -> list[S
         sources.append(make_path_source(path, is_setting=True))
     if ASKED in ids or settings.is_asking():
         sources.append(parse_vault_id(ASKED))
-    if len(sources) > MOST:
-        raise Refused(f"{len(sources)} passwords are named, and ansible-vault takes at most {MOST}")
+    if len(sources) > MOST_PASSWORDS:
+        raise Refused(f"{len(sources)} passwords are named, and ansible-vault takes at most {MOST_PASSWORDS}")
     return sources
