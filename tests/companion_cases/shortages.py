@@ -8,12 +8,12 @@ from random import Random
 import pytest
 
 from companion_cases import CHANGE, CHANGED, CHECK, COMPANIONS, EDIT, HOOK, MERGE, ROTATE, TEXT, TEXTCONV, WITH
-from companion_cases import Companions, Done, Place, block, sealed, texts, to_new, versions
+from companion_cases import Companions, Done, Place, block, run_changed, sealed, texts, to_new, versions
 from lib.needs import needs
 
 NAMES = (EDIT, ROTATE, MERGE, CHECK, TEXTCONV, HOOK, WITH)
 LIMITS = 8
-# The status of a run that a signal had to end: Python waits for a new thread even if that lacks the memory to begin.
+# The status of `timeout` for a run that did not end.
 ENDED = 124
 # In kilobytes: from less than Python needs to more than any companion does.
 LEAST, MOST = 8_000, 120_000
@@ -45,10 +45,15 @@ def prepare(place: Place, name: str) -> list[str]:
 def check(place: Place, name: str, done: Done, limit: int) -> None:
     """Check that a run says why it failed, if it did, and that the vaults are whole."""
     lines = done.stderr.splitlines()
-    assert "Traceback" not in done.stderr and (done.returncode in (0, ENDED) or lines), (limit, done)
-    assert done.returncode != ENDED or name in (CHECK, ROTATE), (limit, done)
+    assert "Traceback" not in done.stderr and (done.returncode == 0 or lines), (limit, done)
+    assert done.returncode != ENDED, (limit, done)
     # git and the editor are programs of their own.
     assert all(line.startswith((name, "git", "fatal: ", "error: ", "sh: ", "--resume ", "  ")) for line in lines), done
+    check_vaults(place, limit)
+
+
+def check_vaults(place: Place, limit: int) -> None:
+    """Check that each vault is whole, under one of the passwords, and that nothing is left beside it."""
     vaults = [place.get(path) for path in ("a.yml", "folder/0.yml", "folder/1.yml", "folder/2.yml")]
     whole = [pair for vault in vaults for pair in zip(texts(vault, "old"), texts(vault, "new"))]
     assert len(whole) >= len(vaults) and all(any(pair) for pair in whole), (limit, vaults)
@@ -75,6 +80,38 @@ def test_memory(cases: Companions, git: None, pytestconfig: pytest.Config, name:
         start = place.run(*limiting, "python3", "-IBc", READ.format(str(COMPANIONS / name)))
         if (start.returncode, start.stderr) == (0, ""):
             check(place, name, place.run("timeout", "30", *limiting, *words), limit)
+
+
+# The part of a new thread that lacks memory: what begins it, or its wait for work.
+LACKS = {
+    "at the start": "threading.Thread._set_tstate_lock",
+    "at work": "concurrent.futures.Future.set_running_or_notify_cancel",
+}
+
+
+@pytest.mark.parametrize("name", [CHECK, ROTATE, TEXTCONV])
+@pytest.mark.parametrize("where", LACKS.values(), ids=LACKS)
+def test_memory_of_threads(place: Place, name: str, where: str) -> None:
+    """Nobody waits for a thread that lacks the memory to begin or to go on."""
+    for number in range(3):
+        place.put(f"folder/{number}.yml", block("old") + block("old", CHANGED, name="other"))
+    lines = {
+        CHECK: [*place.by_file("old"), "."],
+        ROTATE: [*to_new(place), "."],
+        TEXTCONV: [*place.by_file("old"), "folder/0.yml"],
+    }
+    change = f"""
+import concurrent.futures, threading
+signal.alarm(60)
+whole = {where}
+def lack(*words):
+    if threading.get_ident() != threading.main_thread().ident:
+        raise MemoryError
+    return whole(*words)
+{where} = lack
+"""
+    done = run_changed(place, name, change, lines[name])
+    assert (done.returncode, done.stderr) == (0, ""), done
 
 
 def test_recursion(place: Place) -> None:
