@@ -1,4 +1,7 @@
-"""Runs ansible-vault, which does all encryption and decryption. Plaintext and envelopes pass only through pipes."""
+"""Runs ansible-vault, which does all encryption and decryption. Plaintext and envelopes pass only through pipes.
+
+Its status is not enough: before an output counts, its form and its length have to be those of a whole one.
+"""
 
 from __future__ import annotations
 
@@ -9,7 +12,7 @@ from collections.abc import Callable, Hashable
 from contextlib import suppress
 
 from ansible_vault_companions import processes
-from ansible_vault_companions.envelopes.header import read_label
+from ansible_vault_companions.envelopes.header import is_whole_envelope, measure_ciphertext, measure_padded, read_label
 from ansible_vault_companions.passwords.labels import Policy, describe_attempts, order_to_try, require_label
 from ansible_vault_companions.passwords.password import Password
 from ansible_vault_companions.refusals import Refused
@@ -23,6 +26,13 @@ NAME = "ansible-vault"
 NOT_DECRYPTED = "no secret decrypts this vault"
 # The beginning of an error message.
 ERROR = "ERROR! "
+# The command that makes a value of YAML, in which a margin precedes each line of the envelope.
+TO_VALUE = "encrypt_string"
+MARGIN = b" " * 10
+# The commands that take an envelope, and those that make one.
+FROM_ENVELOPE = ("view", "decrypt", "rekey")
+TO_ENVELOPE = ("encrypt", "rekey", TO_VALUE)
+NOT_WHOLE = f"{NAME} failed: it ended with status 0, but its output is not whole; run this again"
 # Limits the total size, in bytes, of remembered envelopes and texts, since there may be any number of files.
 MOST_REMEMBERED = 1 << 26
 
@@ -112,8 +122,8 @@ class Tool:
             why = "is not the ansible-vault that the companions need; put the right one beside them or on PATH"
             raise Refused(f"{self.path} {why}")
 
-    def run(self, words: list[str], data: bytes, passwords: list[Password]) -> bytes:
-        """The tool's output. Raises Refused with the tool's message if it fails."""
+    def run(self, words: list[str], data: bytes, passwords: list[Password], label: str = "") -> bytes:
+        """The tool's output, with a label if it is an envelope. Raises Refused with the tool's message if it fails."""
         done = processes.run_program(
             [self.path, *words], data, pass_fds=[password.descriptor for password in passwords]
         )
@@ -123,6 +133,7 @@ class Tool:
             text = done.stderr.decode(errors="replace").strip().removeprefix(ERROR)
             kind = NotDecrypted if text == NOT_DECRYPTED else Refused
             raise kind(text or f"{NAME} ended with status {done.returncode}", done.returncode)
+        require_whole(words[0], data, done.stdout, label)
         return done.stdout
 
     def view(self, envelope: bytes, password: Password) -> bytes:
@@ -143,7 +154,7 @@ class Tool:
 
     def encrypt(self, plaintext: bytes, key: Key) -> bytes:
         """The plaintext, encrypted and labeled with a key."""
-        return self.run(["encrypt", key.password.make_option(label=key.label)], plaintext, [key.password])
+        return self.run(["encrypt", key.password.make_option(label=key.label)], plaintext, [key.password], key.label)
 
     def encrypt_again(self, envelope: bytes, plaintext: bytes, key: Key) -> bytes:
         """Encrypts the plaintext to replace an envelope. Identical envelopes get the same replacement, so that copies
@@ -159,3 +170,23 @@ class Tool:
                 self.room -= size
                 self.results[what] = result
         return result.get()
+
+
+def require_whole(command: str, data: bytes, output: bytes, label: str) -> None:
+    """Refuses an output that is not what the command makes of this data. Only the length tells that a plaintext is cut,
+    and not within the last block of the ciphertext."""
+    makes_envelope = command in TO_ENVELOPE
+    if makes_envelope:
+        output = _find_envelope(output) if command == TO_VALUE else output
+        if not (is_whole_envelope(output) and output.endswith(b"\n") and read_label(output) == label):
+            raise Refused(NOT_WHOLE)
+    before = measure_ciphertext(data) if command in FROM_ENVELOPE else measure_padded(len(data))
+    after = measure_ciphertext(output) if makes_envelope else measure_padded(len(output))
+    if before != after:
+        raise Refused(NOT_WHOLE)
+
+
+def _find_envelope(value: bytes) -> bytes:
+    """The envelope below the first line of a value, which may have line ends in its name."""
+    _, _, lines = value.rpartition(b"!vault |\n")
+    return b"".join(line.removeprefix(MARGIN) for line in lines.splitlines(keepends=True))
