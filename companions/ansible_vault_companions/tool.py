@@ -12,7 +12,13 @@ from collections.abc import Callable, Hashable
 from contextlib import suppress
 
 from ansible_vault_companions import processes
-from ansible_vault_companions.envelopes.header import is_whole_envelope, measure_ciphertext, measure_padded, read_label
+from ansible_vault_companions.envelopes.header import (
+    MAGIC,
+    is_whole_envelope,
+    measure_ciphertext,
+    measure_padded,
+    read_label,
+)
 from ansible_vault_companions.passwords.labels import Policy, describe_attempts, order_to_try, require_label
 from ansible_vault_companions.passwords.password import Password
 from ansible_vault_companions.refusals import Refused
@@ -24,6 +30,7 @@ if TYPE_CHECKING:
 
 NAME = "ansible-vault"
 NOT_DECRYPTED = "no secret decrypts this vault"
+DAMAGED = "it is damaged"
 # The beginning of an error message.
 ERROR = "ERROR! "
 # The command that makes a value of YAML, in which a margin precedes each line of the envelope.
@@ -72,6 +79,14 @@ class Decryption:
     def require_label(self, where: str = "") -> None:
         """Refuses a text that its label does not allow to encrypt again with this password."""
         require_label(self.password, self.key.label, self.policy, where)
+
+
+def _name_damage(envelope: bytes, fault: Refused) -> Refused:
+    """The refusal to decrypt an envelope. If it is damaged, no other password helps."""
+    if is_whole_envelope(envelope) or not envelope.startswith(MAGIC):
+        return fault
+    why = "" if isinstance(fault, NotDecrypted) else f": {fault}"
+    return type(fault)(f"{DAMAGED}{why}; restore an earlier version", fault.status)
 
 
 Decrypt = Callable[[bytes], Decryption]
@@ -143,6 +158,12 @@ class Tool:
 
     def decrypt(self, envelope: bytes, passwords: list[Password], policy: Policy) -> Decryption:
         """Tries passwords one at a time, those with the envelope's label first, so it is certain which one works."""
+        try:
+            return self._try_passwords(envelope, passwords, policy)
+        except Refused as fault:
+            raise _name_damage(envelope, fault) from None
+
+    def _try_passwords(self, envelope: bytes, passwords: list[Password], policy: Policy) -> Decryption:
         label = read_label(envelope)
         tried = order_to_try(passwords, label, policy)
         for password in tried:

@@ -151,6 +151,25 @@ def test_what_is_looked_at(place: Place) -> None:
     assert place.get(leftover) == sealed("old"), "it is for the user to look at"
 
 
+def test_null_characters(place: Place) -> None:
+    """A file with one, in which an envelope is not looked for, is named if it mentions one, and so is a plaintext."""
+    place.put("a.yml", sealed("old", b"\0" + block("old")))
+    content = block("old")
+    for place_of_null in (0, len(content) // 2, len(content)):
+        place.put(f"{place_of_null:04}.bin", content[:place_of_null] + b"\0" + content[place_of_null:])
+    place.put("header.bin", b"\0$ANSIBLE_VAULT;1.1;AES256\n")
+    place.put("image.png", b"\0")
+    before = place.files()
+    why = "mentions an envelope but is not searched, because it contains a null character"
+    names = [name for name in sorted(before) if name[0] in "01"]
+    for words, told in (([CHECK, *place.by_file("old")], "a.yml: default"), ([ROTATE, *to_new(place)], "a.yml")):
+        done = place.run(*words, ".")
+        assert done.returncode == 0
+        lines = [f"{words[0]}: ./{name}: it {why}" for name in names]
+        assert done.stderr.splitlines() == [*lines, f"{words[0]}: ./{told}: its plaintext {why}"], words[0]
+    assert {name: place.get(name) for name in names} == {name: before[name] for name in names}
+
+
 def test_pieces(tmp_path: Path, monkeypatch: pytest.MonkeyPatch) -> None:
     """A long file is searched in pieces, and what tells of an envelope may be split between two of them."""
     path = tmp_path / "a.txt"

@@ -12,6 +12,7 @@ from ansible_vault_companions.editing.single_value import SingleValue
 from ansible_vault_companions.editing.yaml_draft import YamlDraft
 from ansible_vault_companions.envelopes import conflicts, detection
 from ansible_vault_companions.envelopes.header import MAGIC
+from ansible_vault_companions.envelopes.pointers import refuse_pointer
 from ansible_vault_companions.files import reading, resolving
 from ansible_vault_companions.git.pathspecs import make_pathspec
 from ansible_vault_companions.merging.file_merge import KINDS_DIFFER, merge_file
@@ -109,6 +110,7 @@ class Loader:
         """The draft for the file at a path, or for a single value in it."""
         target = resolving.resolve_file(path)
         content = reading.read(target)
+        refuse_pointer(content or b"")
         if value is not None:
             return SingleValue(target, content, value, self.decrypt, self.chosen)
         if content is None:
