@@ -7,6 +7,7 @@ from typing import NamedTuple
 
 import pytest
 
+from companion_cases import line_of_values
 from lib.needs import needs
 from lib.paths import COMPANIONS, ROOT, sections
 from lib.repository import MARKS, PASSWORDS, SETTINGS, Repository, block, vault
@@ -108,10 +109,10 @@ RECIPES = {
     "Change one value in a YAML file": Recipe(
         CONFIGURED | {VAULT: vault(b"port: 5432\n"), BLOCKS: b"port: 1\n" + block("db_password", b"horse") + KEPT},
         sed="-e 's/horse/staple/' -e '$a new: !vault |-\\n  a third'",
-        printed="port: 1\ndb_password: !vault |-\n  horse\nother: !vault |-\n  kept\nstaple",
+        printed=f"{line_of_values(2)}port: 1\ndb_password: !vault |-\n  horse\nother: !vault |-\n  kept\nstaple",
         after=f"for each in {BLOCKS} {VAULT}; do ansible-vault-textconv $each; done",
-        left=f"port: 1\ndb_password: !vault |-\n  {'[A-Za-z0-9+/]' * 32}\nother: !vault |-\n  kept\n"
-        "new: !vault |-\n  a third\nport: 5433\n",
+        left=f"{line_of_values(3)}port: 1\ndb_password: !vault |-\n  {'[A-Za-z0-9+/]' * 32}\nother: !vault |-\n  kept\n"
+        "new: !vault |-\n  a third\n# ansible-vault: encrypted, label prod\nport: 5433\n",
     ),
     "Change a password everywhere": Recipe(
         {"vars/a.yml": vault(b"a"), "b.yml": block("secret", b"b"), "c.yml": vault(b"c", "old.pass", "")},
@@ -136,9 +137,12 @@ RECIPES = {
         {"../1": b"db_password: a\n", "../2": vault(b"db_password: b\n")},
         prepare=f"""mkdir -p group_vars/all
             for each in 1 2; do mv ../$each {VAULT}; git add .; git commit -qm $each; done""",
-        printed=f"db_password: b\n{VAULT}:db_password: b\n*\n+{FIRST_LINE}\n*\n+++ b/.gitattributes\n*",
-        after="git log -p --format= 2> /dev/null | grep '^[-+]db_password'",
-        left="-db_password: a\n+db_password: b\n+db_password: a\n",
+        printed=f"# ansible-vault: encrypted, label prod\ndb_password: b\n{VAULT}:db_password: b\n*\n+{FIRST_LINE}\n*"
+        "\n+++ b/.gitattributes\n*",
+        after="git log -p --format= 2> /dev/null | grep '^[-+][#d]'",
+        left="-# ansible-vault: not encrypted\n-db_password: a\n"
+        "+# ansible-vault: encrypted, label prod\n+db_password: b\n"
+        "+# ansible-vault: not encrypted\n+db_password: a\n",
     ),
     "Use a password manager": Recipe(
         {"../tools/pass": PASS, "vault.yml": vault(b"password: shown\n")},

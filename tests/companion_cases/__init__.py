@@ -275,4 +275,17 @@ def described(content: bytes, passwords: Iterable[str] = PASSWORDS) -> Described
     return envelope.partition(b"\n")[0], next(((name, text) for name, text in texts if text is not None), None)
 
 
+def first_line(label: str = "default") -> str:
+    """Return what ansible-vault-textconv shows before the plaintext of a vault."""
+    return f"# ansible-vault: encrypted, label {label}\n"
+
+
+def line_of_values(count: int) -> str:
+    """Return what it shows before a file with this many values."""
+    return f"# ansible-vault: encrypted values: {count}\n"
+
+
+# What it shows before a file without an envelope, and before one that it shows as it is for another reason.
+NOT_ENCRYPTED = "# ansible-vault: not encrypted\n"
+NOT_DECRYPTED = "# ansible-vault: not decrypted\n"
 BODY = lines_of(sealed("old"), 10)

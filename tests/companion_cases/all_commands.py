@@ -11,7 +11,8 @@ from typing import NamedTuple
 
 import pytest
 
-from companion_cases import AWKWARD, CHECK, FOUND, HOOK, ROTATE, TEXT, TEXTCONV, Companions, Place, block, sealed
+from companion_cases import AWKWARD, CHECK, FOUND, HOOK, NOT_ENCRYPTED, ROTATE, TEXT, TEXTCONV, Companions, Place
+from companion_cases import block, first_line, sealed
 from companion_cases.forks import Forks, Run
 from companion_cases.repository import under_git
 
@@ -188,11 +189,12 @@ def is_textconv_answer(run: Run, content: bytes, leads_out: bool) -> bool:
         return (run.status, run.output) == (1, "") and re.fullmatch(LEADS_OUT, run.errors.rstrip("\n")) is not None
     if re.fullmatch(SHOWN, run.errors) is None or run.status != 0:
         return False
-    text = TEXTS.get(content, None if b"ANSIBLE_VAULT" in content else content)
-    return text is None or run.output == text.decode()
+    text = TEXTS.get(content, None if b"ANSIBLE_VAULT" in content else NOT_ENCRYPTED + content.decode())
+    return text is None or run.output == text
 
 
-TEXTS = {envelope: b"db_password: version %d\n" % number for number, envelope in enumerate(VAULTS)} | {OTHER: TEXT}
+TEXTS = {envelope: f"{first_line()}db_password: version {number}\n" for number, envelope in enumerate(VAULTS)}
+TEXTS[OTHER] = first_line("dev") + TEXT.decode()
 
 
 def count_envelopes(place: Place) -> int:

@@ -10,7 +10,8 @@ from typing import NamedTuple
 
 import pytest
 
-from companion_cases import CHECK, EDIT, HOOK, ROTATE, TEXT, TEXTCONV, WITH, Place, block, ended, sealed, to_new
+from companion_cases import CHECK, EDIT, HOOK, ROTATE, TEXT, TEXTCONV, WITH, Place, block, ended, first_line
+from companion_cases import sealed, to_new
 from companion_cases.repository import committed, under_git
 from lib.needs import needs
 from lib.subtests import SubTests
@@ -199,7 +200,7 @@ def test_nested_repository(place: Place, target: str) -> None:
             assert list_contents(place) == before, command
     place.put("project/clone/a.yml", VAULT)
     done = place.run(TEXTCONV, *place.by_file("old"), "clone/own.yml", folder="project")
-    assert (done.returncode, done.stdout, done.stderr) == (0, TEXT.decode(), "")
+    assert (done.returncode, done.stdout, done.stderr) == (0, first_line() + TEXT.decode(), "")
 
 
 # The content of a file outside of the repository, and whether a link to it makes a search fail.
@@ -303,10 +304,10 @@ def test_no_current_directory(place: Place) -> None:
     """An absolute path does not need it."""
     place.put("a.yml", sealed("old"))
     secret, path = place.secret("old"), place.tree / "a.yml"
-    for companion in (TEXTCONV, f"{WITH} view"):
+    for companion, shown in ((TEXTCONV, first_line() + TEXT.decode()), (f"{WITH} view", TEXT.decode())):
         line = f"mkdir gone && cd gone && rmdir ../gone && {companion} --vault-password-file {secret}"
         done = place.shell(f"{line} {path}")
-        assert (done.returncode, done.stdout, done.stderr) == (0, TEXT.decode(), "")
+        assert (done.returncode, done.stdout, done.stderr) == (0, shown, "")
         assert place.shell(f"{line} a.yml").returncode == 1
 
 

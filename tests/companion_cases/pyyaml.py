@@ -2,8 +2,21 @@
 
 import shutil
 
-from companion_cases import CHANGE, CHANGED, CHECK, MERGE, ROTATE, TEXTCONV, WITH, Place, block, edit, ended
-from companion_cases import sealed, silent, to_new, versions
+from companion_cases import (
+    CHANGE,
+    CHANGED,
+    CHECK,
+    MERGE,
+    NOT_DECRYPTED,
+    ROTATE,
+    TEXTCONV,
+    WITH,
+    Place,
+    block,
+    edit,
+    ended,
+)
+from companion_cases import first_line, sealed, silent, to_new, versions
 from lib.needs import needs
 
 
@@ -18,8 +31,8 @@ def test_without_pyyaml(place: Place) -> None:
     place.put("all.yml", sealed("old"))
     place.put("vars.yml", content)
     silent("edit", edit(place, CHANGE, *old, "all.yml"))
-    for words in ([WITH, "view"], [TEXTCONV]):
-        assert place.run(*words, *old, "all.yml").stdout == CHANGED.decode(), "it is edited and shown"
+    for words, before_it in (([WITH, "view"], ""), ([TEXTCONV], first_line())):
+        assert place.run(*words, *old, "all.yml").stdout == before_it + CHANGED.decode(), "it is edited and shown"
     base, ours, theirs = (sealed("old", text) for text in (b"a: 1\n\nb: 1\n", b"a: 2\n\nb: 1\n", b"a: 1\n\nb: 2\n"))
     silent("merge", place.run(MERGE, *old, *versions(place, "a.yml", base, ours, theirs)))
     before = place.files()
@@ -29,5 +42,5 @@ def test_without_pyyaml(place: Place) -> None:
         assert done.stdout == ""
     ended("edit", edit(place, "touch started", *old, "vars.yml"), 1, "vars.yml: PyYAML, ", package)
     done = place.run(TEXTCONV, *old, "vars.yml")
-    assert (done.returncode, done.stdout, place.files()) == (0, content.decode(), before)
+    assert (done.returncode, done.stdout, place.files()) == (0, NOT_DECRYPTED + content.decode(), before)
     assert done.stderr.startswith(f"{TEXTCONV}: vars.yml: shown as it is: PyYAML, ") and package in done.stderr

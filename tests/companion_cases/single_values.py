@@ -19,7 +19,9 @@ FILE = (
 )
 # The path as it is typed, and the value.
 VALUES = {"db_password": b"correct horse", "app.users[0].pw": ANY_BYTES, '"a.b \\"c\\\\d\\""[0].x': b""}
-VAULT = sealed("dev", b"db:\n  password: 'it''s'\n  list: [1]\n" + block("prod", b"inner", "prod", "x"), "dev")
+SENTENCE = b"$ANSIBLE_VAULT;1.1;AES256 begins a vault"
+VAULT_TEXT = b"db:\n  password: 'it''s'\n  list: [1]\nabout: " + SENTENCE + b"\n" + block("prod", b"inner", "prod", "x")
+VAULT = sealed("dev", VAULT_TEXT, "dev")
 # The content of a file, a path that leads to no single value, and why.
 NOT_SHOWN = [
     (FILE, "pw", 'no value pw; encrypted here: db_password, app.users[0].pw, "a.b \\"c\\\\d\\""[0].x'),
@@ -66,7 +68,7 @@ def test_shown(place: Place, both: list[str]) -> None:
     silent("the same text", set_to(place, b"correct horse", *both, "--value", "db_password", "vars.yml"))
     assert place.get("vars.yml") == FILE, "it keeps its envelope"
     place.put("vars.yml", VAULT)
-    check_values(place, both, {"db.password": b"it's", "db.list[0]": b"1", "x": b"inner"})
+    check_values(place, both, {"db.password": b"it's", "db.list[0]": b"1", "about": SENTENCE, "x": b"inner"})
 
 
 @pytest.mark.parametrize("path", VALUES)

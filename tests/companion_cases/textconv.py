@@ -1,12 +1,31 @@
 """ansible-vault-textconv, alone and as git runs it."""
 
+import json
 import re
+import textwrap
 
 import pytest
 
-from companion_cases import AWKWARD, TEXT, TEXTCONV, Place, block, ended, sealed
+from companion_cases import (
+    AWKWARD,
+    NOT_DECRYPTED,
+    NOT_ENCRYPTED,
+    TEXT,
+    TEXTCONV,
+    Place,
+    block,
+    ended,
+    first_line,
+    line_of_values,
+    sealed,
+)
 from companion_cases.repository import add_and_commit, under_git
 from lib.needs import needs
+
+
+def labeled(label: str) -> bytes:
+    return first_line(label).encode()
+
 
 AROUND = "# größe\r\n".encode()
 BLOCKS = AROUND + block("old", b"one") + block("new", b"two\nthree", name="x") + b"# end"
@@ -14,30 +33,124 @@ SHOWN = AROUND + b"secret: !vault |-\n  one\nx: !vault |-\n  two\n  three\n# end
 OTHER, MALFORMED = block("dev", label="x"), b"$ANSIBLE_VAULT 1.1\n"
 NO_SECRET = "shown as it is: no secret decrypts this vault"
 NO_VAULT = ": shown as it is: it is not a vault and has no encrypted value\n"
+DEEP, TOO_DEEP = b"x: %s!vault v%s\n" % (b"[" * 65, b"]" * 65), "it is nested over 64 levels\n"
 SIDES = b"<<<<<<< a\n%s=======\n%s>>>>>>> b\n" % (sealed("old", b"1\n2\n"), sealed("new", b"1\n3\n"))
 SIDES_SHOWN = b"<<<<<<< a\n1\n2\n=======\n1\n3\n>>>>>>> b\n"
-# The content of a file, what is printed, and the beginning of the message after the file's name, if there is one.
+TAGGED = b"secret: !vault plain\n"
+MERGED = b"1\n<<<<<<< ours\n2\n=======\n3\n>>>>>>> theirs\n"
+# The content of a file, the first line, what follows it, and the beginning of the message after the file's name.
 CONTENTS = {
-    "a vault": (sealed("old", b"\x00\xff", "prod"), b"\x00\xff", ""),
-    "blocks": (BLOCKS, SHOWN, ""),
-    "a list": (b"a:\n- " + block("old", b"one", name=""), b"a:\n- !vault |-\n  one\n", ""),
-    "two blocks": (OTHER + block("old", b" a\n\n"), OTHER + b"secret: !vault |2+\n   a\n\n", f":2: {NO_SECRET} ("),
-    "another vault": (sealed("dev"), sealed("dev"), f": {NO_SECRET} (label default; tried "),
-    "a malformed header": (MALFORMED, MALFORMED, ": shown as it is: vault header line is malformed"),
-    "a conflict": (SIDES, b"1\n<<<<<<< ours\n2\n=======\n3\n>>>>>>> theirs\n", ""),
-    "a conflict that does not end": (SIDES + b"<<<<<<< a\n", SIDES_SHOWN + b"<<<<<<< a\n", ""),
-    "plaintext": (TEXT, TEXT, NO_VAULT),
-    "nothing": (b"", b"", NO_VAULT),
+    "a vault": (sealed("old", b"\x00\xff", "prod"), first_line("prod"), b"\x00\xff", ""),
+    "a vault without a label": (sealed("old", b"1"), first_line("default"), b"1", ""),
+    "blocks": (BLOCKS, line_of_values(2), SHOWN, ""),
+    "a list": (b"a:\n- " + block("old", b"one", name=""), line_of_values(1), b"a:\n- !vault |-\n  one\n", ""),
+    "two blocks": (
+        OTHER + block("old", b" a\n\n"),
+        line_of_values(2),
+        OTHER + b"secret: !vault |2+\n   a\n\n",
+        f":2: {NO_SECRET} (",
+    ),
+    "another vault": (sealed("dev"), NOT_DECRYPTED, sealed("dev"), f": {NO_SECRET} (label default; tried "),
+    "a malformed header": (
+        MALFORMED,
+        NOT_DECRYPTED,
+        MALFORMED,
+        ": shown as it is: it is damaged: vault header line is malformed",
+    ),
+    "a conflict": (SIDES, first_line("default"), MERGED, ""),
+    "a conflict that does not end": (SIDES + b"<<<<<<< a\n", line_of_values(2), SIDES_SHOWN + b"<<<<<<< a\n", ""),
+    "plaintext": (TEXT, NOT_ENCRYPTED, TEXT, NO_VAULT),
+    "a tagged plaintext": (TAGGED, NOT_ENCRYPTED, TAGGED, ""),
+    "what is too deep": (DEEP, NOT_DECRYPTED, DEEP, f": shown as it is: {TOO_DEEP}"),
+    "a block above it": (
+        block("old", b"one") + DEEP,
+        line_of_values(1),
+        b"secret: !vault |\n          one\n" + DEEP,
+        f": some of its values may be shown as they are: {TOO_DEEP}",
+    ),
+    "nothing": (b"", NOT_ENCRYPTED, b"", NO_VAULT),
 }
 
 
-@pytest.mark.parametrize("content, wanted, told", CONTENTS.values(), ids=CONTENTS)
-def test_shown(place: Place, content: bytes, wanted: bytes, told: str) -> None:
+@pytest.mark.parametrize("content, line, shown, told", CONTENTS.values(), ids=CONTENTS)
+def test_shown(place: Place, content: bytes, line: str, shown: bytes, told: str) -> None:
     """What cannot be decrypted is shown as it is, and git continues."""
     place.put("-a.yml", content)
     done = place.run_on(b"", TEXTCONV, *place.by_file("old"), *place.by_file("new"), "--", "-a.yml")
-    assert (done.returncode, done.stdout, bool(done.stderr)) == (0, wanted, bool(told))
+    assert (done.returncode, done.stdout, bool(done.stderr)) == (0, line.encode() + shown, bool(told))
     assert done.stderr.decode().startswith(f"{TEXTCONV}: -a.yml{told}" if told else "")
+
+
+@pytest.mark.parametrize("forged", [first_line("prod"), line_of_values(1), NOT_ENCRYPTED, NOT_DECRYPTED])
+def test_forged_line(place: Place, forged: str) -> None:
+    """A text that begins like another kind of file comes after the line of its own."""
+    kinds = {
+        first_line("dev"): sealed("old", forged.encode() + TEXT, "dev"),
+        line_of_values(1): forged.encode() + block("old"),
+        NOT_ENCRYPTED: forged.encode() + TEXT,
+        NOT_DECRYPTED: forged.encode() + DEEP,
+    }
+    for line, content in kinds.items():
+        place.put("a.yml", content)
+        done = place.run(TEXTCONV, *place.by_file("old"), "a.yml")
+        assert done.stdout.startswith(line + forged), done
+
+
+def test_conflict_of_labels(place: Place) -> None:
+    place.put(
+        "a.yml", b"<<<<<<< a\n%s=======\n%s>>>>>>> b\n" % (sealed("dev", b"1", "dev"), sealed("prod", b"1", "prod"))
+    )
+    done = place.run(TEXTCONV, *place.by_id("dev", "dev"), *place.by_id("prod", "prod"), "a.yml")
+    assert (done.returncode, done.stdout, done.stderr) == (0, labeled("dev and prod").decode() + "1", "")
+
+
+def test_differences(place: Place) -> None:
+    """git shows that a vault has become plaintext, has another label or is a vault again, although the text stays."""
+    needs("git")
+    under_git(place, "* diff=ansible-vault\n")
+    place.run("git", "config", "diff.ansible-vault.textconv", " ".join([TEXTCONV, *place.by_file("old")]))
+    versions = {
+        "encrypted, label prod": sealed("old", label="prod"),
+        "encrypted, label dev": sealed("old", label="dev"),
+    }
+    versions |= {"not encrypted": TEXT, "encrypted, label default": sealed("old")}
+    for content in versions.values():
+        place.put("vault.yml", content)
+        add_and_commit(place)
+    done = place.run("git", "log", "-p", "--reverse", "--format=", "--", "vault.yml")
+    changed = re.findall("^[-+] *# ansible-vault: (.*)", done.stdout, re.MULTILINE)
+    prod, dev, plain, default = versions
+    assert changed == [prod, prod, dev, dev, plain, plain, default], done
+
+
+def in_string(text: bytes) -> bytes:
+    """Return YAML with a value, and with a string that has this text."""
+    return block("old", b"one") + b"text: |\n" + textwrap.indent(text.decode(), "  ").encode()
+
+
+OF_JSON = '{"a": {"__ansible_vault": %s}}'
+# A file, and what becomes of it if a value is decrypted.
+DECRYPTED_VALUES = {
+    "a value that keeps its tag": (block("old", b"one"), b"secret: !vault |-\n  one\n"),
+    "an envelope in a string": (in_string(sealed("old")), in_string(TEXT)),
+    "JSON": ((OF_JSON % json.dumps(sealed("old", b"one").decode())).encode(), (OF_JSON % '"one"').encode()),
+}
+
+
+@pytest.mark.parametrize("what", DECRYPTED_VALUES)
+def test_decrypted_values(place: Place, what: str) -> None:
+    """git shows that a value was decrypted, even if its text and its tag stay."""
+    needs("git")
+    under_git(place, "* diff=ansible-vault\n")
+    place.run("git", "config", "diff.ansible-vault.textconv", " ".join([TEXTCONV, *place.by_file("old")]))
+    encrypted, plain = DECRYPTED_VALUES[what]
+    place.put("vars.yml", encrypted)
+    add_and_commit(place)
+    place.put("vars.yml", plain)
+    done = place.run("git", "diff")
+    count = encrypted.count(b"$ANSIBLE_VAULT")
+    after = line_of_values(count - 1) if count > 1 else NOT_ENCRYPTED
+    assert f"-{line_of_values(count)}+{after}" in done.stdout, done
 
 
 def test_messages(place: Place) -> None:

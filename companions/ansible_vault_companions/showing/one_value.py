@@ -2,18 +2,20 @@
 
 from __future__ import annotations
 
-from ansible_vault_companions.envelopes.content import NO_SCALAR_THERE, VALUE_NOT_ENCRYPTED, Content, parse_content
+from ansible_vault_companions.envelopes.content import NO_SCALAR_THERE, VALUE_NOT_ENCRYPTED, Content, parse_nodes
 from ansible_vault_companions.envelopes.node import ALIAS, NO_SCALAR
+from ansible_vault_companions.envelopes.pointers import refuse_pointer
 from ansible_vault_companions.quoting import escape
 from ansible_vault_companions.refusals import Refused
 from ansible_vault_companions.tool import Decrypt
 
 
-def read_value(data: bytes, path: str, decrypt: Decrypt) -> bytes:
+def show_value(data: bytes, path: str, decrypt: Decrypt) -> bytes:
     """The plaintext of a value in YAML, or in the plaintext of a vault."""
+    refuse_pointer(data)
     is_vault = Content(data).is_vault
     text = decrypt(data).text if is_vault else data
-    nodes = parse_content(text, every=True)
+    nodes = parse_nodes(text)
     if nodes.fault:
         raise Refused(nodes.fault)
     value = nodes.find_value_at(path)

@@ -5,7 +5,7 @@ from __future__ import annotations
 from contextlib import suppress
 
 from ansible_vault_companions.envelopes import detection
-from ansible_vault_companions.envelopes.content import Content, parse_content
+from ansible_vault_companions.envelopes.content import Content, parse_envelopes
 from ansible_vault_companions.envelopes.header import MAGIC
 from ansible_vault_companions.envelopes.layout import Replacement, apply_replacements, put_plaintext
 from ansible_vault_companions.envelopes.node import Node
@@ -13,17 +13,23 @@ from ansible_vault_companions.merging.unmerged_file import find_versions
 from ansible_vault_companions.merging.vault_merge import VaultMerge
 from ansible_vault_companions.output import write_error
 from ansible_vault_companions.parallel import work_at_once
+from ansible_vault_companions.quoting import escape
 from ansible_vault_companions.refusals import Refused
+from ansible_vault_companions.showing import first_line
+from ansible_vault_companions.showing.as_it_is import NoEnvelope
 from ansible_vault_companions.tool import Decrypt
 
 NO_ENVELOPE = "it is not a vault and has no encrypted value"
+MAY_LACK = "some of its values may be shown as they are: {}"
 
 
 def read_envelopes(target: str) -> Content:
     """The content of a file. Refuses one without envelopes."""
-    file = parse_content(detection.read_envelope_file(target))
+    file = parse_envelopes(detection.read_envelope_file(target))
     if not file.values:
-        raise Refused(NO_ENVELOPE)
+        if file.is_too_much:
+            raise Refused(file.fault)
+        raise NoEnvelope(NO_ENVELOPE)
     return file
 
 
@@ -33,11 +39,23 @@ def show_envelopes(companion: str, file: Content, path: str, target: str, decryp
     with suppress(Refused):
         sides = find_versions(target, file.data)
         if sides and sides.ours.startswith(MAGIC) and sides.theirs.startswith(MAGIC):
-            return VaultMerge(decrypt, sides).merged_lines.text
-    return _show_values(companion, file, path, decrypt)
+            vaults = VaultMerge(decrypt, sides)
+            labels = dict.fromkeys((vaults.ours.key.label, vaults.theirs.key.label))
+            return first_line.describe_vault(" and ".join(labels)) + vaults.merged_lines.text
+    return _choose_first_line(file) + _show_values(companion, file, path, decrypt)
+
+
+def _choose_first_line(file: Content) -> bytes:
+    if file.is_vault:
+        # One that can be decrypted is shown elsewhere.
+        return first_line.AS_IT_IS
+    count = len(file.number_envelopes())
+    return first_line.describe_values(count) if count else first_line.NOTHING
 
 
 def _show_values(companion: str, file: Content, path: str, decrypt: Decrypt) -> bytes:
+    if file.is_too_much:
+        write_error(f"{companion}: {escape(path)}: {MAY_LACK.format(file.fault)}")
     values = [*file.number_envelopes().values()]
     changes: list[Replacement] = []
     for result, value in zip(work_at_once(lambda value: _try_to_show(file.data, value, decrypt), values), values):
