@@ -158,7 +158,7 @@ _ansible_vault_specifications() {
             '*'{--vault-password-file=,--vault-pass-file=}'[the source of a password]:SOURCE:_ansible_vault_files'
             '*'{-J,--ask-vault-password,--ask-vault-pass}'[ask at the terminal for a password]'
             '--value=[print only this value'\''s plaintext, byte for byte]:KEY.PATH: '
-            '1:file:_ansible_vault_files'
+            '*:file:_ansible_vault_files'
         ) ;;
         'ansible-vault-with') specifications=(
             '(- *)'{-h,--help}'[print help]'

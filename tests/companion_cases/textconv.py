@@ -96,6 +96,23 @@ def test_forged_line(place: Place, forged: str) -> None:
         assert done.stdout.startswith(line + forged), done
 
 
+def test_several_files(place: Place) -> None:
+    """Each has a heading, and one that cannot be read does not keep others from being shown. The passwords are read
+    once. A single value has no first line, and a single file no heading."""
+    place.put("a.yml", sealed("old", b"1", "prod"))
+    place.put("\x1b.yml", TEXT)
+    script = place.script('echo >> ../started; cat "$HOME/secrets/old"')
+    done = place.run(TEXTCONV, "--vault-id", script, "a.yml", "missing.yml", "\x1b.yml", "a.yml")
+    first = f"==> a.yml <==\n{labeled('prod').decode()}1"
+    others = f"==> missing.yml <==\n\n==> '\\x1b.yml' <==\n{NOT_ENCRYPTED}{TEXT.decode()}"
+    assert (done.returncode, done.stdout) == (1, f"{first}\n{others}\n{first}"), done
+    told = [f"{TEXTCONV}: missing.yml: No such file or directory", f"{TEXTCONV}: '\\x1b.yml'{NO_VAULT.rstrip()}"]
+    assert done.stderr.splitlines() == told
+    assert (place.path / "started").read_text() == "\n"
+    done = place.run(TEXTCONV, *place.by_file("old"), "--value", "a", "a.yml", "a.yml")
+    ended("values", done, 2, "--value takes one FILE\n")
+
+
 def test_conflict_of_labels(place: Place) -> None:
     place.put(
         "a.yml", b"<<<<<<< a\n%s=======\n%s>>>>>>> b\n" % (sealed("dev", b"1", "dev"), sealed("prod", b"1", "prod"))
