@@ -10,10 +10,10 @@ from typing import NamedTuple
 
 import pytest
 
-from companion_cases import CHECK, EDIT, HOOK, ROTATE, TEXT, TEXTCONV, WITH, Place, block, ended, first_line
+from companion_cases import CHECK, EDIT, HOOK, NOBODY, ROTATE, TEXT, TEXTCONV, WITH, Place, block, ended, first_line
 from companion_cases import sealed, to_new
 from companion_cases.repository import committed, under_git
-from lib.needs import needs
+from lib.needs import needs, needs_root
 from lib.subtests import SubTests
 
 LOOP, MISSING = "Too many levels of symbolic links", "No such file or directory"
@@ -161,6 +161,30 @@ def test_each_link(place: Place, name: str, is_repository: bool, subtests: SubTe
             else:
                 assert (result, message) == (status, "")
                 assert (changed, is_shown) == ([kind.file] if writes else [], not writes)
+
+
+@pytest.mark.parametrize("owner", (NOBODY, 0))
+@pytest.mark.parametrize("name", KINDS)
+def test_repository_above(place: Place, name: str, owner: int, subtests: SubTests) -> None:
+    """A `.git` that another user has put above the project allows no link that is refused without it. One of root's
+    counts."""
+    needs_root()
+    kind = KINDS[name]
+    place.shell("mkdir project .git")
+    os.chown(place.tree / ".git", owner, 0)
+    why = expected(kind, False, place.tree) if owner or not kind.file else ""
+    for command, (words, content, *_) in COMMANDS.items():
+        # git itself refuses this repository.
+        if command == "check":
+            continue
+        prepare(place, kind, content)
+        before = list_contents(place)
+        _, _, message = run_command(place, words, kind.path)
+        with subtests.test(command):
+            if why:
+                assert f": {kind.path}: {why}" in message and list_contents(place) == before
+            elif name not in ("a descriptor", "git's own files"):
+                assert "a link leads out" not in message
 
 
 @pytest.mark.usefixtures("git")

@@ -10,7 +10,6 @@ import errno
 import os
 import re
 
-from ansible_vault_companions.git.repository import find_repository
 from ansible_vault_companions.limits import MOST_STEPS
 from ansible_vault_companions.quoting import escape, quote_word
 from ansible_vault_companions.refusals import Refused
@@ -127,11 +126,20 @@ class _BoundedWalk(_Walk):
         self.named = named
 
     def _check_link(self, folder: str, target: str) -> None:
+        # Most paths have no links.
+        from ansible_vault_companions.git.repository import find_repository, is_own_repository
+
         repository = find_repository(folder)
-        bound = repository or self._bound_outside(folder)
+        # One of another user, perhaps above all of this, does not widen the bound.
+        if not (repository and is_own_repository(repository)):
+            self._require_within(self._bound_outside(folder), target)
+        self._require_within(repository, target)
         # Below a repository, there may be another one, such as a submodule.
-        enters_other = repository is not None and find_repository(target) != repository
-        if bound and (enters_other or not is_within(target, bound)):
+        if repository and find_repository(target) != repository:
+            raise LeadsOut(repository, find_target(self.path))
+
+    def _require_within(self, bound: str | None, target: str) -> None:
+        if bound and not is_within(target, bound):
             raise LeadsOut(bound, find_target(self.path))
 
     def _bound_outside(self, folder: str) -> str | None:
