@@ -7,24 +7,32 @@ import os
 import re
 import stat
 import tempfile
-from contextlib import suppress
+from collections.abc import Iterator
+from contextlib import contextmanager, suppress
 
 from ansible_vault_companions import signals
 from ansible_vault_companions.files import reading
 from ansible_vault_companions.refusals import Refused
 
+# The module `typing` takes long to import.
+TYPE_CHECKING = False
+if TYPE_CHECKING:
+    from typing import BinaryIO
+
 PREFIX, SUFFIX = ".ansible-vault-", ".new"
+CHANGED = "another program changed it in the meantime"
 
 
 def replace(target: str, content: bytes, before: bytes | None, is_private: bool = False) -> None:
     """Replaces the content of a file with this real path. Refuses if the content is no longer `before`, or if a link is
     in its path by now. A private file is readable only by its owner, whatever its mode was. The directory is synced, so
     that the old content does not come back after a power failure."""
-    with signals.postpone_signals():
-        beside = _write_beside(target, content, is_private)
+    with signals.postpone_signals(), _open_old(target) as old:
+        # What has taken the place of the file gets no say in who may read the new one.
+        _require_same(target, old, before)
+        beside = write_new(os.path.dirname(target), content, old, is_private)
         try:
-            if os.path.realpath(target) != target or reading.read(target) != before:
-                raise Refused("another program changed it in the meantime")
+            _require_same(target, old, before)
             os.replace(beside, target)
         except BaseException:
             os.unlink(beside)
@@ -34,8 +42,43 @@ def replace(target: str, content: bytes, before: bytes | None, is_private: bool 
 
 def check_replaceable(target: str) -> None:
     """Refuses in advance a file that `replace` could not replace."""
-    with signals.postpone_signals():
-        os.unlink(_write_beside(target, b""))
+    with signals.postpone_signals(), _open_old(target) as old:
+        os.unlink(write_new(os.path.dirname(target), b"", old))
+
+
+@contextmanager
+def _open_old(target: str) -> Iterator[BinaryIO | None]:
+    """A context with the file at a real path; None if there is none."""
+    _require_real(target)
+    try:
+        file = reading.open_regular(target)
+    except FileNotFoundError:
+        yield None
+        return
+    with file:
+        yield file
+
+
+def _require_same(target: str, old: BinaryIO | None, before: bytes | None) -> None:
+    """Refuses a file that is no longer the one that was opened, or no longer has this content."""
+    _require_real(target)
+    content = reading.read_whole(old, target) if old else None
+    if content != before or not _is_at(target, old):
+        raise Refused(CHANGED)
+
+
+def _require_real(target: str) -> None:
+    """Refuses a path in which there is a link by now."""
+    if os.path.realpath(target) != target:
+        raise Refused(CHANGED)
+
+
+def _is_at(target: str, old: BinaryIO | None) -> bool:
+    try:
+        about = os.lstat(target)
+    except FileNotFoundError:
+        return old is None
+    return old is not None and os.path.samestat(about, os.fstat(old.fileno()))
 
 
 def is_leftover(name: str) -> bool:
@@ -43,13 +86,8 @@ def is_leftover(name: str) -> bool:
     return re.fullmatch(f"{re.escape(PREFIX)}[a-z0-9_]{{8}}{re.escape(SUFFIX)}", name) is not None
 
 
-def _write_beside(target: str, content: bytes, is_private: bool = False) -> str:
-    """Writes a file beside the target, with its owner and mode if it exists. Returns the path."""
-    return write_new(os.path.dirname(target), content, target if os.path.lexists(target) else None, is_private)
-
-
 def write_new(
-    folder: str, content: bytes, like: str | None = None, is_private: bool = False, prefix: str = PREFIX
+    folder: str, content: bytes, like: BinaryIO | None = None, is_private: bool = False, prefix: str = PREFIX
 ) -> str:
     """Writes a new file, and returns its path. Only its owner may read it, unless it is to be like another one."""
     try:
@@ -61,7 +99,7 @@ def write_new(
             file.write(content)
             file.flush()
             if like is not None:
-                _copy_metadata(descriptor, like, is_private)
+                _copy_metadata(descriptor, like.fileno(), is_private)
             os.fsync(descriptor)
     except BaseException:
         os.unlink(path)
@@ -69,31 +107,37 @@ def write_new(
     return path
 
 
-def _copy_metadata(descriptor: int, target: str, is_private: bool) -> None:
+def _copy_metadata(descriptor: int, like: int, is_private: bool) -> None:
     """Copies owner, mode and extended attributes such as ACLs; to a private file, the owner alone."""
-    old, new = os.stat(target), os.fstat(descriptor)
+    old, new = os.fstat(like), os.fstat(descriptor)
     if old.st_nlink > 1:
         raise Refused(f"it has {old.st_nlink} names (hard links); replace the others with symbolic links first")
     if (old.st_uid, old.st_gid) != (new.st_uid, new.st_gid):
         try:
             os.fchown(descriptor, old.st_uid, old.st_gid)
         except PermissionError as fault:
-            owner = f"{old.st_uid}:{old.st_gid}"
-            why = f"its owner {owner} cannot be kept: {fault.strerror}; run this as that user, or as root"
-            raise Refused(why) from None
+            raise Refused(_describe_owner(old, new.st_uid, fault)) from None
     # A directory may give this access control list to each new file.
     with suppress(OSError):
         os.removexattr(descriptor, "system.posix_acl_access")
-    for name in [] if is_private else _list_attributes(target):
-        os.setxattr(descriptor, name, os.getxattr(target, name))
+    for name in [] if is_private else _list_attributes(like):
+        os.setxattr(descriptor, name, os.getxattr(like, name))
     # Last, since a mode may forbid to set attributes.
     os.fchmod(descriptor, 0o600 if is_private else stat.S_IMODE(old.st_mode))
 
 
-def _list_attributes(path: str) -> list[str]:
-    """The names of the extended attributes, except those of security modules, which the system sets."""
+def _describe_owner(old: os.stat_result, user: int, fault: PermissionError) -> str:
+    """Which of owner and group this user cannot keep, and what to do."""
+    if old.st_uid == user:
+        return f"its group {old.st_gid} cannot be kept: {fault.strerror}; run this as a member of it, or as root"
+    owner = f"{old.st_uid}:{old.st_gid}"
+    return f"its owner {owner} cannot be kept: {fault.strerror}; run this as that user, or as root"
+
+
+def _list_attributes(descriptor: int) -> list[str]:
+    """The names of a file's extended attributes, except those of security modules, which the system sets."""
     try:
-        return [name for name in os.listxattr(path) if not name.startswith("security.")]
+        return [name for name in os.listxattr(descriptor) if not name.startswith("security.")]
     except OSError as fault:
         if fault.errno == errno.ENOTSUP:
             return []
