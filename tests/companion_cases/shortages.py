@@ -7,8 +7,8 @@ from random import Random
 
 import pytest
 
-from companion_cases import CHANGE, CHANGED, CHECK, COMPANIONS, EDIT, HOOK, MERGE, ROTATE, TEXT, TEXTCONV, WITH
-from companion_cases import Companions, Done, Place, block, run_changed, sealed, texts, to_new, versions
+from companion_cases import CHANGE, CHANGED, CHECK, COMPANIONS, CONFLICT, EDIT, HOOK, MERGE, ROTATE, TEXT, TEXTCONV
+from companion_cases import WITH, Companions, Done, Place, block, run_changed, sealed, summary, texts, to_new, versions
 from lib.needs import needs
 
 NAMES = (EDIT, ROTATE, MERGE, CHECK, TEXTCONV, HOOK, WITH)
@@ -207,6 +207,43 @@ def test_what_is_missing(place: Place, git: None, what: str, name: str) -> None:
     is_needed = name in needing or done.returncode != 0
     assert (done.returncode != 0, told in done.stderr) == (is_needed, is_needed), done
     assert "Traceback" not in done.stderr, done
+
+
+# A disk fails once a new file has taken its place.
+UNSYNCED = """
+import stat
+sync = os.fsync
+def fail(number):
+    if stat.S_ISDIR(os.fstat(number).st_mode):
+        raise OSError(5, "the disk is broken")
+    sync(number)
+os.fsync = fail
+"""
+NOT_SYNCED = "a.yml: it was written, but a power failure may undo that: its directory cannot be synced: the "
+# The companions that replace a file, with the rest of the line, and the password that the file then has.
+OLD, NEW = "--vault-password-file ../secrets/old", "--new-vault-password-file ../secrets/new"
+REPLACING = {
+    EDIT: (f"{OLD} a.yml", "old"),
+    ROTATE: (f"{OLD} {NEW} a.yml", "new"),
+    MERGE: (f"{OLD} ../base a.yml ../theirs a.yml", "old"),
+    WITH: (f"rekey {OLD} {NEW} a.yml", "new"),
+}
+
+
+@pytest.mark.parametrize("companion", REPLACING)
+def test_directory_that_is_not_synced(place: Place, git: None, companion: str) -> None:
+    """The file is written, which the message says, and what was saved is nowhere else."""
+    line, password = REPLACING[companion]
+    for path in ("a.yml", "../base", "../theirs"):
+        place.put(path, sealed("old"))
+    done = run_changed(place, companion, UNSYNCED, line.split(), EDITOR=place.script(CHANGE, "editor"))
+    assert done.returncode == (CONFLICT if companion == MERGE else 1), done
+    assert f"{companion}: {NOT_SYNCED}disk is broken\n" in done.stderr, done
+    if companion == ROTATE:
+        assert done.stdout.endswith(f"{summary(1, failed=1)}\n"), "it is rotated all the same"
+    found = texts(place.get("a.yml"), password)
+    assert found == {EDIT: [CHANGED], MERGE: [TEXT, TEXT]}.get(companion, [TEXT])
+    assert (place.left(), place.copies(), place.names()) == ([], [], ["a.yml"])
 
 
 @pytest.mark.parametrize("line", [f"{WITH} view a.yml", f"{WITH} create new.yml", f"{EDIT} a.yml", f"{CHECK} a.yml"])

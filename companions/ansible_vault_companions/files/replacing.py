@@ -12,7 +12,7 @@ from contextlib import contextmanager, suppress
 
 from ansible_vault_companions import signals
 from ansible_vault_companions.files import reading
-from ansible_vault_companions.refusals import Refused
+from ansible_vault_companions.refusals import Refused, describe_fault
 
 # The module `typing` takes long to import.
 TYPE_CHECKING = False
@@ -21,12 +21,17 @@ if TYPE_CHECKING:
 
 PREFIX, SUFFIX = ".ansible-vault-", ".new"
 CHANGED = "another program changed it in the meantime"
+NOT_SYNCED = "it was written, but a power failure may undo that: its directory cannot be synced: {}"
+
+
+class NotSynced(Refused):
+    """A file is replaced, but perhaps not on the disk."""
 
 
 def replace(target: str, content: bytes, before: bytes | None, is_private: bool = False) -> None:
     """Replaces the content of a file with this real path. Refuses if the content is no longer `before`, or if a link is
-    in its path by now. A private file is readable only by its owner, whatever its mode was. The directory is synced, so
-    that the old content does not come back after a power failure."""
+    in its path by now. A private file is readable only by its owner, whatever its mode was. Raises NotSynced if the old
+    content may come back after a power failure."""
     with signals.postpone_signals(), _open_old(target) as old:
         # What has taken the place of the file gets no say in who may read the new one.
         _require_same(target, old, before)
@@ -37,7 +42,10 @@ def replace(target: str, content: bytes, before: bytes | None, is_private: bool 
         except BaseException:
             os.unlink(beside)
             raise
-        _sync(os.path.dirname(target))
+        try:
+            _sync(os.path.dirname(target))
+        except OSError as fault:
+            raise NotSynced(NOT_SYNCED.format(describe_fault(fault))) from None
 
 
 def check_replaceable(target: str) -> None:
