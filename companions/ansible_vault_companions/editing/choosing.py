@@ -1,4 +1,8 @@
-"""Chooses the password for a new value or vault."""
+"""Chooses the password that encrypts what an edit writes.
+
+A text that may change keeps the password that decrypted it, if its label allows that. Something new gets the only
+password, or the one that the user has chosen or chooses now.
+"""
 
 from __future__ import annotations
 
@@ -9,7 +13,22 @@ from ansible_vault_companions.passwords import prompts
 from ansible_vault_companions.passwords.labels import NONE_HAS_LABEL, choose_to_encrypt, find_first_with_label
 from ansible_vault_companions.passwords.password import Password
 from ansible_vault_companions.refusals import Refused
-from ansible_vault_companions.tool import Key
+from ansible_vault_companions.tool import Decryption, Key
+
+
+def keep_key(decrypted: Decryption, where: str = "") -> Key:
+    """The key of a text that may change. Refuses one that its label does not allow to encrypt again."""
+    decrypted.require_label(where)
+    return decrypted.key
+
+
+def confirm_keys(keys: list[Key]) -> None:
+    """Asks again for passwords that may be mistyped, and refuses an only one that cannot encrypt, before the user types
+    a text for them."""
+    for key in keys:
+        key.password.confirm()
+    if len(keys) == 1:
+        keys[0].password.require_usable()
 
 
 class Choice(NamedTuple):

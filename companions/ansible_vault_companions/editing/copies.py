@@ -22,7 +22,9 @@ from ansible_vault_companions.tool import Decrypt, Key, Tool
 # Precedes the text of a copy, so that no text begins like a vault, which ansible-vault would not encrypt. The digest is
 # that of the text that the edit began with.
 HEAD = b"# ansible-vault-edit %s: what was saved begins below.\n"
-NO_FOLDER = "{} cannot have copies ({}); set XDG_STATE_HOME to a directory that only you can open"
+LEFT = "an earlier edit is encrypted in {}; {}"
+NEWEST, OLDER = "--resume reopens it", "`ansible-vault-textconv` shows it"
+NO_FOLDER = "no copies can be kept in {} ({}); set XDG_STATE_HOME to a directory that only you can open"
 
 
 def find_folder() -> str:
@@ -51,6 +53,20 @@ def list_copies(target: str) -> list[str]:
     names = os.listdir(path) if os.path.isdir(path) else []
     paths = [os.path.join(path, name) for name in names if name.startswith(_make_prefix(target))]
     return sorted(paths, key=os.path.getmtime, reverse=True)
+
+
+def choose_copy(target: str, is_resumed: bool) -> tuple[str | None, list[str]]:
+    """The copy to resume from, the newest, if that is wanted; and what is to be said of the others."""
+    try:
+        found = list_copies(target)
+    except (Refused, OSError):
+        if is_resumed:
+            raise
+        return None, []
+    if is_resumed and not found:
+        raise Refused(f"no earlier edit left a copy in {escape(find_folder())}; edit it without --resume")
+    others = [LEFT.format(escape(copy), OLDER if number else NEWEST) for number, copy in enumerate(found)]
+    return (found[0], others[1:]) if is_resumed else (None, others)
 
 
 def save_copy(tool: Tool, key: Key, target: str, base: bytes, text: bytes) -> str:

@@ -6,7 +6,7 @@ from dataclasses import dataclass
 from functools import partial
 from typing import Protocol, Union
 
-from ansible_vault_companions.editing.choosing import Choice
+from ansible_vault_companions.editing.choosing import Choice, keep_key
 from ansible_vault_companions.editing.matching import describe_place
 from ansible_vault_companions.editing.single_value import SingleValue
 from ansible_vault_companions.editing.yaml_draft import YamlDraft
@@ -92,7 +92,7 @@ class ConflictDraft:
         of_sides = conflicts.count_markers(self.vaults.ours.text) | conflicts.count_markers(self.vaults.theirs.text)
         if conflicts.count_markers(text) - of_sides:
             raise Refused(conflicts.STILL)
-        return self.vaults.seal(tool, text, self.keys[0])
+        return self.vaults.encrypt(tool, text, self.keys[0])
 
 
 class Loader:
@@ -124,8 +124,7 @@ class Loader:
                 raise Refused(conflicts.LONG)
             return self._load_values(target, content, content)
         decrypted = self.decrypt(content)
-        decrypted.require_label()
-        return VaultDraft(target, content, [decrypted.key], decrypted.text)
+        return VaultDraft(target, content, [keep_key(decrypted)], decrypted.text)
 
     def _load_conflict(self, target: str, content: bytes, sides: Versions) -> Draft:
         key = next(iter(self.chosen.list_keys()), None) if self.chosen.label else None
@@ -148,7 +147,7 @@ class Loader:
         if not draft.tagged:
             raise Refused(NOTHING_TO_EDIT)
         for old in draft.opened.values():
-            old.decrypted.require_label(f"{describe_place(old.value)}: ")
+            keep_key(old.decrypted, f"{describe_place(old.value)}: ")
         if len(draft.faults) == len(draft.tagged) and self.choice.label is None:
             value, why = draft.faults[0]
             raise Refused(f"{describe_place(value)}: {why}{TO_ADD}")

@@ -11,6 +11,7 @@ from ansible_vault_companions.editing.copies import save_copy
 from ansible_vault_companions.editing.drafts import Draft
 from ansible_vault_companions.editing.private_directory import PrivateDirectory
 from ansible_vault_companions.editing.single_value import A_VAULT
+from ansible_vault_companions.envelopes import conflicts
 from ansible_vault_companions.envelopes.header import MAGIC
 from ansible_vault_companions.files import reading, replacing
 from ansible_vault_companions.passwords import prompts
@@ -19,6 +20,9 @@ from ansible_vault_companions.refusals import Refused
 from ansible_vault_companions.tool import Tool
 
 NO_FILE = "the editor left no file"
+# What is said of an edit that has changed nothing.
+TO_WAIT = "if the editor returned at once, give it an option to wait, such as `code --wait`"
+AS_BEFORE = f"nothing was changed; {TO_WAIT}"
 NO_COPY = "an encrypted copy cannot be kept"
 SEVERAL = "its text has several passwords, and none of them may read all of it"
 RESCUED = "{}; what you saved is encrypted in {}\n--resume reopens it, unless the file has changed."
@@ -126,6 +130,17 @@ def describe_failure(failed: Exception) -> str:
 
 def describe_signal() -> str:
     return f"signal {signals.find_postponed_signal()} ended the edit"
+
+
+def change_draft(tool: Tool, draft: Draft, path: str, text: bytes | None, copy: str | None) -> str:
+    """Edits a draft. Returns what is to be said; nothing if the text was changed."""
+    if edit_draft(tool, draft, path, text):
+        if copy:
+            os.unlink(copy)
+        return ""
+    if conflicts.is_unmerged(draft.plaintext):
+        raise Refused(conflicts.STILL)
+    return AS_BEFORE
 
 
 def edit_draft(tool: Tool, draft: Draft, path: str, text: bytes | None) -> bool:

@@ -6,7 +6,7 @@ import errno
 import os
 import re
 
-from ansible_vault_companions.editing.choosing import Choice
+from ansible_vault_companions.editing.choosing import Choice, keep_key
 from ansible_vault_companions.editing.writing import make_sealed_block, require_nodes, write_values
 from ansible_vault_companions.envelopes import conflicts
 from ansible_vault_companions.envelopes.content import NO_SCALAR_THERE, VALUE_NOT_ENCRYPTED, Content, parse_nodes
@@ -50,8 +50,7 @@ class SingleValue:
         else:
             decrypted = decrypt(self.value.require_readable())
             # If the password has another label than the value, the new text may be for other readers.
-            decrypted.require_label()
-            self.key, self.before = decrypted.key, decrypted.text
+            self.key, self.before = keep_key(decrypted), decrypted.text
 
     def set_text(self, tool: Tool) -> None:
         """Sets it to standard input."""
