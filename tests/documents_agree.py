@@ -133,7 +133,11 @@ def test_limits() -> None:
 
 def test_files_of_companions() -> None:
     """docs/workflows.md says where to look for them after a crash."""
-    names = {f"{replacing.PREFIX}*{replacing.SUFFIX}", f"{private_directory.PREFIX}*", "~/.local/state/ansible-vault/"}
+    names = {
+        f"{replacing.PREFIX}*{replacing.SUFFIX}",
+        f"{private_directory.FOLDER_PREFIX}*",
+        "~/.local/state/ansible-vault/",
+    }
     end = (ROOT / "docs" / "workflows.md").read_text().partition("## Clean up after a crash")[2]
     assert names <= {*re.findall("`([^`]+)`", end)}
 

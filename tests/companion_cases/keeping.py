@@ -1,11 +1,15 @@
 """ansible-vault-edit keeps what was typed if a step after the editor fails."""
 
+import os
 import re
 from pathlib import Path
+from random import Random
 
 import pytest
 
-from companion_cases import CHANGE, CHANGED, EDIT, HEAD, Place, block, decrypted, edit, ended, run_changed, sealed
+from companion_cases import CHANGE, CHANGED, EDIT, HEAD, Companions, Done, Place, block, decrypted, edit, ended
+from companion_cases import run_changed, sealed
+from lib.subtests import SubTests
 
 STAYS, CHANGED_MEANWHILE = {"all.yml": sealed("old")}, "another program changed it in the meantime"
 # Changes of the companion: an unexpected exception, a tool that cannot encrypt, and a tree on a full disk.
@@ -30,6 +34,21 @@ def fail(path):
     return read(path)
 reading.read = fail
 """
+UNWRITTEN = """
+def fail(*words, **options):
+    raise MemoryError("no memory to write")
+replacing.replace = fail
+"""
+UNASKED = (
+    BROKEN.replace("RecursionError", "refusals.Refused")
+    + """
+from ansible_vault_companions import refusals
+from ansible_vault_companions.passwords import prompts
+def fail(question):
+    raise ValueError("no answer")
+prompts.ask_consent = fail
+"""
+)
 FULL = """
 write = replacing.write_new
 def full(folder, *words, **options):
@@ -45,6 +64,8 @@ STOPS = {
     "hard links": (f"{CHANGE}; ln all.yml ../second", "", "it has 2 names (hard links); ", SEALED, STAYS),
     "a removal": (f"{CHANGE}; rm all.yml", "", CHANGED_MEANWHILE, SEALED, {}),
     "an exception": (CHANGE, BROKEN, "too deep", SEALED, STAYS),
+    "an exception of the file": (CHANGE, UNWRITTEN, "no memory to write", SEALED, STAYS),
+    "an exception of a question": (CHANGE, UNASKED, "no answer", PLAIN, STAYS),
     "a full disk": (CHANGE, FULL, "no space", SEALED, STAYS),
     "no memory to read it": (CHANGE, UNREAD, "no memory to read", PLAIN, STAYS),
     "no vault": (CHANGE, UNSEALED, "no memory; an encrypted copy cannot be kept: no memory", PLAIN, STAYS),
@@ -77,6 +98,58 @@ def test_what_cannot_be_removed(place: Place) -> None:
     words, change = [*place.by_file("old"), "all.yml"], "import shutil; shutil.rmtree = lambda *_, **_options: None"
     done = run_changed(place, EDIT, change, words, EDITOR=place.script(CHANGE, "editor"))
     ended("the edit", done, 1, f"plaintext is left in {place.left()[0]}; remove it yourself\n")
+
+
+# Raises an exception at a line of the companion, of those that run once something is saved, and counts them.
+PLANT = """
+from ansible_vault_companions import refusals
+
+count = 0
+
+def trace(frame, event, argument):
+    return plant if re.search("companions/|ansible-vault-edit$", frame.f_code.co_filename) else None
+
+def plant(frame, event, argument):
+    global count
+    if event == "line" and (count or os.path.exists("../saved")):
+        count += 1
+        with open("../count", "w") as file:
+            file.write(str(count))
+        if count == {}:
+            raise {}("planted")
+    return plant
+
+import re
+sys.settrace(trace)
+"""
+KINDS = ("RuntimeError", "MemoryError", "OSError", "KeyError", "refusals.Refused", "RecursionError")
+
+
+@pytest.mark.parametrize("is_kept", (False, True))
+def test_planted_exceptions(cases: Companions, subtests: SubTests, is_kept: bool) -> None:
+    """Whichever line raises an exception after the editor's end, what was saved is in the file, or a message says where
+    it is."""
+
+    def edit_and_raise(line: int, kind: str) -> tuple[Place, Done, int]:
+        place = cases.place()
+        place.put("all.yml", sealed("old"))
+        editor = place.script(f"{CHANGE}; touch ../saved{'; exit 3' if is_kept else ''}", "editor")
+        change = PLANT.format(line, kind)
+        done = run_changed(place, EDIT, change, [*place.by_file("old"), "all.yml"], EDITOR=editor)
+        return place, done, int(place.get("../count"))
+
+    most = edit_and_raise(0, "")[2]
+    random = Random(most + is_kept)
+    for line in random.sample(range(1, most), 25):
+        kind = random.choice(KINDS)
+        place, done, count = edit_and_raise(line, kind)
+        with subtests.test(f"{kind} at line {line}"):
+            assert count >= line
+            private = [path for path in place.left() if Path(path).is_file() and Path(path).read_bytes() == CHANGED]
+            kept = [str(path) for path in place.copies() if CHANGED in place.kept()]
+            if decrypted("old", place.get("all.yml")) != CHANGED:
+                named = [path for path in [*(os.path.dirname(path) for path in private), *kept] if path in done.stderr]
+                assert named, (private, kept, done.stderr)
 
 
 OF_DEV = block("dev", b"one", "dev", "a")

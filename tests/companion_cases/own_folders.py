@@ -16,7 +16,7 @@ import pytest
 from hypothesis import strategies as st
 
 from ansible_vault_companions.editing.own_folder import require_own_folder
-from ansible_vault_companions.editing.private_directory import PREFIX
+from ansible_vault_companions.editing.private_directory import FOLDER_PREFIX
 from companion_cases import CHANGE, CHANGED, EDIT, NOBODY, Place, decrypted, ended, run_changed, sealed
 from lib.needs import needs, needs_root
 
@@ -213,7 +213,7 @@ def test_kinds(of_nobody: Place, owner: int, mode: int, is_used: bool, is_used_b
     real.chmod(mode)
     where, is_wanted = {"above": (own, is_used_below), "link": (link, is_used)}.get(position, (real, is_used))
     assert are_used(of_nobody, str(where), AS_NOBODY) == (is_wanted, is_wanted)
-    assert [*real.rglob(f"{PREFIX}*")] == [], "nothing else is left"
+    assert [*real.rglob(f"{FOLDER_PREFIX}*")] == [], "nothing else is left"
 
 
 # What is no directory for them, or is missing, so that one is made for a copy; the umask; and which of them are there.
@@ -269,4 +269,4 @@ def test_no_place(place: Place) -> None:
     done = run_changed(place, EDIT, NO_PLACE, words, EDITOR=place.script("touch ../started", "editor"))
     why = rf"\(/proc: .+; {place.path}: others can write to {place.path}\); set TMPDIR to a directory that only you can"
     assert re.fullmatch(rf"{EDIT}: all.yml: no private directory .+ {why} open\n", done.stderr), done.stderr
-    assert not (place.path / "started").exists() and [*place.path.glob(f"{PREFIX}*")] == []
+    assert not (place.path / "started").exists() and [*place.path.glob(f"{FOLDER_PREFIX}*")] == []

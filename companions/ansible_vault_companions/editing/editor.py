@@ -1,4 +1,4 @@
-"""Runs an editor on a plaintext. Whatever fails, what was saved is put back, or kept in an encrypted copy."""
+"""Runs an editor on a plaintext. Whatever fails, what was saved is put back or kept, if possible encrypted."""
 
 from __future__ import annotations
 
@@ -9,11 +9,11 @@ from typing import NamedTuple
 from ansible_vault_companions import processes, refusals, signals
 from ansible_vault_companions.editing.copies import save_copy
 from ansible_vault_companions.editing.drafts import Draft
-from ansible_vault_companions.editing.private_directory import PrivateDirectory
+from ansible_vault_companions.editing.private_directory import PrivateDirectory, describe_failure, describe_signal
 from ansible_vault_companions.editing.single_value import A_VAULT
 from ansible_vault_companions.envelopes import conflicts
 from ansible_vault_companions.envelopes.header import MAGIC
-from ansible_vault_companions.files import reading, replacing
+from ansible_vault_companions.files import replacing
 from ansible_vault_companions.passwords import prompts
 from ansible_vault_companions.quoting import escape
 from ansible_vault_companions.refusals import Refused
@@ -23,6 +23,7 @@ NO_FILE = "the editor left no file"
 # What is said of an edit that has changed nothing.
 TO_WAIT = "if the editor returned at once, give it an option to wait, such as `code --wait`"
 AS_BEFORE = f"nothing was changed; {TO_WAIT}"
+UNCHANGED, WRITTEN = "nothing was changed", "what you saved is in the file"
 NO_COPY = "an encrypted copy cannot be kept"
 SEVERAL = "its text has several passwords, and none of them may read all of it"
 RESCUED = "{}; what you saved is encrypted in {}\n--resume reopens it, unless the file has changed."
@@ -39,7 +40,8 @@ class EditorResult(NamedTuple):
 
 
 class Edit:
-    """An edit of a draft: its text is in a private directory, under the name of the file."""
+    """An edit of a draft: its text is in a private directory, under the name of the file. Whatever ends the edit, even
+    an exception that nobody has foreseen, leaves the text there until it is elsewhere."""
 
     def __init__(self, tool: Tool, draft: Draft, path: str, folder: PrivateDirectory) -> None:
         self.tool = tool
@@ -47,20 +49,31 @@ class Edit:
         # As on the command line.
         self.path = path
         self.folder = folder
-        # Whether an editor may have saved something.
-        self.has_run = False
+
+    def run(self) -> bool:
+        """Runs the editor until its text is put back. False if nothing is to be changed."""
+        while True:
+            saved = self.run_editor()
+            if signals.find_postponed_signal() is not None:
+                saved = saved._replace(fault=describe_signal())
+            if saved.text is None or self.draft.is_as_it_was(saved.text):
+                break
+            if self.put_back(saved.text, saved.fault):
+                return True
+        self.folder.release(UNCHANGED)
+        if saved.fault:
+            raise Refused(f"{saved.fault}; {UNCHANGED}")
+        return False
 
     def run_editor(self) -> EditorResult:
         editor = os.environ.get("VISUAL") or os.environ.get("EDITOR") or "vi"
+        was_needed, self.folder.is_needed = self.folder.is_needed, True
         try:
             status = self._run(editor)
-            self.has_run = True
-            text = reading.read(self.folder.file)
-        # Whatever went wrong, what was saved must not be lost.
-        except Exception as failed:
-            if not self.has_run:
-                raise
-            raise self.folder.keep(describe_failure(failed)) from None
+        except processes.NotStarted:
+            self.folder.is_needed = was_needed
+            raise
+        text = self.folder.read()
         if status:
             return EditorResult(text, f"the editor failed ({editor}, status {status})")
         # Even the directory may be gone: logging out removes files in memory.
@@ -83,15 +96,18 @@ class Edit:
             if text.startswith(MAGIC):
                 raise Refused(A_VAULT)
             content = self.draft.encrypt(self.tool, text)
-        # Whatever went wrong, the text must not be lost.
         except Exception as failed:
             if isinstance(failed, Refused) and self._opens_again(failed):
                 return False
-            raise self._rescue(text, describe_failure(failed)) from None
+            raise self._rescue(text, describe_failure(failed, self.path)) from None
         try:
             self._replace(content)
-        except (Refused, OSError) as failed:
-            raise self._rescue(text, refusals.describe_fault(failed)) from None
+        except replacing.NotSynced:
+            self.folder.release(WRITTEN)
+            raise
+        except Exception as failed:
+            raise self._rescue(text, describe_failure(failed, self.path)) from None
+        self.folder.release(WRITTEN)
         return True
 
     def _replace(self, content: bytes) -> None:
@@ -107,11 +123,13 @@ class Edit:
             return False
 
     def _rescue(self, text: bytes, why: str) -> Refused:
-        """Keeps a text that is not put back. Returns the exception that says where it is, and how to go on."""
+        """Keeps a text that is not put back. Returns the exception that says where it is, and how to go on; if no copy
+        is possible, why."""
         try:
             copy = self._save_copy(text)
         except Exception as failed:
-            return self.folder.keep(f"{why}; {NO_COPY}: {describe_failure(failed)}", text)
+            return Refused(f"{why}; {NO_COPY}: {describe_failure(failed, self.path)}")
+        self.folder.release(UNCHANGED)
         return Refused(RESCUED.format(why, escape(copy)))
 
     def _save_copy(self, text: bytes) -> str:
@@ -121,41 +139,29 @@ class Edit:
         return save_copy(self.tool, keys[0], self.draft.target, self.draft.plaintext, text)
 
 
-def describe_failure(failed: Exception) -> str:
-    """Why something failed. Some exceptions have no text, such as Python's own for too little memory."""
-    if isinstance(failed, signals.Stopped):
-        return describe_signal()
-    return refusals.describe_fault(failed) or type(failed).__name__
-
-
-def describe_signal() -> str:
-    return f"signal {signals.find_postponed_signal()} ended the edit"
-
-
 def change_draft(tool: Tool, draft: Draft, path: str, text: bytes | None, copy: str | None) -> str:
     """Edits a draft. Returns what is to be said; nothing if the text was changed."""
-    if edit_draft(tool, draft, path, text):
-        if copy:
-            os.unlink(copy)
+    if edit_draft(tool, draft, path, text, copy):
         return ""
     if conflicts.is_unmerged(draft.plaintext):
         raise Refused(conflicts.STILL)
     return AS_BEFORE
 
 
-def edit_draft(tool: Tool, draft: Draft, path: str, text: bytes | None) -> bool:
-    """Edits the plaintext, starting with `text` if given. Returns whether anything was changed. Signals must be
-    postponed, until a message has said what became of what was saved."""
-    with PrivateDirectory(os.path.basename(path), draft.plaintext if text is None else text) as folder:
-        edit = Edit(tool, draft, path, folder)
-        while True:
-            saved = edit.run_editor()
-            if signals.find_postponed_signal() is not None:
-                saved = saved._replace(fault=describe_signal())
-            if saved.text is None or draft.is_as_it_was(saved.text):
-                break
-            if edit.put_back(saved.text, saved.fault):
-                return True
-        if saved.fault:
-            raise Refused(f"{saved.fault}; nothing was changed")
-    return False
+def edit_draft(tool: Tool, draft: Draft, path: str, text: bytes | None, copy: str | None) -> bool:
+    """Edits the plaintext, starting with `text` if given, which is that of a copy. Once the file is written, the copy
+    is removed. Returns whether anything was changed. Signals must be postponed, until a message has said what became of
+    what was saved."""
+    with PrivateDirectory(os.path.basename(path), path, draft.plaintext if text is None else text) as folder:
+        is_changed = Edit(tool, draft, path, folder).run()
+        # First, since the end of this context may refuse what the editor has left there.
+        if is_changed and copy:
+            _remove_copy(copy)
+    return is_changed
+
+
+def _remove_copy(copy: str) -> None:
+    try:
+        os.unlink(copy)
+    except OSError as fault:
+        raise Refused(f"{WRITTEN}; its copy stays: {refusals.describe_fault(fault)}") from None

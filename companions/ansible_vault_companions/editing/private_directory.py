@@ -6,41 +6,70 @@ import os
 import shutil
 import tempfile
 
-from ansible_vault_companions import refusals
+from ansible_vault_companions import refusals, signals
 from ansible_vault_companions.editing.own_folder import require_own_folder
+from ansible_vault_companions.files import reading
 from ansible_vault_companions.refusals import Refused
 
-PREFIX = "ansible-vault-"
+FOLDER_PREFIX = "ansible-vault-"
 NO_PRIVATE_FOLDER = (
     "no private directory can be made for the plaintext ({}); set TMPDIR to a directory that only you can open"
 )
+IN_PLAINTEXT = "{}; what you saved is left in plaintext in {}"
 
 
 class PrivateDirectory:
-    """A directory of the user's own with a file, in memory if possible. It is removed at the end, unless it is kept."""
+    """A directory of the user's own with a file, in memory if possible. It is removed at the end, unless it may
+    have what is nowhere else."""
 
-    def __init__(self, name: str, text: bytes) -> None:
-        self.is_kept = False
+    def __init__(self, name: str, path: str, text: bytes) -> None:
         self.name = name
+        # The file that is edited, as on the command line.
+        self.edited = path
+        # Whether an editor may have saved something that is nowhere else; and what came of the edit.
+        self.is_needed = False
+        self.outcome = ""
+        # What was read last.
+        self.saved: bytes | None = None
         self.path = _make(name, text)
 
     @property
     def file(self) -> str:
         return os.path.join(self.path, self.name)
 
+    def read(self) -> bytes | None:
+        """What an editor has saved; None if the file is gone."""
+        self.saved = reading.read(self.file)
+        return self.saved
+
+    def release(self, outcome: str) -> None:
+        """Lets the directory go: what was saved is elsewhere, or nothing was. The outcome is what a message says."""
+        self.is_needed = False
+        self.outcome = outcome
+
     def __enter__(self) -> PrivateDirectory:
         return self
 
     def __exit__(self, _kind: object, fault: BaseException | None, _trace: object) -> None:
-        if not self.is_kept:
-            _remove(self.path, fault)
+        """Whatever ended the edit, a message says where the text is, or what became of it."""
+        why = describe_failure(fault, self.edited) if fault else self.outcome
+        if not self.is_needed:
+            _remove(self.path, why)
+            return
+        if self.saved is not None and not os.path.lexists(self.file):
+            self.path = _make(self.name, self.saved)
+        raise Refused(IN_PLAINTEXT.format(why, self.path)) from None
 
-    def keep(self, why: str, text: bytes | None = None) -> Refused:
-        """Keeps the directory, or another one if this text is not in it. Returns the exception that says where."""
-        self.is_kept = True
-        if text is not None and not os.path.lexists(self.file):
-            self.path = _make(self.name, text)
-        return Refused(f"{why}; what you saved is left in plaintext in {self.path}")
+
+def describe_failure(failed: BaseException, path: str) -> str:
+    """Why something failed. Some exceptions have no text, such as Python's own for too little memory."""
+    if isinstance(failed, signals.Stopped):
+        return describe_signal()
+    return refusals.describe_fault(failed, path) or type(failed).__name__
+
+
+def describe_signal() -> str:
+    return f"signal {signals.find_postponed_signal()} ended the edit"
 
 
 def _make(name: str, text: bytes) -> str:
@@ -63,17 +92,21 @@ def _list_places() -> list[str]:
 
 def _make_in(place: str, name: str, text: bytes) -> str:
     folder = _make_own_folder(place)
+    path = os.path.join(folder, name)
     try:
-        with open(os.path.join(folder, name), "xb", opener=_open_private) as file:
+        with open(path, "xb", opener=_open_private) as file:
             file.write(text)
     except OSError as fault:
-        _remove(folder, fault)
+        _remove(folder, refusals.describe_fault(fault, path))
         raise
     return folder
 
 
 def _make_own_folder(place: str) -> str:
-    folder = tempfile.mkdtemp(prefix=PREFIX, dir=place)
+    try:
+        folder = tempfile.mkdtemp(prefix=FOLDER_PREFIX, dir=place)
+    except OSError as fault:
+        raise OSError(fault.errno, fault.strerror, place) from None
     try:
         require_own_folder(folder)
     except OSError:
@@ -86,9 +119,8 @@ def _open_private(path: str, flags: int) -> int:
     return os.open(path, flags, 0o600)
 
 
-def _remove(folder: str, fault: BaseException | None) -> None:
-    """Removes a private directory. If it cannot, raises Refused, with an earlier reason, if that was for the user."""
+def _remove(folder: str, why: str) -> None:
+    """Removes a private directory. If it cannot, raises Refused, with what was to be said anyway."""
     shutil.rmtree(folder, ignore_errors=True)
     if os.path.lexists(folder):
-        left = f"plaintext is left in {folder}; remove it yourself"
-        raise Refused(f"{fault}; {left}" if isinstance(fault, Refused) else left) from None
+        raise Refused(f"{why}; plaintext is left in {folder}; remove it yourself") from None
