@@ -2,7 +2,7 @@
 
 import pytest
 
-from companion_cases import CHANGE, CHANGED, EDIT, TEXT, Place, block, edit, ended, sealed, silent, texts
+from companion_cases import CHANGE, CHANGED, EDIT, TEXT, Place, block, decrypted, edit, ended, sealed, silent, texts
 from companion_cases.terminal import READING, ask
 from lib.needs import needs, needs_pyyaml
 
@@ -61,6 +61,16 @@ def test_resumed(place: Place) -> None:
     assert (place.path / "seen").read_bytes() == TYPED + b"# x\n"
     assert texts(place.get(name), "old") == [TEXT, b"more"]
     assert (place.mode(name), place.names(), place.kept(), place.left()) == ("0o640", [name], [TYPED], []), "it is gone"
+
+
+def test_resumed_beside_a_swap_file(place: Place) -> None:
+    """What an editor leaves is named, but the file is written, so the copy is gone."""
+    place.put("a.yml", sealed("old"))
+    words = [*place.by_file("old"), "a.yml"]
+    ended("a failure", edit(place, f"{CHANGE}; exit 3", *words), 1, "--resume reopens it")
+    done = edit(place, 'echo "# x" >> "$1"; echo typed > "$1.swp"', "--resume", *words)
+    ended("it is resumed", done, 1, "is left, with a.yml.swp in it")
+    assert (decrypted("old", place.get("a.yml")), place.copies()) == (CHANGED + b"# x\n", [])
 
 
 # A file at first, what somebody else makes of it, and why the text of an edit is not taken up, if it is not.

@@ -7,7 +7,7 @@ from random import Random
 
 import pytest
 
-from companion_cases import CHANGE, CHANGED, EDIT, HEAD, Companions, Done, Place, block, decrypted, edit, ended
+from companion_cases import CHANGE, CHANGED, EDIT, HEAD, TEXT, Companions, Done, Place, block, decrypted, edit, ended
 from companion_cases import run_changed, sealed
 from lib.subtests import SubTests
 
@@ -57,6 +57,14 @@ def full(folder, *words, **options):
     return write(folder, *words, **options)
 replacing.write_new, replacing.check_replaceable = full, lambda target: None
 """
+STUCK = """
+unlink = os.unlink
+def fail(path):
+    if os.path.basename(os.path.dirname(path)).startswith("ansible-vault-"):
+        raise OSError(5, "broken")
+    unlink(path)
+os.unlink = fail
+"""
 SEALED, PLAIN = "encrypted", "left in plaintext"
 # What the editor does, a change of the companion, the reason in the message, how the text is kept, and the files that
 # stay.
@@ -95,9 +103,15 @@ def test_stops(place: Place, what: str) -> None:
 
 def test_what_cannot_be_removed(place: Place) -> None:
     place.put("all.yml", sealed("old"))
-    words, change = [*place.by_file("old"), "all.yml"], "import shutil; shutil.rmtree = lambda *_, **_options: None"
-    done = run_changed(place, EDIT, change, words, EDITOR=place.script(CHANGE, "editor"))
-    ended("the edit", done, 1, f"plaintext is left in {place.left()[0]}; remove it yourself\n")
+    words = [*place.by_file("old"), "all.yml"]
+    done = run_changed(place, EDIT, STUCK, words, EDITOR=place.script(CHANGE, "editor"))
+    ended(
+        "the edit",
+        done,
+        1,
+        f"all.yml: what you saved is in the file; {place.left()[0]} is left, with all.yml in it; save what you need, ",
+    )
+    assert decrypted("old", place.get("all.yml")) == CHANGED
 
 
 # Raises an exception at a line of the companion, of those that run once something is saved, and counts them.
@@ -150,6 +164,42 @@ def test_planted_exceptions(cases: Companions, subtests: SubTests, is_kept: bool
             if decrypted("old", place.get("all.yml")) != CHANGED:
                 named = [path for path in [*(os.path.dirname(path) for path in private), *kept] if path in done.stderr]
                 assert named, (private, kept, done.stderr)
+
+
+KILLED = "kill -KILL $$"
+# What an editor does, and the files that are left. A backup has a text that the file had.
+LEFTOVERS = {
+    "nothing": (":", ""),
+    "a backup of the first text": (f'cp "$1" "$1~"; {CHANGE}', ""),
+    "backups of both texts": (f'cp "$1" "$1.1~"; {CHANGE}; cp "$1" "$1.2~"', ""),
+    "a backup, and nothing saved": ('cp "$1" "$1~"', ""),
+    "the file under another name": (f'{CHANGE}; mv "$1" "$1.bak"', "all.yml.bak"),
+    "a text under another name": (f'{CHANGE}; echo typed > "${{1%/*}}/b.yml"', "b.yml"),
+    "what was not saved": (f'echo typed > "${{1%/*}}/.all.yml.swp"; {KILLED}', ".all.yml.swp"),
+    "what was not saved, beside what was": (f'{CHANGE}; cp "$1" "$1~"; echo typed > "$1.save"', "all.yml.save"),
+    "an empty file": (f'{CHANGE}; : > "$1.lock"', ""),
+    "a link to nothing": (f'{CHANGE}; ln -s nothing "$1.link"', ""),
+    "a link to a file": (f'{CHANGE}; echo typed > ../kept; ln -s "$PWD/../kept" "$1.link"', ""),
+    "a pipe": (f'{CHANGE}; mkfifo "$1.pipe"', ""),
+    "an awkward name": (f"{CHANGE}; echo typed > \"$1\"'\n'", "'all.yml\\n'"),
+    "a directory": (f'{CHANGE}; mkdir "${{1%/*}}/more"; echo typed > "${{1%/*}}/more/a"', "more"),
+}
+
+
+@pytest.mark.parametrize("what", LEFTOVERS)
+def test_leftovers(place: Place, what: str) -> None:
+    """What somebody may have typed into another file beside the text is not removed, and the message names it. A text
+    that the file had is not left, neither there nor as a backup."""
+    editor, names = LEFTOVERS[what]
+    place.put("all.yml", sealed("old"))
+    done = edit(place, editor, *place.by_file("old"), "all.yml")
+    text = CHANGED if CHANGE in editor and "mv" not in editor else TEXT
+    assert decrypted("old", place.get("all.yml")) == text, "it is written all the same"
+    if names:
+        ended(what, done, 1, f"{place.left()[0]} is left, with {names} in it; save what you need, ")
+        assert not [path for path in place.left() if os.path.isfile(path) and Path(path).read_bytes() in (TEXT, text)]
+    else:
+        assert place.left() == []
 
 
 OF_DEV = block("dev", b"one", "dev", "a")

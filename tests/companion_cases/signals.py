@@ -68,7 +68,7 @@ def check_edit(place: Place, errors: str, wanted: bytes = CHANGED) -> None:
 # Signals the companion, or its whole process group, at a step: before or after a call that creates, replaces or removes
 # a file, that waits for a program, or that postpones signals or lets them through.
 AT_STEP = """
-import _signal, itertools, shutil, subprocess, tempfile
+import _signal, itertools, subprocess, tempfile
 os.setsid()
 companion = os.getpid()
 steps = itertools.count()
@@ -83,7 +83,7 @@ def stepping(call):
         step()
         return done
     return made
-files = (tempfile, "mkdtemp mkstemp"), (os, "replace unlink open"), (shutil, "rmtree")
+files = (tempfile, "mkdtemp mkstemp"), (os, "replace unlink open rmdir")
 for owner, names in (*files, (_signal, "pthread_sigmask sigwait")):
     for name in names.split():
         setattr(owner, name, stepping(getattr(owner, name)))
