@@ -5,6 +5,7 @@ import os
 import pwd
 import re
 import shutil
+import subprocess
 from collections import Counter
 from collections.abc import Callable
 from functools import partial
@@ -130,18 +131,25 @@ def test_nobody_else(tmp_path: Path, request: pytest.FixtureRequest) -> None:
     assert min(counts[True], counts[False]) > 15, counts
 
 
-def test_group_of_the_user(tmp_path: Path, monkeypatch: pytest.MonkeyPatch) -> None:
-    """With a umask of 002, directories are writable for a group, which has to be the user's alone."""
+ACCESS_LISTS = [f"u:{OTHER}:rwx", f"g:{SHARED}:rwx", f"u:{OTHER}:-wx", f"u:{OTHER}:r-x"]
+
+
+@pytest.mark.parametrize("group", ("the user's", "another"))
+@pytest.mark.parametrize("mode", (0o700, 0o750, 0o755, 0o770, 0o775))
+def test_groups(tmp_path: Path, mode: int, group: str) -> None:
+    """A directory that a group may write to is open to others, whoever is in the group by name, by its number or by a
+    list, and so is one with an access control list that lets anybody else write."""
     needs_root()
+    needs("setfacl")
     user = find_user_with_group()
-    own = Folder(user.number, user.groups[0], 0o700)
-    for number, (group, is_own) in enumerate(((user.groups[0], True), (SHARED, False), (0, False))):
+    own = Folder(user.number, user.groups[0] if group == "the user's" else SHARED, 0o700)
+    for number, access in enumerate(("", *ACCESS_LISTS)):
         (tmp_path / str(number)).mkdir()
-        path = make_chain(tmp_path / str(number), [own._replace(group=group, mode=0o775), own])[-1]
-        assert succeeds(user, lambda: require_own_folder(str(path))) == is_own, group
-    members = grp.struct_group((*grp.getgrgid(user.groups[0])[:3], ["another"]))
-    monkeypatch.setattr(grp, "getgrgid", lambda _: members)
-    assert not succeeds(user, lambda: require_own_folder(str(tmp_path / "0/folder/folder")))
+        paths = make_chain(tmp_path / str(number), [own._replace(mode=mode), own])
+        if access:
+            subprocess.run(["setfacl", "-m", access, paths[0]], check=True)
+        is_open = mode & 0o020 > 0 or "w" in access
+        assert succeeds(user, lambda: require_own_folder(str(paths[-1]))) == (not is_open), access
 
 
 # Directories by owner and mode; and whether plaintext and copies are put there, and below, where one is the user's own.
