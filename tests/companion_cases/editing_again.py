@@ -131,18 +131,32 @@ def test_saved_in_another(place: Place, codec: str) -> None:
     assert (place.kept(), place.get("vars.yml"), place.left()) == ([typed], before, []), "no plaintext is left"
 
 
-# Values after a tag that the file did not have; and those with a known tag or none, which are not refused.
-MISSPELT = ["!Vault x", "! vault x", "!!vault x", "!vault: x", "!<vault> x", "!vualt [x]"]
-OTHERS = "a: !other y\nb: 'wow! Vault'\nc: x != vault\nd: vault x\n"
+# Values after a tag that Ansible does not read; and those with a known tag or none, which are not refused.
+MISSPELT = ["!Vault x", "! vault x", "!!vault x", "!vault: x", "!<vault> x", "!vualt [x]", "!other x"]
+OTHERS = "a: !unsafe y\nb: 'wow! Vault'\nc: x != vault\nd: vault x\ne: !!str y\n"
+WHY = "Ansible reads no such tag, so line {} would stay in plaintext"
 
 
 @pytest.mark.parametrize("value", MISSPELT)
 def test_new_tags(place: Place, value: str) -> None:
-    """A text after a tag that the file did not have is refused, and the message repeats no word of it."""
+    """A text after a tag that Ansible does not read is refused, and the message repeats no word of it."""
     needs_pyyaml()
-    place.put("vars.yml", before := b"o: !other x\n" + block("old"))
+    place.put("vars.yml", before := b"o: !unsafe |\n  x\n" + block("old"))
     typed = [OTHERS, f"n: {value.replace('x', 'battery')}\n"]
     done, refused = (edit(place, f"cat >> \"$1\" << 'E'\n{text}E", *place.by_file("old"), "vars.yml") for text in typed)
     silent("others", done)
-    ended("it", refused, 1, "vars.yml: line 8: it has a tag that the file did not have")
+    ended("it", refused, 1, f"vars.yml: line 10: {WHY.format(10)}")
     assert ("battery" in refused.stderr, place.get("vars.yml")) == (False, before + OTHERS.encode())
+
+
+@pytest.mark.parametrize("value", MISSPELT)
+def test_old_tags(place: Place, value: str) -> None:
+    """Beside such a tag, even one that the file had, only what is encrypted can be changed."""
+    needs_pyyaml()
+    place.put("vars.yml", before := f"o: {value}\n".encode() + block("old"))
+    words = [*place.by_file("old"), "vars.yml"]
+    done = edit(place, 'echo n: x >> "$1"', *words)
+    ended("a line", done, 1, "vars.yml: line 1: ", "so line 4 would stay in plaintext")
+    assert place.get("vars.yml") == before
+    ended("a text", edit(place, CHANGE, *words), 0)
+    assert texts(place.get("vars.yml"), "old") == [CHANGED]

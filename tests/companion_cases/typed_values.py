@@ -17,9 +17,9 @@ from ansible_vault_companions.refusals import Refused
 from companion_cases.yaml_values import SECRET, Hexadecimal, Plaintexts, decrypt
 
 EXAMPLES = 1000
-STRAY = "no value follows `!vault` here"
+STRAY, UNKNOWN = "no value follows `!vault` here", "Ansible reads no such tag"
 # The words of what is typed.
-SECRETS = [b"hunter2", b"staple"]
+SECRETS = ["hunter2", "staple"]
 TEXTS = ["hunter2", "hunter2 staple", "hunter2, staple", "hunter2 #staple", "hunter2: staple", "hunter2]staple"]
 TEXTS += ["#hunter2", "!hunter2", "*hunter2", "[hunter2, staple]", "{hunter2: staple}", "hunter2\n    staple"]
 TEXTS += ["'hunter2'", '"hunter2"', "|\n    hunter2\n    staple", ">-\n    hunter2", "|\n    hunter2\n    # staple"]
@@ -27,6 +27,11 @@ LINES = ["new: !vault {}", "new: !vault {}", "new: &b !vault {}", "new: !vault &
 LINES += ["- !vault {}", "!vault {}", "[!vault {}]", "? !vault {}", "new: !vault\n    {}", "new: !<!vault> {}"]
 LINES += ["# new: !vault {}", "new: 'so !vault {}'", "new: x # !vault {}", "!vault {}: x", "new: !vault # {}\n    x"]
 LINES += ["new: !vault-encrypted {}", "new: !!vault {}", "new: !vault:{}"]
+# In these lines, a misspelled `!vault` is a word like any other.
+PROSE = ["new: 'so !vault {}'", "new: x # !vault {}"]
+# Misspelled tags; and texts that begin like an anchor.
+LINES += ["new: ! vault {}", "new: !Vault {}", "- !vaul {}", "{{new: !vualt {}}}", "!VAULT {}", "new:!valt {}"]
+TEXTS += ["&hunter2", "&hunter2 staple", "& hunter2", "&a hunter2"]
 # Lines that somebody may put above and below what is typed, and that can be read without it.
 AROUND = [
     ('notes{}: "', '  "'),
@@ -50,39 +55,66 @@ AROUND += [
     ("# !vault hunter2", "t{}: !valt x"),
 ]
 AROUND += [("%TAG ! !{}", "---"), ("z{}: &a !vault x", "z: *a"), ("m{}: !vault 'x'", "")]
+# What a file may have with a tag, and the word in place of which a secret may be typed.
+OLD_TEXT = "changeme"
+TAGGED = [f"t{{}}: {{}} {OLD_TEXT}", f"t{{}}: {{}} |\n  {OLD_TEXT}", f"t{{}}: {{}}\n  - x\n  - {OLD_TEXT}"]
+TAGGED += [
+    f"# t{{}}: {{}} |\n#   {OLD_TEXT}",
+    f"n{{}}: |\n  - {{}} # x\n    {OLD_TEXT}",
+    f"t{{}}: {{}}\n  a: {OLD_TEXT}",
+    f"t{{}}: {{}} [{{{{a: {OLD_TEXT}}}}}]",
+    f"t{{}}: &b {{}}\n  {OLD_TEXT}",
+]
 
 
 class Edit(NamedTuple):
-    """The lines of a file, and those that are saved above one of its plaintext."""
+    """The lines of a file, those that are saved above one of its plaintext, and what takes the place of OLD_TEXT."""
 
     content: list[str]
     place: int
     added: list[str]
+    new_text: str
+
+
+@st.composite
+def tags(draw: st.DrawFn) -> str:
+    """Return the tag, or one that somebody may take for it."""
+    place, letter = draw(st.integers(0, 5)), draw(st.sampled_from("vaultVAULT_-1"))
+    before, after = "vault"[:place], "vault"[place:]
+    misspelled = [f"!{before}{letter}{after}", f"!{before}{letter}{after[1:]}", f"!{before}{after[1:]}"]
+    return draw(st.sampled_from(["!vault", "!vault", "! vault", "!!vault", *misspelled]))
 
 
 @st.composite
 def edits(draw: st.DrawFn) -> Edit:
     generator = Plaintexts(random.Random(draw(st.integers(0, 1 << 32))))
     content = ["first: !vault |", *(f"  {line}" for line in generator.lines())]
+    tag = draw(tags())
     for number in range(draw(st.integers(1, 3))):
         if draw(st.booleans()):
             above, below = draw(st.sampled_from(AROUND))
             content += [above.format(number), below.format(number)]
+        elif draw(st.booleans()):
+            content += draw(st.sampled_from(TAGGED)).format(number, tag).splitlines()
         else:
             content += [f"deep{number}:", *generator.collection(2, 2).splitlines()]
     above, below = draw(st.sampled_from([("", "")] * len(AROUND) + AROUND))
     margin = draw(st.sampled_from(["", "", "  "]))
-    typed = margin + draw(st.sampled_from(LINES)).format(draw(st.sampled_from(TEXTS)))
-    return Edit(content, draw(st.integers(0, 40)), [above.format("new"), typed, below.format("new")])
+    line = draw(st.sampled_from(["", *LINES]))
+    if line not in PROSE:
+        line = line.replace("!vault", tag)
+    typed = margin + line.format(draw(st.sampled_from(TEXTS)))
+    new_text = draw(st.sampled_from([OLD_TEXT, *SECRETS]))
+    return Edit(content, draw(st.integers(0, 40)), [above.format("new"), typed, below.format("new")], new_text)
 
 
 def save(edit: Edit) -> bytes:
     """Return the file after an edit."""
     content = "".join(f"{line}\n" for line in edit.content).encode(errors="surrogateescape")
     file = YamlDraft("", content, content, decrypt, Choice([SECRET], None))
-    lines = file.plaintext.splitlines(keepends=True)
+    lines = file.plaintext.replace(OLD_TEXT.encode(), edit.new_text.encode()).splitlines(keepends=True)
     place = edit.place % (len(lines) + 1)
-    lines[place:place] = [f"{line}\n".encode() for line in edit.added if line]
+    lines[place:place] = [f"{line}\n".encode() for line in edit.added if line.strip()]
     return file.encrypt(Hexadecimal(), b"".join(lines))
 
 
@@ -98,11 +130,11 @@ def test_typed_values(request: pytest.FixtureRequest) -> None:
         try:
             after = save(edit)
         except Refused as fault:
-            counts[str(fault).partition(": ")[2][: len(STRAY)]] += 1
+            counts[str(fault).partition(": ")[2].partition(",")[0]] += 1
             return
         counts["encrypted"] += 1
         before = "".join(edit.content).encode(errors="surrogateescape")
-        assert [secret for secret in SECRETS if after.count(secret) > before.count(secret)] == []
+        assert [word for word in SECRETS if after.count(word.encode()) > before.count(word.encode())] == []
 
     check()
-    assert min(counts["encrypted"], counts[STRAY]) > 30, counts
+    assert min(counts["encrypted"], counts[STRAY], counts[UNKNOWN]) > 30, counts
