@@ -171,7 +171,7 @@ class Tool:
                 plaintext = self.view(envelope, password)
                 password.trust()
                 return Decryption(envelope, password, plaintext, policy)
-        raise NotDecrypted(f"{NOT_DECRYPTED} {describe_attempts(label, tried)}")
+        raise NotDecrypted(f"{NOT_DECRYPTED} {describe_attempts(label, tried, policy)}")
 
     def encrypt(self, plaintext: bytes, key: Key) -> bytes:
         """The plaintext, encrypted and labeled with a key."""

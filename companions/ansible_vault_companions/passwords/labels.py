@@ -28,19 +28,26 @@ NONE_HAS_LABEL = "no secret has the label of --encrypt-vault-id"
 class Policy:
     """What labels mean to the passwords of a command line."""
 
-    def __init__(self, requires_match: bool, any_label: bool, usual_label: str | None) -> None:
+    def __init__(self, requires_match: bool, any_label: bool, usual_label: str | None, switched_off: str = "") -> None:
         # Whether a password may decrypt only envelopes with its label.
         self.requires_match: Final = requires_match
         # Whether a password may encrypt again what has another label.
         self.any_label: Final = any_label
         # The label that the settings choose for encryption.
         self.usual_label: Final = usual_label
+        # What a message adds if no password fits: that options have switched off settings, if they have.
+        self.switched_off: Final = switched_off
 
 
 def make_policy(passwords: Iterable[Password], settings: Settings, any_label: bool) -> Policy:
     """The policy for these passwords. Passwords that are all the same count as one."""
     are_one = len({password.content for password in passwords}) == 1
-    return Policy(settings.requires_match(), any_label or are_one, settings.find_encrypt_label())
+    return Policy(
+        settings.requires_match(),
+        any_label or are_one,
+        settings.find_encrypt_label(),
+        settings.describe_switched_off(),
+    )
 
 
 def order_to_try(passwords: Iterable[Password], label: str | None, policy: Policy) -> list[Password]:
@@ -80,11 +87,11 @@ def require_label(password: Password, label: str, policy: Policy, where: str = "
         )
 
 
-def describe_attempts(label: str | None, passwords: Sequence[Password]) -> str:
+def describe_attempts(label: str | None, passwords: Sequence[Password], policy: Policy) -> str:
     """For a message: which passwords were tried on an envelope that none decrypts, and what to do."""
     names = ", ".join(escape(password.source.text) for password in passwords) or "none: no password has its label"
     has = f"label {escape(label)}" if label else "no label"
-    return f"({has}; tried {names}): name its password with --vault-id LABEL@SOURCE"
+    return f"({has}; tried {names}): name its password with --vault-id LABEL@SOURCE{policy.switched_off}"
 
 
 def is_allowed(label: str) -> bool:

@@ -17,7 +17,7 @@ from ansible_vault_companions.limits import LONGEST_SETTING, LONGEST_SETTINGS, L
 from ansible_vault_companions.quoting import escape
 from ansible_vault_companions.refusals import Refused, describe_refusal
 
-NAME = "ansible.cfg"
+NAME, CONFIG = "ansible.cfg", "ANSIBLE_CONFIG"
 SECTION = "defaults"
 # Other places of the file, in the order in which Ansible looks there.
 USUAL_PLACES = "~/.ansible.cfg", "/etc/ansible/ansible.cfg"
@@ -45,6 +45,12 @@ SYNTAX_FAULTS = {
 }
 NOT_A_KEY = "it is not KEY = VALUE"
 NO_HOME = "~ leads to no home directory; to mean a file of this name, begin with ./"
+
+
+# For a message if no password fits.
+SWITCHED_OFF = (
+    '; ./ansible.cfg is ignored beside options that name a password, unless you set ANSIBLE_CONFIG="$PWD/ansible.cfg"'
+)
 
 
 def split_vault_id(text: str) -> tuple[str, str]:
@@ -102,6 +108,11 @@ class Settings:
         """Whether a password may decrypt only its own label. As with Ansible, any value means yes, even `false`."""
         return bool(_unquote(self._read(ID_MATCH)))
 
+    def describe_switched_off(self) -> str:
+        """For a message: that options have switched off ./ansible.cfg, if that is so, and how to use it anyway."""
+        is_off = self.beside_options and not os.environ.get(CONFIG) and _is_readable(NAME)
+        return SWITCHED_OFF if is_off else ""
+
     def _read(self, setting: tuple[str, str]) -> str:
         variable, key = setting
         return os.environ.get(variable, self.keys.get(key, ""))
@@ -115,7 +126,7 @@ class Settings:
 
     def _find_file(self) -> str | None:
         """The file that ANSIBLE_CONFIG names, else the first readable one, in Ansible's order of places."""
-        named = os.environ.get("ANSIBLE_CONFIG", "")
+        named = os.environ.get(CONFIG, "")
         path = _expand_setting(named)
         if os.path.isdir(path):
             path = os.path.join(path, NAME)
