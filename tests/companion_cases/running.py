@@ -75,7 +75,7 @@ REFUSED = [
     (f"{REKEY} --new-vault-id dev@../secrets/new", 1, NOT_NEW),
     (f"rekey {OLD} --new-vault-id x@y --new-vault-password-file z a.yml", 2, "rekey takes one new password"),
     # Nobody can type a password.
-    ("view -J a.yml", 1, f"{WITH}: --ask-vault-password: there is no terminal to ask for the password; name "),
+    ("view -J a.yml", 1, f"{WITH}: --ask-vault-password: there is no terminal on which to ask for the password; name "),
     ("view a.yml", 1, f"{WITH}: no password is given: name one with --vault-id or --vault-password-file, in "),
     (f"rekey {OLD} a.yml", 1, f"{WITH}: no new password is given: name one with --new-vault-id or "),
     (f"create {OLD} a.yml", 1, "a.yml exists already; use `edit`"),

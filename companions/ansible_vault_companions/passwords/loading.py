@@ -12,8 +12,9 @@ from ansible_vault_companions.limits import LONGEST_PASSWORD
 from ansible_vault_companions.passwords import prompts, scripts
 from ansible_vault_companions.passwords.labels import is_allowed
 from ansible_vault_companions.passwords.password import Password
+from ansible_vault_companions.passwords.prompts import Asking, NoAnswer
 from ansible_vault_companions.passwords.settings import expand_path
-from ansible_vault_companions.passwords.sources import Source
+from ansible_vault_companions.passwords.sources import ASK_ID, Source, parse_vault_id
 from ansible_vault_companions.quoting import escape
 from ansible_vault_companions.refusals import Refused, describe_fault
 
@@ -22,10 +23,10 @@ NO_DESCRIPTORS = (
 )
 
 
-def load_passwords(companion: str, sources: list[Source], encrypts: bool, skips: bool = False) -> list[Password]:
+def load_passwords(companion: str, sources: list[Source], asking: Asking, skips: bool = False) -> list[Password]:
     """Reads the passwords. Those that are ignored stay in the list, since the one to encrypt with is chosen among all
     that are named."""
-    passwords = [read_password(source, encrypts) for source in sources]
+    passwords = [read_password(source, asking) for source in sources]
     ignored = _list_ignored(passwords, skips)
     for password in ignored:
         write_error(f"{companion}: {escape(password.source.text)}: {password.fault}; it is ignored")
@@ -44,24 +45,36 @@ def _list_ignored(passwords: list[Password], skips: bool) -> list[Password]:
     return ignored if len(ignored) < len(passwords) else []
 
 
-def load_password(source: Source, encrypts: bool) -> Password:
+def load_password(source: Source, asking: Asking) -> Password:
     """Reads a password that must be usable."""
-    password = read_password(source, encrypts)
+    password = read_password(source, asking)
     if password.fault:
         raise password.make_refusal(password.fault)
     return password
 
 
-def read_password(source: Source, encrypts: bool) -> Password:
+def ask_password(asking: Asking, unanswered: str) -> Password:
+    """Asks for a password where nothing names one. Raises Refused with the text `unanswered` if nobody answers."""
+    password = read_password(parse_vault_id(ASK_ID), asking)
+    if password.is_unanswered:
+        raise Refused(unanswered)
+    if password.fault:
+        raise password.make_refusal(password.fault)
+    return password
+
+
+def read_password(source: Source, asking: Asking) -> Password:
     """Keeps a password in memory, since `<(..)` can be read only once. To encrypt, the user has to type it twice."""
     try:
-        content = _read(source, encrypts)
+        content = _read(source, asking)
         descriptor = _keep_in_memory(content)
     except (Refused, OSError) as fault:
-        return Password(source, b"", -1, describe_fault(fault))
+        why = describe_fault(fault, os.path.expanduser(os.path.expandvars(source.place)))
+        return Password(source, b"", -1, why, is_unanswered=isinstance(fault, NoAnswer))
     _require_descriptors(descriptor)
     why = _find_fault(source.label, content)
-    return Password(source, content.strip(), descriptor, why, source.is_prompt and not encrypts and not why)
+    is_doubtful = source.is_prompt and not asking.encrypts and not why
+    return Password(source, content.strip(), descriptor, why, asking if is_doubtful else None)
 
 
 def _keep_in_memory(content: bytes) -> int:
@@ -78,9 +91,9 @@ def _require_descriptors(descriptor: int) -> None:
         raise Refused(NO_DESCRIPTORS)
 
 
-def _read(source: Source, encrypts: bool) -> bytes:
+def _read(source: Source, asking: Asking) -> bytes:
     if source.is_prompt:
-        return prompts.ask_password(source.place, source.label, encrypts)
+        return prompts.ask_password(source.place, source.label, asking)
     path = expand_path(source.place)
     mode = os.stat(path).st_mode
     if stat.S_ISREG(mode) and mode & 0o111:

@@ -9,8 +9,17 @@ from ansible_vault_companions.output import write_error
 from ansible_vault_companions.passwords import loading
 from ansible_vault_companions.passwords.labels import ANY_LABEL, Policy, make_policy
 from ansible_vault_companions.passwords.password import Password
+from ansible_vault_companions.passwords.prompts import Asking
 from ansible_vault_companions.passwords.settings import Settings
-from ansible_vault_companions.passwords.sources import ASKED, ASKING, list_sources, make_path_source, parse_vault_id
+from ansible_vault_companions.passwords.sources import (
+    ASK_ID,
+    ASK_OPTIONS,
+    Source,
+    list_sources,
+    make_path_source,
+    parse_vault_id,
+)
+from ansible_vault_companions.refusals import Refused
 
 ANY_LABEL_HELP = "accept a password whose label differs from the vault's"
 NO_PASSWORD = (
@@ -27,7 +36,7 @@ def add_options(parser: argparse.ArgumentParser, before: str = "") -> None:
     by_path = ["--vault-password-file", "--vault-pass-file"]
     _add_source(parser, by_path, f"{before}vault_password_file", "SOURCE", text)
     asks = "ask at the terminal for a password"
-    parser.add_argument(*ASKING, dest=ids, action="append_const", const=ASKED, help=asks)
+    parser.add_argument(*ASK_OPTIONS, dest=ids, action="append_const", const=ASK_ID, help=asks)
 
 
 def add_new_options(parser: argparse.ArgumentParser) -> None:
@@ -46,23 +55,50 @@ def add_any_label(parser: argparse.ArgumentParser) -> None:
 
 
 def load_passwords(
-    parser: argparse.ArgumentParser, args: argparse.Namespace, encrypts: bool = False, skips: bool = False
+    parser: argparse.ArgumentParser,
+    args: argparse.Namespace,
+    encrypts: bool = False,
+    skips: bool = False,
+    reads_lines: bool = False,
 ) -> tuple[list[Password], Policy]:
-    """The passwords that are named, in Ansible's order, and what labels mean to them. With `skips`, those that cannot
-    be used are ignored."""
-    settings = read_settings(args, lambda text: write_error(f"{parser.prog}: {text}"))
-    sources = list_sources(args.vault_id, args.vault_password_file, settings)
-    if not sources:
+    """The passwords of a command line that has to name one. With `skips`, those that cannot be used are ignored; with
+    `reads_lines`, lines of standard input answer if there is no terminal."""
+    asking = Asking(encrypts, reads_lines)
+
+    def find_other() -> list[Password]:
         parser.error(NO_PASSWORD)
-    passwords = loading.load_passwords(parser.prog, sources, encrypts, skips)
+
+    return load_named(parser.prog, args, asking, find_other, skips)
+
+
+def load_named(
+    companion: str,
+    args: argparse.Namespace,
+    asking: Asking,
+    find_other: Callable[[], list[Password]] | None = None,
+    skips: bool = False,
+) -> tuple[list[Password], Policy]:
+    """The passwords that options and settings name, in Ansible's order, and what labels mean to them. If nothing names
+    one, `find_other` finds it; without that, it is refused."""
+    settings = read_settings(args, lambda text: write_error(f"{companion}: {text}"))
+    sources = list_sources(args.vault_id, args.vault_password_file, settings)
+    if sources:
+        passwords = loading.load_passwords(companion, sources, asking, skips)
+    elif find_other:
+        passwords = find_other()
+    else:
+        raise Refused(NO_PASSWORD)
     return passwords, make_policy(passwords, settings, args.any_label)
 
 
-def load_new_passwords(args: argparse.Namespace) -> list[Password]:
+def load_new_passwords(args: argparse.Namespace, reads_lines: bool = False) -> list[Password]:
     """The new passwords from a command line."""
+    return [loading.load_password(source, Asking(True, reads_lines)) for source in _list_new_sources(args)]
+
+
+def _list_new_sources(args: argparse.Namespace) -> list[Source]:
     sources = [parse_vault_id(text) for text in args.new_vault_id]
-    sources += [make_path_source(path) for path in args.new_vault_password_file]
-    return [loading.load_password(source, encrypts=True) for source in sources]
+    return sources + [make_path_source(path) for path in args.new_vault_password_file]
 
 
 def repeat_options(args: argparse.Namespace) -> list[str]:

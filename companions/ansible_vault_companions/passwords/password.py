@@ -3,6 +3,7 @@
 from __future__ import annotations
 
 from ansible_vault_companions.passwords import prompts
+from ansible_vault_companions.passwords.prompts import Asking
 from ansible_vault_companions.passwords.sources import Source
 from ansible_vault_companions.quoting import escape
 from ansible_vault_companions.refusals import Refused
@@ -17,7 +18,13 @@ class Password:
     """What was read from a source. Nothing of it changes, except whether it may be mistyped."""
 
     def __init__(
-        self, source: Source, content: bytes, descriptor: int, fault: str = "", is_doubtful: bool = False
+        self,
+        source: Source,
+        content: bytes,
+        descriptor: int,
+        fault: str = "",
+        doubt: Asking | None = None,
+        is_unanswered: bool = False,
     ) -> None:
         self.source: Final = source
         self.label: Final = source.label
@@ -26,8 +33,10 @@ class Password:
         self.descriptor: Final = descriptor
         # Why it cannot be used; empty if it can.
         self.fault: Final = fault
-        # Whether it was typed once and has decrypted nothing yet, so that it may be mistyped.
-        self._is_doubtful = is_doubtful
+        # Whether that is so since nobody has answered the question for it.
+        self.is_unanswered: Final = is_unanswered
+        # How to ask again, if it was typed once and has decrypted nothing yet, so that it may be mistyped.
+        self._doubt = doubt
 
     def make_option(self, name: str = "--vault-id", label: str | None = None) -> str:
         """The word that names it to the tool, with its own label or another one."""
@@ -42,11 +51,11 @@ class Password:
             raise self.make_refusal(f"{self.fault}, and no other password encrypts in its place")
 
     def trust(self) -> None:
-        self._is_doubtful = False
+        self._doubt = None
 
     def confirm(self) -> None:
         """Asks again for one that is in doubt, before it encrypts."""
-        if self._is_doubtful:
-            if not prompts.confirm_password(self.source.place, self.label, self.content):
+        if self._doubt:
+            if not prompts.confirm_password(self.source.place, self.label, self.content, self._doubt):
                 raise self.make_refusal(prompts.DIFFER)
             self.trust()

@@ -1,4 +1,5 @@
-"""Asks for passwords and other texts at the terminal. The standard streams are for data, so they are never used."""
+"""Asks for passwords and other texts at the terminal. The standard streams are for data. But if there is no terminal,
+and a program has no other use for its standard input, a line of that is the answer, as with Ansible's tool."""
 
 from __future__ import annotations
 
@@ -9,11 +10,18 @@ from contextlib import contextmanager
 from io import FileIO
 
 from ansible_vault_companions import signals
+from ansible_vault_companions.limits import LONGEST_ANSWER
+from ansible_vault_companions.output import write_error, write_when_possible
 from ansible_vault_companions.passwords.settings import ASK, PROMPT
 from ansible_vault_companions.quoting import escape
 from ansible_vault_companions.refusals import Refused
 
-NO_TERMINAL = "there is no terminal to ask for the password; name a password file"
+NO_TERMINAL = "there is no terminal on which to ask for"
+FOR_DATA = ", and standard input is for data"
+# What is said of each kind of question if nobody answers it.
+NO_PASSWORD = f"{NO_TERMINAL} the password{{}}; name a password file"
+NO_STRING = f"{NO_TERMINAL} the string{{}}; give it as STRING"
+NO_LABEL = f"{NO_TERMINAL} the label{{}}; choose it with --encrypt-vault-id"
 DIFFER = "the two passwords differ; try again"
 # The character that Ctrl-Z types when it sends no signal, and the value that disables a special key.
 SUSPEND, NO_KEY = b"\x1a", b"\0"
@@ -25,39 +33,54 @@ TO_ENCRYPT = {
 }
 
 
-def ask_password(kind: str, label: str, encrypts: bool) -> bytes:
+class NoAnswer(Refused):
+    """There is nobody to ask, or nobody answers."""
+
+
+class Asking:
+    """How passwords are asked for."""
+
+    def __init__(self, encrypts: bool, reads_lines: bool) -> None:
+        # Whether they are to encrypt, so that each is typed twice.
+        self.encrypts = encrypts
+        # Whether lines of standard input answer if there is no terminal.
+        self.reads_lines = reads_lines
+
+
+def ask_password(kind: str, label: str, asking: Asking) -> bytes:
     """The password that the user types: once to decrypt, twice to encrypt."""
-    questions = (TO_ENCRYPT if encrypts else TO_DECRYPT)[kind]
-    typed = [_ask_hidden_password(question.format(escape(label))) for question in questions]
+    questions = (TO_ENCRYPT if asking.encrypts else TO_DECRYPT)[kind]
+    typed = [_ask_hidden_password(question.format(escape(label)), asking) for question in questions]
     if len(set(typed)) > 1:
         raise Refused(DIFFER)
     return typed[0]
 
 
-def confirm_password(kind: str, label: str, content: bytes) -> bool:
+def confirm_password(kind: str, label: str, content: bytes, asking: Asking) -> bool:
     """Whether the user types a password again."""
-    return _ask_hidden_password(TO_ENCRYPT[kind][-1].format(escape(label))) == content
+    return _ask_hidden_password(TO_ENCRYPT[kind][-1].format(escape(label)), asking) == content
 
 
-def ask_string(is_hidden: bool) -> bytes:
+def ask_string(is_hidden: bool, reads_lines: bool) -> bytes:
     """The string to encrypt, as the user types it."""
-    text = _ask_hidden("String to encrypt (hidden): ") if is_hidden else ask_line("String to encrypt:")
+    question = "String to encrypt (hidden): " if is_hidden else "String to encrypt:"
+    text = _ask(question, is_hidden, reads_lines, NO_STRING)
     if not text:
         raise Refused("you typed an empty string; try again")
     return text
 
 
-def ask_line(question: str) -> bytes:
-    """A line that the user types. It is shown."""
-    with _open_terminal() as terminal:
-        return _read_answer(terminal, question)
+def ask_name(reads_lines: bool) -> bytes:
+    """The name of the string to encrypt; empty if it gets none."""
+    return _ask("Variable name (enter for no name): ", is_hidden=False, reads_lines=reads_lines, unanswered=NO_STRING)
 
 
 def ask_choice(question: str, answers: list[str]) -> str:
-    """One of these answers. Asks until the user types one of them."""
-    listed = ", ".join(map(escape, answers))
-    while (typed := ask_line(f"{question} ({listed}): ").decode(errors="replace").strip()) not in answers:
-        pass
+    """One of these answers. Asks at the terminal until the user types one of them."""
+    whole = f"{question} ({', '.join(map(escape, answers))}): "
+    typed = ""
+    while typed not in answers:
+        typed = _ask(whole, is_hidden=False, reads_lines=False, unanswered=NO_LABEL).decode(errors="replace").strip()
     return typed
 
 
@@ -66,19 +89,79 @@ def ask_consent(question: str) -> bool:
     return os.isatty(0) and ask_choice(question, ["yes", "no"]) == "yes"
 
 
-def _ask_hidden_password(question: str) -> bytes:
-    typed = _ask_hidden(question).strip()
+def _ask_hidden_password(question: str, asking: Asking) -> bytes:
+    typed = _ask(question, is_hidden=True, reads_lines=asking.reads_lines, unanswered=NO_PASSWORD).strip()
     if not typed:
         raise Refused("you typed an empty password; try again")
     return typed
 
 
-def _ask_hidden(question: str) -> bytes:
-    """A line that is not shown. It must be UTF-8, so that the same keys give the same password in every locale."""
-    with _open_terminal() as terminal:
-        with signals.postpone_signals(), _switch_echo_off(terminal):
-            text = _read_answer(terminal, question).replace(SUSPEND, b"")
-        terminal.write(b"\n")
+def _ask(question: str, is_hidden: bool, reads_lines: bool, unanswered: str) -> bytes:
+    """The answer to a question, without the end of its line. Raises NoAnswer with the text `unanswered` if there is no
+    terminal and no line of standard input."""
+    terminal = _open_terminal()
+    if terminal is None:
+        if not reads_lines:
+            raise NoAnswer(unanswered.format(FOR_DATA))
+        return _require_utf8(_read_input_line(question, unanswered))
+    with terminal:
+        return _require_utf8(_ask_hidden(terminal, question)) if is_hidden else _ask_shown(terminal, question)
+
+
+def _open_terminal() -> FileIO | None:
+    """The terminal of this process, or the one that is its standard input; None if there is none."""
+    try:
+        return open("/dev/tty", "r+b", buffering=0)
+    except OSError:
+        return open(0, "r+b", buffering=0, closefd=False) if os.isatty(0) else None
+
+
+def _ask_shown(terminal: FileIO, question: str) -> bytes:
+    write_when_possible(terminal.fileno(), question.encode())
+    text = _read_line(terminal)
+    if not text:
+        raise Refused("you typed nothing; try again")
+    return text.removesuffix(b"\n")
+
+
+def _ask_hidden(terminal: FileIO, question: str) -> bytes:
+    with signals.postpone_signals(), _switch_echo_off(terminal):
+        text = _ask_shown(terminal, question).replace(SUSPEND, b"")
+    write_when_possible(terminal.fileno(), b"\n")
+    return text
+
+
+def _read_input_line(question: str, unanswered: str) -> bytes:
+    """The next line of standard input, for a question that is shown on standard error."""
+    write_error(question.rstrip())
+    with open(0, "rb", buffering=0, closefd=False) as stream:
+        try:
+            text = _read_line(stream)
+        except OSError:
+            # It is closed.
+            text = b""
+    if not text:
+        raise NoAnswer(unanswered.format(""))
+    return text.removesuffix(b"\n")
+
+
+def _read_line(stream: FileIO) -> bytes:
+    """The next line, byte by byte, so that what follows is left to others."""
+    text = bytearray()
+    while not text.endswith(b"\n"):
+        if len(text) > LONGEST_ANSWER:
+            raise Refused(f"what you typed has over {LONGEST_ANSWER:,} bytes")
+        signals.wait_for_input(stream.fileno())
+        typed = stream.read(1)
+        # Ctrl-D ends the line, too.
+        if not typed:
+            break
+        text += typed
+    return bytes(text)
+
+
+def _require_utf8(text: bytes) -> bytes:
+    """Refuses what is not UTF-8, so that the same keys give the same password in every locale."""
     try:
         text.decode()
     except UnicodeError:
@@ -86,43 +169,26 @@ def _ask_hidden(question: str) -> bytes:
     return text
 
 
-def _read_answer(terminal: FileIO, question: str) -> bytes:
-    terminal.write(question.encode())
-    text = b""
-    while not text.endswith(b"\n"):
-        signals.wait_for_input(terminal.fileno())
-        typed = terminal.read(1)
-        # Ctrl-D ends the line, too.
-        if not typed:
-            break
-        text += typed
-    if not text:
-        raise Refused("you typed nothing; try again")
-    return text.removesuffix(b"\n")
-
-
-@contextmanager
-def _open_terminal() -> Iterator[FileIO]:
-    try:
-        terminal = open("/dev/tty", "r+b", buffering=0)
-    except OSError:
-        raise Refused(NO_TERMINAL) from None
-    with terminal:
-        yield terminal
-
-
 @contextmanager
 def _switch_echo_off(terminal: FileIO) -> Iterator[None]:
     """A context without echo. Ctrl-Z has no effect in it: after Ctrl-Z and `fg`, a shell would show what is typed."""
-    try:
+    with _name_terminal_faults():
         shown = termios.tcgetattr(terminal)
-    except termios.error as fault:
-        # The terminal is gone.
-        raise OSError(*fault.args) from None
     keys = [*shown[6]]
     keys[termios.VSUSP] = NO_KEY
-    termios.tcsetattr(terminal, termios.TCSAFLUSH, [*shown[:3], shown[3] & ~termios.ECHO, *shown[4:6], keys])
+    with _name_terminal_faults():
+        termios.tcsetattr(terminal, termios.TCSAFLUSH, [*shown[:3], shown[3] & ~termios.ECHO, *shown[4:6], keys])
     try:
         yield
     finally:
-        termios.tcsetattr(terminal, termios.TCSAFLUSH, shown)
+        with _name_terminal_faults():
+            termios.tcsetattr(terminal, termios.TCSAFLUSH, shown)
+
+
+@contextmanager
+def _name_terminal_faults() -> Iterator[None]:
+    """A context in which a terminal that is gone is an OSError."""
+    try:
+        yield
+    except termios.error as fault:
+        raise OSError(*fault.args) from None

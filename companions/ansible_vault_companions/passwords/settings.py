@@ -26,7 +26,7 @@ CURRENT = "{{CWD}}"
 # For each setting, the environment variable and the key in the file.
 IDENTITIES = "ANSIBLE_VAULT_IDENTITY_LIST", "vault_identity_list"
 PASSWORD_FILE = "ANSIBLE_VAULT_PASSWORD_FILE", "vault_password_file"
-ASKS = "ANSIBLE_ASK_VAULT_PASS", "ask_vault_pass"
+ASK_SETTING = "ANSIBLE_ASK_VAULT_PASS", "ask_vault_pass"
 ENCRYPT_IDENTITY = "ANSIBLE_VAULT_ENCRYPT_IDENTITY", "vault_encrypt_identity"
 ID_MATCH = "ANSIBLE_VAULT_ID_MATCH", "vault_id_match"
 # These, in place of a path, ask for a password.
@@ -98,7 +98,7 @@ class Settings:
 
     def is_asking(self) -> bool:
         """Whether to ask for a password."""
-        return _unquote(self._read(ASKS)).lower() in TRUE
+        return _unquote(self._read(ASK_SETTING)).lower() in TRUE
 
     def find_encrypt_label(self) -> str | None:
         """The label of the password to encrypt with."""

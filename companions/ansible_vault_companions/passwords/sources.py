@@ -13,8 +13,8 @@ if TYPE_CHECKING:
     from typing import Final
 
 # The options that ask for a password without a label, and the word for them in place of [LABEL@]SOURCE.
-ASKING = ("-J", "--ask-vault-password", "--ask-vault-pass")
-ASKED = f"{DEFAULT_LABEL}@{ASK}"
+ASK_OPTIONS = ("-J", "--ask-vault-password", "--ask-vault-pass")
+ASK_ID = f"{DEFAULT_LABEL}@{ASK}"
 
 
 class Source:
@@ -37,7 +37,7 @@ def parse_vault_id(text: str, is_setting: bool = False) -> Source:
     """The source that [LABEL@]SOURCE names."""
     label, place = split_vault_id(text)
     if place in (PROMPT, ASK):
-        return Source(label, place, ASKING[1] if text == ASKED else text, is_prompt=True, is_setting=is_setting)
+        return Source(label, place, ASK_OPTIONS[1] if text == ASK_ID else text, is_prompt=True, is_setting=is_setting)
     return Source(label, place, text, is_prompt=False, is_setting=is_setting)
 
 
@@ -48,13 +48,13 @@ def make_path_source(path: str, is_setting: bool = False) -> Source:
 def list_sources(ids: list[str], paths: list[str], settings: Settings) -> list[Source]:
     """All sources that options and settings name, in Ansible's order."""
     sources = [parse_vault_id(text, is_setting=True) for text in settings.list_identities()]
-    sources += [parse_vault_id(text) for text in ids if text != ASKED]
+    sources += [parse_vault_id(text) for text in ids if text != ASK_ID]
     sources += [make_path_source(path) for path in paths]
     path = settings.find_password_file()
     if path:
         sources.append(make_path_source(path, is_setting=True))
-    if ASKED in ids or settings.is_asking():
-        sources.append(parse_vault_id(ASKED))
+    if ASK_ID in ids or settings.is_asking():
+        sources.append(parse_vault_id(ASK_ID))
     if len(sources) > MOST_PASSWORDS:
         raise Refused(f"{len(sources)} passwords are named, and ansible-vault takes at most {MOST_PASSWORDS}")
     return sources
