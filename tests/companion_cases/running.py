@@ -114,7 +114,8 @@ def test_those_that_fail(place: Place) -> None:
     before = place.files()
     memory = r'printf "ERROR! out of \\033memory\n" >&2; exit 4'
     place.wrap_tool(f'case "$*" in rekey*) mkdir ../once 2> /dev/null && {{ {memory}; }} ;; esac')
-    whys = {"plain.yml": r"out of \x1bmemory", "new.yml": "no secret decrypts this vault"}
+    tried = f"(label default; tried {place.secret('old')}): name its password with --vault-id LABEL@SOURCE"
+    whys = {"plain.yml": r"out of \x1bmemory", "new.yml": f"no secret decrypts this vault {tried}"}
     whys["missing.yml"] = "No such file or directory"
     done = place.run(WITH, "rekey", *place.by_file("old"), *place.by_file("dev", "new-"), *whys, "a.yml")
     messages = [f"{WITH}: {name}: {why}" for name, why in whys.items()]

@@ -1,0 +1,136 @@
+"""Replaces this process with ansible-vault-edit, or with one run of ansible-vault."""
+
+from __future__ import annotations
+
+import errno
+import os
+import stat
+from argparse import Namespace
+
+from ansible_vault_companions import processes, refusals
+from ansible_vault_companions.alias import command_line
+from ansible_vault_companions.alias.command_line import (
+    CREATE,
+    ENCRYPT_STRING,
+    ENCRYPTING,
+    NAME,
+    REKEY,
+    STANDARD_INPUT,
+    VIEW,
+)
+from ansible_vault_companions.alias.password_choice import Call
+from ansible_vault_companions.envelopes.pointers import POINTER_START, Pointer
+from ansible_vault_companions.files import reading, resolving
+from ansible_vault_companions.output import write_error
+from ansible_vault_companions.passwords import options
+from ansible_vault_companions.passwords.settings import ASK_SETTING, TRUE
+from ansible_vault_companions.passwords.sources import list_sources
+from ansible_vault_companions.quoting import escape
+from ansible_vault_companions.refusals import Refused
+
+# The module `typing` takes long to import.
+TYPE_CHECKING = False
+if TYPE_CHECKING:
+    from typing import NoReturn
+
+PROGRAM, EDIT_PROGRAM = "ansible-vault", "ansible-vault-edit"
+STATUS_NOT_OPENED = 3
+READING = "Reading standard input. End it with Ctrl-D, or with Ctrl-D twice if the last line is not empty."
+
+
+def run_edit_program(companion: str, args: Namespace) -> NoReturn:
+    """Runs ansible-vault-edit, which obtains the passwords itself, for `create` and `edit`."""
+    path = processes.find_beside(companion, EDIT_PROGRAM)
+    if path is None:
+        raise Refused(f"there is no {EDIT_PROGRAM} beside this program; install it")
+    if args.command == CREATE and os.path.lexists(args.arguments[0]):
+        raise Refused(f"{escape(args.arguments[0])} exists already; use `edit`")
+    # ansible-vault-edit prints the same warnings.
+    settings = options.read_settings(args, warn=lambda _: None)
+    if not list_sources(args.vault_id, args.vault_password_file, settings):
+        # As an option, it would switch off ./ansible.cfg, in which the label to encrypt with may be.
+        os.environ[ASK_SETTING[0]] = TRUE[0]
+    words = [*options.repeat_options(args), *command_line.list_passed_on(args)]
+    # To ansible-vault-edit, a word that begins with a dash may be an option.
+    files = [os.path.join(os.curdir, file) if file.startswith("-") else file for file in args.arguments]
+    processes.take_over(path, [*words, *files], [])
+
+
+def needs_own_runs(args: Namespace) -> bool:
+    """Whether these need more than one run of the tool, or one that replaces a file or encrypts a typed string."""
+    is_more = len(args.arguments) > 1
+    if args.command == ENCRYPT_STRING:
+        return args.prompt or is_more or bool(args.arguments and args.stdin_name is not None)
+    has_files = bool(args.arguments) and STANDARD_INPUT not in args.arguments
+    return has_files and (is_more if args.command == VIEW else args.output is None)
+
+
+def run_program(companion: str, args: Namespace) -> int:
+    """Runs ansible-vault once, for one file, one string or standard input. Returns only where no other process could
+    say why no password fits."""
+    reads_input = args.arguments in ([], [STANDARD_INPUT])
+    _resolve_paths(args, reads_input)
+    call = Call(args)
+    path = _find_program(companion)
+    if reads_input and os.isatty(0):
+        write_error(f"{NAME}: {READING}")
+    explains = args.command == REKEY or call.policy.switched_off and args.command not in ENCRYPTING
+    if explains and len(args.arguments) < 2:
+        # Imported here, since most runs replace this process, and so start faster without this module.
+        from ansible_vault_companions.alias import runs
+
+        return runs.run_to_output(companion, call, reads_input)
+    names = [f"--name={name}" for name in getattr(args, "name", [])]
+    arguments = ["--", *args.arguments] if args.arguments else []
+    passwords = [password.descriptor for password in (*call.passwords, *call.new)]
+    processes.take_over(path, [*call.words(), *names, *arguments], passwords)
+
+
+def _resolve_paths(args: Namespace, reads_input: bool) -> None:
+    """Puts the real paths of files in place of those that were given."""
+    if args.command != ENCRYPT_STRING and not reads_input:
+        path = args.arguments[0]
+        args.arguments[0] = _resolve(path)
+        _require_readable(path, args.arguments[0])
+        _refuse_pointer(path, args.arguments[0])
+    if args.command != VIEW and args.output not in (None, STANDARD_INPUT):
+        args.output = _resolve(args.output)
+
+
+def _resolve(path: str) -> str:
+    try:
+        return resolving.resolve_file(path)
+    except Refused as fault:
+        raise Refused(refusals.describe_refusal(path, fault)) from None
+
+
+def _require_readable(path: str, target: str) -> None:
+    """Refuses a file that cannot be read, since ansible-vault's own message does not name it."""
+    number = _find_read_error(target)
+    if number:
+        raise Refused(f"{escape(path)}: {os.strerror(number)}", STATUS_NOT_OPENED)
+
+
+def _find_read_error(target: str) -> int:
+    """The number of the error that would keep a file from being read; 0 if there is none."""
+    if not os.path.exists(target):
+        return errno.ENOENT
+    if os.path.isdir(target):
+        return errno.EISDIR
+    return 0 if os.access(target, os.R_OK) else errno.EACCES
+
+
+def _refuse_pointer(path: str, target: str) -> None:
+    """Refuses a pointer of git-lfs. What can be read only once, such as a pipe, is left to ansible-vault."""
+    if stat.S_ISREG(os.lstat(target).st_mode) and reading.read_if_begins(target, POINTER_START):
+        raise Refused(refusals.describe_refusal(path, Pointer()))
+
+
+def _find_program(companion: str) -> str:
+    path = processes.find_beside(companion, PROGRAM)
+    if path is None:
+        # One on PATH may be another program.
+        from ansible_vault_companions.tool import Tool
+
+        path = Tool(companion).path
+    return path
