@@ -36,6 +36,33 @@ def test_words_and_environment(place: Place) -> None:
     assert [path for path in files if PASSWORDS["old"] in path.read_bytes()] == [], "no file has the password"
 
 
+# What shells set.
+OF_SHELLS = {"_", "OLDPWD", "PWD", "SHLVL"}
+# Command lines, and whether a password is typed.
+STARTS = {f"{EDIT} -J": True, f"{WITH} edit": True, f"{WITH} create": True, f"{WITH} edit --vault-id ../script": False}
+
+
+@pytest.mark.parametrize("line, is_typed", STARTS.items())
+def test_inherited_environment(place: Place, line: str, is_typed: bool) -> None:
+    """An editor and a password script get the environment that the companion got."""
+    note = "cat /proc/$$/environ >> ../seen; printf '\\n' >> ../seen"
+    place.script(f"{note}; cat ../secrets/old")
+    if "create" not in line:
+        place.put("a.yml", sealed("old"))
+    asked = ["New Vault password: ", "Confirm New Vault password: "] if "create" in line else ["Vault password: "]
+    answers = [(question, PASSWORDS["old"] + b"\n") for question in asked] if is_typed else []
+    place.environment["EDITOR"] = place.script(f'{note}; echo more >> "$1"', "editor")
+    session = ask(place, *line.split(), "a.yml", answers=answers)
+    assert session.returncode == 0, session
+    runs = (place.path / "seen").read_bytes().split(b"\n")[:-1]
+    assert len(runs) == 2 - is_typed
+    for run in runs:
+        seen = dict(item.split("=", 1) for item in run.decode().strip("\0").split("\0"))
+        assert {name: seen[name] for name in seen.keys() - OF_SHELLS} == {
+            name: text for name, text in place.environment.items() if name not in OF_SHELLS
+        }
+
+
 # The texts of three versions, with words that must stay hidden.
 TEXTS = [b"one: horse\nx: 1\ny: 2\ntwo: horse\n", b"one: staple\nx: 1\ny: 2\ntwo: horse\n"]
 TEXTS += [b"one: horse\nx: 1\ny: 2\ntwo: battery\n"]

@@ -23,8 +23,6 @@ from ansible_vault_companions.envelopes.pointers import POINTER_START, Pointer
 from ansible_vault_companions.files import reading, resolving
 from ansible_vault_companions.output import write_error
 from ansible_vault_companions.passwords import options
-from ansible_vault_companions.passwords.settings import ASK_SETTING, TRUE
-from ansible_vault_companions.passwords.sources import list_sources
 from ansible_vault_companions.quoting import escape
 from ansible_vault_companions.refusals import Refused
 
@@ -45,12 +43,7 @@ def run_edit_program(companion: str, args: Namespace) -> NoReturn:
         raise Refused(f"there is no {EDIT_PROGRAM} beside this program; install it")
     if args.command == CREATE and os.path.lexists(args.arguments[0]):
         raise Refused(f"{escape(args.arguments[0])} exists already; use `edit`")
-    # ansible-vault-edit prints the same warnings.
-    settings = options.read_settings(args, warn=lambda _: None)
-    if not list_sources(args.vault_id, args.vault_password_file, settings):
-        # As an option, it would switch off ./ansible.cfg, in which the label to encrypt with may be.
-        os.environ[ASK_SETTING[0]] = TRUE[0]
-    words = [*options.repeat_options(args), *command_line.list_passed_on(args)]
+    words = [options.ASK_IF_NONE, *options.repeat_options(args), *command_line.list_passed_on(args)]
     # To ansible-vault-edit, a word that begins with a dash may be an option.
     files = [os.path.join(os.curdir, file) if file.startswith("-") else file for file in args.arguments]
     processes.take_over(path, [*words, *files], [])

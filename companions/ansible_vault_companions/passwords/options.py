@@ -21,6 +21,9 @@ from ansible_vault_companions.passwords.sources import (
 )
 from ansible_vault_companions.refusals import Refused
 
+# Of the alias, for an edit: ask for a password if nothing names one. The option for a user would itself name one, and
+# so switch off ./ansible.cfg, in which the label to encrypt with may be.
+ASK_IF_NONE = "--ask-if-none-is-named"
 ANY_LABEL_HELP = "accept a password whose label differs from the vault's"
 NO_PASSWORD = (
     "no password is given: name one with --vault-id or --vault-password-file, in ANSIBLE_VAULT_PASSWORD_FILE or "
@@ -30,7 +33,7 @@ NO_PASSWORD = (
 
 def add_options(parser: argparse.ArgumentParser, before: str = "") -> None:
     """Adds the options that name passwords. `before` begins the names of the attributes that get the values."""
-    parser.set_defaults(new_vault_id=[], new_vault_password_file=[], any_label=False)
+    parser.set_defaults(new_vault_id=[], new_vault_password_file=[], any_label=False, asks=False)
     ids, text = f"{before}vault_id", "the source of a password; may be repeated"
     _add_source(parser, ["--vault-id"], ids, "[LABEL@]SOURCE", text)
     by_path = ["--vault-password-file", "--vault-pass-file"]
@@ -50,6 +53,10 @@ def _add_source(parser: argparse.ArgumentParser, names: list[str], dest: str, me
     parser.add_argument(*names, dest=dest, action="append", default=[], metavar=metavar, help=text)
 
 
+def add_asks(parser: argparse.ArgumentParser) -> None:
+    parser.add_argument(ASK_IF_NONE, dest="asks", action="store_true", help=argparse.SUPPRESS)
+
+
 def add_any_label(parser: argparse.ArgumentParser) -> None:
     parser.add_argument(ANY_LABEL, action="store_true", help=ANY_LABEL_HELP)
 
@@ -66,7 +73,7 @@ def load_passwords(
     asking = Asking(encrypts, reads_lines)
 
     def find_other() -> list[Password]:
-        parser.error(NO_PASSWORD)
+        return [loading.ask_password(asking, NO_PASSWORD)] if args.asks else parser.error(NO_PASSWORD)
 
     return load_named(parser.prog, args, asking, find_other, skips)
 
