@@ -1,6 +1,47 @@
-"""Files in which plaintext is written."""
+"""The --output of ansible-vault-with, and files in which plaintext is written."""
 
-from companion_cases import WITH, Companions, ended, run_changed, sealed, to_new
+
+import pytest
+
+from companion_cases import TEXT, WITH, Companions, Place, decrypted, ended, run_changed, sealed, to_new
+
+# Command lines that ask for a password by a script, and then for a text or for nothing.
+ASKING = ["encrypt -", "encrypt_string x", "encrypt_string --prompt", "encrypt_string x y", "decrypt a.yml"]
+ASKING += ["rekey --new-vault-password-file ../secrets/new a.yml"]
+# What cannot be written, and why.
+UNWRITABLE = {
+    "nowhere/x": "there is no directory ",
+    ".": "Is a directory",
+    "f" * 256: "File name too long",
+    "a.yml/x": "",
+    "closed/x": "Permission denied",
+    "closed.yml": "Permission denied",
+}
+
+
+@pytest.mark.parametrize("name", UNWRITABLE, ids=range(len(UNWRITABLE)))
+def test_unwritable(place: Place, name: str) -> None:
+    """It is refused by its name before anything is asked."""
+    place.put("a.yml", sealed("old"))
+    place.put("closed.yml", b"x\n", 0o444)
+    (place.tree / "closed").mkdir(mode=0o555)
+    place.path.chmod(0o777)
+    script = place.script("touch ../asked; echo the password old", "ask")
+    for line in ASKING:
+        done = place.as_nobody(WITH, *line.split(), "--vault-password-file", script, "--output", name)
+        assert done.returncode in (1, 3) and f"{WITH}: {name}: {UNWRITABLE[name]}" in done.stderr, done
+        assert not (place.path / "asked").exists(), line
+
+
+def test_open_files(place: Place) -> None:
+    """An open file, such as standard output, is written as it is."""
+    place.put("a.yml", sealed("old"))
+    words = f"{WITH} rekey {' '.join(to_new(place))} --output"
+    for line in ("/dev/stdout a.yml", "/dev/stdout a.yml > ../out && cat ../out", "/dev/fd/3 a.yml 3>&1 | cat"):
+        done = place.shell(f"{words} {line}")
+        assert decrypted("new", done.stdout.encode()) == TEXT, done
+    assert place.get("a.yml") == sealed("old")
+
 
 # Puts a file of the same content in the place of one, once that was read.
 SWAP = """
@@ -26,3 +67,12 @@ def test_swapped_files(cases: Companions) -> None:
         done = run_changed(place, WITH, SWAP, [command, *words, "a.yml"])
         ended(command, done, 1, "a.yml: another program changed it in the meantime")
         assert place.files() == {"a.yml": vault}
+
+
+def test_endless_answers(place: Place) -> None:
+    """An answer that does not end is refused."""
+    done = place.shell(f"setsid -w {WITH} encrypt_string {' '.join(place.by_file('old'))} --prompt < /dev/zero")
+    ended("a string", done, 1, "what you typed has over 65,536 bytes")
+    ended("a password", place.shell(f"setsid -w {WITH} view -J {place.tree}/none < /dev/zero"), 3, "none: No such file")
+    place.put("a.yml", sealed("old"))
+    ended("a password", place.shell(f"setsid -w {WITH} view -J a.yml < /dev/zero"), 1, "what you typed has over 65,536")

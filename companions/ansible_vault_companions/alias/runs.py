@@ -8,6 +8,7 @@ from functools import partial
 from typing import NamedTuple
 
 from ansible_vault_companions import lifecycle, output, quoting
+from ansible_vault_companions.alias import takeover
 from ansible_vault_companions.alias.command_line import (
     DECRYPT,
     ENCRYPT,
@@ -111,9 +112,12 @@ def _write_output(args: Namespace, content: bytes) -> int:
     return lifecycle.attempt_work(NAME, path, partial(_replace_output, path, content, args.command == DECRYPT))
 
 
-def _replace_output(path: str, content: bytes, is_private: bool) -> None:
-    target = resolving.resolve_file(path)
-    replacing.replace(target, content, reading.read(target), is_private=is_private)
+def _replace_output(target: str, content: bytes, is_private: bool) -> None:
+    if takeover.is_written_in_place(target):
+        with open(target, "wb") as file:
+            file.write(content)
+    else:
+        replacing.replace(target, content, reading.read(target), is_private=is_private)
 
 
 def _list_strings(args: Namespace, reads_lines: bool) -> list[String]:

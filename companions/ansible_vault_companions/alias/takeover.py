@@ -86,8 +86,23 @@ def _resolve_paths(args: Namespace, reads_input: bool) -> None:
         args.arguments[0] = _resolve(path)
         _require_readable(path, args.arguments[0])
         _refuse_pointer(path, args.arguments[0])
-    if args.command != VIEW and args.output not in (None, STANDARD_INPUT):
-        args.output = _resolve(args.output)
+
+
+def resolve_output(args: Namespace) -> None:
+    """Puts the real path of --output in place of that which was given. Refuses one that cannot be written, before the
+    user types anything that would be lost."""
+    path: str | None = getattr(args, "output", None)
+    if path is None or path == STANDARD_INPUT:
+        return
+    args.output = _resolve_new(path)
+    number = _find_write_error(args.output)
+    if number:
+        raise Refused(f"{escape(path)}: {os.strerror(number)}", STATUS_NOT_OPENED)
+
+
+def is_written_in_place(target: str) -> bool:
+    """Whether a path is that of a device, or of an open file such as /dev/stdout, which no other file replaces."""
+    return os.path.exists(target) and not (os.path.isfile(target) and os.path.realpath(target) == target)
 
 
 def _resolve(path: str) -> str:
@@ -95,6 +110,16 @@ def _resolve(path: str) -> str:
         return resolving.resolve_file(path)
     except Refused as fault:
         raise Refused(refusals.describe_refusal(path, fault)) from None
+
+
+def _resolve_new(path: str) -> str:
+    """The real path of a file that may be missing, but not its directory."""
+    target = _resolve(path)
+    try:
+        resolving.require_folder(target)
+    except Refused as fault:
+        raise Refused(refusals.describe_refusal(path, fault)) from None
+    return target
 
 
 def _require_readable(path: str, target: str) -> None:
@@ -117,6 +142,19 @@ def _refuse_pointer(path: str, target: str) -> None:
     """Refuses a pointer of git-lfs. What can be read only once, such as a pipe, is left to ansible-vault."""
     if stat.S_ISREG(os.lstat(target).st_mode) and reading.read_if_begins(target, POINTER_START):
         raise Refused(refusals.describe_refusal(path, Pointer()))
+
+
+def _find_write_error(target: str) -> int:
+    """The number of the error that would keep a file from being written; 0 if there is none."""
+    try:
+        os.stat(target)
+    except FileNotFoundError:
+        return 0 if os.access(os.path.dirname(target), os.W_OK | os.X_OK) else errno.EACCES
+    except OSError as fault:
+        return fault.errno or errno.EIO
+    if os.path.isdir(target):
+        return errno.EISDIR
+    return 0 if os.access(target, os.W_OK) else errno.EACCES
 
 
 def _find_program(companion: str) -> str:
