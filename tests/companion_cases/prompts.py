@@ -56,14 +56,16 @@ def test_only_password(place: Place, words: list[str]) -> None:
     assert (session.returncode, decrypted("new", place.get("a.yml"))) == (0, TEXT), session
 
 
-@pytest.mark.parametrize("line", ("encrypt plain.yml", "create new.yml", "edit new.yml"))
+@pytest.mark.parametrize("line", ("encrypt plain.yml", "create new.yml", "edit values.yml"))
 def test_label_of_the_settings(place: Place, line: str) -> None:
     """If nothing names a password, all settings count. The password that is typed has the label `default`."""
     place.put("ansible.cfg", b"[defaults]\nvault_encrypt_identity = prod\n")
     place.put("plain.yml", TEXT)
-    before, editor = place.files(), place.script('echo text > "$1"', "editor")
-    answers = typed("dev", "New Vault password: ", AGAIN)
-    session = ask(place, WITH, *line.split(), answers=answers, EDITOR=editor)
+    place.put("values.yml", NEW_VALUE)
+    before, editor = place.files(), place.script('test -s "$1" || echo text > "$1"', "editor")
+    answers = typed("dev", ASKED if "edit" in line else "New Vault password: ", AGAIN)
+    refused = answers[:1] if "edit" in line else answers
+    session = ask(place, WITH, *line.split(), answers=refused, EDITOR=editor)
     why = "no secret has the label of --encrypt-vault-id"
     assert (session.returncode, why in session.stderr, place.files()) == (1, True, before), session
     place.put("ansible.cfg", b"[defaults]\nvault_encrypt_identity = default\n")

@@ -66,7 +66,7 @@ PASSED_ON = {
 # What follows some commands: how many words, what they are, and their help.
 ARGUMENTS: dict[str, tuple[int | str, str, str]] = {
     CREATE: (1, "FILE", "the new vault"),
-    EDIT: ("+", "FILE", "vaults, YAML files or new vaults"),
+    EDIT: ("+", "FILE", "vaults or YAML files"),
     ENCRYPT_STRING: ("*", "STRING", "the strings, or - for standard input"),
 }
 

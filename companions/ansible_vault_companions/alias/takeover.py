@@ -11,6 +11,7 @@ from ansible_vault_companions import processes, refusals
 from ansible_vault_companions.alias import command_line
 from ansible_vault_companions.alias.command_line import (
     CREATE,
+    EDIT,
     ENCRYPT_STRING,
     ENCRYPTING,
     NAME,
@@ -32,6 +33,8 @@ if TYPE_CHECKING:
     from typing import NoReturn
 
 PROGRAM, EDIT_PROGRAM = "ansible-vault", "ansible-vault-edit"
+# With it, a new vault may be empty.
+ALLOW_EMPTY = "--allow-empty"
 STATUS_NOT_OPENED = 3
 READING = "Reading standard input. End it with Ctrl-D, or with Ctrl-D twice if the last line is not empty."
 
@@ -41,12 +44,24 @@ def run_edit_program(companion: str, args: Namespace) -> NoReturn:
     path = processes.find_beside(companion, EDIT_PROGRAM)
     if path is None:
         raise Refused(f"there is no {EDIT_PROGRAM} beside this program; install it")
-    if args.command == CREATE and os.path.lexists(args.arguments[0]):
-        raise Refused(f"{escape(args.arguments[0])} exists already; use `edit`")
+    for file in args.arguments:
+        _require_fitting(args.command, file)
     words = [options.ASK_IF_NONE, *options.repeat_options(args), *command_line.list_passed_on(args)]
+    if args.command == CREATE:
+        words.append(ALLOW_EMPTY)
     # To ansible-vault-edit, a word that begins with a dash may be an option.
     files = [os.path.join(os.curdir, file) if file.startswith("-") else file for file in args.arguments]
     processes.take_over(path, [*words, *files], [])
+
+
+def _require_fitting(command: str, path: str) -> None:
+    """Refuses an existing file to create, and a missing one to edit: its name may be mistyped."""
+    if command == EDIT:
+        _require_readable(path, path)
+    elif os.path.lexists(path):
+        raise Refused(f"{escape(path)} exists already; use `edit`")
+    else:
+        _resolve_new(path)
 
 
 def needs_own_runs(args: Namespace) -> bool:

@@ -20,9 +20,9 @@ from ansible_vault_companions.refusals import Refused
 from ansible_vault_companions.tool import Tool
 
 NO_FILE = "the editor left no file"
-# What is said of an edit that has changed nothing.
+# What is said of an edit that has changed nothing, and of a new vault without a text.
 TO_WAIT = "if the editor returned at once, give it an option to wait, such as `code --wait`"
-AS_BEFORE = f"nothing was changed; {TO_WAIT}"
+AS_BEFORE, EMPTY = f"nothing was changed; {TO_WAIT}", f"the new vault is empty; {TO_WAIT}"
 UNCHANGED, WRITTEN = "nothing was changed", "what you saved is in the file"
 NO_COPY = "an encrypted copy cannot be kept"
 SEVERAL = "its text has several passwords, and none of them may read all of it"
@@ -139,13 +139,17 @@ class Edit:
         return save_copy(self.tool, keys[0], self.draft.target, self.draft.plaintext, text)
 
 
-def change_draft(tool: Tool, draft: Draft, path: str, text: bytes | None, copy: str | None) -> str:
-    """Edits a draft. Returns what is to be said; nothing if the text was changed."""
+def change_draft(tool: Tool, draft: Draft, path: str, text: bytes | None, copy: str | None, allows_empty: bool) -> str:
+    """Edits a draft, and makes an empty vault if that is allowed and nothing was saved. Returns what is to be said;
+    nothing if the text was changed."""
     if edit_draft(tool, draft, path, text, copy):
         return ""
     if conflicts.is_unmerged(draft.plaintext):
         raise Refused(conflicts.STILL)
-    return AS_BEFORE
+    if draft.content is not None or not allows_empty:
+        return AS_BEFORE
+    replacing.replace(draft.target, draft.encrypt(tool, draft.plaintext), before=None)
+    return EMPTY
 
 
 def edit_draft(tool: Tool, draft: Draft, path: str, text: bytes | None, copy: str | None) -> bool:
