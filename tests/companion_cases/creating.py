@@ -2,7 +2,7 @@
 
 import pytest
 
-from companion_cases import EDIT, WITH, Companions, Place, decrypted, ended, sealed
+from companion_cases import EDIT, WITH, Companions, Place, decrypted, described, ended, sealed
 from companion_cases.terminal import FOR_ANSIBLE
 from lib.needs import needs_ansible
 
@@ -72,3 +72,15 @@ def test_edit_makes_new_ones(place: Place) -> None:
     done = place.run(EDIT, OLD, "--allow-empty", "a.yml", EDITOR="true")
     ended("one that is there", done, 0, "nothing was changed; ")
     assert place.get("a.yml") == sealed("old")
+
+
+def test_editors(place: Place) -> None:
+    """The editor of ANSIBLE_EDITOR goes first, but none that ansible.cfg names: it may be a stranger's."""
+    editors = {name: place.script(f'echo {name} > "$1"', name) for name in ("ansible", "visual", "editor", "file")}
+    place.put("ansible.cfg", f"[defaults]\neditor = {editors['file']}\n".encode())
+    variables = {"EDITOR": editors["editor"]}
+    for name, variable in (("editor", "EDITOR"), ("visual", "VISUAL"), ("ansible", "ANSIBLE_EDITOR")):
+        variables |= {variable: editors[name]}
+        place.put("a.yml", sealed("old"))
+        assert place.run(WITH, "edit", OLD, "a.yml", **variables).returncode == 0
+        assert described(place.get("a.yml"))[1] == ("old", f"{name}\n".encode())

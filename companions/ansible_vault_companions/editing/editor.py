@@ -19,6 +19,8 @@ from ansible_vault_companions.quoting import escape
 from ansible_vault_companions.refusals import Refused
 from ansible_vault_companions.tool import Tool
 
+# The variables that name the editor, that of later releases of Ansible first.
+VARIABLES, DEFAULT = ("ANSIBLE_EDITOR", "VISUAL", "EDITOR"), "vi"
 NO_FILE = "the editor left no file"
 # What is said of an edit that has changed nothing, and of a new vault without a text.
 TO_WAIT = "if the editor returned at once, give it an option to wait, such as `code --wait`"
@@ -66,7 +68,7 @@ class Edit:
         return False
 
     def run_editor(self) -> EditorResult:
-        editor = os.environ.get("VISUAL") or os.environ.get("EDITOR") or "vi"
+        editor = next(filter(None, map(os.environ.get, VARIABLES)), DEFAULT)
         was_needed, self.folder.is_needed = self.folder.is_needed, True
         try:
             status = self._run(editor)
