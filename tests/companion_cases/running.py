@@ -16,7 +16,6 @@ SAME = """
     view --vault-password-file prompt new.yml
     view <&-
     decrypt --output=out.yml a.yml
-    decrypt --output out.yml a.yml plain.yml
     encrypt --salt salt --output - plain.yml
     encrypt_string --salt salt -n name word
     encrypt_string --salt salt --stdin-name name < plain.yml
@@ -61,6 +60,7 @@ def test_the_answers_of_the_tool(place: Place, line: str, option: str) -> None:
 OLD, DEV = "--vault-password-file ../secrets/old", "--vault-id dev@../secrets/dev"
 STRINGS, REKEY = f"encrypt_string {DEV}", "rekey --vault-id prod@../secrets/old --encrypt-vault-id prod a.yml"
 SALT_FOR_ONE = "--salt and --salt-file are for a single FILE or STRING"
+NOT_NAMED = "there are more names than STRINGs; --stdin-name is the name of standard input"
 NOT_NEW = "no new password has the label that was chosen for encryption, prod"
 # Command lines that are refused, the status, and a part of the message.
 REFUSED = [
@@ -69,11 +69,18 @@ REFUSED = [
     (f"encrypt {OLD} --salt-file /dev/zero plain.yml plain.yml", 2, SALT_FOR_ONE),
     (f"{STRINGS} a --stdin-name x --salt salt", 2, SALT_FOR_ONE),
     (f"{STRINGS} a --prompt --salt-file ../secrets/old", 2, SALT_FOR_ONE),
+    (f"{STRINGS} --name x < plain.yml", 2, NOT_NAMED),
+    (f"{STRINGS} --name x --stdin-name y < plain.yml", 2, NOT_NAMED),
+    (f"{STRINGS} --name x - < plain.yml", 2, NOT_NAMED),
+    (f"{STRINGS} a --name x --name y", 2, NOT_NAMED),
+    (f"{STRINGS} --prompt --name x --name y", 2, NOT_NAMED),
     (f"{STRINGS} a b --encrypt-vault-id prod", 1, "no secret has the label of --encrypt-vault-id"),
     # The old secret is not taken for the new one, even if it has the label that was chosen.
     (REKEY, 1, NOT_NEW),
     (f"{REKEY} --new-vault-id dev@../secrets/new", 1, NOT_NEW),
     (f"rekey {OLD} --new-vault-id x@y --new-vault-password-file z a.yml", 2, "rekey takes one new password"),
+    (f"decrypt {OLD} --output out.yml a.yml plain.yml", 2, f"{WITH}: error: --output is for a single FILE\n"),
+    (f"encrypt {OLD} --output - plain.yml -", 2, f"{WITH}: error: --output is for a single FILE\n"),
     # Nobody can type a password.
     ("view -J a.yml", 1, f"{WITH}: --ask-vault-password: there is no terminal on which to ask for the password; name "),
     ("view a.yml", 1, f"{WITH}: no password is given: name one with --vault-id or --vault-password-file, in "),

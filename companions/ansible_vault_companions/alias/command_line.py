@@ -94,17 +94,29 @@ def parse(words: list[str]) -> Namespace:
         parser.error(f"no command is given; {NAME} --help lists the commands")
     args.vault_id = [*args.before_vault_id, *args.vault_id]
     args.vault_password_file = [*args.before_vault_password_file, *args.vault_password_file]
-    count = len(args.arguments)
     if len(args.new_vault_id) + len(args.new_vault_password_file) > 1:
         parser.error("rekey takes one new password")
-    if args.command == ENCRYPT_STRING:
-        if args.prompt:
-            count += 1
-        if args.stdin_name is not None and STANDARD_INPUT not in args.arguments:
-            count += 1
-    if count > 1 and args.command in SALTING and (args.salt is not None or args.salt_file is not None):
+    if args.command == ENCRYPT_STRING and len(args.name) > _count_strings(args):
+        parser.error("there are more names than STRINGs; --stdin-name is the name of standard input")
+    if args.command in IN_PLACE and args.output is not None and len(args.arguments) > 1:
+        parser.error("--output is for a single FILE")
+    if args.command in SALTING and _count_texts(args) > 1 and (args.salt is not None or args.salt_file is not None):
         parser.error("--salt and --salt-file are for a single FILE or STRING: two would share a key stream")
     return args
+
+
+def _count_strings(args: Namespace) -> int:
+    """How many strings `--name` can name. One that is typed has it only if there is no other."""
+    strings = [word for word in args.arguments if word != STANDARD_INPUT]
+    return len(strings) or int(args.prompt)
+
+
+def _count_texts(args: Namespace) -> int:
+    """How many texts are encrypted."""
+    if args.command != ENCRYPT_STRING:
+        return len(args.arguments)
+    is_named_alone = args.stdin_name is not None and STANDARD_INPUT not in args.arguments
+    return len(args.arguments) + int(args.prompt) + int(is_named_alone)
 
 
 def _add_options(parser: argparse.ArgumentParser, command: str) -> None:
