@@ -19,6 +19,7 @@ from ansible_vault_companions.alias.command_line import (
     VIEW,
 )
 from ansible_vault_companions.alias.password_choice import Call
+from ansible_vault_companions.alias.standard_input import read_standard_input
 from ansible_vault_companions.envelopes.pointers import refuse_pointer
 from ansible_vault_companions.files import reading, replacing, resolving
 from ansible_vault_companions.output import write_error
@@ -129,7 +130,7 @@ def _list_strings(args: Namespace, reads_lines: bool) -> list[String]:
             name = args.name[0]
         strings.append(String(prompts.ask_string(not args.show_input, reads_lines), name, "the prompt"))
     if STANDARD_INPUT in args.arguments or args.stdin_name is not None:
-        strings.append(String(reading.read_input(0), args.stdin_name, "standard input"))
+        strings.append(String(read_standard_input(), args.stdin_name, "standard input"))
     arguments = [os.fsencode(text) for text in args.arguments if text != STANDARD_INPUT]
     names = [*args.name, *[None] * len(arguments)]
     for argument, name in zip(arguments, names):

@@ -14,7 +14,6 @@ from ansible_vault_companions.alias.command_line import (
     EDIT,
     ENCRYPT_STRING,
     ENCRYPTING,
-    NAME,
     REKEY,
     STANDARD_INPUT,
     VIEW,
@@ -22,7 +21,6 @@ from ansible_vault_companions.alias.command_line import (
 from ansible_vault_companions.alias.password_choice import Call
 from ansible_vault_companions.envelopes.pointers import POINTER_START, Pointer
 from ansible_vault_companions.files import reading, resolving
-from ansible_vault_companions.output import write_error
 from ansible_vault_companions.passwords import options
 from ansible_vault_companions.quoting import escape
 from ansible_vault_companions.refusals import Refused
@@ -36,7 +34,6 @@ PROGRAM, EDIT_PROGRAM = "ansible-vault", "ansible-vault-edit"
 # With it, a new vault may be empty.
 ALLOW_EMPTY = "--allow-empty"
 STATUS_NOT_OPENED = 3
-READING = "Reading standard input. End it with Ctrl-D, or with Ctrl-D twice if the last line is not empty."
 
 
 def run_edit_program(companion: str, args: Namespace) -> NoReturn:
@@ -81,7 +78,7 @@ def run_program(companion: str, args: Namespace) -> int:
     call = Call(args)
     path = _find_program(companion)
     if reads_input and os.isatty(0):
-        write_error(f"{NAME}: {READING}")
+        _read_terminal()
     explains = args.command == REKEY or call.policy.switched_off and args.command not in ENCRYPTING
     if explains and len(args.arguments) < 2:
         # Imported here, since most runs replace this process, and so start faster without this module.
@@ -92,6 +89,14 @@ def run_program(companion: str, args: Namespace) -> int:
     arguments = ["--", *args.arguments] if args.arguments else []
     passwords = [password.descriptor for password in (*call.passwords, *call.new)]
     processes.take_over(path, [*call.words(), *names, *arguments], passwords)
+
+
+def _read_terminal() -> None:
+    """Reads what is typed, for the program that takes over."""
+    # Imported here, since most runs read no terminal.
+    from ansible_vault_companions.alias import standard_input
+
+    standard_input.replace_standard_input(standard_input.read_standard_input())
 
 
 def _resolve_paths(args: Namespace, reads_input: bool) -> None:
