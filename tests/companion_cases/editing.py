@@ -192,7 +192,9 @@ def test_lists(place: Place, items: str, typed: str, option: str, labels: str) -
     known = [item.split(":") for item in items.split()]
     content = b"l:\n- " + b"- ".join(block(name, text.encode(), name.rstrip("2"), "") for name, text in known)
     place.put("vars.yml", content)
-    secrets = [word for name in ("dev", "prod", "prod2") for word in place.by_id(name.rstrip("2"), name)]
+    # Of two passwords with a label, neither is for new values.
+    names = ["dev", "prod"] if option else ["dev", "prod", "prod2"]
+    secrets = [word for name in names for word in place.by_id(name.rstrip("2"), name)]
     words = [*secrets, *option.split(), "vars.yml"]
     lines = "".join(f"- !vault {item}\\n" for item in typed.split())
     done = edit(place, f"printf 'l:\\n{lines}' > \"$1\"", *words)

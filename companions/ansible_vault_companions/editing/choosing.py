@@ -10,7 +10,7 @@ import os
 from typing import NamedTuple
 
 from ansible_vault_companions.passwords import prompts
-from ansible_vault_companions.passwords.labels import NONE_HAS_LABEL, choose_to_encrypt, find_first_with_label
+from ansible_vault_companions.passwords.labels import NONE_HAS_LABEL, choose_to_encrypt, list_with_label
 from ansible_vault_companions.passwords.password import Password
 from ansible_vault_companions.refusals import Refused
 from ansible_vault_companions.tool import Decryption, Key
@@ -39,11 +39,17 @@ class Choice(NamedTuple):
     label: str | None
 
     def list_keys(self) -> list[Key]:
-        """The keys that something new may get: with a label, at most one."""
+        """The keys that something new may get: with a label, at most one, which must be usable."""
         if self.label is None:
             return [Key(password, password.label) for password in self.passwords]
-        password = find_first_with_label(self.passwords, self.label)
-        return [Key(password, self.label)] if password else []
+        key = self.find_key()
+        return [key] if key else []
+
+    def find_key(self) -> Key | None:
+        """The key with the chosen label, if there is one."""
+        if self.label is None or not list_with_label(self.passwords, self.label):
+            return None
+        return Key(choose_to_encrypt(self.passwords, self.label), self.label)
 
     def choose_key(self, name: str, place: str) -> Key:
         """The key for what has this name and place."""

@@ -127,7 +127,7 @@ class Loader:
         return VaultDraft(target, content, [keep_key(decrypted)], decrypted.text)
 
     def _load_conflict(self, target: str, content: bytes, sides: Versions) -> Draft:
-        key = next(iter(self.chosen.list_keys()), None) if self.chosen.label else None
+        key = self.chosen.find_key()
         are_vaults = [side.startswith(MAGIC) for side in (sides.ours, sides.theirs)]
         if all(are_vaults):
             vaults = VaultMerge(self.decrypt, sides)

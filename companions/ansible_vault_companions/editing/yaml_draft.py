@@ -3,6 +3,7 @@
 from __future__ import annotations
 
 import copy
+from contextlib import suppress
 
 from ansible_vault_companions.editing.choosing import Choice
 from ansible_vault_companions.editing.matching import Match, DecryptedValue, describe_place, find_matches
@@ -50,8 +51,12 @@ class YamlDraft:
     def keys(self) -> list[Key]:
         """One key of each password that a value has, or that a new one may get."""
         keys = [old.decrypted.key for old in self.opened.values()]
-        if self.choice.label is not None or not keys:
-            keys += self.choice.list_keys()
+        if not keys:
+            keys = self.choice.list_keys()
+        elif self.choice.label is not None:
+            # If there is none for a new value, old ones may still be changed.
+            with suppress(Refused):
+                keys += self.choice.list_keys()
         return list({key.password.content: key for key in reversed(keys)}.values())
 
     def is_as_it_was(self, text: bytes) -> bool:

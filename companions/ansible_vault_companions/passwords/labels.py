@@ -58,19 +58,23 @@ def order_to_try(passwords: Iterable[Password], label: str | None, policy: Polic
     return same if policy.requires_match else same + others
 
 
-def find_first_with_label(passwords: Iterable[Password], label: str) -> Password | None:
-    """The password that a label chooses: the first that has it, even one that was ignored."""
-    return next((password for password in passwords if password.label == label), None)
+def list_with_label(passwords: Iterable[Password], label: str) -> list[Password]:
+    """The passwords that have a label, even those that were ignored."""
+    return [password for password in passwords if password.label == label]
 
 
 def choose_to_encrypt(passwords: Iterable[Password], label: str, none: str = NONE_HAS_LABEL) -> Password:
     """The password that a label chooses to encrypt with. Raises Refused if it cannot be used, since no other encrypts
-    in its place; and, with the text `none`, if no password has the label."""
-    password = find_first_with_label(passwords, label)
-    if password is None:
+    in its place; if another one has the label, too; and, with the text `none`, if no password has it."""
+    chosen = list_with_label(passwords, label)
+    if not chosen:
         raise Refused(none)
-    password.require_usable()
-    return password
+    for password in chosen:
+        password.require_usable()
+    if len({password.content for password in chosen}) > 1:
+        names = " and ".join(escape(password.source.text) for password in chosen)
+        raise Refused(f"{names} have the label {escape(label)}; name only the password to encrypt with")
+    return chosen[0]
 
 
 def require_label(password: Password, label: str, policy: Policy, where: str = "") -> None:
