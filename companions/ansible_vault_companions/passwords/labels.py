@@ -10,7 +10,7 @@ from __future__ import annotations
 import os
 from collections.abc import Iterable, Sequence
 
-from ansible_vault_companions.envelopes.header import LABEL
+from ansible_vault_companions.envelopes.header import DEFAULT_LABEL, LABEL
 from ansible_vault_companions.passwords.password import Password
 from ansible_vault_companions.passwords.settings import Settings
 from ansible_vault_companions.quoting import escape
@@ -22,6 +22,7 @@ if TYPE_CHECKING:
     from typing import Final
 
 ANY_LABEL = "--any-label"
+RELABEL = f"ansible-vault-rotate {ANY_LABEL}"
 NONE_HAS_LABEL = "no secret has the label of --encrypt-vault-id"
 
 
@@ -39,15 +40,19 @@ class Policy:
         self.switched_off: Final = switched_off
 
 
-def make_policy(passwords: Iterable[Password], settings: Settings, any_label: bool) -> Policy:
-    """The policy for these passwords. Passwords that are all the same count as one."""
+# For what is not decrypted.
+ANY = Policy(requires_match=False, any_label=True, usual_label=None)
+
+
+def make_policy(
+    passwords: Iterable[Password], settings: Settings, any_label: bool, requires_match: bool = False
+) -> Policy:
+    """The policy for these passwords. Passwords that are all the same count as one, and options count more than the
+    settings."""
     are_one = len({password.content for password in passwords}) == 1
-    return Policy(
-        settings.requires_match(),
-        any_label or are_one,
-        settings.find_encrypt_label(),
-        settings.describe_switched_off(),
-    )
+    requires_match = requires_match or settings.requires_match() and not any_label
+    switched_off = settings.describe_switched_off()
+    return Policy(requires_match, any_label or are_one, settings.find_encrypt_label(), switched_off)
 
 
 def order_to_try(passwords: Iterable[Password], label: str | None, policy: Policy) -> list[Password]:
@@ -81,21 +86,26 @@ def require_label(password: Password, label: str, policy: Policy, where: str = "
     """Refuses to encrypt again, with the password that decrypted it, a text whose envelope has this label."""
     own = escape(password.label)
     if "@" in label:
-        why = "has an @, so no option can name it; change it in its first line"
+        why = f"has an @, so no option can name it; give it another one with `{RELABEL}`"
         raise Refused(f"{where}its label {escape(label)} {why}")
     if label != password.label and not policy.any_label:
         raise Refused(
-            f"{where}its label is {escape(label)}, but {escape(password.source.text)}, a password with the label "
-            f"{own}, decrypts it; find out who changed the label or copied the text here; then write {own} as the "
-            f"label in its first line, or permit it with {ANY_LABEL} when you change it"
+            f"{where}its label is {escape(label)}{_explain_default(label)}, but {escape(password.source.text)}, a "
+            f"password with the label {own}, decrypts it; unless somebody changed the label or copied the text here, "
+            f"give it the label {own} with `{RELABEL}`, or accept it with {ANY_LABEL}"
         )
+
+
+def _explain_default(label: str) -> str:
+    return ", that of every vault without one" if label == DEFAULT_LABEL else ""
 
 
 def describe_attempts(label: str | None, passwords: Sequence[Password], policy: Policy) -> str:
     """For a message: which passwords were tried on an envelope that none decrypts, and what to do."""
     names = ", ".join(escape(password.source.text) for password in passwords) or "none: no password has its label"
     has = f"label {escape(label)}" if label else "no label"
-    return f"({has}; tried {names}): name its password with --vault-id LABEL@SOURCE{policy.switched_off}"
+    others = "; --require-id-match or vault_id_match forbids the others" if policy.requires_match else ""
+    return f"({has}; tried {names}{others}): name its password with --vault-id LABEL@SOURCE{policy.switched_off}"
 
 
 def is_allowed(label: str) -> bool:

@@ -57,8 +57,8 @@ def add_asks(parser: argparse.ArgumentParser) -> None:
     parser.add_argument(ASK_IF_NONE, dest="asks", action="store_true", help=argparse.SUPPRESS)
 
 
-def add_any_label(parser: argparse.ArgumentParser) -> None:
-    parser.add_argument(ANY_LABEL, action="store_true", help=ANY_LABEL_HELP)
+def add_any_label(parser: argparse.ArgumentParser, text: str = ANY_LABEL_HELP) -> None:
+    parser.add_argument(ANY_LABEL, action="store_true", help=text)
 
 
 def load_passwords(
@@ -95,7 +95,8 @@ def load_named(
         passwords = find_other()
     else:
         raise Refused(NO_PASSWORD)
-    return passwords, make_policy(passwords, settings, args.any_label)
+    requires_match = getattr(args, "require_id_match", False)
+    return passwords, make_policy(passwords, settings, args.any_label, requires_match)
 
 
 def load_new_passwords(args: argparse.Namespace, reads_lines: bool = False) -> list[Password]:
