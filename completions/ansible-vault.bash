@@ -22,7 +22,7 @@ _ansible_vault_options() {
     "ansible-vault encrypt_string") echo --vault-id --vault-password-file --salt-file --salt -n --name \
         --stdin-name --encrypt-vault-id --output -h --help ;;
     "ansible-vault-check") echo -h --help -V --version --vault-id --vault-password-file --vault-pass-file -J \
-        --ask-vault-password --ask-vault-pass --label --exclude ;;
+        --ask-vault-password --ask-vault-pass --any-label --label --list --json --exclude ;;
     "ansible-vault-edit") echo -h --help -V --version --vault-id --vault-password-file --vault-pass-file -J \
         --ask-vault-password --ask-vault-pass --any-label --encrypt-vault-id --value --resume --allow-empty ;;
     "ansible-vault-hook") echo -h --help -V --version --all --since --install --uninstall --vault-id \
@@ -31,7 +31,7 @@ _ansible_vault_options() {
         --ask-vault-password --ask-vault-pass --any-label --encrypt-vault-id ;;
     "ansible-vault-rotate") echo -h --help -V --version --vault-id --vault-password-file --vault-pass-file -J \
         --ask-vault-password --ask-vault-pass --new-vault-id --new-vault-password-file --any-label --dry-run \
-        --exclude ;;
+        --json --exclude ;;
     "ansible-vault-textconv") echo -h --help -V --version --vault-id --vault-password-file --vault-pass-file -J \
         --ask-vault-password --ask-vault-pass --value ;;
     "ansible-vault-with") echo -h --help -V --version --vault-id --vault-password-file --vault-pass-file -J \

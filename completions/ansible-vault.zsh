@@ -103,6 +103,8 @@ _ansible_vault_specifications() {
             '*'{-J,--ask-vault-password,--ask-vault-pass}'[ask at the terminal for a password]'
             '--any-label[accept a password whose label differs from the vault'\''s]'
             '*--label=[check only what has this label, and count the rest]:LABEL: '
+            '--list[only list places and labels, without a password]'
+            '--json[print each result as a JSON object in a line]'
             '*--exclude=[skip files whose name or path matches PATTERN]:PATTERN: '
             '*:file:_ansible_vault_files'
         ) ;;
@@ -150,6 +152,7 @@ _ansible_vault_specifications() {
             '*--new-vault-password-file=[the source of a new password]:SOURCE:_ansible_vault_files'
             '--any-label[give the new password and its label to whatever an old one decrypts]'
             '--dry-run[write nothing, and report what would be done]'
+            '--json[print each result as a JSON object in a line]'
             '*--exclude=[skip files whose name or path matches PATTERN]:PATTERN: '
             '*:file:_ansible_vault_files'
         ) ;;

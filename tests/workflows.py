@@ -117,7 +117,7 @@ RECIPES = {
     "Change a password everywhere": Recipe(
         {"vars/a.yml": vault(b"a"), "b.yml": block("secret", b"b"), "c.yml": vault(b"c", "old.pass", "")},
         prepare="rm ~/.vault/new.pass",
-        printed="*\n2 rotated, 0 under the new password already, 1 with other labels (default 1), 0 failed\n",
+        printed="*\n2 rotated, 0 already under the new password, 1 with other labels (default 1), 0 failed\n",
         after="""ansible-vault view --vault-id prod@"$HOME"/.vault/new.pass vars/a.yml
             stat -c %a ~/.vault/new.pass; base64 --decode < ~/.vault/new.pass | wc -c""",
         left="a600\n32\n",

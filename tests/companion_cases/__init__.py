@@ -236,7 +236,7 @@ def texts(data: bytes, password: str) -> list[bytes | None]:
 
 def summary(changed: int, had_it: int = 0, others: int = 0, named: str = "", failed: int = 0) -> str:
     """Return the last line of a rotation."""
-    done = f"{changed} rotated, {had_it} under the new password already"
+    done = f"{changed} rotated, {had_it} already under the new password"
     return f"{done}, {others} with other labels{named}, {failed} failed"
 
 

@@ -137,7 +137,7 @@ REFUSED = rf"{HOOK}: (?:[0-9a-f]{{10}}: )?.+ (?:is|has) .+\n  .+\n"
 FAILED = rf"{HOOK}: .+\n"
 DECRYPTED, CHECKED = r".+: \w+: decrypted by .+", r"(\d+) decrypted, (\d+) failed"
 ROTATED = r".+: (?:(\d+) )?would be rotated"
-COUNTED = r"(\d+) to be rotated, 0 under the new password already, (\d+) with other labels(?: \(.+\))?, (\d+) failed"
+COUNTED = r"(\d+) to be rotated, 0 already under the new password, (\d+) with other labels(?: \(.+\))?, (\d+) failed"
 MISSING = f"{ROTATE}: no vault or value has the label default"
 SHOWN = rf"(?:{TEXTCONV}: .+: shown as it is: .+\n)?"
 # Of a link out of the repository to a file without an envelope. That is no failure of check and rotate.
@@ -171,16 +171,18 @@ def is_check_answer(run: Run, number: int | None) -> bool:
 
 
 def is_rotate_answer(run: Run, number: int | None) -> bool:
-    """It counts what it names, and fails if it would rotate anything, or found nothing to rotate."""
+    """It counts what it names, and fails if it would rotate anything, or found nothing to rotate, which is a failure
+    that it counts, too."""
     *lines, last = run.output.splitlines()
     named, counts = [re.fullmatch(ROTATED, line) for line in lines], re.fullmatch(COUNTED, last)
     if counts is None or None in named:
         return False
     rotated, others, failed = map(int, counts.groups())
-    faults = [line for line in list_faults(run) if line != MISSING]
+    faults = list_faults(run)
+    missing = sum(line.startswith(MISSING) for line in faults)
     is_counted = (rotated, failed) == (sum(int(each[1] or 1) for each in named if each), len(faults))
-    is_right = number is None or (number, 0) == (rotated + others, failed)
-    return is_counted and is_right and run.status == 1 and (MISSING in run.errors) == (rotated == 0 and failed == 0)
+    is_right = number is None or (number, missing) == (rotated + others, failed)
+    return is_counted and is_right and run.status == 1 and (missing == 1) == (rotated == 0 and failed == missing)
 
 
 def is_textconv_answer(run: Run, content: bytes, leads_out: bool) -> bool:

@@ -81,7 +81,7 @@ def test_links(place: Place, is_repository: bool) -> None:
         "2 decrypted, 2 failed",
     ]
     done = place.run(ROTATE, *to_new(place), "tree")
-    ended("links out", done, 1, f"tree/chain.yml: {told['chain.yml']}\n", "2 rotated, 0 under", "2 failed")
+    ended("links out", done, 1, f"tree/chain.yml: {told['chain.yml']}\n", "2 rotated, 0 already under", "2 failed")
     changed = {name for name, content in place.files().items() if content != before[name]}
     assert changed == {"tree/all.yml", "tree/deep/b.yml", "tree/inside.yml"}
     assert {name: os.readlink(place.tree / "tree" / name) for name in LINKS} == LINKS, "links stay links"

@@ -104,6 +104,11 @@ def load_new_passwords(args: argparse.Namespace, reads_lines: bool = False) -> l
     return [loading.load_password(source, Asking(True, reads_lines)) for source in _list_new_sources(args)]
 
 
+def list_new_files(args: argparse.Namespace) -> list[str]:
+    """The paths of the files that have the new passwords, as they were written."""
+    return [source.place for source in _list_new_sources(args) if not source.is_prompt]
+
+
 def _list_new_sources(args: argparse.Namespace) -> list[Source]:
     sources = [parse_vault_id(text) for text in args.new_vault_id]
     return sources + [make_path_source(path) for path in args.new_vault_password_file]
