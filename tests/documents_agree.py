@@ -19,9 +19,9 @@ from lib.links import dead_links
 from lib.needs import needs
 from lib.paths import COMPANIONS, PAGE, README, ROOT, sections
 from lib.processes import run_text
-from model.answers import WHITESPACE
 from model.faults import Fault
-from model.options import COMMON, OPTIONS, is_label
+from model.formats import WHITESPACE, is_label
+from model.options import COMMON, OPTIONS
 from programs import PROGRAM, commands
 
 DOCUMENTS = [README, ROOT / "CONTRIBUTING.md", *sorted((ROOT / "docs").glob("*.md")), *sorted(PAGE.parent.glob("*.1"))]

@@ -5,8 +5,9 @@ import tempfile
 from pathlib import Path
 
 from lib.processes import run
-from model.answers import SALT_LENGTH, SECRET_LIMIT, Answer, answer, refusal
+from model.answers import Answer, answer, refusal
 from model.faults import Fault
+from model.formats import SALT_LENGTH, SECRET_LIMIT
 from model.options import SALT_FILE
 from model.random_requests import Case
 
