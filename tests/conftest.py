@@ -29,10 +29,10 @@ OUTCOMES = "outcomes"
 # With --floors, at least this many tests of each part must run, and not many more, so that the floor is raised in time
 # (OUTCOMES counts the tests without a marker listed here); and the tests must record at least the amounts in LEAST.
 # Subtests count as one of these amounts.
-FLOORS = {OUTCOMES: 1250, "fuzz": 4, "faults": 46, "allocations": 36, "valgrind": 68, "newcomer": 14, "planted": 1}
+FLOORS = {OUTCOMES: 1900, "fuzz": 4, "faults": 46, "allocations": 36, "valgrind": 68, "newcomer": 14, "planted": 1}
 Report = pytest.TestReport | pytest.CollectReport
 HAS_FAILED = pytest.StashKey[bool]()
-LEAST = {"subtests": 100, "random requests": 200, "refused calls": 200, "refused allocations": 1200}
+LEAST = {"subtests": 90, "random requests": 200, "refused calls": 200, "refused allocations": 1200}
 LEAST |= {"failing calls of git": 500, "commands in walks": 100, "hostile files": 80}
 
 
@@ -126,6 +126,15 @@ def pytest_runtest_makereport(item: pytest.Function, call: pytest.CallInfo[None]
         item.stash[HAS_FAILED] = True
         if "tmp_path" in item.funcargs:
             report.sections.append(("files", f"kept in {item.funcargs['tmp_path']}"))
+
+
+def pytest_assertrepr_compare(op: str, left: object, right: object) -> list[str] | None:
+    """Of two tuples, show each part that differs, by its name or number. pytest would show the start of both."""
+    if op != "==" or not (isinstance(left, tuple) and isinstance(right, tuple)) or len(left) != len(right):
+        return None
+    names = getattr(left, "_fields", range(len(left)))
+    differing = [f"{name}: {one!r} != {other!r}" for name, one, other in zip(names, left, right) if one != other]
+    return ["two tuples differ in", *differing]
 
 
 def reports_of(config: pytest.Config, *kinds: str) -> list[Any]:

@@ -1,6 +1,8 @@
 """Count the blocks of PBKDF2 that a run computes, by its SHA-256 compressions under Valgrind: three for the secret that
 matches, one for each other secret that it tries, and three for each envelope that it writes."""
 
+from typing import NamedTuple
+
 import pytest
 
 from lib.cases import TEXT, Cases, by_id
@@ -19,34 +21,58 @@ TOLERANCE = 0.02
 # The blocks of a vault's keys, and of the key of its tag alone.
 KEYS, TAG = 3, 1
 
-# The words, standard input and number of blocks of a run, and its status and output.
-Run = tuple[list[str], bytes, int, tuple[int, bytes]]
+
+class Run(NamedTuple):
+    """The words and the standard input of a run, how it ends, and how many blocks it computes."""
+
+    words: list[str]
+    stdin: bytes
+    status: int
+    output: bytes
+    blocks: int
 
 
-def runs(cases: Cases) -> dict[str, Run]:
-    right, wrong, new = (cases.file(each) for each in (b"right\n", b"wrong\n", b"new\n"))
-    vault, other, fits = seal(b"right", TEXT), by_id(wrong, "other"), by_id(right, "x")
-    sealed, rekeyed = seal(b"right", TEXT, b"dev", SALT_TEXT), seal(b"new", TEXT, salt=SALT_TEXT)
-    unpadded = serialized(*parts(b"right", bytes(16)))
-    refused, bad_padding = ((fault.status, b"") for fault in (Fault.NO_SECRET_FITS, Fault.BAD_PADDING))
-    chosen = [*other * 15, *by_id(right, "dev"), "--encrypt-vault-id", "dev", *SALT_WORDS]
-    to_new = [*fits, *other * 15, "--new-vault-password-file", new, *SALT_WORDS]
-    return {
-        "the last has the label": (["decrypt", *other * 15, *by_id(right)], vault, KEYS, (0, TEXT)),
-        "the third of four fits": (["view", *other * 2, *fits, *other], vault, 2 * TAG + KEYS, (0, TEXT)),
-        "none fits": (["view", *other * 16], vault, 16 * TAG, refused),
-        "none may be tried": (["view", "--require-id-match", *other * 15], vault, 0, refused),
-        "a wrong padding": (["view", *fits, *other * 15], unpadded, KEYS, bad_padding),
-        "a choice of all": (["encrypt", *chosen], TEXT, KEYS, (0, sealed)),
-        "another secret": (["rekey", *to_new], vault, 2 * KEYS, (0, rekeyed)),
-    }
+NAMES = [
+    "the last has the label",
+    "the third of four fits",
+    "none fits",
+    "none may be tried",
+    "a wrong padding",
+    "a choice of all",
+    "another secret",
+]
 
 
-def test_derivations(cases: Cases) -> None:
+def run_of(cases: Cases, name: str) -> Run:
+    right, wrong = cases.file(b"right\n"), cases.file(b"wrong\n")
+    vault = seal(b"right", TEXT)
+    fits, other = by_id(right, "x"), by_id(wrong, "other")
+    match name:
+        case "the last has the label":
+            return Run(["decrypt", *other * 15, *by_id(right)], vault, 0, TEXT, blocks=KEYS)
+        case "the third of four fits":
+            return Run(["view", *other * 2, *fits, *other], vault, 0, TEXT, blocks=2 * TAG + KEYS)
+        case "none fits":
+            return Run(["view", *other * 16], vault, Fault.NO_SECRET_FITS.status, b"", blocks=16 * TAG)
+        case "none may be tried":
+            words = ["view", "--require-id-match", *other * 15]
+            return Run(words, vault, Fault.NO_SECRET_FITS.status, b"", blocks=0)
+        case "a wrong padding":
+            unpadded = serialized(*parts(b"right", bytes(16)))
+            return Run(["view", *fits, *other * 15], unpadded, Fault.BAD_PADDING.status, b"", blocks=KEYS)
+        case "a choice of all":
+            words = ["encrypt", *other * 15, *by_id(right, "dev"), "--encrypt-vault-id", "dev", *SALT_WORDS]
+            return Run(words, TEXT, 0, seal(b"right", TEXT, b"dev", SALT_TEXT), blocks=KEYS)
+    new = cases.file(b"new\n")
+    words = ["rekey", *fits, *other * 15, "--new-vault-password-file", new, *SALT_WORDS]
+    return Run(words, vault, 0, seal(b"new", TEXT, salt=SALT_TEXT), blocks=2 * KEYS)
+
+
+@pytest.mark.parametrize("name", NAMES)
+def test_derivations(cases: Cases, name: str) -> None:
     needs("valgrind")
-    every, found = runs(cases), {}
-    for name, (words, stdin, _, answer) in every.items():
-        done, calls = count_calls([cases.program, *words], stdin)
-        assert (done.status, done.output) == answer, name
-        found[name] = sum(count for called, count in calls.items() if called.startswith(PARTS["SHA-256"])) / BLOCK
-    assert found == pytest.approx({name: blocks for name, (_, _, blocks, _) in every.items()}, abs=TOLERANCE)
+    run = run_of(cases, name)
+    done, calls = count_calls([cases.program, *run.words], run.stdin)
+    assert (done.status, done.output) == (run.status, run.output), "how it ends"
+    compressions = sum(count for called, count in calls.items() if called.startswith(PARTS["SHA-256"]))
+    assert compressions / BLOCK == pytest.approx(run.blocks, abs=TOLERANCE), "blocks"

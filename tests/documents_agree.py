@@ -45,8 +45,11 @@ def contracts_of(call: str) -> list[str]:
     *path, name = call.split("::")
     # Match up to the body, or to the empty line after a trait's method.
     contract = re.compile(rf"\bfn {name}\b.*?(?:^ *\{{|;\n\n)", re.MULTILINE | re.DOTALL)
-    texts = [text for file, text in code().items() if all(re.search(rf"\b{part}\b", f"{file} {text}") for part in path)]
-    return [each for text in texts for each in contract.findall(text) if "ensures" in each]
+    found = []
+    for file, text in code().items():
+        if all(re.search(rf"\b{part}\b", f"{file} {text}") for part in path):
+            found += [each for each in contract.findall(text) if "ensures" in each]
+    return found
 
 
 def unproved(page: str) -> Iterator[str]:
@@ -124,8 +127,10 @@ def test_limits() -> None:
         for name, expression in re.findall(r"^(?:pub )?const (\w+): \w+ = (.*);$", file.read_text(), re.MULTILINE):
             limits[name] = eval(expression, {}, limits)
     table = FORMATS.read_text().partition("\n## Limits\n")[2].partition("\n## ")[0].replace(",", "")
-    numbers = "".join(re.findall(r"^\| .+ (\| [\d].* \|)$", table, re.MULTILINE))
-    assert [int(each) for each in re.findall(r"\d+", numbers) if each != "1"] == [limits[each] for each in LIMITS]
+    columns = "".join(re.findall(r"^\| .+ (\| [\d].* \|)$", table, re.MULTILINE))
+    numbers = [int(number) for number in re.findall(r"\d+", columns) if number != "1"]
+    assert len(numbers) == len(LIMITS), "how many limits the table has"
+    assert dict(zip(LIMITS, numbers)) == {name: limits[name] for name in LIMITS}, "the limits in the table"
     assert f"at most {limits['SECRET_COUNT_LIMIT']} passwords" in table
     assert (LONGEST_PLAINTEXT, LONGEST_VAULT) == (limits["PLAINTEXT_LIMIT"], limits["ENVELOPE_LIMIT"])
     assert {int(each.replace(",", "")) for each in re.findall(r"\d+,\d{3},\d{3}", TEXT)} <= {*limits.values()}

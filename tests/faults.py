@@ -78,25 +78,38 @@ def is_allowed(left: Left, scenario: Scenario, call: Call, error: str) -> bool:
     return (left.output, [*left.files], mode) == (b"", [OUTPUT], wanted[1]) and wanted[0].startswith(content)
 
 
+def differences(program: str, scenario: Scenario, refusal: Refusal) -> list[str]:
+    """Refuse this call, and return what is wrong with what the run leaves."""
+    call, number, error = refusal
+    with tempfile.NamedTemporaryFile() as log:
+        failing = ["-e", f"trace={call.name}", "-e", f"inject={call.name}:error={error}:when={number}"]
+        left = scenario.run(["strace", "-f", "-s", "0", *failing, "-o", log.name, program])
+        was_injected = b"(INJECTED)" in log.read()
+    what = f"{call.name} number {number} with {error}"
+    if not was_injected:
+        return [f"{what} is not refused"]
+    return [] if is_allowed(left, scenario, call, error) else [f"{what}: {left}"]
+
+
 @each_target
 def test_refused_calls(
     cases: Cases, command: str, target: str, pytestconfig: pytest.Config, record_property: Callable[[str, object], None]
 ) -> None:
     needs("strace")
-    share, random = int(pytestconfig.getoption("--share")), Random(int(pytestconfig.getoption("--seed")))
+    share = int(pytestconfig.getoption("--share"))
+    random = Random(int(pytestconfig.getoption("--seed")))
     scenario = scenario_of(cases, command, target, 40_000)
-    every, kinds, differing = [*refusals(cases.program, scenario)], Counter[tuple[str, str]](), []
-    for call, number, error in random.sample(every, len(every)):
+    every = [*refusals(cases.program, scenario)]
+    kinds: Counter[tuple[str, str]] = Counter()
+    differing = []
+    for refusal in random.sample(every, len(every)):
+        call, _, error = refusal
         if kinds[call.name, error] and random.randrange(share) > 0:
             continue
         kinds[call.name, error] += 1
-        with tempfile.NamedTemporaryFile() as log:
-            failing = ["-e", f"trace={call.name}", "-e", f"inject={call.name}:error={error}:when={number}"]
-            left = scenario.run(["strace", "-f", "-s", "0", *failing, "-o", log.name, cases.program])
-            was_injected = b"(INJECTED)" in log.read()
-        if not was_injected or not is_allowed(left, scenario, call, error):
-            differing.append(f"{call.name} number {number} fails with {error} ({was_injected}): {left}")
-    assert kinds and differing == []
+        differing += differences(cases.program, scenario, refusal)
+    assert kinds, "calls are refused"
+    assert differing == [], "runs that leave what they may not"
     record_property("refused calls", (kinds.total(), len(every)))
 
 

@@ -26,7 +26,9 @@ def test_random_requests(
 ) -> None:
     seed, first, runs, seconds = map(pytestconfig.getoption, ("--seed", "--first", "--runs", "--seconds"))
     numbers = range(first + part, first + runs, PARTS)
-    end, made, found = time.monotonic() + seconds, 0, []
+    end = time.monotonic() + seconds
+    made = 0
+    found = []
     for number in numbers:
         if time.monotonic() > end and made >= FEWEST:
             break
@@ -36,4 +38,4 @@ def test_random_requests(
         assert made or differences(case, ["false"]), "a wrong program is noticed"
         made += 1
     record_property("random requests", (made, len(numbers)))
-    assert found == []
+    assert found == [], "what differs from the model"

@@ -28,9 +28,14 @@ def run(*words: str) -> list[str]:
     """Run the testkit, and return the lines that it prints."""
     command = [sys.executable, "-B", str(TESTKIT / "run"), *words]
     done = subprocess.run(command, stdout=subprocess.PIPE, text=True)
-    *_, last = lines = done.stdout.splitlines()
-    assert done.returncode == (0 if last.endswith(" 0 not") else 1)
+    lines = done.stdout.splitlines()
+    assert done.returncode == (0 if lines[-1].endswith(" 0 not") else 1), f"the status with {words}"
     return lines
+
+
+def names_of(lines: list[str]) -> list[str]:
+    """Return the names of the vectors in these lines."""
+    return [line.partition(":")[0] for line in lines]
 
 
 def test_made(tmp_path: Path) -> None:
@@ -52,14 +57,14 @@ def test_answers(program: str) -> None:
 def test_output_before_a_refusal(program: str) -> None:
     command = 'printf x; exec "$0" view --vault-password-file "$1" "$2"'
     *different, _ = run("--strict", "--kind", "tag", "--", "sh", "-c", command, program, "{password}", "{file}")
-    assert len(different) == sum(name.startswith("tag-") for name in ENVELOPES)
+    assert names_of(different) == sorted(name for name in ENVELOPES if name.startswith("tag-")), "all refusals differ"
 
 
 def test_labels(program: str) -> None:
     """Each envelope has the label that its vector names, and no other. An `@` would end the label of an option."""
     required = ["--", program, "view", "--require-id-match", "--vault-id"]
     *different, _ = run("--strict", *required, "{label}@{password}", "{file}")
-    assert [line.partition(":")[0] for line in different] == ["label-at-sign"], different
+    assert names_of(different) == ["label-at-sign"], different
     *answers, _ = run("--all", *required, "{label}x@{password}", "{file}")
     assert [line for line in answers if ": refused, expected: " not in line] == []
 
@@ -86,7 +91,7 @@ def test_values(program: str, tmp_path: Path) -> None:
     textconv = ["env", f"PATH={tmp_path}:{os.environ['PATH']}", str(COMPANIONS["ansible-vault-textconv"])]
     options = ["--vault-password-file", "{password}", "--value", "secret", "{file}"]
     *different, _ = run("--form", "yaml", "--", *textconv, *options)
-    assert [line.partition(":")[0] for line in different] == NO_VALUES, different
+    assert names_of(different) == NO_VALUES, different
 
 
 # Commands that answer the vectors of salts wrongly, and what the testkit says of them.

@@ -36,7 +36,9 @@ class Both:
     """The two tools, with one password, for a label or for none."""
 
     def __init__(self, cases: Cases, ansible: str, label: str) -> None:
-        self.cases, self.ansible, self.label = cases, ansible, label
+        self.cases = cases
+        self.ansible = ansible
+        self.label = label
         self.password, self.new = cases.file(RIGHT + b"\n"), cases.file(NEW + b"\n")
         self.options = by_id(self.password, label) if label else by_file(self.password)
         self.choice = ["--encrypt-vault-id", label] if label else []

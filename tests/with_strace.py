@@ -30,7 +30,7 @@ READING, CREATING = {"O_RDONLY"}, {"O_WRONLY", "O_CREAT"}
 # give no bytes.
 HARMLESS = {"O_NOCTTY", "O_CLOEXEC", "O_LARGEFILE", "O_DIRECTORY"}
 OWNER_ALONE = "0600"
-STDIN, STDOUT, STDERR = 0, 1, 2
+STDIN, STDOUT, STDERR = range(3)
 RANDOM = "/dev/urandom"
 # The most bytes that a run asks for: from a password file, from a salt.
 PASSWORD_LIMIT, SALT_LENGTH = 4_097, 32
@@ -123,31 +123,56 @@ def steps(own: list[Call]) -> list[Step]:
     return found
 
 
+def lengths_written(run: Run, traced: Traced) -> tuple[int, int]:
+    """Return the lengths of the output and of the message. A text of the parser's may have any length."""
+    if run.written is not None:
+        return run.written, len(run.fault.line) if run.fault else 0
+    if run.status:
+        return 0, len(traced.message or b"")
+    return len(traced.output or b""), 0
+
+
+def steps_to_create(run: Run, target: int) -> list[Step]:
+    """Return the steps before anything is written: the file is opened, made private if `decrypt` does it, and only then
+    emptied."""
+    found: list[Step] = [("openat", run.created or "", CREATING, OWNER_ALONE)]
+    if run.line.startswith("decrypt"):
+        found.append(("fchmod", target, "", OWNER_ALONE))
+    found.append(("ftruncate", target, "", "0"))
+    return found
+
+
 def check_files(run: Run, traced: Traced) -> None:
-    """Files are opened in order. After all reading, the output's file is opened, made private, only then emptied,
-    written, and finally synced."""
+    """Files are opened in order. After all reading, the output's file is created, written, and finally synced."""
     files = [call for call in traced.own if call.name == "openat"]
+    written, message = lengths_written(run, traced)
+    target = files[-1].result if run.created else STDOUT
     wanted: list[Step] = [("openat", path, READING, "") for path in run.read.split()]
-    target, written, message = STDOUT, run.written, len(run.fault.line) if run.fault else 0
-    if written is None:
-        written, message = (0, len(traced.message or b"")) if run.status else (len(traced.output or b""), 0)
     if run.created:
-        target = files[-1].result
-        wanted.append(("openat", run.created, CREATING, OWNER_ALONE))
-        wanted += [("fchmod", target, "", OWNER_ALONE)] * run.line.startswith("decrypt")
-        wanted.append(("ftruncate", target, "", "0"))
-        assert "read" not in {call.name for call in traced.own[traced.own.index(files[-1]) :]}, "what is read then"
-    wanted += [("write", fd, "", length) for fd, length in [(target, written), (STDERR, message)] if length]
-    wanted += [("fsync", target, "", "")] if run.created else []
+        wanted += steps_to_create(run, target)
+        after = traced.own[traced.own.index(files[-1]) :]
+        assert "read" not in {call.name for call in after}, "what is read once the output's file is opened"
+    if written:
+        wanted.append(("write", target, "", written))
+    if message:
+        wanted.append(("write", STDERR, "", message))
+    if run.created:
+        wanted.append(("fsync", target, "", ""))
     assert steps(traced.own) == wanted, "what is opened and written"
+
+
+def check_message(run: Run, traced: Traced) -> None:
     if run.fault:
-        writes = [call.fd for call in traced.own if call.name == "write"]
-        assert (traced.message, writes.count(STDERR)) == (run.fault.line, 1), "message, which is one write"
+        assert traced.message == run.fault.line, "the message"
+        writes = [call for call in traced.own if call.name == "write" and call.fd == STDERR]
+        assert len(writes) == 1, "the message is one write"
 
 
 def check_reads(run: Run, own: list[Call]) -> None:
     """Every source is read to its end or its limit, and no further. Standard input is only read if it is needed."""
-    given, most, paths = Counter[str](), Counter[str](), dict[int, str]()
+    given: Counter[str] = Counter()
+    most: Counter[str] = Counter()
+    paths: dict[int, str] = {}
     for call in own:
         if call.name == "openat":
             paths[call.result] = call.path
@@ -158,8 +183,9 @@ def check_reads(run: Run, own: list[Call]) -> None:
             most[source] = max(most[source], given[source] + int(call.args.rsplit(", ", 1)[1]))
             given[source] += max(call.result, 0)
     wanted = Counter({path: SIZES.get(path, 0) for path in run.read.split()} | {str(STDIN): len(run.stdin or b"")})
-    assert (+given, str(STDIN) in most) == (+wanted, run.stdin is not None), "what is read"
-    assert {source for source, bytes_asked in most.items() if bytes_asked > LIMITS.get(source, 0)} == set()
+    assert +given == +wanted, "how many bytes are read"
+    assert (str(STDIN) in most) == (run.stdin is not None), "standard input is read"
+    assert {source for source, asked in most.items() if asked > LIMITS.get(source, 0)} == set(), "what is read too far"
 
 
 def check_others(own: list[Call]) -> None:
@@ -181,5 +207,6 @@ def test_calls(cases: Cases, run: Run) -> None:
     traced = watch(cases.program, run, cases.folder)
     assert traced.status == (run.fault.status if run.fault else run.status)
     check_files(run, traced)
+    check_message(run, traced)
     check_reads(run, traced.own)
     check_others(traced.own)

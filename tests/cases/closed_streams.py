@@ -5,32 +5,68 @@
 
 import itertools
 from pathlib import Path
+from typing import NamedTuple
+
+import pytest
 
 from lib.cases import OLD, Cases, answer_of
 from lib.processes import run
 from lib.samples import TO_OUTPUT, each_command, sample_of
 from model.faults import Fault
 
-COMBINATIONS = [set(each) for count in range(4) for each in itertools.combinations(range(3), count)]
+STDIN, STDOUT, STDERR = range(3)
+COMBINATIONS = [set(each) for count in range(4) for each in itertools.combinations((STDIN, STDOUT, STDERR), count)]
 
 
+class Way(NamedTuple):
+    """Whether the input is FILE, or else standard input; and whether the output goes to a file."""
+
+    is_named: bool
+    to_file: bool
+
+
+def list_ways(command: str) -> list[Way]:
+    ways = [Way(is_named, to_file) for is_named in (False, True) for to_file in (False, True)]
+    if command == "encrypt_string":
+        ways = [way for way in ways if not way.is_named]
+    if command not in TO_OUTPUT:
+        ways = [way for way in ways if not way.to_file]
+    return ways
+
+
+def fault_of(closed: set[int], way: Way) -> Fault | None:
+    """Return the fault of a run that needs a closed stream. It reads before it writes."""
+    if STDIN in closed and not way.is_named:
+        return Fault.INPUT_NOT_READ
+    if STDOUT in closed and not way.to_file:
+        return Fault.NOT_WRITTEN
+    return None
+
+
+def check_run(cases: Cases, command: str, closed: set[int], way: Way) -> None:
+    sample = sample_of(cases, command)
+    output, given = Path(cases.file(OLD)), cases.file(sample.stdin)
+    words = [*sample.words]
+    if way.is_named:
+        words.append(given)
+    if command in TO_OUTPUT:
+        words += ["--output", str(output) if way.to_file else "-"]
+    closings = " ".join(f"{stream}>&-" for stream in closed)
+    with open(given, "rb") as stdin:
+        done = run(["sh", "-c", f'exec "$@" {closings}', "sh", cases.program, *words], stdin)
+    fault = fault_of(closed, way)
+    if fault:
+        message = b"" if STDERR in closed else fault.line
+        assert answer_of(done) == (fault.status, b"", message), f"{way}: status, output and message"
+        assert output.read_bytes() == OLD, f"{way}: the file stays"
+    else:
+        printed, left = (b"", sample.output) if way.to_file else (sample.output, OLD)
+        assert answer_of(done) == (0, printed, b""), f"{way}: status, output and message"
+        assert output.read_bytes() == left, f"{way}: what the file has"
+
+
+@pytest.mark.parametrize("closed", COMBINATIONS, ids=lambda closed: f"{sorted(closed)} closed")
 @each_command
-def test_every_combination(cases: Cases, command: str) -> None:
-    """The input is FILE or standard input, and the output goes to a file or to standard output."""
-    sample, found, wanted = sample_of(cases, command), {}, {}
-    ways = itertools.product(COMBINATIONS, {False, command != "encrypt_string"}, {False, command in TO_OUTPUT})
-    for closed, is_named, to_file in ways:
-        output, given = Path(cases.file(OLD)), cases.file(sample.stdin)
-        words = [*sample.words, *([given] if is_named else [])]
-        if command in TO_OUTPUT:
-            words += ["--output", str(output) if to_file else "-"]
-        closings = " ".join(f"{stream}>&-" for stream in closed)
-        with open(given, "rb") as stdin:
-            done = run(["sh", "-c", f'exec "$@" {closings}', "sh", cases.program, *words], stdin)
-        answer, left = (0, b"" if to_file else sample.output, b""), sample.output if to_file else OLD
-        if 0 in closed and not is_named or 1 in closed and not to_file:
-            fault = Fault.INPUT_NOT_READ if 0 in closed and not is_named else Fault.NOT_WRITTEN
-            answer, left = (fault.status, b"", b"" if 2 in closed else fault.line), OLD
-        name = f"{closed} closed, {is_named}, {to_file}"
-        found[name], wanted[name] = (*answer_of(done), output.read_bytes()), (*answer, left)
-    assert found == wanted
+def test_every_combination(cases: Cases, command: str, closed: set[int]) -> None:
+    for way in list_ways(command):
+        check_run(cases, command, closed, way)

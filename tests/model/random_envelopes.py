@@ -57,7 +57,9 @@ def damaged(random: Random, envelope: bytes) -> bytes:
 
 def envelope(random: Random, password: bytes, label: bytes) -> bytes:
     """Return an envelope, usually one that can be decrypted. `label` is empty for format 1.1."""
-    salt, kind, size = random.choice(SALTS), random.random(), random.choice(SIZES)
+    salt = random.choice(SALTS)
+    kind = random.random()
+    size = random.choice(SIZES)
     if kind < 0.02:
         return random.choice(OTHERS)
     if kind < 0.12:
