@@ -226,7 +226,7 @@ class Watch(NamedTuple):
         self.run(name, [CHECK, *old, "."], lambda run: is_check_answer(run, number))
         rotate = [ROTATE, "--dry-run", *old, *place.by_file("new", "new-"), "."]
         self.run(name, rotate, lambda run: is_rotate_answer(run, number))
-        for path in self.team.random.sample(sorted(before), 2):
+        for path in self.team.random.sample(sorted(before), min(2, len(before))):
             leads_out = not (place.tree / path).resolve().is_relative_to(place.tree.resolve())
             self.run(name, [TEXTCONV, *old, path], lambda run: is_textconv_answer(run, before[path], leads_out))
         assert place.files() == before, "nothing is changed"

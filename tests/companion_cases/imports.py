@@ -13,107 +13,90 @@ from lib.needs import needs, needs_pyyaml
 
 OWN = "ansible_vault_companions."
 # Modules of others that take a millisecond or more.
-SLOW = ["argparse", "concurrent.futures", "configparser", "dataclasses", "json", "secrets", "subprocess", "tempfile"]
-SLOW += ["typing", "yaml"]
+SLOW = {"argparse", "concurrent.futures", "configparser", "dataclasses", "json", "secrets", "subprocess", "tempfile"}
+SLOW |= {"typing", "yaml"}
 OLD, NEW = "--vault-password-file=../secrets/old", "--new-vault-password-file=../secrets/new"
-# The modules for each command line, a line for each package.
+
+
+def own(package: str, names: str) -> set[str]:
+    """Return modules of a package of the companions, or of none."""
+    prefix = f"{OWN}{package}." if package else OWN
+    return {prefix + name for name in names.split()}
+
+
+# What every companion imports.
+START = own("", "lifecycle limits output parsers processes quoting refusals signals startup")
+START |= own("files", "resolving") | own("passwords", "settings") | {"argparse"}
+# What takes passwords, and what gives them to the program.
+PASSWORDS = own("passwords", "labels loading options password prompts scripts sources")
+TOOL = own("", "tool") | own("files", "reading")
+# What reads YAML; and what does without PyYAML or processes if it can.
+YAML = own("", "bounding") | {"json", "typing"}
+YAML |= own("envelopes", "content detection header key_paths layout node pointers strays yaml_nodes")
+PARSER = {"subprocess", "yaml"}
+# What runs several programs at a time.
+WORKERS = own("", "workers") | {"concurrent.futures"}
+# What shows the sides of a conflict, what merges, and what writes files.
+CONFLICTS = own("", "parallel") | own("envelopes", "conflicts") | own("git", "commands")
+CONFLICTS |= own("merging", "line_merge result_key vault_merge")
+MERGING = own("merging", "equality file_merge restoration tokens value_merge")
+WRITING = own("files", "replacing") | {"subprocess", "tempfile"}
+
+SHOWING_A_VAULT = (
+    START | PASSWORDS | TOOL | own("envelopes", "header") | own("showing", "commit_message first_line whole_vault")
+)
+SHOWING_VALUES = SHOWING_A_VAULT | YAML | CONFLICTS | own("git", "repository")
+SHOWING_VALUES |= own("merging", "unmerged_file") | own("showing", "as_it_is file_with_values")
+BATCH = START | PASSWORDS | TOOL | YAML | PARSER | WORKERS | WRITING | {"dataclasses"}
+BATCH |= own("batch", "places report runner work") | own("envelopes", "file_kinds") | own("files", "searching")
+# The modules for each command line.
 RUNS = {
-    f"{TEXTCONV} {OLD} vault.yml": """
-        lifecycle limits output parsers processes quoting refusals signals startup tool
-        envelopes: header
-        files: reading resolving
-        git: repository
-        passwords: labels loading options password prompts scripts settings sources
-        showing: whole_vault
-        others: argparse subprocess
-    """,
-    f"{TEXTCONV} {OLD} plain.yml": """
-        bounding lifecycle limits output parallel parsers processes quoting refusals signals startup tool
-        envelopes: conflicts content detection header key_paths layout node strays yaml_nodes
-        files: reading resolving
-        git: commands repository
-        merging: common_key line_merge unmerged_file vault_merge
-        passwords: labels loading options password prompts scripts settings sources
-        showing: file_text whole_vault
-        others: argparse json typing
-    """,
-    f"{TEXTCONV} {OLD} value.yml": """
-        bounding lifecycle limits output parallel parsers processes quoting refusals signals startup tool
-        envelopes: conflicts content detection header key_paths layout node strays yaml_nodes
-        files: reading resolving
-        git: commands repository
-        merging: common_key line_merge unmerged_file vault_merge
-        passwords: labels loading options password prompts scripts settings sources
-        showing: file_text whole_vault
-        others: argparse json subprocess typing yaml
-    """,
-    f"{TEXTCONV} {OLD} values.yml": """
-        bounding lifecycle limits output parallel parsers processes quoting refusals signals startup tool workers
-        envelopes: conflicts content detection header key_paths layout node strays yaml_nodes
-        files: reading resolving
-        git: commands repository
-        merging: common_key line_merge unmerged_file vault_merge
-        passwords: labels loading options password prompts scripts settings sources
-        showing: file_text whole_vault
-        others: argparse concurrent.futures json subprocess typing yaml
-    """,
-    f"{WITH} view {OLD} vault.yml": """
-        lifecycle limits output parsers processes quoting refusals signals startup
-        alias: command_line
-        envelopes: header
-        files: resolving
-        git: repository
-        passwords: labels loading options password prompts scripts settings sources
-        others: argparse
-    """,
-    f"{CHECK} {OLD} .": """
-        bounding lifecycle limits output parsers processes quoting refusals signals startup tool workers
-        batch: checking reports
-        envelopes: conflicts content damage detection file_kinds header key_paths layout node strays yaml_nodes
-        files: reading replacing resolving searching
-        git: attributes commands pathspecs repository
-        passwords: labels loading options password prompts scripts settings sources
-        others: argparse concurrent.futures dataclasses json subprocess tempfile typing yaml
-    """,
-    f"{ROTATE} {OLD} {NEW} .": """
-        bounding lifecycle limits output parsers processes quoting refusals signals startup tool workers
-        batch: reports rotation
-        envelopes: content detection file_kinds header key_paths layout node strays yaml_nodes
-        files: reading replacing resolving searching
-        git: repository
-        passwords: labels loading options password prompts scripts settings sources
-        others: argparse concurrent.futures dataclasses json subprocess tempfile typing yaml
-    """,
-    f"{EDIT} {OLD} vault.yml": """
-        bounding lifecycle limits output parallel parsers processes quoting refusals signals startup tool
-        editing: choosing copies drafts editor matching own_folder private_directory single_value typed_tags writing
-            yaml_draft
-        envelopes: conflicts content detection header key_paths layout node strays yaml_nodes
-        files: reading replacing resolving
-        git: commands pathspecs repository
-        merging: common_key file_merge line_merge tokens unmerged_file value_merge vault_merge
-        passwords: labels loading options password prompts scripts settings sources
-        others: argparse dataclasses json subprocess tempfile typing
-    """,
-    f"{MERGE} {OLD} base.yml vault.yml theirs.yml vault.yml": """
-        bounding lifecycle limits output parallel parsers processes quoting refusals signals startup tool
-        envelopes: conflicts content detection header key_paths layout node strays yaml_nodes
-        files: reading replacing resolving
-        git: commands repository
-        merging: common_key file_merge line_merge tokens value_merge vault_merge
-        passwords: labels loading options password prompts scripts settings sources
-        others: argparse json subprocess tempfile typing
-    """,
-    HOOK: """
-        bounding lifecycle limits output parsers processes quoting refusals signals startup
-        envelopes: conflicts content damage detection file_kinds header key_paths layout node strays yaml_nodes
-        files: reading replacing resolving
-        git: attributes blobs commands history indexes installing links pathspecs repository
-        guard: advice attributes_rule damage_rule evidence exemptions facts key_names leftover_rule mark_rule
-            placeholders pointer_rule review tag_rule unreadable_rule value_rule vault_rule
-        passwords: settings
-        others: argparse json subprocess tempfile typing yaml
-    """,
+    f"{TEXTCONV} {OLD} vault.yml": SHOWING_A_VAULT | {"subprocess"},
+    f"{TEXTCONV} {OLD} plain.yml": SHOWING_VALUES,
+    f"{TEXTCONV} {OLD} value.yml": SHOWING_VALUES | PARSER,
+    f"{TEXTCONV} {OLD} values.yml": SHOWING_VALUES | PARSER | WORKERS,
+    f"{WITH} view {OLD} vault.yml": START
+    | PASSWORDS
+    | own("alias", "command_line password_choice takeover")
+    | own("envelopes", "header pointers")
+    | own("files", "reading"),
+    f"{CHECK} {OLD} .": BATCH
+    | own("batch", "checking")
+    | own("envelopes", "conflicts damage")
+    | own("git", "attributes commands pathspecs repository servers"),
+    f"{ROTATE} {OLD} {NEW} .": BATCH | own("batch", "rotation") | own("git", "commands installing merge_driver"),
+    f"{EDIT} {OLD} vault.yml": START
+    | PASSWORDS
+    | TOOL
+    | YAML
+    | CONFLICTS
+    | MERGING
+    | WRITING
+    | own("editing", "choosing copies drafts editor matching own_folder private_directory single_value typed_tags")
+    | own("editing", "writing yaml_draft")
+    | own("git", "pathspecs repository")
+    | own("merging", "unmerged_file")
+    | {"dataclasses"},
+    f"{MERGE} {OLD} base.yml vault.yml theirs.yml vault.yml": START
+    | PASSWORDS
+    | TOOL
+    | YAML
+    | CONFLICTS
+    | MERGING
+    | WRITING
+    | own("git", "merge_driver"),
+    HOOK: START
+    | YAML
+    | PARSER
+    | WRITING
+    | own("envelopes", "conflicts damage file_kinds")
+    | own("files", "reading")
+    | own("git", "attributes blobs commands current_repository differences history index_files indexes installing")
+    | own("git", "links merge_driver pathspecs repository servers snapshots trees versions")
+    | own("guard", "advice byte_order_mark_rule comparison copy_rule damage_rule evidence exemptions facts key_names")
+    | own("guard", "leftover_rule list_items marked_file_rule placeholders pointer_rule removed_vaults review")
+    | own("guard", "successor_rule tag_rule unreadable_rule vault_texts")
+    | own("guard", "removed_values value_rule vault_rule"),
 }
 
 
@@ -124,16 +107,10 @@ def list_imports(place: Place, *words: str) -> set[str]:
     return {line.rpartition("|")[2].strip() for line in done.stderr.splitlines() if line.startswith("import time:")}
 
 
-def describe_imports(names: set[str]) -> str:
-    """Return the companions' own modules, a line for each package, and a line with the slow modules of others."""
-    packages: dict[str, list[str]] = {}
-    for name in sorted(names):
-        if name.startswith(OWN):
-            package, _, module = name.removeprefix(OWN).rpartition(".")
-            packages.setdefault(package, []).append(module)
-    lines = [" ".join(module for module in packages.pop("") if module not in packages)]
-    lines += [f"{package}: {' '.join(modules)}" for package, modules in packages.items()]
-    return "\n".join([*lines, f"others: {' '.join(name for name in SLOW if name in names)}"])
+def choose_listed(names: set[str]) -> set[str]:
+    """Return the modules that RUNS lists: the companions' own, without packages, and slow ones of others."""
+    packages = {name.rpartition(".")[0] for name in names}
+    return {name for name in names if name in SLOW or name.startswith(OWN) and name not in packages}
 
 
 @pytest.mark.parametrize("line", RUNS)
@@ -142,16 +119,26 @@ def test_imports(place: Place, line: str) -> None:
     needs("git")
     under_git(place, "vault.yml diff=ansible-vault\n")
     add_and_commit(place)
-    for name, text in {"base.yml": BASE, "vault.yml": OURS, "theirs.yml": THEIRS}.items():
-        place.put(name, sealed("old", text))
-    value = block("old")
-    for name, content in {"plain.yml": BASE, "value.yml": value, "values.yml": value + block("old", BASE)}.items():
-        place.put(name, content)
+    place.put("base.yml", sealed("old", BASE))
+    place.put("vault.yml", sealed("old", OURS))
+    place.put("theirs.yml", sealed("old", THEIRS))
+    place.put("plain.yml", BASE)
+    place.put("value.yml", block("old"))
+    place.put("values.yml", block("old") + block("old", BASE))
     place.run("git", "add", "value.yml")
     companion, *words = line.split()
     path = place.tools / companion
     options = path.read_text().partition("\n")[0].split()[-1]
     # What Python imports for itself differs from machine to machine.
     found = list_imports(place, options, str(path), *words) - list_imports(place, options, "-c", "")
-    listed = describe_imports(found)
-    assert listed.split() == RUNS[line].split(), listed
+    listed = choose_listed(found)
+    assert sorted(listed - RUNS[line]) == [], "modules more than before"
+    assert sorted(RUNS[line] - listed) == [], "modules that are imported no more"
+
+
+def test_start(place: Place) -> None:
+    """Before signals have their actions, Python answers Ctrl-C with a traceback, so next to nothing is imported."""
+    code = f"import sys; sys.path.insert(0, {str(place.companions)!r}); from ansible_vault_companions import startup"
+    found = list_imports(place, "-ISB", "-c", f"{code}; startup.prepare_process()")
+    of_python = list_imports(place, "-ISB", "-c", "import os") | {"select", "__future__"}
+    assert found - of_python == own("", "startup signals") | {"ansible_vault_companions"}

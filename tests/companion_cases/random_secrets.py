@@ -3,6 +3,7 @@
 import shutil
 import time
 from collections.abc import Callable
+from functools import partial
 from pathlib import Path
 from random import Random
 from typing import NamedTuple
@@ -13,11 +14,18 @@ from companion_cases import PASSWORDS, TEXT, WITH, Described, Place, described, 
 from lib.ansible import ansible_release
 from lib.ansible_runs import AnsibleRuns
 
-SEED = 62
-# How long to compare command lines, in seconds, if their number is not given; the least number in all, and per kind.
-SHARE, LEAST, LEAST_OF_EACH = 20, 40, 3
+# How long to compare command lines, in seconds, if their number is not given.
+SHARE = 20
+# The least number in all.
+LEAST = 40
+# The kinds.
+SUCCEED = "succeed in both"
+REFUSED = "refused by both"
+REFUSED_HERE = "refused only here, as documented"
 DEFAULT = "default"
 LABELS = [DEFAULT, "dev", "prod", "stage"]
+# A value that is empty without its quotes.
+QUOTED = '""'
 # The commands, except rekey, with their arguments.
 COMMANDS = [
     *[["view", "a.yml"]] * 2,
@@ -87,43 +95,81 @@ def label_of(secret: str) -> str:
     return secret.rpartition("@")[0] or DEFAULT
 
 
-def random_case(random: Random, secrets: Path) -> Case:
-    def some(counts: list[int], unusable: float, labels: list[str]) -> list[str]:
-        names = ["none", "empty"] if random.random() < unusable else [*PASSWORDS]
-        folders = [str(secrets), "~/secrets", "../secrets"]
-        count = random.choice(counts)
-        return [f"{random.choice(labels)}{random.choice(folders)}/{random.choice(names)}" for _ in range(count)]
+def random_secrets(random: Random, folder: Path, counts: list[int], unusable: float, labels: list[str]) -> list[str]:
+    """Return secrets with these labels, of which one part cannot be used, spelled in several ways."""
+    names = ["none", "empty"] if random.random() < unusable else [*PASSWORDS]
+    folders = [str(folder), "~/secrets", "../secrets"]
+    count = random.choice(counts)
+    return [f"{random.choice(labels)}{random.choice(folders)}/{random.choice(names)}" for _ in range(count)]
 
-    labels = ["", *(f"{label}@" for label in LABELS)]
-    command, ids, paths = random.choice(COMMANDS), some([0, 0, 1, 1, 2], 0.2, labels), some([0, 0, 0, 1], 0.2, [""])
-    to_encrypt = random.choice([""] * 6 + LABELS) if command[0].startswith("encrypt") else ""
-    identities, password_files = some([0, 1, 2, 2, 3], 0.2, labels), some([0, 0, 1], 0.2, [""])
-    named = [each for each in (*identities, *password_files, *ids, *paths) if is_usable(each)]
-    # Most vaults can be decrypted.
+
+def random_vault(random: Random, named: list[str]) -> bytes:
+    """Return a vault, which most often one of the named secrets decrypts."""
     secret = random.choice(named * 9 + [f"dev@/{name}" for name in PASSWORDS])
     label = random.choice([label_of(secret), *LABELS])
-    vault = sealed(secret.rpartition("/")[2], TEXT, "" if label == DEFAULT else label)
-    encrypt, match = random.choice([""] * 6 + LABELS), random.choice(["", "", "", "True", "False", '""'])
-    by_variables = random.random() < 0.5
-    return Case(command, ids, paths, to_encrypt, by_variables, identities, password_files, encrypt, match, vault)
+    return sealed(secret.rpartition("/")[2], TEXT, "" if label == DEFAULT else label)
+
+
+def random_case(random: Random, folder: Path) -> Case:
+    some = partial(random_secrets, random, folder)
+    labels = ["", *(f"{label}@" for label in LABELS)]
+    command = random.choice(COMMANDS)
+    ids = some(counts=[0, 0, 1, 1, 2], unusable=0.2, labels=labels)
+    paths = some(counts=[0, 0, 0, 1], unusable=0.2, labels=[""])
+    seldom_a_label = [""] * 6 + LABELS
+    to_encrypt = random.choice(seldom_a_label) if command[0].startswith("encrypt") else ""
+    identities = some(counts=[0, 1, 2, 2, 3], unusable=0.2, labels=labels)
+    password_files = some(counts=[0, 0, 1], unusable=0.2, labels=[""])
+    usable = [each for each in (*identities, *password_files, *ids, *paths) if is_usable(each)]
+    return Case(
+        vault=random_vault(random, usable),
+        command=command,
+        ids=ids,
+        paths=paths,
+        label=to_encrypt,
+        identities=identities,
+        password_files=password_files,
+        encrypt=random.choice(seldom_a_label),
+        match=random.choice(["", "", "", "True", "False", QUOTED]),
+        by_variables=random.random() < 0.5,
+    )
+
+
+def without_untrusted(case: Case) -> Case:
+    """Return the case without the settings that do not count beside options: those of the file, and relative paths."""
+    if not (case.ids or case.paths):
+        return case
+    if case.by_variables:
+        return case.only(lambda secret: "../secrets" not in secret)
+    return case.only(lambda secret: False)._replace(encrypt="", match="")
+
+
+def lacks_secret_to_encrypt_with(case: Case) -> bool:
+    """Return whether a secret that could encrypt is unusable, or two have the label. Ansible's tool chooses another."""
+    if not case.command[0].startswith("encrypt"):
+        return False
+    label = case.label or case.encrypt
+    named = [*case.identities, *case.ids, *case.paths, *case.password_files]
+    fitting = [each for each in named if label in ("", label_of(each))]
+    has_unusable = not all(map(is_usable, fitting))
+    has_several = label != "" and len({Path(each).name for each in fitting}) > 1
+    return has_unusable or has_several
 
 
 def what_counts(case: Case) -> Case | None:
     """Return the case without what counts only for Ansible's tool, or None if the manual page says it is refused."""
     if not all(map(is_usable, (*case.ids, *case.paths))):
         return None
-    if case.ids or case.paths:
-        case = case.only(lambda secret: case.by_variables and "../secrets" not in secret)
-        case = case if case.by_variables else case._replace(encrypt="", match="")
-    if case.command[0].startswith("encrypt"):
-        # Ansible's tool chooses among the secrets that are usable.
-        label = case.label or case.encrypt
-        named = [*case.identities, *case.ids, *case.paths, *case.password_files]
-        fitting = [each for each in named if label in ("", label_of(each))]
-        if not all(map(is_usable, fitting[:1] if label else fitting)):
-            return None
-    # Older releases do not skip a missing secret beside others.
-    return case if ansible_release() >= (2, 14) else case.only(is_usable)
+    case = without_untrusted(case)
+    if lacks_secret_to_encrypt_with(case):
+        return None
+    if ansible_release() < (2, 14):
+        # It does not skip a missing secret beside others.
+        return case.only(is_usable)
+    if ansible_release() >= (2, 19) and case.by_variables and case.match == QUOTED:
+        # In a variable, the quotes count: `settings.py` has what that means.
+        return case._replace(match="")
+    return case
 
 
 # Whether a run succeeds, its output, and the files that have changed.
@@ -137,23 +183,41 @@ def outcome_of(case: Case, tree: Path, status: int, output: bytes) -> Outcome:
     return status == 0, described(output) if status == 0 else None, changed
 
 
+def run_theirs(place: Place, ansible_runs: AnsibleRuns, case: Case) -> tuple[Outcome, str]:
+    """Return the outcome with Ansible's tool, and its messages."""
+    tree = place.path / "other"
+    variables = place.environment | case.prepare(tree)
+    status, output, errors = ansible_runs.run(case.words(), tree, variables)
+    return outcome_of(case, tree, status, output), errors
+
+
+def run_ours(place: Place, case: Case) -> tuple[Outcome, str]:
+    done = place.run_on(b"", "setsid", "--wait", WITH, *case.words(), **case.prepare(place.tree))
+    return outcome_of(case, place.tree, done.returncode, done.stdout), done.stderr.decode()
+
+
+def compare(place: Place, ansible_runs: AnsibleRuns, case: Case) -> str:
+    """Compare the outcomes of a case, and return of which kind it is."""
+    ours, our_errors = run_ours(place, case)
+    counted = what_counts(case)
+    if counted is None:
+        assert ours == (False, None, {}), (case, our_errors)
+        return REFUSED_HERE
+    theirs, their_errors = run_theirs(place, ansible_runs, counted)
+    assert ours == theirs, (case, our_errors, their_errors)
+    succeeds, _, _ = theirs
+    return SUCCEED if succeeds else REFUSED
+
+
 def test_command_lines(place: Place, ansible_runs: AnsibleRuns, pytestconfig: pytest.Config) -> None:
     """Compare random command lines, and print how many there were."""
     (place.secrets / "empty").write_bytes(b"\n")
-    most, end = pytestconfig.getoption("--comparisons"), time.monotonic() + SHARE
-    random, counts = Random(SEED), {"succeed in both": 0, "refused by both": 0, "refused only here, as documented": 0}
+    most = pytestconfig.getoption("--comparisons")
+    end = time.monotonic() + SHARE
+    random = Random(pytestconfig.getoption("--seed"))
+    counts = {SUCCEED: 0, REFUSED: 0, REFUSED_HERE: 0}
     while sum(counts.values()) < (most or LEAST) or not most and time.monotonic() < end:
         case = random_case(random, place.secrets)
-        theirs: Outcome | None = None
-        errors = ""
-        if counted := what_counts(case):
-            tree = place.path / "other"
-            variables = place.environment | counted.prepare(tree)
-            status, output, errors = ansible_runs.run(counted.words(), tree, variables)
-            theirs = outcome_of(counted, tree, status, output)
-        done = place.run_on(b"", "setsid", "--wait", WITH, *case.words(), **case.prepare(place.tree))
-        ours = outcome_of(case, place.tree, done.returncode, done.stdout)
-        assert ours == (theirs or (False, None, {})), (case, done.stderr, errors)
-        counts[[*counts][2 if theirs is None else 0 if theirs[0] else 1]] += 1
-    assert most or min(counts.values()) >= LEAST_OF_EACH, counts
+        counts[compare(place, ansible_runs, case)] += 1
+    assert most or all(counts.values()), f"some of each kind: {counts}"
     print(f"random command lines: {', '.join(f'{count} {what}' for what, count in counts.items())}")

@@ -3,12 +3,14 @@
 import os
 import re
 import shutil
-from itertools import compress, product
+from itertools import product
+from typing import NamedTuple
 
 import pytest
 
 from ansible_vault_companions.passwords.settings import Settings
 from companion_cases import CHECK, EDIT, ROTATE, TEXT, TEXTCONV, WITH, Place, described, ended, sealed
+from lib.ansible import ansible_release
 from lib.needs import needs, needs_root
 from lib.subtests import SubTests
 
@@ -17,112 +19,207 @@ LIST = "[defaults]\nvault_identity_list = {}\n"
 FILE = "[defaults]\nvault_password_file = {}\n"
 BOTH = "[defaults]\nvault_identity_list = dev@../secrets/dev\nvault_password_file = ../secrets/old\n"
 NAMED = {"CONFIG": "{}/far/away/my.cfg"}
-# Variables, files below the tree's parent directory, and the passwords that are found. `random_secrets.py` covers more.
-SETTINGS: dict[str, tuple[dict[str, str], dict[str, str], set[str]]] = {
-    "an empty variable": ({"VAULT_IDENTITY_LIST": ""}, {"tree/ansible.cfg": BOTH}, {"old"}),
-    "quotes": ({}, {"tree/ansible.cfg": LIST.format("'dev@../secrets/dev',\n  \"../secrets/old\"")}, {"dev", "old"}),
-    "a folder that is named": ({"CONFIG": "~/far"}, {"far/ansible.cfg": FILE.format("../secrets/dev")}, {"dev"}),
-    "a variable beside it": (NAMED | {"VAULT_PASSWORD_FILE": "../secrets/old"}, {"far/away/my.cfg": ""}, {"old"}),
-    "a missing one": (NAMED, {"tree/ansible.cfg": FILE.format("../secrets/old")}, {"old"}),
-    "the current folder": (NAMED, {"far/away/my.cfg": FILE.format("{{CWD}}/../secrets/old")}, {"old"}),
-    "a comment": ({}, {"tree/ansible.cfg": FILE.format("../secrets/dev ; not old") + "# it = x\nat = %Y\n"}, {"dev"}),
-    "a list of another folder": ({}, {".ansible.cfg": LIST.format("../secrets/dev")}, {"dev"}),
+
+
+class Found(NamedTuple):
+    """Variables, without ANSIBLE_; files below the tree's parent directory; and the passwords that these name."""
+
+    variables: dict[str, str]
+    files: dict[str, str]
+    passwords: set[str]
+
+
+# `random_secrets.py` covers more.
+FOUND = {
+    "an empty variable": Found({"VAULT_IDENTITY_LIST": ""}, {"tree/ansible.cfg": BOTH}, {"old"}),
+    "quotes": Found(
+        {}, {"tree/ansible.cfg": LIST.format("'dev@../secrets/dev',\n  \"../secrets/old\"")}, {"dev", "old"}
+    ),
+    "a folder that is named": Found({"CONFIG": "~/far"}, {"far/ansible.cfg": FILE.format("../secrets/dev")}, {"dev"}),
+    "a variable beside it": Found(NAMED | {"VAULT_PASSWORD_FILE": "../secrets/old"}, {"far/away/my.cfg": ""}, {"old"}),
+    "a missing one": Found(NAMED, {"tree/ansible.cfg": FILE.format("../secrets/old")}, {"old"}),
+    "the current folder": Found(NAMED, {"far/away/my.cfg": FILE.format("{{CWD}}/../secrets/old")}, {"old"}),
+    "a comment": Found(
+        {}, {"tree/ansible.cfg": FILE.format("../secrets/dev ; not old") + "# it = x\nat = %Y\n"}, {"dev"}
+    ),
+    "a list of another folder": Found({}, {".ansible.cfg": LIST.format("../secrets/dev")}, {"dev"}),
 }
 
 
-@pytest.mark.parametrize("settings, files, wanted", SETTINGS.values(), ids=SETTINGS)
-def test_variables_and_files(
-    place: Place, request: pytest.FixtureRequest, settings: dict[str, str], files: dict[str, str], wanted: set[str]
-) -> None:
+@pytest.mark.parametrize("row", FOUND.values(), ids=FOUND)
+def test_variables_and_files(place: Place, request: pytest.FixtureRequest, row: Found) -> None:
     """The secrets that variables and files name decrypt the same vaults as with Ansible's tool."""
     for name in OPEN:
         place.put(f"{name}.yml", sealed(name, f"{name}\n".encode()))
-    for name, content in files.items():
+    for name, content in row.files.items():
         place.put(f"../{name}", content.encode())
-    variables = {f"ANSIBLE_{name}": text.format(place.path) for name, text in settings.items()}
+    variables = {f"ANSIBLE_{name}": text.format(place.path) for name, text in row.variables.items()}
     done = place.run("setsid", "--wait", WITH, "view", *(f"{name}.yml" for name in OPEN), **variables)
-    assert (done.returncode, done.stdout) == (1, "".join(f"{name}\n" for name in OPEN if name in wanted))
+    assert done.stdout.split() == [name for name in OPEN if name in row.passwords], done.stderr
+    assert done.returncode == 1, "some have another password"
     ansible = request.getfixturevalue("ansible_runs")
     for name in OPEN:
-        status, output, _ = ansible.run(["view", f"{name}.yml"], place.tree, place.environment | variables)
-        expected = (True, name) if name in wanted else (False, "")
-        assert (status == 0, output.decode().strip()) == expected, "by Ansible's tool"
+        status, output, errors = ansible.run(["view", f"{name}.yml"], place.tree, place.environment | variables)
+        shown = output.decode().strip() if status == 0 else None
+        assert shown == (name if name in row.passwords else None), f"by Ansible's tool: {errors}"
 
 
-# Files and variables that name a script of an untrusted clone, and the paths of variables and of the user's own files
-# that are named when they are ignored beside options.
-STRANGE: dict[str, tuple[dict[str, str], dict[str, str], list[str]]] = {
-    "a list": ({"ansible.cfg": LIST.format("old@./script, ./script")}, {}, []),
-    "a variable with a relative path": ({}, {"ANSIBLE_VAULT_PASSWORD_FILE": "script"}, ["script"]),
-    "a relative path with an @": ({}, {"ANSIBLE_VAULT_IDENTITY_LIST": "old@at@/script"}, ["at@/script"]),
-    "$PWD": ({}, {"ANSIBLE_VAULT_IDENTITY_LIST": "$PWD/script, ${PWD}/script"}, ["$PWD/script", "${PWD}/script"]),
-    "$PWD in the user's own file": ({"../.ansible.cfg": FILE.format("$PWD/script")}, {}, ["$PWD/script"]),
-    "{{CWD}} in the user's own file": ({"../.ansible.cfg": FILE.format("{{CWD}}/script")}, {}, ["{{CWD}}/script"]),
-    "a named file": ({"ansible.cfg": FILE.format("./script")}, {"ANSIBLE_CONFIG": "ansible.cfg"}, ["ansible.cfg"]),
+class Match(NamedTuple):
+    """What `vault_id_match` is, where, and whether it forbids a password with another label: to the companions, and to
+    Ansible's tool before and since 2.19."""
+
+    value: str
+    is_variable: bool
+    ours: bool
+    before_2_19: bool
+    since_2_19: bool
+
+
+# In variables, quotes are a part of the value since 2.19. Nothing else differs.
+MATCHES = [
+    Match("True", is_variable=True, ours=True, before_2_19=True, since_2_19=True),
+    Match("False", is_variable=True, ours=True, before_2_19=True, since_2_19=True),
+    Match("", is_variable=True, ours=False, before_2_19=False, since_2_19=False),
+    Match('""', is_variable=True, ours=False, before_2_19=False, since_2_19=True),
+    Match("False", is_variable=False, ours=True, before_2_19=True, since_2_19=True),
+    Match("", is_variable=False, ours=False, before_2_19=False, since_2_19=False),
+    Match('""', is_variable=False, ours=False, before_2_19=False, since_2_19=False),
+]
+
+
+@pytest.mark.parametrize("row", MATCHES, ids=str)
+def test_match(place: Place, request: pytest.FixtureRequest, row: Match) -> None:
+    place.put("a.yml", sealed("old", label="dev"))
+    variables = {}
+    if row.is_variable:
+        variables["ANSIBLE_VAULT_ID_MATCH"] = row.value
+    else:
+        place.put("../.ansible.cfg", f"[defaults]\nvault_id_match = {row.value}\n".encode())
+    words = ["view", *place.by_id("prod", "old"), "a.yml"]
+    done = place.run(WITH, *words, **variables)
+    assert (done.returncode == 1) == row.ours, f"forbidden by the companion: {done.stderr}"
+    ansible = request.getfixturevalue("ansible_runs")
+    status, _, errors = ansible.run(words, place.tree, place.environment | variables)
+    by_ansible = row.since_2_19 if ansible_release() >= (2, 19) else row.before_2_19
+    assert (status == 1) == by_ansible, f"forbidden by Ansible's tool: {errors}"
+
+
+class Strange(NamedTuple):
+    """Files and variables that name a script of an untrusted clone; and the paths, of variables and of the user's own
+    files, that are named when they are ignored beside options."""
+
+    files: dict[str, str] = {}
+    variables: dict[str, str] = {}
+    ignored: list[str] = []
+
+
+STRANGE = {
+    "a list": Strange(files={"ansible.cfg": LIST.format("old@./script, ./script")}),
+    "a variable with a relative path": Strange(variables={"ANSIBLE_VAULT_PASSWORD_FILE": "script"}, ignored=["script"]),
+    "a relative path with an @": Strange(
+        variables={"ANSIBLE_VAULT_IDENTITY_LIST": "old@at@/script"}, ignored=["at@/script"]
+    ),
+    "$PWD": Strange(
+        variables={"ANSIBLE_VAULT_IDENTITY_LIST": "$PWD/script, ${PWD}/script"},
+        ignored=["$PWD/script", "${PWD}/script"],
+    ),
+    "$PWD in the user's own file": Strange(
+        files={"../.ansible.cfg": FILE.format("$PWD/script")}, ignored=["$PWD/script"]
+    ),
+    "{{CWD}} in the user's own file": Strange(
+        files={"../.ansible.cfg": FILE.format("{{CWD}}/script")}, ignored=["{{CWD}}/script"]
+    ),
+    "a named file": Strange(
+        files={"ansible.cfg": FILE.format("./script")},
+        variables={"ANSIBLE_CONFIG": "ansible.cfg"},
+        ignored=["ansible.cfg"],
+    ),
 }
 
 
-@pytest.mark.parametrize("files, variables, ignored", STRANGE.values(), ids=STRANGE)
-def test_what_is_not_trusted(
-    place: Place, subtests: SubTests, files: dict[str, str], variables: dict[str, str], ignored: list[str]
-) -> None:
-    """Beside options, no companion runs a script that the current directory names, or encrypts with its secret."""
-    # As a shell sets it.
-    place.environment |= {"PWD": str(place.tree), "EDITOR": place.script('echo more >> "$1"', "editor"), **variables}
-    for name, content in files.items():
+def put_strange(place: Place, row: Strange) -> None:
+    """Write the files, and scripts that note that they run."""
+    # PWD is as a shell sets it.
+    place.environment |= {"PWD": str(place.tree), **row.variables}
+    place.environment["EDITOR"] = place.script('echo more >> "$1"', "editor")
+    for name, content in row.files.items():
         place.put(name, content.encode())
     for path in ("script", "at@/script"):
         place.put(path, b"#!/bin/sh\ntouch ../ran; cat ../secrets/prod\n", 0o755)
     place.put("a.yml", sealed("old"))
     place.put("plain.yml", TEXT)
-    old, new, ran = place.by_file("old"), place.by_file("new", "new-"), place.path / "ran"
-    lines = [
-        [WITH, "view", *old, "a.yml"],
-        [WITH, "encrypt", *old, "--encrypt-vault-id", "default", "plain.yml"],
-        [EDIT, *old, "--encrypt-vault-id", "default", "new.yml"],
-        [CHECK, *old, "a.yml"],
-        [ROTATE, *old, *new, "a.yml"],
-    ]
-    for line in lines:
-        with subtests.test(" ".join(line[:2])):
-            done = place.run(*line)
-            assert (done.returncode, ran.exists()) == (0, False), done.stderr
-            assert [path for path in ignored if f": {path}: beside options, a path in the" not in done.stderr] == []
-    ended("a new secret is an option, too", place.run(ROTATE, *new, "a.yml"), 2)
-    assert not ran.exists()
-    for line in ([CHECK, "a.yml"], [WITH, "view", "a.yml"], [EDIT, "a.yml"]):
-        ended("without options", place.run(*line), 1)
-        assert ran.exists(), "it is run"
-        ran.unlink()
 
 
-# A home directory that there is not, and how a companion takes a password from there: what it says and its status.
+OLD, NEW = "--vault-password-file=../secrets/old", "--new-vault-password-file=../secrets/new"
+BESIDE_OPTIONS = [
+    f"{WITH} view {OLD} a.yml",
+    f"{WITH} encrypt {OLD} --encrypt-vault-id default plain.yml",
+    f"{EDIT} {OLD} --encrypt-vault-id default new.yml",
+    f"{CHECK} {OLD} a.yml",
+    f"{ROTATE} {OLD} {NEW} a.yml",
+]
+
+
+@pytest.mark.parametrize("row", STRANGE.values(), ids=STRANGE)
+def test_what_is_not_trusted(place: Place, subtests: SubTests, row: Strange) -> None:
+    """Beside options, no companion runs a script that the current directory names, or encrypts with its secret."""
+    put_strange(place, row)
+    ran = place.path / "ran"
+    for line in BESIDE_OPTIONS:
+        with subtests.test(line):
+            done = place.shell(line)
+            assert done.returncode == 0, done.stderr
+            assert not ran.exists(), "no script is run"
+            untold = [path for path in row.ignored if f": {path}: beside options, a path in the" not in done.stderr]
+            assert untold == [], f"what is ignored is named: {done.stderr}"
+    ended("a new secret is an option, too", place.shell(f"{ROTATE} {NEW} a.yml"), 2)
+    assert not ran.exists(), "no script is run"
+
+
+@pytest.mark.parametrize("row", STRANGE.values(), ids=STRANGE)
+@pytest.mark.parametrize("line", (f"{CHECK} a.yml", f"{WITH} view a.yml", f"{EDIT} a.yml"))
+def test_what_is_trusted_without_options(place: Place, row: Strange, line: str) -> None:
+    put_strange(place, row)
+    ended("the password of the script", place.shell(line), 1)
+    assert (place.path / "ran").exists(), "it is run"
+
+
+# A home directory that there is not.
 LOST = "~nobody-has-this-name/script"
-NO_HOME = f"{LOST}: ~ leads to no home directory; to mean a file of this name, begin with ./"
+WHY_LOST = "~ leads to no home directory; to mean a file of this name, begin with ./"
 IGNORED = f"{LOST}: beside options, a path in the"
-HOMELESS: dict[str, tuple[list[str], dict[str, str], int, str]] = {
-    "a path": ([CHECK, "--vault-password-file", LOST], {}, 1, NO_HOME),
-    "a source": ([CHECK, "--vault-id", f"dev@{LOST}"], {}, 1, f"dev@{NO_HOME}"),
-    "one for git": ([TEXTCONV, "--vault-id", f"dev@{LOST}"], {}, 0, f"dev@{NO_HOME}; it is ignored"),
-    "a list": ([CHECK], {"IDENTITY_LIST": f"../secrets/old, dev@{LOST}"}, 0, f"dev@{NO_HOME}; it is ignored"),
-    "a variable": ([CHECK], {"PASSWORD_FILE": LOST}, 1, NO_HOME),
-    "a variable of a variable": ([CHECK], {"PASSWORD_FILE": "$LOST"}, 1, f"$LOST: {NO_HOME.partition(': ')[2]}"),
-    "a list beside options": ([CHECK, "--vault-id", "../secrets/old"], {"IDENTITY_LIST": f"dev@{LOST}"}, 0, IGNORED),
+
+
+class Homeless(NamedTuple):
+    """A command line and variables with a password there, the status, and what is said."""
+
+    line: str
+    variables: dict[str, str]
+    status: int
+    told: str
+
+
+BESIDE = f"../secrets/old, dev@{LOST}"
+HOMELESS = {
+    "a path": Homeless(f"{CHECK} --vault-password-file '{LOST}'", {}, 1, f"{LOST}: {WHY_LOST}"),
+    "a source": Homeless(f"{CHECK} --vault-id dev@{LOST}", {}, 1, f"dev@{LOST}: {WHY_LOST}"),
+    "one for git": Homeless(f"{TEXTCONV} --vault-id dev@{LOST}", {}, 0, f"dev@{LOST}: {WHY_LOST}; it is ignored"),
+    "a list": Homeless(CHECK, {"ANSIBLE_VAULT_IDENTITY_LIST": BESIDE}, 0, f"dev@{LOST}: {WHY_LOST}; it is ignored"),
+    "a variable": Homeless(CHECK, {"ANSIBLE_VAULT_PASSWORD_FILE": LOST}, 1, f"{LOST}: {WHY_LOST}"),
+    "a variable of a variable": Homeless(CHECK, {"ANSIBLE_VAULT_PASSWORD_FILE": "$LOST"}, 1, f"$LOST: {WHY_LOST}"),
+    "a list beside options": Homeless(f"{CHECK} {OLD}", {"ANSIBLE_VAULT_IDENTITY_LIST": f"dev@{LOST}"}, 0, IGNORED),
 }
 
 
-@pytest.mark.parametrize("words, settings, status, told", HOMELESS.values(), ids=HOMELESS)
-def test_homes_that_are_missing(
-    place: Place, words: list[str], settings: dict[str, str], status: int, told: str
-) -> None:
+@pytest.mark.parametrize("row", HOMELESS.values(), ids=HOMELESS)
+def test_homes_that_are_missing(place: Place, row: Homeless) -> None:
     """Where nobody has the name after ~, a directory of that name in a stranger's repository does not count."""
     place.put(LOST, b"#!/bin/sh\ntouch ran; cat ../secrets/dev\n", 0o755)
     place.put("a.yml", sealed("old"))
-    variables = {f"ANSIBLE_VAULT_{name}": value for name, value in settings.items()}
-    ended("it is refused", place.run(*words, "a.yml", LOST=LOST, **variables), status, told)
-    assert "ran" not in place.names()
+    ended("it is refused", place.shell(f"{row.line} a.yml", LOST=LOST, **row.variables), row.status, row.told)
+    assert "ran" not in place.names(), "no script is run"
     ended("with ./", place.run(CHECK, "--vault-id", f"./{LOST}", "a.yml"), 1, f"tried ./{LOST})")
-    assert "ran" in place.names()
+    assert "ran" in place.names(), "the script is run"
 
 
 def test_no_home(place: Place, monkeypatch: pytest.MonkeyPatch) -> None:
@@ -130,7 +227,7 @@ def test_no_home(place: Place, monkeypatch: pytest.MonkeyPatch) -> None:
     monkeypatch.setattr(os.path, "expanduser", lambda path: path)
     monkeypatch.chdir(place.tree)
     place.put("~/.ansible.cfg", FILE.format("/the/strangers").encode())
-    assert Settings(False, print).find_password_file() == ""
+    assert Settings(False, print).find_password_file() == "", "none is found"
 
 
 # What Python's parser would look at for minutes.
@@ -180,12 +277,19 @@ def test_links(place: Place, subtests: SubTests) -> None:
     ended("what is named", place.run(CHECK, "a.yml", folder="project", ANSIBLE_CONFIG="ansible.cfg"), 0)
 
 
-# Secrets of the settings, the label to encrypt with, and the one password that is there.
+class Chosen(NamedTuple):
+    """Secrets of the settings, the label to encrypt with, and the one password that is there."""
+
+    listed: str
+    label: str
+    there: str
+
+
 CHOSEN = {
-    "two labels": ("dev@../secrets/dev, prod@../secrets/none", "", "dev"),
-    "a label that is missing": ("dev@../secrets/dev, prod@../secrets/none", "prod", "dev"),
-    "the first of a label": ("prod@../secrets/none, prod@../secrets/old", "prod", "old"),
-    "a label that is there": ("prod@../secrets/none, dev@../secrets/dev", "dev", "dev"),
+    "two labels": Chosen("dev@../secrets/dev, prod@../secrets/none", "", there="dev"),
+    "a label that is missing": Chosen("dev@../secrets/dev, prod@../secrets/none", "prod", there="dev"),
+    "the first of a label": Chosen("prod@../secrets/none, prod@../secrets/old", "prod", there="old"),
+    "a label that is there": Chosen("prod@../secrets/none, dev@../secrets/dev", "dev", there="dev"),
 }
 # Command lines that encrypt. `random_secrets.py` has others. Without a label, rekey would ask for a password, and
 # --value takes the label from the option alone.
@@ -193,24 +297,30 @@ SEALING = [f"{WITH} rekey --encrypt-vault-id {{}} a.yml", f"{EDIT} new.yml", f"{
 SEALING.append(f"{EDIT} --value=word --encrypt-vault-id {{}} values.yml")
 
 
-@pytest.mark.parametrize("listed, label, there", CHOSEN.values(), ids=CHOSEN)
+@pytest.mark.parametrize("row", CHOSEN.values(), ids=CHOSEN)
 @pytest.mark.parametrize("line", SEALING)
-def test_missing_secrets_to_encrypt_with(place: Place, line: str, listed: str, label: str, there: str) -> None:
+def test_missing_secrets_to_encrypt_with(place: Place, line: str, row: Chosen) -> None:
     """If the secret to encrypt with is missing, no other one encrypts in its place. Others may be missing."""
     place.put("values.yml", b"word: !vault TEXT\n")
-    place.put("a.yml", sealed(there, label=label))
-    before, words = place.files(), line.format(label or "prod").split()
-    variables = {"ANSIBLE_VAULT_IDENTITY_LIST": listed, "ANSIBLE_VAULT_ENCRYPT_IDENTITY": label}
-    editor = place.script('test -s "$1" || echo new > "$1"', "editor")
-    done = place.run_on(b"new", "setsid", "--wait", *words, EDITOR=editor, **variables)
-    if label == there:
+    place.put("a.yml", sealed(row.there, label=row.label))
+    before = place.files()
+    words = line.format(row.label or "prod").split()
+    variables = {"ANSIBLE_VAULT_IDENTITY_LIST": row.listed, "ANSIBLE_VAULT_ENCRYPT_IDENTITY": row.label}
+    variables["EDITOR"] = place.script('test -s "$1" || echo new > "$1"', "editor")
+    done = place.run_on(b"new", "setsid", "--wait", *words, **variables)
+    if row.label == row.there:
         assert done.returncode == 0, done
         header, found = described(place.get(words[-1]))
-        assert (header.decode(), found and found[0]) == (f"$ANSIBLE_VAULT;1.2;AES256;{label}", there), done
-    else:
-        why = "no other password encrypts in its place" if label or "{}" in line else "--encrypt-vault-id"
-        assert (done.returncode, why in done.stderr.decode(), place.files()) == (1, True, before), done
-        assert not label or place.left() == [], "no editor was opened"
+        assert header.decode() == f"$ANSIBLE_VAULT;1.2;AES256;{row.label}", "its label"
+        assert found and found[0] == row.there, "its password"
+        return
+    assert done.returncode == 1, done
+    has_label = row.label != "" or "{}" in line
+    why = "no other password encrypts in its place" if has_label else "--encrypt-vault-id"
+    assert why in done.stderr.decode(), done
+    assert place.files() == before, "all stays"
+    if row.label:
+        assert place.left() == [], "no editor was opened"
 
 
 def test_world_writable_folders(place: Place) -> None:
@@ -226,6 +336,18 @@ def test_world_writable_folders(place: Place) -> None:
 
 # The files of settings in Ansible's order, and the password that each names.
 PLACES = {"my.cfg": "dev", "tree/ansible.cfg": "old", ".ansible.cfg": "new", "etc/ansible/ansible.cfg": "prod"}
+# Every choice of them.
+CHOICES = [
+    [path for path, is_there in zip(PLACES, chosen) if is_there]
+    for chosen in product((False, True), repeat=len(PLACES))
+]
+
+
+def put_settings(place: Place, there: list[str]) -> None:
+    for path, password in PLACES.items():
+        place.put(f"../{path}", FILE.format(place.secret(password)).encode())
+        if path not in there:
+            (place.path / path).unlink()
 
 
 def test_places(place: Place) -> None:
@@ -236,14 +358,12 @@ def test_places(place: Place) -> None:
     here = ["unshare", "--mount", "sh", "-c", 'mount --bind ../etc /etc && exec "$@"', "sh", str(place.tools / CHECK)]
     for password in PLACES.values():
         place.put(f"{password}.yml", sealed(password))
-    for chosen in product((False, True), repeat=len(PLACES)):
-        there = dict(compress(PLACES.items(), chosen))
-        for path, password in PLACES.items():
-            place.put(f"../{path}", FILE.format(place.secret(password)).encode() if path in there else b"")
-            if path not in there:
-                (place.path / path).unlink()
-        done = place.run(*here, ".", **({"ANSIBLE_CONFIG": "../my.cfg"} if chosen[0] else {}))
-        assert re.findall(r"(\w+)\.yml: default: decrypted", done.stdout) == [*there.values()][:1], (there, done)
+    for there in CHOICES:
+        put_settings(place, there)
+        variables = {"ANSIBLE_CONFIG": "../my.cfg"} if "my.cfg" in there else {}
+        done = place.run(*here, ".", **variables)
+        decrypted = re.findall(r"(\w+)\.yml: default: decrypted", done.stdout)
+        assert decrypted == [PLACES[path] for path in there][:1], f"{there}: {done}"
 
 
 def test_values_for_true(monkeypatch: pytest.MonkeyPatch) -> None:

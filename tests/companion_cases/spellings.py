@@ -6,16 +6,13 @@ from __future__ import annotations
 import json
 import re
 from collections import Counter
-from collections.abc import Callable, Iterator
+from collections.abc import Callable, Iterable, Iterator
 from random import Random
-from time import process_time
-from timeit import repeat
 from typing import NamedTuple
 
 import pytest
 
-from ansible_vault_companions.editing.typed_tags import check_tags
-from ansible_vault_companions.envelopes import conflicts, content, header
+from ansible_vault_companions.envelopes import content, header
 from ansible_vault_companions.envelopes.content import Content
 from ansible_vault_companions.envelopes.header import LINE_END
 from ansible_vault_companions.envelopes.key_paths import KeyPath
@@ -30,34 +27,51 @@ LINE = sealed("old").decode().replace("\n", "\\n")
 COMMENT = b"".join(b"# " + line for line in block("old").splitlines(keepends=True))
 DIGITS = "".join(sealed("old").decode().splitlines()[1:])
 MAGIC = "$ANSIBLE_VAULT"
-# The content of a file, and the reason why it is not rotated; empty if it is.
+
+
+class Form(NamedTuple):
+    """The content of a file, and the reason why it is not rotated, which is empty if it is."""
+
+    content: bytes
+    why: str = ""
+
+
 FORMS = {
-    "a comment": (COMMENT, ""),
-    "tabs": (b"a: !vault |\n" + BODY.replace(b"          ", b"\t"), ""),
-    "a template": (b"{% if x %}\na: !vault |\n" + BODY + b"\n{% endif %}\n", ""),
-    "a script": (b"cat <<END\n" + sealed("old") + b"END\n", ""),
-    "a folded scalar": (b"a: !vault >\n" + BODY + b"\n", "its lines are joined, since it is not a block"),
-    "single quotes": (b"a: !vault '%s'\n" % sealed("old").replace(b"\n", b"\n  "), "its lines are joined"),
-    "a byte order mark": (b"\xef\xbb\xbf" + sealed("old"), "let the file begin with it"),
-    "empty lines": (b" \r\n\t\n" + sealed("old"), "an envelope within other text"),
-    "spaces": (b"  " + sealed("old").replace(b"\n", b"\n  "), "let the file begin with it"),
-    "a tagged text": (b"a: !vault |\n          # x\n" + BODY + b"\n", "an envelope within other text"),
-    "a text": (f"PASSWORD=x:{LINE}\n\tx".encode(), "an envelope within other text"),
-    "a damaged block": (b"a: !vault |\n  $ANSIBLE_VAULT;1.1;AES256\n  not digits\n", "vault body is not hexadecimal"),
-    "a damaged header": (b"$ANSIBLE_VAULT;1.1\n61\n", " line is malformed"),
-    "not ASCII.yml": ("$ANSIBLE_VAULT;1.1;AES256\n# größe\n".encode() + block("old"), "vault body is not hexadecimal"),
-    "a null character.yml": (block("old") + b"\0", "it cannot be read as YAML: it has a null character"),
-    "a vault with CR LF": (sealed("old").replace(b"\n", b"\r\n"), ""),
-    "a label that says nothing": (b"a: !vault |2+   # why\n" + lines_of(sealed("old", label="default"), 2), ""),
-    "digits as keys": (block("old") + b"deadbeef: 1\nabcd\n", ""),
-    "bytes of any kind": (b"\xef\xbb\xbf# \xff\x85\xe2\x80\xa8\t\r\n" + block("old") + b"# \x0c \xfe", ""),
-    "a comment like a value": (b"# $ANSIBLE_VAULT;1.1;AES256\n" + block("old") + b"#  6162\n", ""),
-    "within a text": (b"script: |\n  x: !vault |\n" + lines_of(sealed("old"), 6) + b"\n  y: 1\n", ""),
+    "a comment": Form(COMMENT),
+    "tabs": Form(b"a: !vault |\n" + BODY.replace(b"          ", b"\t")),
+    "a template": Form(b"{% if x %}\na: !vault |\n" + BODY + b"\n{% endif %}\n"),
+    "a script": Form(b"cat <<END\n" + sealed("old") + b"END\n"),
+    "a folded scalar": Form(b"a: !vault >\n" + BODY + b"\n", why="its lines are joined, since it is not a block"),
+    "single quotes": Form(b"a: !vault '%s'\n" % sealed("old").replace(b"\n", b"\n  "), why="its lines are joined"),
+    "a byte order mark": Form(b"\xef\xbb\xbf" + sealed("old"), why="let the file begin with it"),
+    "empty lines": Form(b" \r\n\t\n" + sealed("old"), why="an envelope within other text"),
+    "spaces": Form(b"  " + sealed("old").replace(b"\n", b"\n  "), why="let the file begin with it"),
+    "a tagged text": Form(b"a: !vault |\n          # x\n" + BODY + b"\n", why="an envelope within other text"),
+    "a text": Form(f"PASSWORD=x:{LINE}\n\tx".encode(), why="an envelope within other text"),
+    "a damaged block": Form(
+        b"a: !vault |\n  $ANSIBLE_VAULT;1.1;AES256\n  not digits\n", why="vault body is not hexadecimal"
+    ),
+    "a damaged header": Form(b"$ANSIBLE_VAULT;1.1\n61\n", why=" line is malformed"),
+    "not ASCII.yml": Form(
+        "$ANSIBLE_VAULT;1.1;AES256\n# größe\n".encode() + block("old"), why="vault body is not hexadecimal"
+    ),
+    "a null character.yml": Form(block("old") + b"\0", why="it cannot be read as YAML: it has a null character"),
+    "a vault with CR LF": Form(sealed("old").replace(b"\n", b"\r\n")),
+    "a label that says nothing": Form(
+        b"a: !vault |2+   # why\n" + lines_of(sealed("old", label="default"), 2),
+    ),
+    "digits as keys": Form(block("old") + b"deadbeef: 1\nabcd\n"),
+    "bytes of any kind": Form(b"\xef\xbb\xbf# \xff\x85\xe2\x80\xa8\t\r\n" + block("old") + b"# \x0c \xfe"),
+    "a comment like a value": Form(b"# $ANSIBLE_VAULT;1.1;AES256\n" + block("old") + b"#  6162\n"),
+    "within a text": Form(b"script: |\n  x: !vault |\n" + lines_of(sealed("old"), 6) + b"\n  y: 1\n"),
 }
 # Unusual headers, which are read like any other.
 for first_line in (f"{MAGIC} ;1.2;AES256;default", f"{MAGIC}_x; 1.1 ;AES256", f"{MAGIC};1.1;\tAES256;default"):
     for vault in (sealed("old"), block("old")):
-        FORMS[f"{len(FORMS)} {first_line}"] = vault.replace(b"$ANSIBLE_VAULT;1.1;AES256", first_line.encode()), ""
+        FORMS[f"{len(FORMS)} {first_line}"] = Form(vault.replace(b"$ANSIBLE_VAULT;1.1;AES256", first_line.encode()))
+# What is rotated, and what is left with a reason.
+ROTATED = {name for name, form in FORMS.items() if not form.why}
+LEFT = FORMS.keys() - ROTATED
 
 
 # Text that only mentions a header is no envelope, and not reported.
@@ -75,29 +89,52 @@ script:
 """
 
 
-def test_forms(place: Place) -> None:
-    """The check names what is not rotated, and nothing else. A dry run writes nothing, but has the same status."""
+def put_forms(place: Place) -> dict[str, bytes]:
+    """Write a file of each form, and two that only mention headers. Return all of them."""
     place.put("job.yml", JOB.encode())
     place.put("job.json", json.dumps(JOB).encode())
-    for name, (text, _) in FORMS.items():
-        place.put(name, text)
-    before, left = place.files(), {name: why for name, (_, why) in FORMS.items() if why}
-    rotate, check = [ROTATE, *to_new(place), "."], [CHECK, *place.by_file("old"), "."]
-    rotated, failed = len(FORMS) - len(left), len(left)
-    to_be = summary(rotated, failed=failed).replace("rotated", "to be rotated", 1)
-    counts = {CHECK: f"{rotated} decrypted, {failed} failed", "dry": to_be, ROTATE: summary(rotated, failed=failed)}
-    for words, count in zip((check, [*rotate, "--dry-run"], rotate), counts.values()):
-        assert place.files() == before
-        done = place.run(*words)
-        ended(words[0], done, 1, count)
-        lines = {name: "".join(line for line in done.stderr.splitlines() if f"./{name}:" in line) for name in before}
-        assert {name for name, line in lines.items() if line} == left.keys(), (words[0], lines)
-        assert [name for name, why in left.items() if why not in lines[name]] == [], (words[0], lines)
-    assert {name for name, text in place.files().items() if text != before[name]} == FORMS.keys() - left.keys()
-    assert b"\n" not in place.get("a vault with CR LF").replace(b"\r\n", b"")
-    for name in left:
+    for name, form in FORMS.items():
+        place.put(name, form.content)
+    return place.files()
+
+
+def check_reasons(errors: str, names: Iterable[str]) -> None:
+    """Check that what is left is named with its reason, and nothing else."""
+    messages = {name: "".join(line for line in errors.splitlines() if f"./{name}:" in line) for name in names}
+    assert {name for name, message in messages.items() if message} == LEFT, errors
+    assert [name for name in LEFT if FORMS[name].why not in messages[name]] == [], messages
+
+
+def test_check_of_forms(place: Place) -> None:
+    before = put_forms(place)
+    done = place.run(CHECK, *place.by_file("old"), ".")
+    check_reasons(done.stderr, before)
+    ended("the summary", done, 1, f"{len(ROTATED)} decrypted, {len(LEFT)} failed")
+    assert place.files() == before, "all stays"
+
+
+def test_dry_run_of_forms(place: Place) -> None:
+    """It writes nothing, but has the status of a rotation."""
+    before = put_forms(place)
+    rotate = [ROTATE, *to_new(place), ".", "--dry-run"]
+    done = place.run(*rotate)
+    check_reasons(done.stderr, before)
+    to_be = summary(len(ROTATED), failed=len(LEFT)).replace("rotated", "to be rotated", 1)
+    ended("the summary", done, 1, to_be)
+    assert place.files() == before, "all stays"
+
+
+def test_rotation_of_forms(place: Place) -> None:
+    before = put_forms(place)
+    rotate = [ROTATE, *to_new(place), "."]
+    done = place.run(*rotate)
+    check_reasons(done.stderr, before)
+    ended("the summary", done, 1, summary(len(ROTATED), failed=len(LEFT)))
+    assert {name for name, content in place.files().items() if content != before[name]} == ROTATED, "what is rotated"
+    assert b"\n" not in place.get("a vault with CR LF").replace(b"\r\n", b""), "its line ends"
+    for name in LEFT:
         (place.tree / name).unlink()
-    to_be = summary(0, rotated).replace("rotated", "to be rotated", 1)
+    to_be = summary(0, len(ROTATED)).replace("rotated", "to be rotated", 1)
     ended("nothing is left", place.run(*rotate, "--dry-run"), 0, to_be)
 
 
@@ -113,45 +150,6 @@ def test_yaml_that_cannot_be_read(place: Place) -> None:
     wanted = "".join(f"{CHECK}: ./{where}: it cannot be read as YAML.*\n" for where in places)
     wanted += f"{CHECK}: ./c.yaml: it is nested over 64 levels\n"
     assert done.returncode == 1 and re.fullmatch(wanted, done.stderr), done.stderr
-
-
-# Each piece is repeated to make a hostile file.
-PIECES = [b"$ANSIBLE_VAULT", b"$ANSIBLE_VAULT;1.1;AES256", b'"\\x24ANSIBLE_VAULT']
-PIECES += [b"  $ANSIBLE_VAULT;1.1;AES256\n  6162\n", b'"$ANSIBLE_VAULT;1.1;AES256\\n' + b"61" * 40 + b'", ']
-PIECES += [b"a: !vault |\n  $ANSIBLE_VAULT;1.1;AES256\n  6162\n", b" " * 4000 + b"$ANSIBLE_VAULT;1.1;AES256\n"]
-PIECES += [
-    b"!vault &" + b"x" * 4000 + b"\n$ANSIBLE_VAULT;1.1;AES256\n",
-    b"!vault | ",
-    b"!vault &a ",
-    b"!vault",
-    b"# \\n",
-]
-PIECES += [b" ", b"\t", b"\n", b"- ", b"61", b"<<<<<<< ", b"<<<<<<< a\n", b"[", b"{a: ", b"? ", b"&a ", b"%TAG ! !"]
-PIECES += [b"$ANSIBLE_VAULT;1.1;AES256 # # # " + b"61" * 20 + b"\n", b"  - ", b"\r", b"'"]
-SMALL, TIMES = 1 << 15, 8
-START = b"x: !vault |\n  $ANSIBLE_VAULT;1.1;AES256\n  61\n"
-WORKS: dict[str, Callable[[bytes], object]] = {
-    "the envelopes": lambda data: content.parse_content(START + data),
-    "every node": lambda data: content.parse_content(START + data, every=True),
-    "a file that is no YAML": lambda data: content.parse_content(b"[$ANSIBLE_VAULT;1.1;AES256" + data),
-    "a whole vault": lambda data: header.is_whole_envelope(b"$ANSIBLE_VAULT;1.1;AES256\n" + data),
-    "typed tags": lambda data: check_tags(Content(data), Content(data)),
-    "conflict markers": lambda data: (conflicts.is_unmerged(data), conflicts.split_sides(b"<<<<<<<\n" + data)),
-}
-
-
-@pytest.mark.parametrize("piece", PIECES, ids=lambda piece: repr(piece[:40]))
-@pytest.mark.parametrize("work", WORKS.values(), ids=WORKS)
-def test_linear_time(work: Callable[[bytes], object], piece: bytes) -> None:
-    """A file that is eight times as long takes eight times as long, whatever it contains."""
-    small = (piece * (SMALL // len(piece) + 1))[:SMALL]
-
-    def seconds(data: bytes) -> float:
-        return min(repeat(lambda: work(data), repeat=2, number=1, timer=process_time))
-
-    # In quadratic time, it would take 64 times as long. Other processes hardly affect the processor time, and not that
-    # of each of four measurements. Below a few milliseconds the clock says little.
-    assert any(seconds(small * TIMES) < max(0.02, 24 * seconds(small)) for _ in range(4))
 
 
 LOADERS = [getattr(yaml, "CSafeLoader", yaml.SafeLoader), yaml.SafeLoader]
@@ -256,18 +254,55 @@ def walked(node: yaml.Node, path: KeyPath, seen: set[int]) -> Iterator[Composed]
         is_tagged = node.tag in TAGS or path[-1:] == ("__ansible_vault",)
         if is_tagged or MEANT.match(node.value):
             yield Composed(path, node.value, is_tagged)
-        return
-    for number, item in enumerate(node.value):
-        key, item = item if isinstance(node, yaml.MappingNode) else (None, item)
-        step = number if key is None else key.value if isinstance(key, yaml.ScalarNode) else ""
-        yield from walked(item, (*path, step), seen)
+    elif isinstance(node, yaml.MappingNode):
+        for key, item in node.value:
+            # A key that is no scalar has no name.
+            step = key.value if isinstance(key, yaml.ScalarNode) else ""
+            yield from walked(item, (*path, step), seen)
+    else:
+        for number, item in enumerate(node.value):
+            yield from walked(item, (*path, number), seen)
 
 
 def around(data: bytes) -> list[bytes]:
     """What is before, between and behind the envelopes."""
-    values = content.parse_content(data).values
+    values = content.parse_envelopes(data).values
     places = [0, *(place for value in values for place in (value.start, value.end)), len(data)]
     return [data[begin:end] for begin, end in zip(places[::2], places[1::2])]
+
+
+def text_at(path: KeyPath, text: str) -> tuple[KeyPath, str]:
+    """Return where a text is, and the text without what a block adds around it."""
+    return path, text.strip()
+
+
+def list_composed(data: bytes) -> list[tuple[KeyPath, str]] | None:
+    """Return where PyYAML finds envelopes, and their texts."""
+    values = composed(data)
+    return None if values is None else [text_at(value.path, value.text) for value in values]
+
+
+def check_places(data: bytes, parse: Callable[[bytes], Content]) -> None:
+    """Check that each place is within the content, even if it is no YAML."""
+    for value in parse(data).values:
+        assert 0 <= value.begin <= value.start <= value.end <= len(data) or value.style == STRAY, (value, data)
+
+
+def replace_some(random: Random, read: Content) -> dict[int, bytes]:
+    """Choose the envelopes to replace, by their numbers."""
+    return {number: NEW for number in range(len(read.values)) if random.random() < 0.5}
+
+
+def check_replaced(data: bytes, read: Content, new: dict[int, bytes]) -> None:
+    """Check that new envelopes are where the old ones were, and that all around them stays."""
+    after = read.replace_envelopes(new)
+    assert around(after) == around(data), (data, after)
+    assert {*LINE_END.findall(after)} <= {*LINE_END.findall(data)}, (data, after)
+    wanted = []
+    for number, value in enumerate(read.values):
+        if value.style not in (STRAY, LOOSE):
+            wanted.append(text_at(value.path, new.get(number, value.text).decode()))
+    assert list_composed(after) == wanted, (data, after)
 
 
 def test_random_yaml(monkeypatch: pytest.MonkeyPatch, pytestconfig: pytest.Config) -> None:
@@ -277,41 +312,22 @@ def test_random_yaml(monkeypatch: pytest.MonkeyPatch, pytestconfig: pytest.Confi
         monkeypatch.setattr(yaml, "CSafeLoader", LOADERS[number % 2], raising=False)
         data = Generator(random).data()
         damaged = data[: random.randrange(999)] + random.randbytes(9) + data
-        for value in content.parse_content(damaged, number % 3 == 0).values:
-            assert 0 <= value.begin <= value.start <= value.end or value.style == STRAY, (number, value)
-        wanted = composed(data)
+        check_places(damaged, content.parse_nodes if number % 3 == 0 else content.parse_envelopes)
+        wanted = list_composed(data)
         if wanted is None:
             continue
-        read = content.parse_content(data)
+        read = content.parse_envelopes(data)
         values = [value for value in read.values if value.style not in (STRAY, LOOSE)]
-        texts = [(value.path, value.text.decode().strip()) for value in values]
-        assert texts == [(value.path, value.text.strip()) for value in wanted], data
-        new = {number: NEW for number, value in enumerate(read.values) if random.random() < 0.5}
-        after = read.replace_envelopes(new)
-        assert around(after) == around(data), (data, after)
-        assert {*LINE_END.findall(after)} <= {*LINE_END.findall(data)}, (data, after)
-        replaced = [(path, new[n].decode().strip() if n in new else text) for n, (path, text) in enumerate(texts)]
-        assert [(value.path, value.text.strip()) for value in composed(after) or []] == replaced, (data, after)
+        assert [text_at(value.path, value.text.decode()) for value in values] == wanted, data
+        new = replace_some(random, read)
+        check_replaced(data, read, new)
         counts.update(values=len(wanted), replaced=len(new))
     assert min(counts["values"], counts["replaced"]) > 500, counts
 
 
 # Pieces of texts: characters that stand for bytes while YAML is read, one beyond 16 bits, and what looks like escapes.
-ESCAPED = [
-    "\ue000",
-    "\ue0b0",
-    "\ue0ff",
-    "\ue83d",
-    "\U0001f600",
-    "é",
-    "\\",
-    "\n",
-    '"',
-    "\\ud83d",
-    "\\ue0b0",
-    "d83d",
-    " x",
-]
+ESCAPED = ["\ue000", "\ue0b0", "\ue0ff", "\ue83d", "\U0001f600", "é", "\\", "\n", '"', "\\ud83d", "\\ue0b0"]
+ESCAPED += ["d83d", " x"]
 
 
 def test_escapes(monkeypatch: pytest.MonkeyPatch, pytestconfig: pytest.Config) -> None:
@@ -328,11 +344,11 @@ def test_escapes(monkeypatch: pytest.MonkeyPatch, pytestconfig: pytest.Config) -
     for data in (b'["\\ud83d"]', b'["\\ude00\\ud83d"]', b"""['', "\\ud83d"]""", b'a: "\\U0000dfff"'):
         for loader in LOADERS:
             monkeypatch.setattr(yaml, "CSafeLoader", loader, raising=False)
-            assert content.parse_content(data, every=True).fault.startswith("line 1: it cannot be read as YAML: "), data
+            assert content.parse_nodes(data).fault.startswith("line 1: it cannot be read as YAML: "), data
 
 
 def read_texts(data: bytes) -> list[bytes]:
-    read = content.parse_content(data, every=True)
+    read = content.parse_nodes(data)
     assert not read.fault, (data, read.fault)
     return [value.text for value in read.values if value.path]
 
