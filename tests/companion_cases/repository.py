@@ -3,6 +3,8 @@
 import subprocess
 from pathlib import Path
 
+from ansible_vault_companions.git.blobs import Blobs
+from ansible_vault_companions.guard.review import Review, review_staged
 from companion_cases import HOOK, MERGE, Done, Place
 from model.vaults import SALT
 
@@ -46,6 +48,14 @@ def staged(place: Place, files: dict[str, bytes]) -> list[str]:
     for name, content in files.items():
         place.put(name, content)
     return told(place.shell(f"git add -A && {HOOK}"))
+
+
+def find_staged_faults() -> set[str]:
+    """Return what is staged here and refused, as the hook does, but without a process of its own."""
+    with Blobs() as blobs:
+        review = Review("hook", blobs)
+        review_staged(review, [])
+    return {name.decode() for name, _ in review.reported}
 
 
 def told(done: Done) -> list[str]:
