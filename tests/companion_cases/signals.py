@@ -7,6 +7,7 @@ import signal
 import subprocess
 import time
 from collections.abc import Callable
+from functools import partial
 from pathlib import Path
 from random import Random
 
@@ -242,8 +243,10 @@ def test_editor(place: Place, what: str) -> None:
 
 # Seconds within which a signal ends a companion, whose work would take longer than that.
 AT_ONCE = 2
-# Takes the place of a program: it goes on until nobody reads its output.
-ENDLESS = ": > ../noted; while echo; do sleep 0.05; done; exit"
+# These take the place of a program, and note which companion has started it. The first goes on until nobody reads its
+# output, the other until its input ends.
+ENDLESS = ": > ../started-by-$PPID; while echo; do sleep 0.05; done; exit"
+SILENT = ": > ../started-by-$PPID; cat > /dev/null; exit"
 # The options of a password, which each command line is to have.
 OLD = "--vault-password-file ../secrets/old"
 PIPE = "--vault-password-file ../pipe"
@@ -265,10 +268,14 @@ WORKS = {
     "files of the alias": f"{WITH} decrypt {OLD} a.yml many.yml",
     "the loading of an edit": f"{EDIT} {OLD} a.yml",
 }
+OF_HOOK = ["rev-parse", "check-attr", "cat-file"]
+# Commands of git that answer questions, until their input ends.
+SERVERS = ["check-attr", "cat-file", "diff-tree"]
+# Each with the commands of git that it waits for.
 OF_GIT = {
-    "a merge": f"{MERGE} {OLD} --vault-password-file ../secrets/new",
-    "the hook": HOOK,
-    "the hook of a pipeline": f"{HOOK} --since HEAD",
+    f"{MERGE} {OLD} --vault-password-file ../secrets/new": ["merge-file"],
+    f"{HOOK} a.yml": ["ls-files", "diff-index", *OF_HOOK],
+    f"{HOOK} --since HEAD~1": ["rev-list", "ls-tree", "diff-tree", *OF_HOOK],
 }
 PARSES = {
     "a check": f"{CHECK} {OLD} large.yml",
@@ -285,9 +292,15 @@ def check_ended(place: Place, line: str, condition: Callable[[int], object], num
     with started(words, cwd=place.tree, env=place.environment, text=True, **streams) as process:
         wait_until(lambda: condition(process.pid), line)
         process.send_signal(number)
-        assert process.wait(AT_ONCE) == -number, "it ends by the signal"
+        status = process.wait(AT_ONCE)
         assert process.stderr and process.stderr.read() == "", "without a word"
+        assert status == -number, "it ends by the signal"
     assert (os.listdir(place.temporary), place.left()) == ([], []), "nothing is left"
+
+
+def has_started_program(place: Place, number: int) -> bool:
+    """Whether the companion with this process number has. A program that an earlier one left may still begin."""
+    return (place.path / f"started-by-{number}").exists()
 
 
 @pytest.mark.parametrize("line, call", WAITS.values(), ids=WAITS)
@@ -311,28 +324,33 @@ def test_workers(place: Place, line: str) -> None:
     """The main thread takes all signals, so that it may postpone them while workers go on."""
     tree(place)
     place.put("many.yml", b"".join(block("old", b"%d" % number, name=f"key{number}") for number in range(100)))
-    place.wrap_tool(f'[ "$1" = --version ] || {{ {ENDLESS}; }}')
-    masks: list[set[int]] = []
+    # The signals that each thread but the main one blocks. Its number may be lower than the main one's.
+    masks: dict[str, set[int]] = {}
 
     def is_working(number: int) -> bool:
-        main, *others = sorted(Path(f"/proc/{number}/task").glob("*/status"), key=lambda path: int(path.parent.name))
-        masks[:] = [blocked(path) for path in (main, *others)]
+        if not has_started_program(place, number):
+            return False
+        masks.clear()
+        masks.update({path.parent.name: blocked(path) for path in Path(f"/proc/{number}/task").glob("*/status")})
         # The main thread blocks signals for a moment while it starts a thread.
-        return (place.path / "noted").exists() and masks[0] == set()
+        return not masks.pop(str(number))
 
+    place.wrap_tool(f'[ "$1" = --version ] || {{ {ENDLESS}; }}')
     for number in (signal.SIGTERM, signal.SIGINT):
         check_ended(place, line, is_working, number)
-        (place.path / "noted").unlink()
-        assert all({number, signal.SIGHUP} <= each for each in masks[1:])
+        assert all({number, signal.SIGHUP} <= mask for mask in masks.values())
 
 
-@pytest.mark.parametrize("line", OF_GIT.values(), ids=OF_GIT)
-def test_git(place: Place, git: None, line: str) -> None:
-    place.shell("git init -q && git add . && git -c user.name=a -c user.email=b commit -qm c --allow-empty")
-    words = tree(place)[MERGE] if MERGE in line else []
-    command = "merge-file" if MERGE in line else "diff-index"
-    place.wrap_tool(f'case " $* " in *" {command} "*) {ENDLESS};; esac', "git")
-    check_ended(place, " ".join([line, *words[-4:]]), lambda _: (place.path / "noted").exists())
+@pytest.mark.parametrize("line, command", [(line, command) for line in OF_GIT for command in OF_GIT[line]])
+def test_git(place: Place, git: None, line: str, command: str) -> None:
+    """Whatever it asks git."""
+    merge = tree(place)[MERGE]
+    commit = "git -c user.name=a -c user.email=b commit -qm c --allow-empty"
+    place.shell(f"git init -q && {commit} && git add . && {commit}")
+    answer = SILENT if command in SERVERS else ENDLESS
+    place.wrap_tool(f'case " $* " in *" {command} "*) {answer};; esac', "git")
+    words = [line, *merge[-4:]] if MERGE in line else [line]
+    check_ended(place, " ".join(words), partial(has_started_program, place))
 
 
 @pytest.mark.parametrize("line", PARSES.values(), ids=PARSES)
