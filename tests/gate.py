@@ -1,5 +1,7 @@
 """The tools of the gate: failures reach the exit status and the counts, and lints and tests catch planted faults."""
 
+import ast
+import runpy
 import shutil
 from pathlib import Path
 
@@ -115,6 +117,30 @@ def test_lint_of_nothing(tmp_path: Path) -> None:
     printed = lint(tmp_path, {})
     assert "\nlint: 0 passed, " in printed
     assert [said for said in NOTHING if said not in printed] == [], printed
+
+
+# Statements, and what some of their mutants change.
+MUTANTS = {
+    "if a and not b: c()": ["a and (not b) -> True", "a and (not b) -> not b", "not b -> b", "c() -> pass"],
+    "a < b": ["a < b -> a <= b"],
+    "return a + 1": ["a + 1 -> a", "a + 1 -> None", "1 -> 2"],
+    "a(b, c=d)": ["a(b, c=d) -> a(b)"],
+    "a(); b()": ["a() -> pass", "b() -> pass"],
+    "with a(), b() as c: d()": ["a() -> __import__('contextlib').nullcontext()"],
+    "try: a()\nexcept (B, C): d()": ["(B, C) -> (C,)", "(B, C) -> (B,)"],
+    "if os.path.lexists(a): b()": ["os.path.lexists -> os.path.exists"],
+    "a = os.lstat(b)": ["os.lstat -> os.stat"],
+}
+
+
+@pytest.mark.parametrize("code", MUTANTS)
+def test_mutants(code: str) -> None:
+    """tools/plant_faults makes these of a function with this code."""
+    lines = "".join(f"    {line}\n" for line in code.split("\n"))
+    tree = ast.parse(f"def f():\n{lines}")
+    planting = runpy.run_path(str(ROOT / "tools" / "plant_faults"))
+    names = [name.removeprefix("f: ") for name, *_ in planting["mutants_of"](tree)]
+    assert [wanted for wanted in MUTANTS[code] if wanted not in names] == [], names
 
 
 @pytest.mark.planted
