@@ -41,9 +41,13 @@ def test_ci(tmp_path: Path, printed: str, status: int, is_installed: bool, end: 
     write_script(tmp_path / "tools" / "missing_packages", "echo acl zsh")
     write_script(tmp_path / "make", f"echo \"$REQUIRE_ALL $*\"; printf '{printed}\\n'; exit {status}")
     write_script(tmp_path / "apt-get", "exit 0" if is_installed else "exit 100")
-    done = run_text([str(tmp_path / ".ci" / "run")], env=searched_first(tmp_path))
+    run, environment = str(tmp_path / ".ci" / "run"), searched_first(tmp_path)
+    done = run_text([run], env=environment)
     lines = done.stdout.splitlines()
     assert (lines[0], (done.returncode, lines[-1])) == ("1 check CPU= PARTIAL=yes", end)
+    (tmp_path / "bin" / "check.log").unlink()
+    asked = run_text([run, "--help"], env=environment)
+    assert (asked.returncode, asked.stdout, [*tmp_path.glob("bin/check.log")]) == (2, "", []), "it starts nothing"
 
 
 def test_missing_packages(program: str, tmp_path: Path) -> None:
