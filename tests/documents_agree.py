@@ -22,6 +22,7 @@ from lib.processes import run_text
 from model.faults import Fault
 from model.formats import WHITESPACE, is_label
 from model.options import COMMON, OPTIONS
+from picture import PICTURE, draw_picture
 from programs import PROGRAM, commands
 
 DOCUMENTS = [README, ROOT / "CONTRIBUTING.md", *sorted((ROOT / "docs").glob("*.md")), *sorted(PAGE.parent.glob("*.1"))]
@@ -93,6 +94,15 @@ def test_written(page: Path) -> None:
     """tools/write_documents changes nothing, and finds each name in one file."""
     assert WRITTEN[page](page.read_text()) == page.read_text()
     assert "in `none.rt`" not in page.read_text()
+
+
+def test_picture(program: str) -> None:
+    """tools/picture.py changes nothing, and the text for those who do not see the picture quotes it."""
+    picture = PICTURE.read_text()
+    [text] = re.findall(r"!\[(.*)\]\(docs/git-diff\.svg\)", README.read_text())
+    assert draw_picture(program) == picture
+    quoted = re.findall('"(.*?)"', text)
+    assert len(quoted) > 3 and [each for each in quoted if each not in picture] == []
 
 
 PAGES = [*ROOT.glob("*.md"), *ROOT.glob("*/*.md"), *ROOT.glob("man/*")]

@@ -14,7 +14,10 @@ from lib.installed import run_make
 from lib.paths import COMPANIONS, README
 from lib.processes import run_text
 from lib.readme import steps
-from lib.scripts import searched_first
+from lib.scripts import searched_first, write_script
+
+# In place of the reader, who edits a vault as the comments say: it is new, or has what was written first.
+EDITOR = 'if [ -s "$1" ]; then sed -i s/5432/5433/ "$1"; else echo "port: 5432" > "$1"; fi'
 
 
 def test_demo(program: str) -> None:
@@ -29,12 +32,13 @@ def show(program: str) -> bool:
     with tempfile.TemporaryDirectory() as top:
         folder, tools = pathlib.Path(top, "folder"), pathlib.Path(top, "tools")
         folder.mkdir()
-        tools.mkdir()
+        editor = write_script(tools / "editor", EDITOR)
+        environment = searched_first(tools) | {"HOME": top, "ANSIBLE_EDITOR": editor}
         for name, path in (*COMPANIONS.items(), ("ansible-vault", pathlib.Path(program))):
             (tools / name).symlink_to(path)
         for step in steps(README.read_text()):
             command = ["sh", "-c", step.command]
-            printed = run_text(command, cwd=folder, env=searched_first(tools), stderr=subprocess.STDOUT).stdout
+            printed = run_text(command, cwd=folder, env=environment, stderr=subprocess.STDOUT).stdout
             print(f"$ {step.command}\n{printed}", end="", flush=True)
             agrees &= step.is_met_by(printed)
     return agrees

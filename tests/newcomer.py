@@ -30,6 +30,7 @@ SMALL = {
     "make CPU= faults SHARE=2000": r"\n[1-9]\d* passed, 0 failed, 0 skipped\n",
     "make CPU= dist && cd bin/dist && sha256sum --check SHA256SUMS": r"^(ansible-vault-.*\.tar\.gz: OK\n){2}\Z",
     "tools/write_documents && git diff --stat": r"^\Z",
+    "tools/picture.py bin/ansible-vault && git diff --stat": r"^\Z",
     "tools/files_to_read": r"^For the theorem: \d+ lines\n(.*\n)+For the other contracts: \d+ lines\n( +\d+ .*\n)+\Z",
     "tests/store_texts bin/ansible-vault && git diff --stat": r"^\Z",
     "make lint": r"\nlint: [1-9]\d* passed, 0 failed\n\Z",
