@@ -1,6 +1,8 @@
-"""Run the shell commands of docs/workflows.md and the EXAMPLES of the manual pages as they are."""
+"""Run the shell commands of docs/workflows.md and the EXAMPLES of the manual pages as they are. Type what the document
+shows of a terminal, and compare. Run the commands of its files for pipelines and for pre-commit."""
 
 import re
+from collections.abc import Iterator
 from fnmatch import fnmatchcase
 from pathlib import Path
 from typing import NamedTuple
@@ -8,9 +10,12 @@ from typing import NamedTuple
 import pytest
 
 from companion_cases import line_of_values
-from lib.needs import needs
+from companion_cases.terminal import READY, SHELL, ask
+from lib.needs import needs, needs_pyyaml
 from lib.paths import COMPANIONS, ROOT, sections
+from lib.readme import fenced, steps_of
 from lib.repository import MARKS, PASSWORDS, SETTINGS, Repository, block, vault
+from model.vaults import yaml_block
 
 DOCUMENT = (ROOT / "docs" / "workflows.md").read_text()
 PLAYBOOK = '[{hosts: all, gather_facts: false, tasks: [{ansible.builtin.debug: {msg: "{{ %s }}"}}]}]'
@@ -32,6 +37,7 @@ FIRST_LINE = "$ANSIBLE_VAULT;1.2;AES256;prod"
 VIEW = f"ansible-vault view --require-id-match --vault-id prod@prod.pass {VAULT}"
 CONFIGURED = {"ansible.cfg": SETTINGS.encode()}
 KEPT = block("other", b"kept")
+UNLABELED = yaml_block(vault(b"correct horse", "old.pass", ""), b"db_password")
 # Two branches change the vault: the base, their side and ours; and the merged text.
 SIDES, MERGED = (b"a: 1\nb: 2\nc: 3\n", b"a: 1\nb: 2\nc: 4\n", b"a: 0\nb: 2\nc: 3\n"), "a: 0\nb: 2\nc: 4\n"
 
@@ -44,11 +50,25 @@ def repository(tmp_path: Path, program: str) -> Repository:
     return repository
 
 
+def chapters() -> dict[str, str]:
+    """Return the text below each heading of the document."""
+    _, *parts = re.split(r"^## (.+)$", DOCUMENT, flags=re.MULTILINE)
+    return dict(zip(parts[::2], parts[1::2]))
+
+
 def recipes() -> dict[str, str]:
     """Return the shell commands below each heading of the document."""
-    _, *parts = re.split(r"^## (.+)$", DOCUMENT, flags=re.MULTILINE)
-    lines = {title: re.findall(r"^    (.*)$", text, re.MULTILINE) for title, text in zip(parts[::2], parts[1::2])}
+    unfenced = {
+        title: re.sub(r"^```\w+\n(?:.*\n)*?```$", "", text, flags=re.MULTILINE) for title, text in chapters().items()
+    }
+    lines = {title: re.findall(r"^    (.*)$", text, re.MULTILINE) for title, text in unfenced.items()}
     return {title: "\n".join(of_title) + "\n" for title, of_title in lines.items() if of_title}
+
+
+def recordings() -> dict[str, str]:
+    """Return what the document shows of a terminal, below each heading."""
+    shown = {title: "".join(fenced(text, "console")) for title, text in chapters().items()}
+    return {title: text for title, text in shown.items() if text}
 
 
 def examples(name: str) -> dict[str, str]:
@@ -166,6 +186,23 @@ RECIPES = {
         left="correct horse",
     ),
 }
+# What happens before and after the commands that the document shows at a terminal.
+RECORDED = {
+    "Vaults and values for playbooks": Recipe(
+        {BLOCKS: b"port: 5432\n"},
+        after=f"ansible-vault-textconv --vault-id prod@prod.pass --value db_password {BLOCKS}",
+        left="correct horse",
+    ),
+    "Give labels to what has none": Recipe(
+        {"group_vars/dev/vault.yml": vault(b"b", "old.pass", ""), "host_vars/dev1.yml": UNLABELED}
+        | {VAULT: vault(b"a", "old.pass", ""), BLOCKS: UNLABELED},
+        prepare="rm ~/.vault/prod.pass",
+        after=f"head -qn 1 {VAULT} group_vars/dev/vault.yml; ls ~/.vault",
+        left=f"{FIRST_LINE}\n$ANSIBLE_VAULT;1.2;AES256;dev\n*dev.pass\n*prod.pass\n",
+    ),
+}
+# The question there, and what is typed.
+QUESTION, ANSWER = "String to encrypt (hidden): ", b"correct horse\n"
 # The commands by their titles: those of the document, and those of the program's page and of the companions' pages.
 COMMANDS = recipes() | examples("ansible-vault")
 OF_COMPANIONS = [(name, title) for name in COMPANIONS for title in examples(name)]
@@ -175,6 +212,8 @@ MERGE, PIPELINE, TYPED = "Merge", "Run the checks in a pipeline", ["Type a passw
 
 def test_each_is_run() -> None:
     assert sorted(COMMANDS) == sorted([*RECIPES, MERGE, PIPELINE, *TYPED])
+    assert sorted(recordings()) == sorted(RECORDED)
+    assert sorted(ready_files()) == sorted([FOR_PRE_COMMIT, *FOR_PIPELINES])
     assert {name for name, _ in OF_COMPANIONS} == {*COMPANIONS}
     assert f"```ini\n{SETTINGS}```" in DOCUMENT, "the document has the settings"
 
@@ -191,6 +230,29 @@ def test_recipe(repository: Repository, title: str) -> None:
     printed = repository.shown(COMMANDS[title], EDITOR=editor, secret="correct horse")
     left = repository.shown(recipe.after)
     assert (fnmatchcase(printed, recipe.printed), fnmatchcase(left, recipe.left)) == (True, True), (printed, left)
+
+
+def typed(recording: str) -> Iterator[tuple[str, bytes]]:
+    """Yield the commands of a recording, and the answer to the question, with what is shown before each."""
+    for step in steps_of(recording):
+        yield READY, f"{step.command}\n".encode()
+        if QUESTION.strip() in step.wanted:
+            yield QUESTION, ANSWER
+    yield READY, b"exit\n"
+
+
+@pytest.mark.parametrize("title", RECORDED)
+def test_recording(repository: Repository, title: str) -> None:
+    """The document shows what a terminal shows, with dots for random digits."""
+    recipe, recording = RECORDED[title], recordings()[title]
+    for name, content in recipe.before.items():
+        repository.put(name, content)
+    repository.shell(recipe.prepare)
+    shown = ask(repository, *SHELL, answers=[*typed(recording)], PS2="").shown.replace(READY, "$ ")
+    lines = re.sub(" +$", "", shown, flags=re.MULTILINE)
+    pattern = ".*".join(map(re.escape, f"{recording}$ exit\nexit\n".split("...")))
+    assert re.fullmatch(pattern, lines, re.DOTALL), lines
+    assert fnmatchcase(repository.shown(recipe.after), recipe.left)
 
 
 @pytest.mark.parametrize("title", TYPED)
@@ -228,6 +290,78 @@ def test_pipeline(repository: Repository) -> None:
     wanted = '*\n1 decrypted, 0 failed, 1 with other labels (dev 1)\n*"msg": "staple"\n*'
     assert fnmatchcase(printed, wanted), "vaults are counted, and the playbook is run with the same password"
     assert repository.get("../secrets.yml") == b"shared: staple\n", "and a vault is decrypted"
+
+
+# The paths of the files in the document.
+FOR_PRE_COMMIT, FOR_PIPELINES = ".pre-commit-config.yaml", [".github/workflows/vaults.yml", ".gitlab-ci.yml"]
+# What stands there for a clone of this project.
+ADDRESS = "https://git.example.org/ansible-vault.git"
+
+
+def ready_files() -> dict[str, str]:
+    """Return the files that a reader can copy, by the path in their first line."""
+    found = [block.partition("\n") for block in fenced(DOCUMENT, "yaml")]
+    return {first.removeprefix("# "): text for first, _, text in found if first.startswith("# .")}
+
+
+def commands_of(name: str) -> list[str]:
+    """Return the commands that a pipeline runs, in their order."""
+    import yaml
+
+    job = yaml.safe_load(ready_files()[name])
+    if "vaults" in job:
+        return [*job["vaults"]["before_script"], *job["vaults"]["script"]]
+    return [step["run"] for step in job["jobs"]["vaults"]["steps"] if "run" in step]
+
+
+@pytest.fixture
+def address(repository: Repository) -> dict[str, str]:
+    """Return the variables that lead git from the address to a clone of this project, whose commit is `COMMIT`."""
+    source = repository.path / "source"
+    files = " ".join(str(ROOT / name) for name in ("companions", ".pre-commit-hooks.yaml"))
+    made = f"mkdir {source} && cp -r {files} {source} && cd {source} && git init -q && git add -A && git commit -qm one"
+    commit = repository.shown(f"{made} && git rev-parse HEAD").strip()
+    key = f"url.{source}.insteadOf"
+    return {"GIT_CONFIG_COUNT": "1", "GIT_CONFIG_KEY_0": key, "GIT_CONFIG_VALUE_0": ADDRESS, "COMMIT": commit}
+
+
+# What later commits make of a vault, and the status of the pipeline.
+PUSHED: dict[str, tuple[list[bytes], int]] = {
+    "a vault": ([vault(b"a: 2\n")], 0),
+    "plaintext": ([b"a: 2\n"], 1),
+    "plaintext, and then a vault again": ([b"a: 2\n", vault(b"a: 3\n")], 1),
+}
+
+
+@pytest.mark.parametrize("name", FOR_PIPELINES)
+@pytest.mark.parametrize("pushed, status", PUSHED.values(), ids=PUSHED)
+def test_ready_pipeline(
+    repository: Repository, address: dict[str, str], name: str, pushed: list[bytes], status: int
+) -> None:
+    """The commands of the file fail where a commit had plaintext, in a clone as a pipeline makes it."""
+    needs_pyyaml()
+    repository.script('exec "$@"', "tools/sudo")
+    repository.script("exit 0", "tools/apt-get")
+    for content in (vault(b"a: 1\n"), *pushed):
+        repository.put("vault.yml", content)
+        repository.shown("git add -A && git commit -qm change")
+    since = repository.shown(f"git clone -q . ../pipeline/work && git rev-parse HEAD~{len(pushed)}").strip()
+    shell = "\n".join(["set -e", *commands_of(name)])
+    done = repository.shell(shell, "bash", "../pipeline/work", SINCE=since, **address)
+    assert (done.returncode, "vault.yml is not " in done.stderr) == (status, status == 1), done
+
+
+def test_ready_pre_commit(repository: Repository, address: dict[str, str]) -> None:
+    needs("pre-commit")
+    repository.put(FOR_PRE_COMMIT, ready_files()[FOR_PRE_COMMIT].replace("COMMIT", address["COMMIT"]).encode())
+    [install] = re.findall("`(pre-commit install .*?)`", DOCUMENT)
+    variables = address | {"PRE_COMMIT_HOME": str(repository.path / "pre-commit")}
+    repository.put("vault.yml", vault(b"a: 1\n"))
+    done = repository.shell(f"{install} && git add -A && git commit -qm one", **variables)
+    assert done.returncode == 0, done.stdout + done.stderr
+    repository.put("vault.yml", b"a: 1\n")
+    done = repository.shell("git commit -qam two", **variables)
+    assert (done.returncode, "vault.yml is not a vault" in done.stdout + done.stderr) == (1, True), done
 
 
 def prepare_examples(repository: Repository, password: str) -> str:

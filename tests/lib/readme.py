@@ -1,4 +1,4 @@
-"""The commands of the README: those with a prompt, which have outputs, and all others."""
+"""The commands of a document: those with a prompt, which have outputs, and all others."""
 
 import re
 from typing import NamedTuple
@@ -22,14 +22,24 @@ def blocks(document: str) -> list[str]:
 
 def steps(document: str) -> list[Step]:
     """Return the commands with a prompt, and what the README shows below each of them."""
-    found: list[Step] = []
-    for block in blocks(document):
-        _, *parts = re.split(r"^\$ ((?:.*\\\n)*.*)$", block, flags=re.MULTILINE)
-        found += [Step(command, printed.strip("\n")) for command, printed in zip(parts[::2], parts[1::2])]
+    return [step for block in blocks(document) for step in steps_of(block)]
+
+
+def steps_of(block: str) -> list[Step]:
+    _, *parts = re.split(r"^\$ ((?:.*\\\n)*.*)$", block, flags=re.MULTILINE)
+    return [Step(command, printed.strip("\n")) for command, printed in zip(parts[::2], parts[1::2])]
+
+
+def fenced(document: str, language: str) -> list[str]:
+    """Return the blocks between fences."""
+    found: list[str] = re.findall(rf"^```{language}\n((?:.*\n)*?)```$", document, re.MULTILINE)
     return found
 
 
 def commands(document: str) -> list[str]:
     """Return the lines of blocks without prompts, without comments."""
-    lines = [line for block in blocks(document) if not block.startswith("$ ") for line in block.splitlines()]
-    return [re.sub(r"\s+#.*", "", line) for line in lines]
+    found = []
+    for block in blocks(document):
+        if not block.startswith("$ "):
+            found += [re.sub(r"\s+#.*", "", line) for line in block.splitlines()]
+    return found
