@@ -108,7 +108,8 @@ def test_blocks(both: Both, name: str) -> None:
 REFUSED = {
     "the password is wrong": "view --vault-password-file wrong vault",
     "the input is not a vault": "view --vault-password-file right plain",
-    "the vault is cut off": "view --vault-password-file right cut",
+    "the vault is cut off in its first lines": "view --vault-password-file right cut",
+    "the vault lacks its last line": "view --vault-password-file right short",
     "the vault is not hexadecimal": "view --vault-password-file right odd",
     "the plaintext is a vault": "encrypt --vault-password-file right --output new vault",
     "several passwords could encrypt": "encrypt --vault-id a@right --vault-id b@wrong --output new plain",
@@ -121,6 +122,7 @@ VAULT = seal(RIGHT, b"a: 1\n")
 # The files that the commands name.
 FILES = {"right": RIGHT, "wrong": NEW, "empty": b"", "plain": b"a: 1\n", "vault": VAULT, "cut": VAULT[:200]}
 FILES["odd"] = VAULT.partition(b"\n")[0] + b"\nxyz\n"
+FILES["short"] = VAULT[: VAULT.rindex(b"\n", 0, -1) + 1]
 ROW = re.compile(r"^\| (.+) \| `(.+)` \| (\d) \| `(.+)` \| (\d) \|$", re.MULTILINE)
 # How messages begin. Those of later releases may name the file, and one begins with a capital letter.
 STARTS = r"ERROR! |\[ERROR\]: (?:Failed to view .*: )?", "ERROR! "
