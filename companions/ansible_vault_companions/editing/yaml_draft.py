@@ -5,10 +5,15 @@ from __future__ import annotations
 import copy
 from contextlib import suppress
 
+from ansible_vault_companions.editing.blocks_and_quotes import (
+    make_plain_block,
+    make_sealed_block,
+    require_nodes,
+    write_values,
+)
 from ansible_vault_companions.editing.choosing import Choice
 from ansible_vault_companions.editing.matching import Match, DecryptedValue, describe_place, find_matches
 from ansible_vault_companions.editing.typed_tags import check_tags, refuse_directive
-from ansible_vault_companions.editing.writing import make_plain_block, make_sealed_block, require_nodes, write_values
 from ansible_vault_companions.envelopes import conflicts
 from ansible_vault_companions.envelopes.content import Content
 from ansible_vault_companions.envelopes.header import MAGIC

@@ -1,6 +1,6 @@
-"""Writes texts in place of values of YAML: as blocks where they can be, and otherwise in double quotes.
+"""An edit puts a text in place of a value of YAML as a block where it can, and otherwise in double quotes.
 
-What was written is read again, and what does not read as expected is refused.
+The result is read again, and is refused unless all other values are as before.
 """
 
 from __future__ import annotations
