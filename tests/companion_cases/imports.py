@@ -72,8 +72,8 @@ RUNS = {
     | CONFLICTS
     | MERGING
     | WRITING
-    | own("editing", "blocks_and_quotes choosing copies drafts editor matching own_folder private_directory")
-    | own("editing", "single_value typed_tags yaml_draft")
+    | own("editing", "blocks_and_quotes drafts editor encrypting_password matching own_folder private_directory")
+    | own("editing", "rescue_copies saved_text single_value typed_tags yaml_draft")
     | own("git", "pathspecs repository")
     | own("merging", "unmerged_file")
     | {"dataclasses"},

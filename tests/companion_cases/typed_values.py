@@ -11,7 +11,7 @@ import hypothesis
 import pytest
 from hypothesis import strategies as st
 
-from ansible_vault_companions.editing.choosing import Choice
+from ansible_vault_companions.editing.encrypting_password import Choice
 from ansible_vault_companions.editing.yaml_draft import YamlDraft
 from ansible_vault_companions.refusals import Refused
 from companion_cases.yaml_values import SECRET, Hexadecimal, Plaintexts, decrypt

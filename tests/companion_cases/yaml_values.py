@@ -12,7 +12,7 @@ import pytest
 import yaml
 
 from ansible_vault_companions.editing.blocks_and_quotes import require_nodes
-from ansible_vault_companions.editing.choosing import Choice
+from ansible_vault_companions.editing.encrypting_password import Choice
 from ansible_vault_companions.editing.yaml_draft import YamlDraft
 from ansible_vault_companions.envelopes.header import LINE_END
 from ansible_vault_companions.envelopes.key_paths import KeyPath

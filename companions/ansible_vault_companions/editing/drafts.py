@@ -6,7 +6,7 @@ from dataclasses import dataclass
 from functools import partial
 from typing import Protocol, Union
 
-from ansible_vault_companions.editing.choosing import Choice, keep_key
+from ansible_vault_companions.editing.encrypting_password import Choice, keep_key
 from ansible_vault_companions.editing.matching import describe_place
 from ansible_vault_companions.editing.single_value import SingleValue
 from ansible_vault_companions.editing.yaml_draft import YamlDraft

@@ -9,7 +9,7 @@ from __future__ import annotations
 from collections import Counter, defaultdict
 from typing import Callable, Iterable, Iterator, NamedTuple
 
-from ansible_vault_companions.editing.choosing import Choice
+from ansible_vault_companions.editing.encrypting_password import Choice
 from ansible_vault_companions.envelopes.key_paths import KeyPath
 from ansible_vault_companions.envelopes.node import Node
 from ansible_vault_companions.quoting import escape

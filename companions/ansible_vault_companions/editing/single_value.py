@@ -7,7 +7,7 @@ import os
 import re
 
 from ansible_vault_companions.editing.blocks_and_quotes import make_sealed_block, require_nodes, write_values
-from ansible_vault_companions.editing.choosing import Choice, keep_key
+from ansible_vault_companions.editing.encrypting_password import Choice, keep_key
 from ansible_vault_companions.envelopes import conflicts
 from ansible_vault_companions.envelopes.content import NO_SCALAR_THERE, VALUE_NOT_ENCRYPTED, Content, parse_nodes
 from ansible_vault_companions.envelopes.header import MAGIC

@@ -11,7 +11,7 @@ from ansible_vault_companions.editing.blocks_and_quotes import (
     require_nodes,
     write_values,
 )
-from ansible_vault_companions.editing.choosing import Choice
+from ansible_vault_companions.editing.encrypting_password import Choice
 from ansible_vault_companions.editing.matching import Match, DecryptedValue, describe_place, find_matches
 from ansible_vault_companions.editing.typed_tags import check_tags, refuse_directive
 from ansible_vault_companions.envelopes import conflicts

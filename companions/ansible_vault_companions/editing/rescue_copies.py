@@ -1,5 +1,4 @@
-"""Rescue copies: what an edit saved and could not put into the file is kept encrypted, in a directory of the user's
-own.
+"""What an edit could not put into the file is kept in an encrypted copy, in a directory of the user's own.
 
 A repository cannot bring this directory along: git records no modes of directories, so one that it makes is open to
 others, unless a umask prevents that. Even then, a stranger could only commit a copy that the team has made, of the very
