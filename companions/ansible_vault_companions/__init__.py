@@ -1,8 +1,8 @@
 """The modules that ansible-vault's companions share. They are tested, not proved.
 
-`startup` comes before all else, and `lifecycle` starts and ends every companion, with a command line from `parsers`.
-`signals` postpones what would end it too early, and `processes` runs programs. `refusals`, `quoting` and `output` word
-and print its messages, and `limits` and `bounding` bound its work. `files` finds, reads and replaces files, and
+`startup` comes before all else, `parsers` reads the command line, and `exit_status` runs the work. `signals` postpones
+what would end it too early, and `processes` runs programs. `refusals`, `quoting` and `output` word and print its
+messages, and `limits` and `bounding` bound its work. `files` finds, reads and replaces files, and
 `envelopes` finds the envelopes in them. `passwords` gets passwords, `tool` runs ansible-vault with them, and with
 `parallel` and `workers` for several envelopes at once. `git` asks git, and `guard` has the rules of the hook. Above
 these are `merging`, `editing`, `showing` (textconv) and `batch` (check and rotate); `alias` takes the command lines of

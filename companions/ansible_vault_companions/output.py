@@ -1,7 +1,8 @@
-"""Writes to the standard streams."""
+"""The standard streams: opens those that are closed, writes to them, and tells whether all of it arrived."""
 
 from __future__ import annotations
 
+import io
 import os
 import sys
 from select import PIPE_BUF
@@ -12,6 +13,20 @@ from ansible_vault_companions.refusals import Refused, describe_fault
 
 # Messages that could not be written. A companion that has any fails at its end.
 LOST: list[str] = []
+
+
+def open_streams() -> None:
+    """Opens /dev/null for each closed standard stream, so that no file gets its number. Using it still fails."""
+    for number, mode in enumerate((os.O_WRONLY, os.O_RDONLY, os.O_RDONLY)):
+        try:
+            os.fstat(number)
+        except OSError:
+            os.set_inheritable(os.open(os.devnull, mode), True)
+    sys.stdout = sys.stdout or open(1, "w", closefd=False)
+    sys.stderr = sys.stderr or open(2, "w", buffering=1, closefd=False)
+    for stream in (sys.stdout, sys.stderr):
+        if isinstance(stream, io.TextIOWrapper):
+            stream.reconfigure(errors="backslashreplace")
 
 
 def write_data(data: bytes) -> None:
@@ -46,6 +61,18 @@ def write_when_possible(descriptor: int, data: bytes) -> None:
     while data:
         signals.wait_for_output(descriptor)
         data = data[os.write(descriptor, data[:PIPE_BUF]) :]
+
+
+def flush_streams() -> bool:
+    """Whether all that was printed could be written."""
+    is_written = True
+    for stream in (sys.stdout, sys.stderr):
+        try:
+            stream.flush()
+        except OSError:
+            discard_stream(stream.fileno())
+            is_written = False
+    return is_written
 
 
 def discard_stream(descriptor: int) -> None:

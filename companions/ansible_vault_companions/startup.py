@@ -1,4 +1,5 @@
-"""What a companion does before its other imports, which may lack memory, or be interrupted."""
+"""Before its other imports, a companion gives signals their actions, and makes a line of what nothing else reports,
+such as a lack of memory."""
 
 from __future__ import annotations
 

@@ -18,7 +18,7 @@ OF_PROCESSOR, BY_CLOCK = 60, 300
 
 def start(main: dict[str, Any], words: list[str], folder: str, environment: dict[str, str]) -> None:
     """Become a companion, whose streams are open already, and end as it does."""
-    from ansible_vault_companions import lifecycle
+    from ansible_vault_companions import exit_status
 
     os.environ.clear()
     os.environ.update(environment)
@@ -26,7 +26,7 @@ def start(main: dict[str, Any], words: list[str], folder: str, environment: dict
     resource.setrlimit(resource.RLIMIT_CPU, (OF_PROCESSOR, OF_PROCESSOR))
     signal.alarm(BY_CLOCK)
     sys.argv = words
-    lifecycle.run_companion(main["NAME"], main["main"])
+    exit_status.run_companion(main["NAME"], main["main"])
 
 
 def answer(companions: dict[str, dict[str, Any]], words: list[str], folder: str, environment: dict[str, str]) -> object:

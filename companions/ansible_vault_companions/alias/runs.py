@@ -7,7 +7,7 @@ from argparse import Namespace
 from functools import partial
 from typing import NamedTuple
 
-from ansible_vault_companions import lifecycle, output, quoting
+from ansible_vault_companions import exit_status, output, quoting
 from ansible_vault_companions.alias import takeover
 from ansible_vault_companions.alias.command_line import (
     DECRYPT,
@@ -42,7 +42,7 @@ def handle(companion: str, call: Call) -> int:
     if call.args.command == ENCRYPT_STRING:
         return _encrypt_strings(tool, call)
     files = Files(tool, call)
-    return max(lifecycle.attempt_work(NAME, path, partial(files.handle, path)) for path in call.args.arguments)
+    return max(exit_status.attempt_work(NAME, path, partial(files.handle, path)) for path in call.args.arguments)
 
 
 class Files:
@@ -110,7 +110,7 @@ def _write_output(args: Namespace, content: bytes) -> int:
     if path is None or path == STANDARD_INPUT:
         output.write_data(content)
         return 0
-    return lifecycle.attempt_work(NAME, path, partial(_replace_output, path, content, args.command == DECRYPT))
+    return exit_status.attempt_work(NAME, path, partial(_replace_output, path, content, args.command == DECRYPT))
 
 
 def _replace_output(target: str, content: bytes, is_private: bool) -> None:
