@@ -11,7 +11,7 @@ import pytest
 
 from ansible_vault_companions import OLDEST
 from ansible_vault_companions.editing import private_directory
-from ansible_vault_companions.files import replacing
+from ansible_vault_companions.files import leftovers
 from ansible_vault_companions.limits import LONGEST_PLAINTEXT, LONGEST_VAULT
 from contracts import CRATES, code, declared_in
 from documents import FORMATS, PAGE as VERIFICATION, REFERENCE, WRITTEN, definition_files
@@ -149,7 +149,7 @@ def test_limits() -> None:
 def test_files_of_companions() -> None:
     """docs/workflows.md says where to look for them after a crash."""
     names = {
-        f"{replacing.PREFIX}*{replacing.SUFFIX}",
+        f"{leftovers.PREFIX}*{leftovers.SUFFIX}",
         f"{private_directory.FOLDER_PREFIX}*",
         "~/.local/state/ansible-vault/",
     }

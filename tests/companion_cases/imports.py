@@ -40,7 +40,7 @@ WORKERS = own("", "workers") | {"concurrent.futures"}
 CONFLICTS = own("", "parallel") | own("envelopes", "conflicts") | own("git", "commands")
 CONFLICTS |= own("merging", "line_merge result_key vault_merge")
 MERGING = own("merging", "equality file_merge restoration tokens value_merge")
-WRITING = own("files", "replacing") | {"subprocess", "tempfile"}
+WRITING = own("files", "leftovers replacing") | {"subprocess", "tempfile"}
 
 SHOWING_A_VAULT = (
     START | PASSWORDS | TOOL | own("envelopes", "header") | own("showing", "commit_message first_line whole_vault")
@@ -88,9 +88,8 @@ RUNS = {
     HOOK: START
     | YAML
     | PARSER
-    | WRITING
     | own("envelopes", "conflicts damage file_kinds")
-    | own("files", "reading")
+    | own("files", "leftovers reading")
     | own("git", "attributes blobs commands current_repository differences history index_files indexes installing")
     | own("git", "links merge_driver pathspecs repository servers snapshots trees versions")
     | own("guard", "advice byte_order_mark_rule comparison copy_rule damage_rule evidence exemptions facts key_names")

@@ -4,7 +4,6 @@ from __future__ import annotations
 
 import errno
 import os
-import re
 import stat
 import tempfile
 from collections.abc import Iterator
@@ -12,6 +11,7 @@ from contextlib import contextmanager, suppress
 
 from ansible_vault_companions import signals
 from ansible_vault_companions.files import reading
+from ansible_vault_companions.files.leftovers import PREFIX, SUFFIX
 from ansible_vault_companions.refusals import Refused, describe_fault
 
 # The module `typing` takes long to import.
@@ -19,7 +19,6 @@ TYPE_CHECKING = False
 if TYPE_CHECKING:
     from typing import BinaryIO
 
-PREFIX, SUFFIX = ".ansible-vault-", ".new"
 CHANGED = "another program changed it in the meantime"
 NOT_SYNCED = "it was written, but a power failure may undo that: its directory cannot be synced: {}"
 
@@ -87,11 +86,6 @@ def _is_at(target: str, old: BinaryIO | None) -> bool:
     except FileNotFoundError:
         return old is None
     return old is not None and os.path.samestat(about, os.fstat(old.fileno()))
-
-
-def is_leftover(name: str) -> bool:
-    """Whether a file has the name of a temporary file that was never renamed."""
-    return re.fullmatch(f"{re.escape(PREFIX)}[a-z0-9_]{{8}}{re.escape(SUFFIX)}", name) is not None
 
 
 def write_new(

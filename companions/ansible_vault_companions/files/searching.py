@@ -9,7 +9,8 @@ import stat
 from fnmatch import fnmatchcase
 from typing import Callable, Collection, NamedTuple
 
-from ansible_vault_companions.files import replacing, resolving
+from ansible_vault_companions.files import resolving
+from ansible_vault_companions.files.leftovers import is_leftover
 from ansible_vault_companions.quoting import quote_word
 from ansible_vault_companions.refusals import describe_fault
 
@@ -102,7 +103,7 @@ class Search:
 
     def _is_left_out(self, entry: os.DirEntry[str], below: str) -> bool:
         """Whether to skip what is in a directory. A temporary file belongs to another companion, or to a crash."""
-        if entry.name == resolving.GIT or replacing.is_leftover(entry.name) and entry.is_file(follow_symlinks=False):
+        if entry.name == resolving.GIT or is_leftover(entry.name) and entry.is_file(follow_symlinks=False):
             return True
         return self._is_excluded(os.path.normpath(os.path.join(below, entry.name)))
 
