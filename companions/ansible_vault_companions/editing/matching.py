@@ -19,7 +19,7 @@ from ansible_vault_companions.tool import Decryption, Key
 UNCLEAR = "{} may be a new value or a changed one, and the password depends on which; save one change at a time"
 
 # A path, and which of the values at that path it is, since a mapping may have a key twice.
-Place = tuple[KeyPath, int]
+NumberedPath = tuple[KeyPath, int]
 
 
 class DecryptedValue(NamedTuple):
@@ -52,8 +52,8 @@ def describe_place(value: Node) -> str:
 
 def find_matches(opened: list[DecryptedValue], typed: list[Node], choice: Choice) -> list[Match]:
     """What each typed value was before, and its key, in order."""
-    before = dict(zip(_number_places(old.value for old in opened), opened))
-    after = dict(zip(_number_places(typed), typed))
+    before = dict(zip(_number_paths(old.value for old in opened), opened))
+    after = dict(zip(_number_paths(typed), typed))
     # The places of typed values whose envelope stays, with the places where those were.
     kept = {at: at for at, value in after.items() if at in before and before[at].decrypted.text == value.text}
     _keep_moved(kept, before, after, _list_of)
@@ -68,13 +68,13 @@ def find_matches(opened: list[DecryptedValue], typed: list[Node], choice: Choice
 
 
 def _keep_moved(
-    kept: dict[Place, Place],
-    before: dict[Place, DecryptedValue],
-    after: dict[Place, Node],
-    group: Callable[[Place], KeyPath],
+    kept: dict[NumberedPath, NumberedPath],
+    before: dict[NumberedPath, DecryptedValue],
+    after: dict[NumberedPath, Node],
+    group: Callable[[NumberedPath], KeyPath],
 ) -> None:
     """Adds the typed values that have moved: a single value of the same group had their text, and its place is gone."""
-    vanished: dict[tuple[KeyPath, bytes], list[Place]] = defaultdict(list)
+    vanished: dict[tuple[KeyPath, bytes], list[NumberedPath]] = defaultdict(list)
     for at in before.keys() - {*kept.values()}:
         vanished[group(at), before[at].decrypted.text].append(at)
     for at, value in after.items():
@@ -84,13 +84,16 @@ def _keep_moved(
 
 
 def _find_changed(
-    kept: dict[Place, Place], before: dict[Place, DecryptedValue], after: dict[Place, Node], choice: Choice
-) -> set[Place]:
+    kept: dict[NumberedPath, NumberedPath],
+    before: dict[NumberedPath, DecryptedValue],
+    after: dict[NumberedPath, Node],
+    choice: Choice,
+) -> set[NumberedPath]:
     """The places of values with a new text, which keep their password. If the items of a list might get several
     passwords, they have to be where those were that are gone."""
     old, vanished = _group_by_list(before), _group_by_list(before.keys() - {*kept.values()})
     typed = _group_by_list(after.keys() - kept.keys())
-    changed: set[Place] = set()
+    changed: set[NumberedPath] = set()
     for group in vanished.keys() & typed.keys():
         keys = [before[at].decrypted.key for at in old[group]]
         if len(typed[group]) > len(vanished[group]):
@@ -101,20 +104,20 @@ def _find_changed(
     return changed
 
 
-def _number_places(values: Iterable[Node]) -> Iterator[Place]:
+def _number_paths(values: Iterable[Node]) -> Iterator[NumberedPath]:
     seen: Counter[KeyPath] = Counter()
     for value in values:
         seen[value.path] += 1
         yield value.path, seen[value.path]
 
 
-def _group_by_list(places: Iterable[Place]) -> dict[KeyPath, set[Place]]:
-    groups: dict[KeyPath, set[Place]] = defaultdict(set)
-    for at in places:
+def _group_by_list(paths: Iterable[NumberedPath]) -> dict[KeyPath, set[NumberedPath]]:
+    groups: dict[KeyPath, set[NumberedPath]] = defaultdict(set)
+    for at in paths:
         groups[_list_of(at)].add(at)
     return groups
 
 
-def _list_of(at: Place) -> KeyPath:
+def _list_of(at: NumberedPath) -> KeyPath:
     """The path without the numbers of items."""
     return tuple(-1 if isinstance(step, int) else step for step in at[0])

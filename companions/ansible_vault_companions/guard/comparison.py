@@ -7,7 +7,7 @@ from typing import Iterable, NamedTuple
 
 from ansible_vault_companions.guard.facts import NONE, Facts, Texts
 from ansible_vault_companions.guard.key_names import Keys, Path, align_paths, list_branches, make_keys
-from ansible_vault_companions.guard.list_items import Leaf, Place, list_places
+from ansible_vault_companions.guard.list_items import CommonPath, Leaf, list_common_paths
 
 
 class Loss(NamedTuple):
@@ -21,34 +21,34 @@ def find_loss(before: Facts, after: Facts, gone: Counter[int]) -> Loss:
     """Compares two versions of a file. `gone` are the envelopes that the whole change removes."""
     if after.is_vault:
         return Loss(set(), set())
-    places = [*list_places(before.leaves, after.leaves)]
-    values = [place for place in places if count_texts(place.before, are_encrypted=True)]
+    paths = [*list_common_paths(before.leaves, after.leaves)]
+    values = [common for common in paths if count_texts(common.before, are_encrypted=True)]
     new_texts = find_new_texts(before, after)
-    new = [place for place in places if _has_new_text(place, new_texts)]
-    removed = {make_keys(place.path) for place in values if _is_removed(place, gone)}
-    in_place = find_related([place.path for place in values], [place.path for place in new])
+    new = [common for common in paths if _has_new_text(common, new_texts)]
+    removed = {make_keys(common.path) for common in values if _is_removed(common, gone)}
+    in_place = find_related([common.path for common in values], [common.path for common in new])
     now_plain = {make_keys(path) for path in in_place} | _find_added(removed, new)
     return Loss(now_plain, removed)
 
 
-def _has_new_text(place: Place, new_texts: Texts) -> bool:
-    texts = count_texts(place.after, are_encrypted=False) - count_texts(place.before, are_encrypted=False)
-    return any(leaf.text in new_texts.get(make_keys(leaf.path), NONE) for leaf in place.after if leaf.text in texts)
+def _has_new_text(common: CommonPath, new_texts: Texts) -> bool:
+    texts = count_texts(common.after, are_encrypted=False) - count_texts(common.before, are_encrypted=False)
+    return any(leaf.text in new_texts.get(make_keys(leaf.path), NONE) for leaf in common.after if leaf.text in texts)
 
 
-def _is_removed(place: Place, gone: Counter[int]) -> bool:
-    """Whether a place has fewer values, and an envelope of them is gone."""
-    before, after = count_texts(place.before, are_encrypted=True), count_texts(place.after, are_encrypted=True)
+def _is_removed(common: CommonPath, gone: Counter[int]) -> bool:
+    """Whether a path has fewer values, and an envelope of them is gone."""
+    before, after = count_texts(common.before, are_encrypted=True), count_texts(common.after, are_encrypted=True)
     return sum(before.values()) > sum(after.values()) and not gone.keys().isdisjoint(before - after)
 
 
-def _find_added(removed: set[Keys], new: list[Place]) -> set[Keys]:
+def _find_added(removed: set[Keys], new: list[CommonPath]) -> set[Keys]:
     """The keys of removed values to which there is new plaintext in another item, unless an item with the same name had
     plaintext there."""
     added = set[Keys]()
-    for place in new:
-        if not (place.is_certain and count_texts(place.before, are_encrypted=False)):
-            added.update(make_keys(leaf.path) for leaf in place.after)
+    for common in new:
+        if not (common.is_certain and count_texts(common.before, are_encrypted=False)):
+            added.update(make_keys(leaf.path) for leaf in common.after)
     aligned = align_paths([*removed, *added])
     related = {*find_related([aligned[keys] for keys in removed], [aligned[keys] for keys in added])}
     return {keys for keys in removed if aligned[keys] in related}

@@ -20,7 +20,7 @@ class Leaf(NamedTuple):
     text: int
 
 
-class Place(NamedTuple):
+class CommonPath(NamedTuple):
     """The texts at a path in which each item has one step in both versions. It is certain that they belong together if
     each item on the path has a name."""
 
@@ -56,24 +56,24 @@ class KeyPair(NamedTuple):
     is_encrypted: bool
 
 
-def list_places(before: Iterable[Leaf], after: Iterable[Leaf]) -> Iterator[Place]:
-    """Each place at which a version has a text."""
-    pending = [Place((), True, [*before], [*after])]
+def list_common_paths(before: Iterable[Leaf], after: Iterable[Leaf]) -> Iterator[CommonPath]:
+    """Each path at which a version has a text."""
+    pending = [CommonPath((), True, [*before], [*after])]
     while pending:
-        place = pending.pop()
-        depth = len(place.path)
-        ends = place._replace(before=_list_ends(place.before, depth), after=_list_ends(place.after, depth))
+        common = pending.pop()
+        depth = len(common.path)
+        ends = common._replace(before=_list_ends(common.before, depth), after=_list_ends(common.after, depth))
         if ends.before or ends.after:
             yield ends
-        pending += _list_below(place, depth)
+        pending += _list_below(common, depth)
 
 
 def _list_ends(leaves: list[Leaf], depth: int) -> list[Leaf]:
     return [leaf for leaf in leaves if len(leaf.path) == depth]
 
 
-def _list_below(place: Place, depth: int) -> Iterator[Place]:
-    before, after = _group_by_step(place.before, depth), _group_by_step(place.after, depth)
+def _list_below(common: CommonPath, depth: int) -> Iterator[CommonPath]:
+    before, after = _group_by_step(common.before, depth), _group_by_step(common.after, depth)
     # If a version has a list, the keys of the other count as items, too.
     if any(isinstance(step, int) for step in (*before, *after)):
         pairs = [*dict.fromkeys(_find_same_names(before, after, depth))]
@@ -85,8 +85,8 @@ def _list_below(place: Place, depth: int) -> Iterator[Place]:
     old_counts, new_counts = Counter(old for old, _ in pairs), Counter(new for _, new in pairs)
     certain = {old for old, new in pairs if old_counts[old] == new_counts[new] == 1}
     for step in before | matched:
-        is_certain = place.is_certain and step in certain
-        yield Place((*place.path, step), is_certain, before.get(step, []), matched.get(step, []))
+        is_certain = common.is_certain and step in certain
+        yield CommonPath((*common.path, step), is_certain, before.get(step, []), matched.get(step, []))
 
 
 def _group_by_step(leaves: list[Leaf], depth: int) -> Children:
