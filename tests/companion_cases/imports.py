@@ -76,6 +76,7 @@ RUNS = {
     | own("editing", "rescue_copies saved_text single_value typed_tags yaml_draft")
     | own("git", "pathspecs repository")
     | own("merging", "unmerged_file")
+    | own("passwords", "none_named")
     | {"dataclasses"},
     f"{MERGE} {OLD} base.yml vault.yml theirs.yml vault.yml": START
     | PASSWORDS

@@ -92,6 +92,7 @@ def parse(words: list[str]) -> Namespace:
     args = parser.parse_args(words)
     if not args.command:
         parser.error(f"no command is given; {NAME} --help lists the commands")
+    args.asks_if_none = True
     args.vault_id = [*args.before_vault_id, *args.vault_id]
     args.vault_password_file = [*args.before_vault_password_file, *args.vault_password_file]
     if len(args.new_vault_id) + len(args.new_vault_password_file) > 1:

@@ -30,7 +30,7 @@ class Call:
         encrypts = args.command in ENCRYPTING
         self.args = args
         self.asking = Asking(encrypts, reads_lines=not takes_input(args))
-        named, policy = options.load_named(NAME, args, self.asking, self._ask_old_password)
+        named, policy = options.load_named(NAME, args, self.asking)
         self.policy = policy
         # The label of the password to encrypt with.
         self.label = getattr(args, "encrypt_vault_id", None) or policy.usual_label
@@ -39,9 +39,6 @@ class Call:
         # With a rekeying, too, a label counts if there are several passwords.
         is_rekeying = args.command == REKEY and not policy.any_label
         self.needs_match = is_rekeying or policy.requires_match and not encrypts
-
-    def _ask_old_password(self) -> list[Password]:
-        return [loading.ask_password(self.asking, options.NO_PASSWORD)]
 
     def _choose(self, named: list[Password]) -> list[Password]:
         """The password that encrypts. It is chosen among all that are named, and refused if it was ignored."""
@@ -57,7 +54,7 @@ class Call:
         if new and not self.args.encrypt_vault_id:
             return new
         if not self.label:
-            return [loading.ask_password(Asking(True, self.asking.reads_lines), NO_NEW)]
+            return [loading.load_typed_password(Asking(True, self.asking.reads_lines), NO_NEW)]
         none = f"no new password has the label that was chosen for encryption, {escape(self.label)}"
         of_settings = [password for password in old if password.source.is_setting]
         chosen = choose_to_encrypt(new or of_settings, self.label, none)

@@ -38,12 +38,15 @@ STATUS_NOT_OPENED = 3
 
 def run_edit_program(companion: str, args: Namespace) -> NoReturn:
     """Runs ansible-vault-edit, which obtains the passwords itself, for `create` and `edit`."""
+    # Only this needs the module.
+    from ansible_vault_companions.passwords import none_named
+
     path = processes.find_beside(companion, EDIT_PROGRAM)
     if path is None:
         raise Refused(f"there is no {EDIT_PROGRAM} beside this program; install it")
     for file in args.arguments:
         _require_fitting(args.command, file)
-    words = [options.ASK_IF_NONE, *options.repeat_options(args), *command_line.list_passed_on(args)]
+    words = [none_named.ASK_IF_NONE, *options.repeat_options(args), *command_line.list_passed_on(args)]
     if args.command == CREATE:
         words.append(ALLOW_EMPTY)
     # To ansible-vault-edit, a word that begins with a dash may be an option.

@@ -53,7 +53,7 @@ def load_password(source: Source, asking: Asking) -> Password:
     return password
 
 
-def ask_password(asking: Asking, unanswered: str) -> Password:
+def load_typed_password(asking: Asking, unanswered: str) -> Password:
     """Asks for a password where nothing names one. Raises Refused with the text `unanswered` if nobody answers."""
     password = read_password(parse_vault_id(ASK_ID), asking)
     if password.is_unanswered:

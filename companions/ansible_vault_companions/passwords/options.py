@@ -19,21 +19,13 @@ from ansible_vault_companions.passwords.sources import (
     make_path_source,
     parse_vault_id,
 )
-from ansible_vault_companions.refusals import Refused
 
-# Of the alias, for an edit: ask for a password if nothing names one. The option for a user would itself name one, and
-# so switch off ./ansible.cfg, in which the label to encrypt with may be.
-ASK_IF_NONE = "--ask-if-none-is-named"
 ANY_LABEL_HELP = "accept a password whose label differs from the vault's"
-NO_PASSWORD = (
-    "no password is given: name one with --vault-id or --vault-password-file, in ANSIBLE_VAULT_PASSWORD_FILE or "
-    "in ansible.cfg, or type one with --ask-vault-password"
-)
 
 
 def add_options(parser: argparse.ArgumentParser, before: str = "") -> None:
     """Adds the options that name passwords. `before` begins the names of the attributes that get the values."""
-    parser.set_defaults(new_vault_id=[], new_vault_password_file=[], any_label=False, asks=False)
+    parser.set_defaults(new_vault_id=[], new_vault_password_file=[], any_label=False, asks_if_none=False)
     ids, text = f"{before}vault_id", "the source of a password; may be repeated"
     _add_source(parser, ["--vault-id"], ids, "[LABEL@]SOURCE", text)
     by_path = ["--vault-password-file", "--vault-pass-file"]
@@ -53,10 +45,6 @@ def _add_source(parser: argparse.ArgumentParser, names: list[str], dest: str, me
     parser.add_argument(*names, dest=dest, action="append", default=[], metavar=metavar, help=text)
 
 
-def add_asks(parser: argparse.ArgumentParser) -> None:
-    parser.add_argument(ASK_IF_NONE, dest="asks", action="store_true", help=argparse.SUPPRESS)
-
-
 def add_any_label(parser: argparse.ArgumentParser, text: str = ANY_LABEL_HELP) -> None:
     parser.add_argument(ANY_LABEL, action="store_true", help=text)
 
@@ -68,33 +56,29 @@ def load_passwords(
     skips: bool = False,
     reads_lines: bool = False,
 ) -> tuple[list[Password], Policy]:
-    """The passwords of a command line that has to name one. With `skips`, those that cannot be used are ignored; with
-    `reads_lines`, lines of standard input answer if there is no terminal."""
-    asking = Asking(encrypts, reads_lines)
-
-    def find_other() -> list[Password]:
-        return [loading.ask_password(asking, NO_PASSWORD)] if args.asks else parser.error(NO_PASSWORD)
-
-    return load_named(parser.prog, args, asking, find_other, skips)
+    """The passwords of a command line that is invalid if nothing names one. With `skips`, those that cannot be used are
+    ignored; with `reads_lines`, lines of standard input answer if there is no terminal."""
+    return load_named(parser.prog, args, Asking(encrypts, reads_lines), skips, parser)
 
 
 def load_named(
     companion: str,
     args: argparse.Namespace,
     asking: Asking,
-    find_other: Callable[[], list[Password]] | None = None,
     skips: bool = False,
+    parser: argparse.ArgumentParser | None = None,
 ) -> tuple[list[Password], Policy]:
-    """The passwords that options and settings name, in Ansible's order, and what labels mean to them. If nothing names
-    one, `find_other` finds it; without that, it is refused."""
+    """The passwords that options and settings name, in Ansible's order, and what labels mean to them. The parser is for
+    a command line that is invalid if nothing names one."""
     settings = read_settings(args, lambda text: write_error(f"{companion}: {text}"))
     sources = list_sources(args.vault_id, args.vault_password_file, settings)
     if sources:
         passwords = loading.load_passwords(companion, sources, asking, skips)
-    elif find_other:
-        passwords = find_other()
     else:
-        raise Refused(NO_PASSWORD)
+        # Most runs do not need this module.
+        from ansible_vault_companions.passwords.none_named import ask_or_refuse
+
+        passwords = [ask_or_refuse(args, asking, parser)]
     requires_match = getattr(args, "require_id_match", False)
     return passwords, make_policy(passwords, settings, args.any_label, requires_match)
 
