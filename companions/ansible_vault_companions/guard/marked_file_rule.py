@@ -1,4 +1,4 @@
-"""A marked file is empty, a vault, or YAML with a value."""
+"""A marked file is empty, a vault, or YAML with a value. So is the target of a marked link (`followed_links`)."""
 
 from __future__ import annotations
 

@@ -12,7 +12,6 @@ from ansible_vault_companions.git.blobs import Blobs
 from ansible_vault_companions.git.differences import Differences, File
 from ansible_vault_companions.git.history import DIGITS
 from ansible_vault_companions.git.indexes import Index
-from ansible_vault_companions.git.links import find_target
 from ansible_vault_companions.git.snapshots import Snapshot
 from ansible_vault_companions.git.versions import list_former_versions
 from ansible_vault_companions.guard import (
@@ -32,6 +31,7 @@ from ansible_vault_companions.guard import (
 )
 from ansible_vault_companions.guard.advice import Fault
 from ansible_vault_companions.guard.evidence import Evidence
+from ansible_vault_companions.guard.followed_links import describe_fault, follow_links
 from ansible_vault_companions.output import write_error
 from ansible_vault_companions.quoting import escape
 from ansible_vault_companions.refusals import Refused
@@ -86,9 +86,8 @@ class Review:
     def check_changes(
         self, index: Index | Snapshot, changes: list[Differences], advise: Callable[[Fault], str], where: str = ""
     ) -> None:
-        """Checks changes with the attributes of an index. `where` precedes each message, and advice follows it. A link
-        counts as the file that it leads to, and as none if that is not in the index."""
-        self.changes = [self._follow_all(index, differences) for differences in changes if differences.files]
+        """Checks changes with the attributes of an index. `where` precedes each message, and advice follows it."""
+        self.changes = [follow_links(differences, index, self.blobs) for differences in changes if differences.files]
         for differences in self.changes:
             others = [other for other in self.changes if differences.parent and other.parent and other != differences]
             evidence = Evidence(differences, index, self.blobs, others)
@@ -97,8 +96,8 @@ class Review:
                 file = fault.file
                 if (file.name, file.blob) not in self.reported:
                     self.reported.add((file.name, file.blob))
-                    why = f"is a link to a file that {fault.why}" if file.is_link else fault.why
-                    write_error(f"{self.program}: {where}{escape(os.fsdecode(file.name))} {why}")
+                    name = escape(os.fsdecode(file.name))
+                    write_error(f"{self.program}: {where}{name} {describe_fault(fault)}")
                     write_error(f"  {advise(fault)}")
 
     def describe_last_file(self) -> str:
@@ -108,12 +107,6 @@ class Review:
                 if self.blobs.last in (file.blob, file.before):
                     return f"; the last file that it read is {escape(os.fsdecode(file.name))}"
         return ""
-
-    def _follow_all(self, index: Index | Snapshot, differences: Differences) -> Differences:
-        return differences._replace(files=[self._follow(index, file) for file in differences.files])
-
-    def _follow(self, index: Index | Snapshot, file: File) -> File:
-        return file._replace(blob=find_target(index.files, file, self.blobs)) if file.is_link else file
 
 
 def review_staged(review: Review, paths: list[str]) -> None:
