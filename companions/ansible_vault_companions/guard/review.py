@@ -1,37 +1,24 @@
-"""Refuses what a commit must not do to vaults and values, by the sentences of `ansible-vault-hook --help`."""
+"""Which changes are checked: what is staged, all later commits (--since), or all files and earlier vaults (--all)."""
 
 from __future__ import annotations
 
 import os
 from functools import partial
-from typing import Callable, Iterator
+from typing import Callable
 
 from ansible_vault_companions.envelopes.header import MAGIC
 from ansible_vault_companions.git import history, indexes
 from ansible_vault_companions.git.blobs import Blobs
-from ansible_vault_companions.git.differences import Differences, File
+from ansible_vault_companions.git.differences import Differences
 from ansible_vault_companions.git.history import DIGITS
 from ansible_vault_companions.git.indexes import Index
 from ansible_vault_companions.git.snapshots import Snapshot
 from ansible_vault_companions.git.versions import list_former_versions
-from ansible_vault_companions.guard import (
-    advice,
-    byte_order_mark_rule,
-    copy_rule,
-    damage_rule,
-    exemptions,
-    leftover_rule,
-    marked_file_rule,
-    pointer_rule,
-    successor_rule,
-    tag_rule,
-    unreadable_rule,
-    value_rule,
-    vault_rule,
-)
+from ansible_vault_companions.guard import advice, exemptions
 from ansible_vault_companions.guard.advice import Fault
 from ansible_vault_companions.guard.evidence import Evidence
 from ansible_vault_companions.guard.followed_links import describe_fault, follow_links
+from ansible_vault_companions.guard.rules import find_faults
 from ansible_vault_companions.output import write_error
 from ansible_vault_companions.quoting import escape
 from ansible_vault_companions.refusals import Refused
@@ -41,34 +28,6 @@ NO_COMMIT = (
     "--since has {} in place of a commit, as pipelines give it for a new branch: give the branch that it leaves, as in "
     "`--since origin/main`, or use --all"
 )
-
-
-# A cause comes before its effects: a vault with conflict markers or in git-lfs counts as lost, too, and a marked file
-# that has lost its vault counts as unencrypted.
-RULES: tuple[Callable[[Evidence, File], Fault | None], ...] = (
-    byte_order_mark_rule.find_fault,
-    leftover_rule.find_fault,
-    damage_rule.find_fault,
-    pointer_rule.find_fault,
-    vault_rule.find_fault,
-    successor_rule.find_fault,
-    copy_rule.find_fault,
-    value_rule.find_fault,
-    unreadable_rule.find_fault,
-    marked_file_rule.find_fault,
-    tag_rule.find_fault,
-)
-
-
-def find_faults(evidence: Evidence) -> Iterator[Fault]:
-    """The faults of each file, as one; and those of the files that give it attributes."""
-    for file in evidence.now:
-        found = (rule(evidence, file) for rule in RULES if file.blob)
-        faults = [fault for fault in found if fault]
-        yield from (fault for fault in faults if fault.file != file)
-        own = [fault for fault in faults if fault.file == file]
-        if own:
-            yield exemptions.join_faults(evidence, own)
 
 
 class Review:
