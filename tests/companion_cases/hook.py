@@ -7,12 +7,23 @@ import pytest
 from companion_cases import HOOK, TEXT, WITH, Done, Place, block, ended, run_changed, sealed, silent
 from companion_cases.repository import GONE, WHOLE, add_and_commit, committed, fork, staged, told, under_git, with_hooks
 from lib.needs import needs
-from lib.paths import ROOT
+from lib.paths import COMPANIONS, ROOT
+from lib.processes import run_text
 from model.vaults import serialized
 
 pytestmark = pytest.mark.usefixtures("git")
 
 ATTRIBUTES = "*.vault.yml diff=ansible-vault\nsecrets/** ansible-vault\n"
+
+
+def test_help_names_each_rule() -> None:
+    """Of each file `*_rule.py`, the help has one line with "must", which has the words of the file's name."""
+    files = (ROOT / "companions" / "ansible_vault_companions" / "guard").glob("*_rule.py")
+    names = {file.stem.removesuffix("_rule").replace("_", " ") for file in files}
+    lines = re.findall("^  - (.* must .*)[;.]$", run_text([str(COMPANIONS[HOOK]), "--help"]).stdout, re.MULTILINE)
+    lines_of_names = {name: [line for line in lines if re.search(rf"\b{name}", line)] for name in names}
+    assert [name for name, found in lines_of_names.items() if not found] == []
+    assert len(lines) == len(names)
 
 
 def test_what_is_staged(place: Place) -> None:

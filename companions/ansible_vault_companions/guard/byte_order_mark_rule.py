@@ -1,4 +1,4 @@
-"""No .gitattributes that concerns a file begins with a byte order mark: in an index, git overlooks its first line."""
+"""A .gitattributes does not begin with a byte order mark: in an index, git then overlooks its first line."""
 
 from __future__ import annotations
 

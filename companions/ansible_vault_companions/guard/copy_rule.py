@@ -1,4 +1,4 @@
-"""Beside a vault, no new file is a plaintext copy of it."""
+"""A new file beside a vault is no plaintext copy of it."""
 
 from __future__ import annotations
 

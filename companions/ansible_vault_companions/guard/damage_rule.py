@@ -1,4 +1,4 @@
-"""An envelope is whole, and its file has no conflict markers."""
+"""An envelope has no damage, and its file no conflict markers."""
 
 from __future__ import annotations
 

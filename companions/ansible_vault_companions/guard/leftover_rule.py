@@ -1,4 +1,4 @@
-"""No file is added that has the name of a leftover, which a companion left behind when it was killed."""
+"""A companion's leftover, the temporary file of one that was killed, is not added."""
 
 from __future__ import annotations
 

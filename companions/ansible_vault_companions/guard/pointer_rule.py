@@ -1,4 +1,4 @@
-"""A pointer of git-lfs does not take the place of what is marked, or was encrypted."""
+"""A pointer of git-lfs does not replace what is marked or was encrypted."""
 
 from __future__ import annotations
 

@@ -1,4 +1,4 @@
-"""In place of a removed vault, no new file has its text in plaintext."""
+"""A successor of a removed vault, a new file in its place, does not have its text in plaintext."""
 
 from __future__ import annotations
 

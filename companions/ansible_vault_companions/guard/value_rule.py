@@ -1,4 +1,4 @@
-"""An encrypted value stays one, is removed, or becomes nothing or an expression, but no plaintext anywhere."""
+"""A value stays encrypted, or becomes nothing or Jinja, but no plaintext, here or at its key in another file."""
 
 from __future__ import annotations
 

@@ -1,4 +1,4 @@
-"""A vault stays one, loses its text or is removed."""
+"""A vault stays one, becomes empty, or is removed."""
 
 from __future__ import annotations
 
