@@ -57,7 +57,7 @@ RUNS = {
     f"{TEXTCONV} {OLD} values.yml": SHOWING_VALUES | PARSER | WORKERS,
     f"{WITH} view {OLD} vault.yml": START
     | PASSWORDS
-    | own("alias", "command_line password_choice takeover")
+    | own("alias", "command_line password_choice paths standard_input takeover")
     | own("envelopes", "header pointers")
     | own("files", "reading"),
     f"{CHECK} {OLD} .": BATCH

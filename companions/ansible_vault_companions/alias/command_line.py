@@ -3,7 +3,6 @@
 from __future__ import annotations
 
 import argparse
-import os
 from collections.abc import Collection, Iterable
 from argparse import Namespace
 
@@ -147,19 +146,3 @@ def list_passed_on(args: Namespace, without: Iterable[str] = ()) -> list[str]:
     given = {option: getattr(args, option[2:].replace("-", "_"), None) for option in PASSED_ON if option not in without}
     named = {option: value for option, value in given.items() if value not in (None, False)}
     return [option if value is True else f"{option}={value}" for option, value in named.items()]
-
-
-def takes_input(args: Namespace) -> bool:
-    """Whether standard input is a text to encrypt or decrypt."""
-    if args.command == ENCRYPT_STRING:
-        is_only = not args.arguments and not args.prompt
-        return is_only or STANDARD_INPUT in args.arguments or args.stdin_name is not None
-    return not args.arguments or any(map(_is_standard_input, args.arguments))
-
-
-def _is_standard_input(path: str) -> bool:
-    """Whether a FILE is standard input, perhaps by a name such as /dev/stdin."""
-    try:
-        return path == STANDARD_INPUT or os.path.samestat(os.stat(path), os.fstat(0))
-    except OSError:
-        return False

@@ -11,8 +11,8 @@ from ansible_vault_companions.alias.command_line import (
     NAME,
     REKEY,
     list_passed_on,
-    takes_input,
 )
+from ansible_vault_companions.alias.standard_input import takes_input
 from ansible_vault_companions.passwords import loading, options
 from ansible_vault_companions.passwords.labels import ANY_LABEL, NONE_HAS_LABEL, choose_to_encrypt
 from ansible_vault_companions.passwords.password import Password

@@ -1,0 +1,65 @@
+"""Replaces or shows each file, with a run of ansible-vault for each. After one that fails, others still follow."""
+
+from __future__ import annotations
+
+from functools import partial
+
+from ansible_vault_companions import exit_status, output
+from ansible_vault_companions.alias.command_line import DECRYPT, ENCRYPT, NAME, REKEY, VIEW
+from ansible_vault_companions.alias.output_file import write_output
+from ansible_vault_companions.alias.password_choice import Call
+from ansible_vault_companions.envelopes.pointers import refuse_pointer
+from ansible_vault_companions.files import reading, replacing, resolving
+from ansible_vault_companions.refusals import Refused
+from ansible_vault_companions.tool import Tool
+
+
+def handle_files(companion: str, call: Call) -> int:
+    """Replaces or shows each file. Returns the exit status."""
+    files = Files(Tool(companion), call)
+    return max(exit_status.attempt_work(NAME, path, partial(files.handle, path)) for path in call.args.arguments)
+
+
+class Files:
+    """Replaces or shows files, one after another."""
+
+    def __init__(self, tool: Tool, call: Call) -> None:
+        self.tool = tool
+        self.call = call
+        # A newline if the last text that was shown does not end with one.
+        self.end = b""
+
+    def handle(self, path: str) -> None:
+        target = resolving.resolve_file(path)
+        before = reading.read_existing(target)
+        after = self.run(before)
+        if self.call.args.command == VIEW:
+            output.write_data(self.end + after)
+            self.end = b"\n" if after and not after.endswith(b"\n") else b""
+        else:
+            replacing.replace(target, after, before, is_private=self.call.args.command == DECRYPT)
+
+    def run(self, data: bytes) -> bytes:
+        refuse_pointer(data)
+        call = self.call
+        try:
+            return self.tool.run(call.words("--output"), data, [*call.passwords, *call.new], call.new_label)
+        except Refused as fault:
+            refusal = fault
+        # Other statuses say nothing of the vault.
+        if refusal.status == 1 and call.args.command != ENCRYPT:
+            self._explain(data)
+        raise refusal
+
+    def _explain(self, vault: bytes) -> None:
+        """Raises Refused with what the tool does not say: what was tried, that the vault is damaged, or that the label
+        alone is the reason."""
+        decrypted = self.tool.decrypt(vault, self.call.passwords, self.call.policy)
+        if self.call.args.command == REKEY:
+            decrypted.require_label()
+
+
+def run_to_output(companion: str, call: Call, reads_input: bool) -> int:
+    """Shows, decrypts or rekeys standard input, or a file whose new content goes elsewhere."""
+    vault = reading.read_input(0 if reads_input else call.args.arguments[0])
+    return write_output(call.args, Files(Tool(companion), call).run(vault))

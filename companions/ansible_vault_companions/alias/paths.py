@@ -1,0 +1,46 @@
+"""The real path of a file on the command line. Refuses, by its name, one that ansible-vault could not open."""
+
+from __future__ import annotations
+
+import errno
+import os
+
+from ansible_vault_companions import refusals
+from ansible_vault_companions.files import resolving
+from ansible_vault_companions.quoting import escape
+from ansible_vault_companions.refusals import Refused
+
+STATUS_NOT_OPENED = 3
+
+
+def resolve_path(path: str) -> str:
+    try:
+        return resolving.resolve_file(path)
+    except Refused as fault:
+        raise Refused(refusals.describe_refusal(path, fault)) from None
+
+
+def resolve_new(path: str) -> str:
+    """The real path of a file that may be missing, but not its directory."""
+    target = resolve_path(path)
+    try:
+        resolving.require_folder(target)
+    except Refused as fault:
+        raise Refused(refusals.describe_refusal(path, fault)) from None
+    return target
+
+
+def require_readable(path: str, target: str) -> None:
+    """Refuses a file that cannot be read, since ansible-vault's own message does not name it."""
+    number = _find_read_error(target)
+    if number:
+        raise Refused(f"{escape(path)}: {os.strerror(number)}", STATUS_NOT_OPENED)
+
+
+def _find_read_error(target: str) -> int:
+    """The number of the error that would keep a file from being read; 0 if there is none."""
+    if not os.path.exists(target):
+        return errno.ENOENT
+    if os.path.isdir(target):
+        return errno.EISDIR
+    return 0 if os.access(target, os.R_OK) else errno.EACCES
