@@ -48,7 +48,9 @@ SHOWING_A_VAULT = (
 SHOWING_VALUES = SHOWING_A_VAULT | YAML | CONFLICTS | own("git", "repository")
 SHOWING_VALUES |= own("merging", "unmerged_file") | own("showing", "as_it_is file_with_values")
 BATCH = START | PASSWORDS | TOOL | YAML | PARSER | WORKERS | WRITING | {"dataclasses"}
-BATCH |= own("batch", "places report runner work") | own("envelopes", "file_kinds") | own("files", "searching")
+BATCH |= (
+    own("batch", "each_envelope each_file places report") | own("envelopes", "file_kinds") | own("files", "searching")
+)
 # The modules for each command line.
 RUNS = {
     f"{TEXTCONV} {OLD} vault.yml": SHOWING_A_VAULT | {"subprocess"},

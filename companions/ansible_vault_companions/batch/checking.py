@@ -4,9 +4,9 @@ from __future__ import annotations
 
 from dataclasses import dataclass
 
+from ansible_vault_companions.batch.each_envelope import Work
 from ansible_vault_companions.batch.places import Place
 from ansible_vault_companions.batch.report import DECRYPTED, FAILED, LISTED, OTHER_LABEL, Report, Total
-from ansible_vault_companions.batch.work import Work
 from ansible_vault_companions.envelopes import conflicts, damage, file_kinds
 from ansible_vault_companions.envelopes.content import Content, parse_envelopes
 from ansible_vault_companions.envelopes.node import Node

@@ -9,9 +9,9 @@ from __future__ import annotations
 import os
 from dataclasses import dataclass
 
+from ansible_vault_companions.batch.each_envelope import Work
 from ansible_vault_companions.batch.places import Place
 from ansible_vault_companions.batch.report import FAILED, KEPT, OTHER_LABEL, ROTATED, TO_BE_ROTATED, Report, Total
-from ansible_vault_companions.batch.work import Work
 from ansible_vault_companions.envelopes import file_kinds
 from ansible_vault_companions.envelopes.content import Content, parse_envelopes
 from ansible_vault_companions.envelopes.node import Node

@@ -1,4 +1,4 @@
-"""Takes the files of check and rotate in turn: reads each, has the work on it done, and prints what is reported."""
+"""Check and rotate take each file in turn: read it, have the work on it done, and print what is reported."""
 
 from __future__ import annotations
 
@@ -8,8 +8,8 @@ from dataclasses import dataclass, field
 from typing import Collection, NamedTuple
 
 from ansible_vault_companions import refusals
+from ansible_vault_companions.batch.each_envelope import Work
 from ansible_vault_companions.batch.report import FAILED, ROTATED, SKIPPED, TO_BE_ROTATED, Entry, Report, Total
-from ansible_vault_companions.batch.work import Work
 from ansible_vault_companions.envelopes import detection, file_kinds
 from ansible_vault_companions.envelopes.content import Content, parse_envelopes
 from ansible_vault_companions.envelopes.pointers import Pointer

@@ -1,4 +1,4 @@
-"""What check and rotate share: they decrypt each envelope of a file, and go on after one that fails."""
+"""Check and rotate take each envelope of a file in turn: decrypt it, and go on after one that fails."""
 
 from __future__ import annotations
 
