@@ -26,7 +26,7 @@ def own(package: str, names: str) -> set[str]:
 
 # What every companion imports.
 START = own("", "exit_status limits output parsers processes quoting refusals signals startup")
-START |= own("files", "resolving") | own("passwords", "settings") | {"argparse"}
+START |= own("files", "link_bounds") | own("passwords", "settings") | {"argparse"}
 # What takes passwords, and what gives them to the program.
 PASSWORDS = own("passwords", "labels loading options password prompts scripts sources")
 TOOL = own("", "tool") | own("files", "reading")

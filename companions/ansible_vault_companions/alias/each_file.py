@@ -9,7 +9,7 @@ from ansible_vault_companions.alias.command_line import DECRYPT, ENCRYPT, NAME, 
 from ansible_vault_companions.alias.output_file import write_output
 from ansible_vault_companions.alias.password_choice import Call
 from ansible_vault_companions.envelopes.pointers import refuse_pointer
-from ansible_vault_companions.files import reading, replacing, resolving
+from ansible_vault_companions.files import link_bounds, reading, replacing
 from ansible_vault_companions.refusals import Refused
 from ansible_vault_companions.tool import Tool
 
@@ -30,7 +30,7 @@ class Files:
         self.end = b""
 
     def handle(self, path: str) -> None:
-        target = resolving.resolve_file(path)
+        target = link_bounds.resolve_file(path)
         before = reading.read_existing(target)
         after = self.run(before)
         if self.call.args.command == VIEW:

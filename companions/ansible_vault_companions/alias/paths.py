@@ -6,7 +6,7 @@ import errno
 import os
 
 from ansible_vault_companions import refusals
-from ansible_vault_companions.files import resolving
+from ansible_vault_companions.files import link_bounds
 from ansible_vault_companions.quoting import escape
 from ansible_vault_companions.refusals import Refused
 
@@ -15,7 +15,7 @@ STATUS_NOT_OPENED = 3
 
 def resolve_path(path: str) -> str:
     try:
-        return resolving.resolve_file(path)
+        return link_bounds.resolve_file(path)
     except Refused as fault:
         raise Refused(refusals.describe_refusal(path, fault)) from None
 
@@ -24,7 +24,7 @@ def resolve_new(path: str) -> str:
     """The real path of a file that may be missing, but not its directory."""
     target = resolve_path(path)
     try:
-        resolving.require_folder(target)
+        link_bounds.require_folder(target)
     except Refused as fault:
         raise Refused(refusals.describe_refusal(path, fault)) from None
     return target

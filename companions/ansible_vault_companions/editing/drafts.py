@@ -13,7 +13,7 @@ from ansible_vault_companions.editing.yaml_draft import YamlDraft
 from ansible_vault_companions.envelopes import conflicts, detection
 from ansible_vault_companions.envelopes.header import MAGIC
 from ansible_vault_companions.envelopes.pointers import refuse_pointer
-from ansible_vault_companions.files import reading, resolving
+from ansible_vault_companions.files import link_bounds, reading
 from ansible_vault_companions.git.pathspecs import make_pathspec
 from ansible_vault_companions.merging.file_merge import KINDS_DIFFER, merge_file
 from ansible_vault_companions.merging.line_merge import Versions
@@ -108,13 +108,13 @@ class Loader:
 
     def load(self, path: str, value: str | None) -> Union[Draft, SingleValue]:
         """The draft for the file at a path, or for a single value in it."""
-        target = resolving.resolve_file(path)
+        target = link_bounds.resolve_file(path)
         content = reading.read(target)
         refuse_pointer(content or b"")
         if value is not None:
             return SingleValue(target, content, value, self.decrypt, self.chosen)
         if content is None:
-            resolving.require_folder(target)
+            link_bounds.require_folder(target)
             return VaultDraft(target, None, [self.choice.choose_key("the new vault", "the vault")])
         sides = find_versions(target, content)
         if sides:

@@ -9,7 +9,7 @@ import stat
 from fnmatch import fnmatchcase
 from typing import Callable, Collection, NamedTuple
 
-from ansible_vault_companions.files import resolving
+from ansible_vault_companions.files import link_bounds
 from ansible_vault_companions.files.leftovers import is_leftover
 from ansible_vault_companions.quoting import quote_word
 from ansible_vault_companions.refusals import describe_fault
@@ -61,13 +61,13 @@ class Search:
         return {
             path: NOT_SEARCHED.format(quote_word(target))
             for path, target in self.folders.items()
-            if not any(resolving.is_within(target, top) for top in self.tops)
+            if not any(link_bounds.is_within(target, top) for top in self.tops)
         }
 
     def _search(self, path: str) -> None:
         """Finds what a path of the command line leads to."""
         is_folder = os.path.isdir(path)
-        target, refusal = _resolve(path, resolving.resolve_folder if is_folder else resolving.resolve_file)
+        target, refusal = _resolve(path, link_bounds.resolve_folder if is_folder else link_bounds.resolve_file)
         if is_folder and not refusal:
             self.tops.append(target)
             self._search_folder(path, target)
@@ -95,15 +95,15 @@ class Search:
         """Adds what is in a directory, if it is a file or a link to one or to a directory."""
         is_link = os.path.islink(own)
         if is_link and os.path.isdir(own):
-            self.folders[path], _ = _resolve(own, resolving.find_target)
+            self.folders[path], _ = _resolve(own, link_bounds.find_target)
         elif is_link and _is_file(own):
-            self._add(path, *_resolve(own, lambda link: resolving.resolve_link(link, top)))
+            self._add(path, *_resolve(own, lambda link: link_bounds.resolve_link(link, top)))
         elif _is_file(own):
             self._add(path, own, "")
 
     def _is_left_out(self, entry: os.DirEntry[str], below: str) -> bool:
         """Whether to skip what is in a directory. A temporary file belongs to another companion, or to a crash."""
-        if entry.name == resolving.GIT or is_leftover(entry.name) and entry.is_file(follow_symlinks=False):
+        if entry.name == link_bounds.GIT or is_leftover(entry.name) and entry.is_file(follow_symlinks=False):
             return True
         return self._is_excluded(os.path.normpath(os.path.join(below, entry.name)))
 
@@ -131,7 +131,7 @@ def _resolve(path: str, resolve: Callable[[str], str]) -> tuple[str, str]:
     nowhere stays as it is."""
     try:
         return resolve(path), ""
-    except resolving.LeadsOut as fault:
+    except link_bounds.LeadsOut as fault:
         return fault.target, str(fault)
     except OSError as fault:
         return path, describe_fault(fault, path)

@@ -7,7 +7,7 @@ import re
 from functools import cache
 from typing import Callable, Collection, Container, Iterable, Iterator, NamedTuple
 
-from ansible_vault_companions.files import reading, resolving
+from ansible_vault_companions.files import link_bounds, reading
 from ansible_vault_companions.git.commands import CUT
 from ansible_vault_companions.git.repository import find_repository
 from ansible_vault_companions.git.servers import Server
@@ -113,7 +113,7 @@ def _group_by_repository(paths: list[str], follows: bool = True) -> dict[str, di
     own. Files outside of repositories are left out, and so is what leads nowhere."""
     repositories: dict[str, dict[bytes, str]] = {}
     # Many files may be in one directory, and deep.
-    find_folder = cache(resolving.find_target)
+    find_folder = cache(link_bounds.find_target)
     for path in paths:
         try:
             target = _find_name(path, follows, find_folder)
@@ -129,7 +129,7 @@ def _group_by_repository(paths: list[str], follows: bool = True) -> dict[str, di
 def _find_name(path: str, follows: bool, find_folder: Callable[[str], str]) -> str:
     """The real path of a file or, if it may be a link that is not followed, of its name."""
     if follows and os.path.islink(path):
-        return resolving.find_target(path)
+        return link_bounds.find_target(path)
     folder, name = os.path.split(path)
     return os.path.join(find_folder(folder), name)
 

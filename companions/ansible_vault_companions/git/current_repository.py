@@ -4,7 +4,7 @@ from __future__ import annotations
 
 import os
 
-from ansible_vault_companions.files.resolving import find_current_folder
+from ansible_vault_companions.files.link_bounds import find_current_folder
 from ansible_vault_companions.git.commands import CUT, list_records, read_line
 from ansible_vault_companions.git.repository import find_repository
 from ansible_vault_companions.refusals import Refused

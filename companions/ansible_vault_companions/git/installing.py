@@ -9,7 +9,7 @@ import os
 import shlex
 from contextlib import suppress
 
-from ansible_vault_companions.files import resolving
+from ansible_vault_companions.files import link_bounds
 from ansible_vault_companions.git import merge_driver
 from ansible_vault_companions.git.commands import read_line, run_git
 from ansible_vault_companions.passwords.settings import expand_path
@@ -44,7 +44,7 @@ def _find_folder() -> str:
     if folder == os.path.join(own, HOOKS):
         return os.path.abspath(folder)
     try:
-        return resolving.resolve_folder(folder)
+        return link_bounds.resolve_folder(folder)
     except Refused as fault:
         raise Refused(f"core.hooksPath: {fault}") from None
 

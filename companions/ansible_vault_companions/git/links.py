@@ -5,7 +5,7 @@ from __future__ import annotations
 import os
 from typing import Mapping
 
-from ansible_vault_companions.files.resolving import MOST_LINKS
+from ansible_vault_companions.files.link_bounds import MOST_LINKS
 from ansible_vault_companions.git.blobs import Blobs
 from ansible_vault_companions.git.differences import File
 from ansible_vault_companions.limits import LONGEST_LINK, MOST_STEPS

@@ -12,7 +12,7 @@ import os
 import stat
 from collections.abc import Callable
 
-from ansible_vault_companions.files import resolving
+from ansible_vault_companions.files import link_bounds
 from ansible_vault_companions.limits import LONGEST_SETTING, LONGEST_SETTINGS, LONGEST_VALUE, TooMuch
 from ansible_vault_companions.quoting import escape
 from ansible_vault_companions.refusals import Refused, describe_refusal
@@ -94,7 +94,7 @@ class Settings:
         path = self._read(PASSWORD_FILE)
         folder = "" if PASSWORD_FILE[0] in os.environ or not self.path else os.path.dirname(self.path)
         counts = path and self._may_count(path, folder)
-        return _expand_setting(path.replace(CURRENT, resolving.find_current_folder()), folder) if counts else ""
+        return _expand_setting(path.replace(CURRENT, link_bounds.find_current_folder()), folder) if counts else ""
 
     def is_asking(self) -> bool:
         """Whether to ask for a password."""
@@ -151,7 +151,7 @@ def _expand_setting(path: str, folder: str = "") -> str:
 
 def _refuse_link_out(path: str) -> None:
     try:
-        resolving.resolve_file(path)
+        link_bounds.resolve_file(path)
     except Refused as fault:
         raise Refused(f"{escape(path)}: {fault}") from None
 
