@@ -74,8 +74,8 @@ RUNS = {
     | CONFLICTS
     | MERGING
     | WRITING
-    | own("editing", "blocks_and_quotes drafts editor encrypting_password matching own_folder private_directory")
-    | own("editing", "rescue_copies saved_text single_value typed_tags yaml_draft")
+    | own("editing", "blocks_and_quotes conflict_draft drafts editor encrypting_password matching own_folder")
+    | own("editing", "private_directory rescue_copies saved_text single_value typed_tags vault_draft yaml_draft")
     | own("git", "pathspecs repository")
     | own("merging", "unmerged_file")
     | own("passwords", "none_named")

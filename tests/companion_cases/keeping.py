@@ -14,7 +14,7 @@ from lib.subtests import SubTests
 STAYS, CHANGED_MEANWHILE = {"all.yml": sealed("old")}, "another program changed it in the meantime"
 # Changes of the companion: an unexpected exception, a tool that cannot encrypt, and a tree on a full disk.
 BROKEN = """
-from ansible_vault_companions.editing.drafts import VaultDraft
+from ansible_vault_companions.editing.vault_draft import VaultDraft
 def encrypt(*words):
     raise RecursionError("too deep")
 VaultDraft.encrypt = encrypt

@@ -2,13 +2,14 @@
 
 from __future__ import annotations
 
-from dataclasses import dataclass
 from functools import partial
 from typing import Protocol, Union
 
+from ansible_vault_companions.editing.conflict_draft import ConflictDraft
 from ansible_vault_companions.editing.encrypting_password import Choice, keep_key
 from ansible_vault_companions.editing.matching import describe_place
 from ansible_vault_companions.editing.single_value import SingleValue
+from ansible_vault_companions.editing.vault_draft import VaultDraft
 from ansible_vault_companions.editing.yaml_draft import YamlDraft
 from ansible_vault_companions.envelopes import conflicts, detection
 from ansible_vault_companions.envelopes.header import MAGIC
@@ -56,43 +57,6 @@ class Draft(Protocol):
 
     def encrypt(self, tool: Tool, text: bytes) -> bytes:
         """What the file becomes if this is saved."""
-
-
-@dataclass
-class VaultDraft:
-    """A file that is a vault, or a new one."""
-
-    target: str
-    content: bytes | None
-    keys: list[Key]
-    plaintext: bytes = b""
-
-    def is_as_it_was(self, text: bytes) -> bool:
-        return text == self.plaintext
-
-    def encrypt(self, tool: Tool, text: bytes) -> bytes:
-        vault = tool.encrypt(text, self.keys[0])
-        return vault.replace(b"\n", b"\r\n") if b"\r\n" in (self.content or b"") else vault
-
-
-class ConflictDraft:
-    """A file with two vaults between markers. Their texts are merged, and what is saved becomes one vault."""
-
-    def __init__(self, target: str, content: bytes, vaults: VaultMerge, key: Key) -> None:
-        self.target = target
-        self.content = content
-        self.vaults = vaults
-        self.keys = [key]
-        self.plaintext = vaults.merged_lines.text
-
-    def is_as_it_was(self, text: bytes) -> bool:
-        return text == self.plaintext and self.vaults.merged_lines.conflicts > 0
-
-    def encrypt(self, tool: Tool, text: bytes) -> bytes:
-        of_sides = conflicts.count_markers(self.vaults.ours.text) | conflicts.count_markers(self.vaults.theirs.text)
-        if conflicts.count_markers(text) - of_sides:
-            raise Refused(conflicts.STILL)
-        return self.vaults.encrypt(tool, text, self.keys[0])
 
 
 class Loader:

@@ -1,0 +1,28 @@
+"""A conflict of two vaults: an edit shows their merged text, and what is saved without markers becomes one vault."""
+
+from __future__ import annotations
+
+from ansible_vault_companions.envelopes import conflicts
+from ansible_vault_companions.merging.vault_merge import VaultMerge
+from ansible_vault_companions.refusals import Refused
+from ansible_vault_companions.tool import Key, Tool
+
+
+class ConflictDraft:
+    """A file with two vaults between markers. Their texts are merged, and what is saved becomes one vault."""
+
+    def __init__(self, target: str, content: bytes, vaults: VaultMerge, key: Key) -> None:
+        self.target = target
+        self.content = content
+        self.vaults = vaults
+        self.keys = [key]
+        self.plaintext = vaults.merged_lines.text
+
+    def is_as_it_was(self, text: bytes) -> bool:
+        return text == self.plaintext and self.vaults.merged_lines.conflicts > 0
+
+    def encrypt(self, tool: Tool, text: bytes) -> bytes:
+        of_sides = conflicts.count_markers(self.vaults.ours.text) | conflicts.count_markers(self.vaults.theirs.text)
+        if conflicts.count_markers(text) - of_sides:
+            raise Refused(conflicts.STILL)
+        return self.vaults.encrypt(tool, text, self.keys[0])
