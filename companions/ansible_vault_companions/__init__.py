@@ -2,11 +2,10 @@
 
 `startup` comes before all else, `parsers` reads the command line, and `exit_status` runs the work. `signals` postpones
 what would end it too early, and `processes` runs programs. `refusals`, `quoting` and `output` word and print its
-messages, and `limits` and `bounding` bound its work. `files` finds, reads and replaces files, and
-`envelopes` finds the envelopes in them. `passwords` gets passwords, `tool` runs ansible-vault with them, and with
-`parallel` and `workers` for several envelopes at once. `git` asks git, and `guard` has the rules of the hook. Above
-these are `merging`, `editing`, `showing` (textconv) and `batch` (check and rotate); `alias` takes the command lines of
-Ansible's tool.
+messages, and `limits` and `bounding` bound its work. `files` finds, reads and replaces files, and `envelopes` finds the
+envelopes in them. `passwords` gets passwords, `tool` runs ansible-vault with them, and with `parallel` and `workers`
+for several envelopes at once. `git` asks git, and `guard` has the rules of the hook. Above these are `merging`,
+`editing`, `showing` (textconv) and `batch` (check and rotate); `alias` takes the command lines of Ansible's tool.
 
 A run imports what it needs, since git starts textconv twice for each version of a file.
 """

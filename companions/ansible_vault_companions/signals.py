@@ -1,6 +1,8 @@
-"""A signal ends a companion at once, by its default action, for which nothing of Python has to run. Code that has
-something to finish or to clean up postpones signals, but while it waits for a person or a program, it looks whether one
-has arrived. Only the main thread takes signals, so it does all that has to postpone them.
+"""A signal ends a companion at once, or when what has to be finished or cleaned up is done.
+
+It ends it by its default action, for which nothing of Python has to run. Code that has something to finish postpones
+signals, but while it waits for a person or a program, it looks whether one has arrived. Only the main thread takes
+signals, so it does all that has to postpone them.
 """
 
 from __future__ import annotations

@@ -1,5 +1,4 @@
-"""Before its other imports, a companion gives signals their actions, and makes a line of what nothing else reports,
-such as a lack of memory."""
+"""Before other imports, signals get their actions, and what nothing else reports, such as a lack of memory, a line."""
 
 from __future__ import annotations
 

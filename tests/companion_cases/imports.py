@@ -26,9 +26,9 @@ def own(package: str, names: str) -> set[str]:
 
 # What every companion imports.
 START = own("", "exit_status limits output parsers processes quoting refusals signals startup")
-START |= own("files", "link_bounds") | own("passwords", "settings") | {"argparse"}
+START |= own("files", "link_bounds") | own("passwords", "paths settings") | {"argparse"}
 # What takes passwords, and what gives them to the program.
-PASSWORDS = own("passwords", "labels loading options password prompts scripts sources")
+PASSWORDS = own("passwords", "labels loading options password prompts scripts sources unusable")
 TOOL = own("", "tool") | own("files", "reading")
 # What reads YAML; and what does without PyYAML or processes if it can.
 YAML = own("", "bounding") | {"json", "typing"}

@@ -1,5 +1,4 @@
-"""Which directory is the user's own, so that nobody else can read, fill or exchange what is in it: for plaintext and
-for rescue copies."""
+"""Which directory is the user's own, so that nobody else can read or exchange what is in it, such as plaintext."""
 
 from __future__ import annotations
 

@@ -1,5 +1,4 @@
-"""What can be wrong with a file: damaged envelopes, git's conflict markers, plaintext with the tag of an envelope, or
-that nothing is encrypted."""
+"""What can be wrong with a file: damage, conflict markers, plaintext with an envelope's tag, or nothing encrypted."""
 
 from __future__ import annotations
 

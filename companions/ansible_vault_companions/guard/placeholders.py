@@ -1,5 +1,4 @@
-"""Texts that may take the place of a secret: nothing, the password of a locked account, Jinja expressions, or what
-is public."""
+"""Texts that may replace a secret: nothing, a locked account's password, Jinja expressions, or what is public."""
 
 from __future__ import annotations
 

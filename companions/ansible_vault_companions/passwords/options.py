@@ -19,6 +19,7 @@ from ansible_vault_companions.passwords.sources import (
     make_path_source,
     parse_vault_id,
 )
+from ansible_vault_companions.passwords.unusable import read_passwords
 
 ANY_LABEL_HELP = "accept a password whose label differs from the vault's"
 
@@ -73,7 +74,7 @@ def load_named(
     settings = read_settings(args, lambda text: write_error(f"{companion}: {text}"))
     sources = list_sources(args.vault_id, args.vault_password_file, settings)
     if sources:
-        passwords = loading.load_passwords(companion, sources, asking, skips)
+        passwords = read_passwords(companion, sources, asking, skips)
     else:
         # Most runs do not need this module.
         from ansible_vault_companions.passwords.none_named import ask_or_refuse

@@ -1,5 +1,8 @@
-"""Asks for passwords and other texts at the terminal. The standard streams are for data. But if there is no terminal,
-and a program has no other use for its standard input, a line of that is the answer, as with Ansible's tool."""
+"""Asks for passwords and other texts at the terminal, or else on standard input if that has no other use.
+
+The standard streams are for data. But if there is no terminal, a line of standard input is the answer, as with
+Ansible's tool.
+"""
 
 from __future__ import annotations
 

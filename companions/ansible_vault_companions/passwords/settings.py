@@ -14,6 +14,7 @@ from collections.abc import Callable
 
 from ansible_vault_companions.files import link_bounds
 from ansible_vault_companions.limits import LONGEST_SETTING, LONGEST_SETTINGS, LONGEST_VALUE, TooMuch
+from ansible_vault_companions.passwords.paths import CURRENT, expand_path, is_absolute
 from ansible_vault_companions.quoting import escape
 from ansible_vault_companions.refusals import Refused, describe_refusal
 
@@ -21,8 +22,6 @@ NAME, CONFIG = "ansible.cfg", "ANSIBLE_CONFIG"
 SECTION = "defaults"
 # Other places of the file, in the order in which Ansible looks there.
 USUAL_PLACES = "~/.ansible.cfg", "/etc/ansible/ansible.cfg"
-# In a path of the settings, this means the current directory.
-CURRENT = "{{CWD}}"
 # For each setting, the environment variable and the key in the file.
 IDENTITIES = "ANSIBLE_VAULT_IDENTITY_LIST", "vault_identity_list"
 PASSWORD_FILE = "ANSIBLE_VAULT_PASSWORD_FILE", "vault_password_file"
@@ -33,7 +32,6 @@ ID_MATCH = "ANSIBLE_VAULT_ID_MATCH", "vault_id_match"
 PROMPT, ASK = "prompt", "prompt_ask_vault_pass"
 # Values that Ansible reads as true.
 TRUE = ("1", "on", "t", "true", "y", "yes")
-HOME = "~"
 RELATIVE = (
     "beside options, a path in the settings counts only if it begins with / or a home directory's ~; it is ignored"
 )
@@ -44,7 +42,6 @@ SYNTAX_FAULTS = {
     "DuplicateOptionError": "the key is there already in this section",
 }
 NOT_A_KEY = "it is not KEY = VALUE"
-NO_HOME = "~ leads to no home directory; to mean a file of this name, begin with ./"
 
 
 # For a message if no password fits.
@@ -57,22 +54,6 @@ def split_vault_id(text: str) -> tuple[str, str]:
     """The label of [LABEL@]SOURCE, empty if there is none, and the source."""
     label, at, place = text.partition("@")
     return (label, place) if at else ("", text)
-
-
-def is_absolute(place: str, folder: str = "") -> bool:
-    """Whether a path leads to the same place, whatever the current directory is, which a variable may name. A relative
-    path starts from `folder`."""
-    path = os.path.expanduser(place)
-    return os.path.isabs(path) or os.path.isabs(folder) and not path.startswith((HOME, "$", CURRENT))
-
-
-def expand_path(path: str, folder: str = "") -> str:
-    """A path as Ansible reads it. A relative one starts from this directory, or else from the current one. Refuses a
-    home directory that there is not: as a relative path, it could be one of a stranger's repository."""
-    expanded = os.path.expanduser(os.path.expandvars(path))
-    if expanded.startswith(HOME):
-        raise Refused(NO_HOME)
-    return os.path.join(folder, expanded)
 
 
 class Settings:

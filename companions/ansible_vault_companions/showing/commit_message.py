@@ -1,5 +1,4 @@
-"""Keeps plaintext out of git's commit message: `git commit -v` writes the diff into its file, which stays in the
-repository."""
+"""Keeps plaintext out of git's commit message: `git commit -v` writes the diff into its file, which stays."""
 
 from __future__ import annotations
 

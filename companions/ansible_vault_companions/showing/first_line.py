@@ -1,6 +1,7 @@
-"""The first line of whatever is shown of a file says what is encrypted. Without it, `git diff` would not show that a
-vault or a value was decrypted, if its text and its tag stay, or got another label; and a file whose text begins like
-such a line could pass for another kind.
+"""The first line of whatever is shown of a file says what is encrypted.
+
+Without it, `git diff` would not show that a vault or a value was decrypted, if its text and its tag stay, or got
+another label; and a file whose text begins like such a line could pass for another kind.
 """
 
 from __future__ import annotations
