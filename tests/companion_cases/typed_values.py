@@ -76,6 +76,10 @@ class Edit(NamedTuple):
     new_text: str
 
 
+# A line that the file has in plaintext is a new one if it is saved twice.
+COPIED_LINE = Edit(["first: !vault |", "  20", "# new: !vault hunter2"], 0, ["# new: !vault hunter2"], OLD_TEXT)
+
+
 @st.composite
 def tags(draw: st.DrawFn) -> str:
     """Return the tag, or one that somebody may take for it."""
@@ -126,6 +130,7 @@ def test_typed_values(request: pytest.FixtureRequest) -> None:
         max_examples=EXAMPLES, deadline=None, database=None, suppress_health_check=list(hypothesis.HealthCheck)
     )
     @hypothesis.given(edits())
+    @hypothesis.example(COPIED_LINE)
     def check(edit: Edit) -> None:
         try:
             after = save(edit)

@@ -11,6 +11,7 @@ from __future__ import annotations
 
 import re
 from bisect import bisect_right
+from collections import Counter
 from typing import Iterator
 
 from ansible_vault_companions.envelopes.content import Content
@@ -84,9 +85,10 @@ def _refuse_new_line(shown: Content, saved: Content) -> None:
     line, and names the one that may be meant to encrypt it: in it or below it, or else the last one."""
     idle = sorted([*_find_loose_words(saved), *_find_unknown_tags(saved)])
     begins = {value.begin for value in saved.values}
-    known = {line[0].strip() for line in _find_lines_outside(shown)}
+    unseen = Counter(line[0].strip() for line in _find_lines_outside(shown))
     for line in _find_lines_outside(saved):
-        if line[0].strip() in known:
+        unseen[line[0].strip()] -= 1
+        if unseen[line[0].strip()] >= 0:
             continue
         if idle:
             place, why = next((found for found in idle if found[0] >= line.start()), idle[-1])
