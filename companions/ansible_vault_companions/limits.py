@@ -21,6 +21,8 @@ MOST_VALUES = 400
 # The bytes of a key, as many as libyaml allows for one that does not follow a question mark. A message names a key for
 # each value below it.
 LONGEST_KEY = 1_024
+# The characters of all keys above a value. A report and a typed path name each of them, for each value below.
+LONGEST_PATH = 2_048
 # The bytes of the longest plaintext, and so of YAML that is read; and of the longest vault. Of longer files, even
 # endless ones as in /proc, no more is read.
 LONGEST_PLAINTEXT = 16_777_216
@@ -49,6 +51,7 @@ MEGABYTES = 256
 
 TOO_DEEP = f"it is nested over {DEEPEST} levels"
 KEY_TOO_LONG = f"it has a key of over {LONGEST_KEY:,} bytes"
+PATH_TOO_LONG = f"it has keys within each other of over {LONGEST_PATH:,} characters"
 TOO_MANY = f"it has over {MOST_KEYS:,} keys and texts, with those above each"
 TOO_MANY_ALIASED = f"its aliases stand for over {MOST_ALIASED:,} texts"
 TOO_MANY_VALUES = f"it has over {MOST_VALUES} values"

@@ -7,7 +7,7 @@ from random import Random
 import pytest
 
 from companion_cases import CHECK, EDIT, HOOK, MERGE, NOT_ENCRYPTED, ROTATE, TEXTCONV, WITH, Place, block, ended
-from companion_cases import run_changed, sealed, to_new
+from companion_cases import run_changed, to_new
 
 SECONDS, KILOBYTES = 8, 100_000
 BLOCK, COMMENT = block("old"), b"".join(b"# " + line for line in block("old").splitlines(keepends=True))
@@ -51,15 +51,36 @@ def test_files(place: Place, content: bytes) -> None:
     assert len(place.get("a.yml")) == len(content) and place.get("a.yml") != content, "it is rotated"
 
 
-def test_long_keys(place: Place) -> None:
-    """Keys above many values take memory once, even where other files are worked on and nothing limits memory."""
-    deep = b"x: " + b"{%s: " % (b"k" * 1_000) * 60 + b"[%s]" + b"}" * 60 + b"\n"
-    place.put("a.yml", sealed("old"))
-    place.put("b.yml", deep % (b"!vault v," * 5_000))
-    assert used(place, CHECK, *place.by_file("old"), ".") == 0
-    place.put("a.yml", BLOCK + deep % (b"v," * 5_000))
+PATH_TOO_LONG = "it has keys within each other of over 2,048 characters"
+
+
+@pytest.mark.parametrize("size, why", [(2_048, ""), (2_049, PATH_TOO_LONG)])
+def test_longest_path(place: Place, size: int, why: str) -> None:
+    """The keys above a value are limited together, whoever reads the file."""
+    key = b"k" * 1_000
+    place.put("a.yml", BLOCK + b"%b:\n  %b:\n    %b" % (key, key, block("old", name="k" * (size - 2_000))))
+    place.shell("git init -q && git add a.yml")
     place.environment["EDITOR"] = place.script('echo "# x" >> "$1"', "editor")
-    assert used(place, EDIT, *place.by_file("old"), "a.yml") == 0
+    expected = (int(bool(why)), *([why] if why else []))
+    ended("the hook", place.run(HOOK), *expected)
+    ended("the check", place.run(CHECK, *place.by_file("old"), "a.yml"), *expected)
+    ended("a value", place.run(TEXTCONV, "--value", "secret", *place.by_file("old"), "a.yml"), *expected)
+    ended("the edit", place.run(EDIT, *place.by_file("old"), "a.yml"), *expected)
+
+
+@pytest.mark.parametrize("depth", [2, 60])
+def test_long_keys(place: Place, depth: int) -> None:
+    """Long keys above many values take little memory in reports, even with a character that makes each string four
+    times as long. An edit reads such a file, too."""
+    keys = b"{? %s : " % ("😀".encode() + b"k" * 1_000) * depth
+    content = keys + b"[%s]" % (b"!vault $ANSIBLE_VAULT;," * 400) + b"}" * depth + b"\n"
+    for number in range(5):
+        place.put(f"{number}.yml", content)
+    assert used(place, CHECK, "--json", *place.by_file("old"), ".") in (0, 1)
+    assert used(place, ROTATE, *to_new(place), ".") in (0, 1)
+    place.put("a.yml", BLOCK + b"x: " + content)
+    place.environment["EDITOR"] = place.script('echo "# x" >> "$1"', "editor")
+    assert used(place, EDIT, *place.by_file("old"), "a.yml") in (0, 1)
 
 
 @pytest.mark.parametrize("size, why", [(1_024, ""), (1_025, "it has a key of over 1,024 bytes")])

@@ -257,4 +257,7 @@ def _read_text(steps: Steps, event: Any) -> bytes:
 
 
 def _make_path(steps: Steps) -> KeyPath:
-    return tuple("" if step is None else step for step in steps)
+    path = tuple("" if step is None else step for step in steps)
+    if sum(len(step) for step in path if isinstance(step, str)) > limits.LONGEST_PATH:
+        raise TooMuch(limits.PATH_TOO_LONG)
+    return path
