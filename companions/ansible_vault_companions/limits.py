@@ -23,6 +23,9 @@ MOST_VALUES = 400
 LONGEST_KEY = 1_024
 # The characters of all keys above a value. A report and a typed path name each of them, for each value below.
 LONGEST_PATH = 2_048
+# The bytes of all directives `%TAG` of a file. libyaml compares each with those before it and with each tag, of which
+# it may become the beginning.
+LONGEST_DIRECTIVES = 1_024
 # The bytes of the longest plaintext, and so of YAML that is read; and of the longest vault. Of longer files, even
 # endless ones as in /proc, no more is read.
 LONGEST_PLAINTEXT = 16_777_216
@@ -52,6 +55,7 @@ MEGABYTES = 256
 TOO_DEEP = f"it is nested over {DEEPEST} levels"
 KEY_TOO_LONG = f"it has a key of over {LONGEST_KEY:,} bytes"
 PATH_TOO_LONG = f"it has keys within each other of over {LONGEST_PATH:,} characters"
+DIRECTIVES_TOO_LONG = f"it has directives `%TAG` of over {LONGEST_DIRECTIVES:,} bytes"
 TOO_MANY = f"it has over {MOST_KEYS:,} keys and texts, with those above each"
 TOO_MANY_ALIASED = f"its aliases stand for over {MOST_ALIASED:,} texts"
 TOO_MANY_VALUES = f"it has over {MOST_VALUES} values"

@@ -83,6 +83,15 @@ def test_long_keys(place: Place, depth: int) -> None:
     assert used(place, EDIT, *place.by_file("old"), "a.yml") in (0, 1)
 
 
+@pytest.mark.parametrize("size, why", [(1_024, ""), (1_025, "it has directives `%TAG` of over 1,024 bytes")])
+def test_directives(place: Place, size: int, why: str) -> None:
+    """All directives together are limited, in number and length."""
+    for directives in (b"%TAG !a! !", b"".join(b"%%TAG !%d! !\n" % n for n in range(60)) + b"%TAG !a! !"):
+        place.put("a.yml", directives + b"p" * (size - len(directives)) + b"\n---\n" + BLOCK)
+        done = place.run(CHECK, *place.by_file("old"), "a.yml")
+        ended("the check", done, int(bool(why)), *([f"a.yml: {why}\n"] if why else []))
+
+
 @pytest.mark.parametrize("size, why", [(1_024, ""), (1_025, "it has a key of over 1,024 bytes")])
 def test_longest_key(place: Place, size: int, why: str) -> None:
     """A key that libyaml reads without a question mark is never too long."""

@@ -24,7 +24,8 @@ pytestmark = [pytest.mark.usefixtures("git"), pytest.mark.faults]
 SECONDS, KILOBYTES, LONGEST = 10, 300_000, 400_000
 BLOCK, ENVELOPE, HEADER = block("old"), sealed("old"), b"$ANSIBLE_VAULT;1.1;AES256\n"
 SIDES = b"<<<<<<< ours\nx: 1\n=======\nx: 2\n>>>>>>> theirs\n"
-# What is repeated, as often as it fits into the size, behind the first text and before the last one.
+# What is repeated, as often as it fits into the size, behind the first text and before the last one. Six characters
+# become the number of the piece.
 CONTENTS = {
     # Depth.
     "brackets": (b"x: ", b"[", b""),
@@ -62,6 +63,7 @@ CONTENTS = {
     "percent signs": (b"x: !", b"a%", b" 1\n"),
     "backslashes": (b'x: "', b"\\\\", b'"\n'),
     "handles": (b"", b"%TAG !x! !\n", b"---\nx: 1\n"),
+    "different handles": (b"", b"%TAG !NUMBER! !\n", b"---\nx: 1\n"),
     "documents": (b"", b"--- 1\n...\n", b""),
     "expressions": (b'pw: "', b"{{ x }}", b'"\n'),
     "open expressions": (b'pw: "', b"{{ ", b'"\n'),
@@ -185,7 +187,8 @@ def find_fault(place: Place, forks: Forks, command: str) -> str:
 
 def content_of(name: str) -> bytes:
     before, piece, after = CONTENTS[name]
-    return before + piece * ((LONGEST - len(before) - len(after)) // len(piece)) + after
+    numbers = range((LONGEST - len(before) - len(after)) // len(piece))
+    return before + b"".join(piece.replace(b"NUMBER", b"%06d" % number) for number in numbers) + after
 
 
 def beside_envelope(content: bytes, random: Random) -> bytes:

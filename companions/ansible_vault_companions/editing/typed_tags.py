@@ -17,10 +17,9 @@ from typing import Iterator
 from ansible_vault_companions.envelopes.content import Content
 from ansible_vault_companions.envelopes.header import LINE_END
 from ansible_vault_companions.envelopes.node import PLAIN, TAGS, Node
-from ansible_vault_companions.envelopes.yaml_nodes import require_pyyaml
+from ansible_vault_companions.envelopes.yaml_nodes import DIRECTIVE, require_pyyaml
 from ansible_vault_companions.refusals import Refused
 
-DIRECTIVE = re.compile(rb"(?:\A(?:\xef\xbb\xbf)?|[\r\n])%TAG")
 # What may be meant to encrypt the lines below: the tag wherever it is, and any word like it that ends its line.
 WORD = re.compile(rb"(!vault)|[-:?][ \t]+(![!< \t]*\w[^\s,\[\]{}]*)(?=[ \t]*(?:[|>][-+0-9]*[ \t]*)?(?:[#\r\n]|\Z))")
 # A tag, up to its text, but not beyond the next word, so that a search is linear.

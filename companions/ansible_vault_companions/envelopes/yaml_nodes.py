@@ -23,6 +23,8 @@ from ansible_vault_companions.refusals import Refused
 BYTE_ORDER_MARK = b"\xef\xbb\xbf"
 # YAML has no such character, but other files do, in which escapes mean nothing.
 BINARY = b"\0"
+# A line that may make a tag another one.
+DIRECTIVE = re.compile(rb"(?:\A(?:\xef\xbb\xbf)?|[\r\n])%TAG[^\r\n]*")
 
 # YAML allows each of these characters, and a name gets its bytes back.
 SHADOW = "".join(chr(byte) if 0x20 <= byte < 0x7F or byte in b"\t\n\r" else chr(0xE000 + byte) for byte in range(256))
@@ -97,6 +99,9 @@ def _require_readable(data: bytes) -> None:
         raise NotYaml(NOT_YAML.format(NULL))
     if len(data) > limits.LONGEST_PLAINTEXT:
         raise TooMuch(limits.TOO_LONG)
+    directives = DIRECTIVE.finditer(data) if b"%TAG" in data else ()
+    if sum(len(directive[0]) for directive in directives) > limits.LONGEST_DIRECTIVES:
+        raise TooMuch(limits.DIRECTIVES_TOO_LONG)
 
 
 class _Shadow(io.RawIOBase):
