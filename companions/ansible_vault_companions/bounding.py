@@ -57,6 +57,17 @@ def limit_work(effort: Effort) -> Iterator[None]:
 
 
 @contextmanager
+def count_programs(effort: Effort) -> Iterator[None]:
+    """A context that adds the processor time of the programs that end in it to that of the work on a file."""
+    before = os.times()
+    try:
+        yield
+    finally:
+        after = os.times()
+        effort.seconds += after.children_user + after.children_system - before.children_user - before.children_system
+
+
+@contextmanager
 def limit_review(size: int) -> Iterator[None]:
     """A context for the review of a repository with so many MB, which may take as much time and memory again for each
     of them, so the work is in proportion to it. Each program that is started in it has the same limits."""

@@ -78,12 +78,19 @@ def require_few_values(count: int) -> None:
 
 
 class Effort:
-    """What the work on a file has taken so far. In an edit, a file is read several times."""
+    """What the work on a file has taken so far. In an edit, a file is read several times, and in a merge each of its
+    versions is."""
 
     def __init__(self) -> None:
-        # Keys and texts of what is read, with all sides of a conflict; and processor time, in all.
+        # Keys and texts of the version that is read, with all sides of a conflict; and processor time, in all.
         self.number = 0
         self.seconds = 0.0
+
+    def begin_version(self) -> None:
+        """Counts keys and texts from the beginning. The time goes on. Refuses a version for which there is none."""
+        if self.seconds >= SECONDS:
+            raise TooMuch(TOO_SLOW.format(SECONDS))
+        self.number = 0
 
     def add(self, number: int) -> None:
         self.number += number

@@ -6,8 +6,8 @@ from random import Random
 
 import pytest
 
-from companion_cases import CHECK, EDIT, HOOK, MERGE, NOT_ENCRYPTED, ROTATE, TEXTCONV, WITH, Place, block, ended
-from companion_cases import run_changed, to_new
+from companion_cases import CHECK, CONFLICT, EDIT, HOOK, MERGE, NOT_ENCRYPTED, ROTATE, TEXTCONV, WITH, Done, Place
+from companion_cases import block, ended, run_changed, to_new
 
 SECONDS, KILOBYTES = 8, 100_000
 BLOCK, COMMENT = block("old"), b"".join(b"# " + line for line in block("old").splitlines(keepends=True))
@@ -151,6 +151,64 @@ def test_time_of_readings(place: Place, interval: float, left: str) -> None:
     is_refused = interval == 1
     assert (b"a: [!vault" in place.get("a.yml"), done.returncode) == (not is_refused, int(is_refused)), done
     assert "saved" not in done.stderr and ("before it is even edited" in done.stderr) == is_refused, done
+
+
+# Two sides that are merged before they are edited.
+CONFLICT_OF_VALUES = b"<<<<<<< ours\ny: 1\n%b=======\ny: 2\n%b>>>>>>> theirs\n" % (BLOCK, block("old", name="other"))
+
+
+def limits_of(place: Place, interval: float, companion: str, *words: str) -> tuple[list[float], Done]:
+    """Return the time that each reading of a run may take, if each took so much of it."""
+    done = run_changed(place, companion, CLOCK.format(interval), [*place.by_file("old"), *words])
+    return [float(limit) for limit in place.get("../limits").decode().split()], done
+
+
+def put_versions(place: Place) -> None:
+    """Put three versions that git can merge."""
+    place.put("../base", BLOCK)
+    place.put("a.yml", BLOCK + b"y: 1\n")
+    place.put("../theirs", b"z: 1\n" + BLOCK)
+
+
+def test_time_of_conflict(place: Place) -> None:
+    """All readings of an edit of a conflict, and of a merge, have the time of one, and so has git's merge."""
+    busy = "import time\nwhile time.process_time() < 1: pass"
+    place.wrap_tool(f"case $* in *merge-file*) {sys.executable} -c '{busy}' ;; esac", "git")
+    place.environment["EDITOR"] = place.script("sed -i '/^[<=>]\\{7\\}/d; /^y: 2/d' \"$1\"", "editor")
+    place.put("a.yml", CONFLICT_OF_VALUES)
+    limits, done = limits_of(place, 0.01, EDIT, "a.yml")
+    ended("the edit", done, 0)
+    assert len(limits) >= 10 and limits == sorted({*limits}, reverse=True), limits
+    assert max(before - after for before, after in zip(limits, limits[1:])) > 1, limits
+    place.put("../limits", b"")
+    put_versions(place)
+    limits, done = limits_of(place, 0.01, MERGE, "../base", "a.yml", "../theirs", "a.yml")
+    ended("the merge", done, 0)
+    assert len(limits) >= 8 and limits == sorted({*limits}, reverse=True), limits
+
+
+def test_slow_conflict(place: Place) -> None:
+    """If the versions of a conflict take over a third of the time, no editor runs. If they take all of it, nothing is
+    merged."""
+    place.environment["EDITOR"] = place.script("touch ../edited", "editor")
+    place.put("a.yml", CONFLICT_OF_VALUES)
+    limits, done = limits_of(place, 0.3, EDIT, "a.yml")
+    ended("the edit", done, 1, "before it is even edited")
+    assert not (place.path / "edited").exists() and len(limits) == 8, limits
+    put_versions(place)
+    _, done = limits_of(place, 3, MERGE, "../base", "a.yml", "../theirs", "a.yml")
+    ended("the merge", done, CONFLICT, "both sides are whole in the file: it takes over 10 s of processor time")
+
+
+def test_directive_in_conflict(place: Place) -> None:
+    """A file that is not edited is refused before git merges it."""
+    place.wrap_tool(f'echo "$@" >> {place.tree}/runs', "git")
+    for directive in (b"", b"%TAG ! !x\n---\n"):
+        place.put("runs", b"")
+        place.put("a.yml", CONFLICT_OF_VALUES.replace(b"y: 1", directive + b"y: 1"))
+        done = place.run(EDIT, *place.by_file("old"), "a.yml", EDITOR="true")
+        is_merged = b"merge-file" in place.get("runs")
+        assert ("line 2: `%TAG`" in done.stderr, is_merged) == (bool(directive), not directive), done
 
 
 @pytest.mark.parametrize("rest, why", [(b"", ""), (b"z: *c\n", "its aliases stand for over 50,000 texts")])

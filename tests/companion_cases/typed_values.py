@@ -13,6 +13,7 @@ from hypothesis import strategies as st
 
 from ansible_vault_companions.editing.encrypting_password import Choice
 from ansible_vault_companions.editing.yaml_draft import YamlDraft
+from ansible_vault_companions.limits import Effort
 from ansible_vault_companions.refusals import Refused
 from companion_cases.yaml_values import SECRET, Hexadecimal, Plaintexts, decrypt
 
@@ -115,7 +116,7 @@ def edits(draw: st.DrawFn) -> Edit:
 def save(edit: Edit) -> bytes:
     """Return the file after an edit."""
     content = "".join(f"{line}\n" for line in edit.content).encode(errors="surrogateescape")
-    file = YamlDraft("", content, content, decrypt, Choice([SECRET], None))
+    file = YamlDraft("", content, content, decrypt, Choice([SECRET], None), Effort())
     lines = file.plaintext.replace(OLD_TEXT.encode(), edit.new_text.encode()).splitlines(keepends=True)
     place = edit.place % (len(lines) + 1)
     lines[place:place] = [f"{line}\n".encode() for line in edit.added if line.strip()]

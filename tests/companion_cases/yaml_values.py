@@ -78,9 +78,9 @@ def test_edits(monkeypatch: pytest.MonkeyPatch) -> None:
             continue
         if b"%TAG" in data:
             with pytest.raises(Refused, match="^line 1: `%TAG`"):
-                YamlDraft("", data, data, decrypt, Choice([SECRET], None))
+                YamlDraft("", data, data, decrypt, Choice([SECRET], None), Effort())
             continue
-        file = YamlDraft("", data, data, decrypt, Choice([SECRET], None))
+        file = YamlDraft("", data, data, decrypt, Choice([SECRET], None), Effort())
         plain = [(path, shown_text(text)) for path, text in wanted]
         assert tagged(file.plaintext) == plain, data
         counts.update(values=len(wanted), shown=len(file.opened), **Counter(repr(text) for _, text in plain))

@@ -9,6 +9,7 @@ from ansible_vault_companions.editing.conflict_draft import ConflictDraft
 from ansible_vault_companions.editing.encrypting_password import Choice, keep_key
 from ansible_vault_companions.editing.matching import describe_place
 from ansible_vault_companions.editing.single_value import SingleValue
+from ansible_vault_companions.editing.typed_tags import refuse_directive
 from ansible_vault_companions.editing.vault_draft import VaultDraft
 from ansible_vault_companions.editing.yaml_draft import YamlDraft
 from ansible_vault_companions.envelopes import conflicts, detection
@@ -16,6 +17,7 @@ from ansible_vault_companions.envelopes.header import MAGIC
 from ansible_vault_companions.envelopes.pointers import refuse_pointer
 from ansible_vault_companions.files import link_bounds, reading
 from ansible_vault_companions.git.pathspecs import make_pathspec
+from ansible_vault_companions.limits import Effort
 from ansible_vault_companions.merging.file_merge import KINDS_DIFFER, merge_file
 from ansible_vault_companions.merging.line_merge import Versions
 from ansible_vault_companions.merging.unmerged_file import find_versions
@@ -86,7 +88,7 @@ class Loader:
         if not content.startswith(MAGIC):
             if conflicts.is_unmerged(content):
                 raise Refused(conflicts.LONG)
-            return self._load_values(target, content, content)
+            return self._load_values(target, content, content, Effort())
         decrypted = self.decrypt(content)
         return VaultDraft(target, content, [keep_key(decrypted)], decrypted.text)
 
@@ -98,16 +100,20 @@ class Loader:
             return ConflictDraft(target, content, vaults, vaults.choose_key(key))
         if any(are_vaults):
             raise Refused(ONE_SIDE.format(make_pathspec(target)))
+        effort = Effort()
         if not (sides.ours and sides.theirs):
-            return self._load_values(target, content, content)
+            return self._load_values(target, content, content, effort)
+        # Before the merge, which takes long.
+        refuse_directive(content)
         # Where git has merged the digits of values, only whole ones are between the markers of the merged text.
-        merged = merge_file(self.tool, self.decrypt, sides, key)
-        return self._load_values(target, content, merged.content)
+        merged = merge_file(self.tool, self.decrypt, sides, key, effort)
+        effort.require_third()
+        return self._load_values(target, content, merged.content, effort)
 
-    def _load_values(self, target: str, content: bytes, edited: bytes) -> YamlDraft:
+    def _load_values(self, target: str, content: bytes, edited: bytes, effort: Effort) -> YamlDraft:
         if not detection.may_have_envelope(edited):
             raise Refused(NOTHING_TO_EDIT)
-        draft = YamlDraft(target, content, edited, self.decrypt, self.choice)
+        draft = YamlDraft(target, content, edited, self.decrypt, self.choice, effort)
         if not draft.tagged:
             raise Refused(NOTHING_TO_EDIT)
         for old in draft.opened.values():

@@ -33,12 +33,14 @@ class YamlDraft:
     """A file with values that are encrypted or will be. What is edited is its content, or what was merged of a conflict
     in it."""
 
-    def __init__(self, target: str, content: bytes, edited: bytes, decrypt: Decrypt, choice: Choice) -> None:
+    def __init__(
+        self, target: str, content: bytes, edited: bytes, decrypt: Decrypt, choice: Choice, effort: Effort
+    ) -> None:
         refuse_directive(edited)
         self.target, self.choice = target, choice
         self.content: bytes | None = content
         self.edited = edited
-        self.effort = Effort()
+        self.effort = effort
         file = require_nodes(edited, self.effort)
         self.tagged = {number: value for number, value in enumerate(file.values) if value.is_tagged}
         # The values that are shown in plaintext; and those that stay encrypted, and why.

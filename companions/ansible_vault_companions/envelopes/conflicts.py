@@ -86,10 +86,10 @@ def join_sides(ours: bytes, theirs: bytes) -> bytes:
     return OURS_MARKER + b" ours" + end + texts[0] + THEIRS_MARKER + end + texts[1] + END_MARKER + b" theirs" + end
 
 
-def parse_envelopes_of_sides(data: bytes) -> Content:
+def parse_envelopes_of_sides(data: bytes, effort: Effort) -> Content:
     """The envelopes of a file on all sides. If one of its sides is no YAML, nor is the file."""
     # A line of several sides may be part of a longer text on one of them.
-    return _parse_sides(data, parse_envelopes, lambda value: value.end, Effort())
+    return _parse_sides(data, parse_envelopes, lambda value: value.end, effort)
 
 
 def parse_nodes_of_sides(data: bytes, effort: Effort) -> Content:
@@ -101,7 +101,7 @@ def _parse_sides(
     data: bytes, parse: Callable[[bytes, Effort], Content], identify: Callable[[Node], Hashable], effort: Effort
 ) -> Content:
     """The values of all sides, those that are the same once."""
-    effort.number = 0
+    effort.begin_version()
     texts = split_sides(data, is_masked=True).values()
     if not texts:
         return parse(data, effort)

@@ -4,11 +4,12 @@ from __future__ import annotations
 
 from collections import Counter
 
+from ansible_vault_companions import bounding
 from ansible_vault_companions.envelopes import conflicts
-from ansible_vault_companions.envelopes.content import parse_envelopes
+from ansible_vault_companions.envelopes.content import Content, parse_envelopes
 from ansible_vault_companions.envelopes.layout import apply_replacements
 from ansible_vault_companions.envelopes.node import LOOSE, Node
-from ansible_vault_companions.limits import require_few_values
+from ansible_vault_companions.limits import Effort, require_few_values
 from ansible_vault_companions.merging.equality import Meanings
 from ansible_vault_companions.merging.line_merge import OURS, SIDES, THEIRS, MergedLines, Versions, merge_lines
 from ansible_vault_companions.merging.restoration import Restoration
@@ -24,8 +25,9 @@ NEW_VALUE = "git can merge its lines, but the result has a value that neither si
 class ValueMerge:
     """Three versions of a file, and what their envelopes mean."""
 
-    def __init__(self, decrypt: Decrypt, versions: Versions, chosen: Key | None) -> None:
-        self.contents = {side: parse_envelopes(data) for side, data in zip(SIDES, versions)}
+    def __init__(self, decrypt: Decrypt, versions: Versions, chosen: Key | None, effort: Effort) -> None:
+        self.effort = effort
+        self.contents = {side: _parse_version(data, effort) for side, data in zip(SIDES, versions)}
         self.values = {side: [*filter(_has_token, self.contents[side].values)] for side in SIDES}
         # A merged value may be encrypted again.
         for values in self.values.values():
@@ -35,7 +37,9 @@ class ValueMerge:
     def merge(self, tool: Tool) -> MergedLines:
         """The merged file."""
         tokens = Tokens()
-        text, count = merge_lines(Versions(*(self._shadow(side, tokens) for side in SIDES)))
+        shadows = Versions(*(self._shadow(side, tokens) for side in SIDES))
+        with bounding.count_programs(self.effort):
+            text, count = merge_lines(shadows)
         if count and any(conflicts.count_markers(self.contents[side].data) for side in SIDES):
             raise Refused(HAS_MARKERS)
         restoration = Restoration(tokens, self.meanings.decryptions, tool)
@@ -54,13 +58,18 @@ class ValueMerge:
 
     def _check(self, content: bytes, envelopes: list[bytes], has_conflict: bool) -> None:
         """Refuses a result that is no YAML though both sides are, or that has other envelopes than these."""
-        result = conflicts.parse_envelopes_of_sides(content)
+        result = conflicts.parse_envelopes_of_sides(content, self.effort)
         are_yaml = not any(self.contents[side].fault for side in (OURS, THEIRS))
         if result.fault and are_yaml and not has_conflict:
             raise Refused(MERGED_NOT_YAML.format(result.fault))
         found = Counter(value.text.strip() for value in result.values if _has_token(value))
         if found != Counter(envelope.strip() for envelope in envelopes):
             raise Refused(NEW_VALUE)
+
+
+def _parse_version(data: bytes, effort: Effort) -> Content:
+    effort.begin_version()
+    return parse_envelopes(data, effort)
 
 
 def _has_token(value: Node) -> bool:
