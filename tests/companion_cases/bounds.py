@@ -8,6 +8,7 @@ import pytest
 
 from companion_cases import CHECK, CONFLICT, EDIT, HOOK, MERGE, NOT_ENCRYPTED, ROTATE, TEXTCONV, WITH, Done, Place
 from companion_cases import block, ended, run_changed, to_new
+from lib.needs import needs
 
 SECONDS, KILOBYTES = 8, 100_000
 BLOCK, COMMENT = block("old"), b"".join(b"# " + line for line in block("old").splitlines(keepends=True))
@@ -316,6 +317,18 @@ def test_readings(place: Place, typed: str, most: int) -> None:
     ended("the edit", run_changed(place, EDIT, COUNT_READINGS, [*place.by_file("old"), "a.yml"], EDITOR=editor), 0)
     readings = (place.path / "readings").read_text()
     assert place.get("a.yml") != BLOCK and 0 < len(readings) <= most, readings
+
+
+def test_deep_folders(place: Place) -> None:
+    """A check looks up each directory above many files once."""
+    needs("strace")
+    place.shell("git init -q")
+    levels, files = 300, 200
+    for number in range(files):
+        place.put("d/" * levels + f"{number}.txt", b"")
+    done, calls = place.traced("-e trace=%file -e status=successful", CHECK, *place.by_file("old"), ".")
+    assert done.returncode == 0 and len(calls) > files, done
+    assert len(calls) < 20 * (levels + files), len(calls)
 
 
 def test_sparse_gigabyte(place: Place) -> None:
