@@ -99,6 +99,6 @@ class Effort:
 
     def require_third(self) -> None:
         """Refuses a file that has taken over a third of the time that it may take, since it is to be read twice more:
-        what is saved is, and what is written."""
+        what is saved is, or the file with a new tag, and what is written."""
         if self.seconds > SECONDS / 3:
             raise TooMuch(TOO_SLOW_TO_EDIT)

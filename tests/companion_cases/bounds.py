@@ -6,6 +6,8 @@ from random import Random
 
 import pytest
 
+from ansible_vault_companions.envelopes.content import parse_nodes
+from ansible_vault_companions.envelopes.node import Node
 from companion_cases import CHECK, CONFLICT, EDIT, HOOK, MERGE, NOT_ENCRYPTED, ROTATE, TEXTCONV, WITH, Done, Place
 from companion_cases import block, ended, run_changed, to_new
 from lib.needs import needs
@@ -154,14 +156,40 @@ def test_time_of_readings(place: Place, interval: float, left: str) -> None:
     assert "saved" not in done.stderr and ("before it is even edited" in done.stderr) == is_refused, done
 
 
+def limits_of(place: Place, interval: float, companion: str, *words: str) -> tuple[list[float], Done]:
+    """Return the time that each reading of a run may take, if each took so much of it. Its input is a text."""
+    place.put("../limits", b"")
+    place.put("../input", b"text")
+    change = CLOCK.format(interval) + 'os.dup2(os.open("../input", os.O_RDONLY), 0)'
+    done = run_changed(place, companion, change, [*place.by_file("old"), *words])
+    return [float(limit) for limit in place.get("../limits").decode().split()], done
+
+
+def test_time_of_single_value(place: Place) -> None:
+    """If the first reading of a file takes over a third of its time, no value is set in it."""
+    place.put("a.yml", BLOCK)
+    for interval, status in ((1, 0), (2, 1)):
+        limits, done = limits_of(place, interval, EDIT, "--value", "secret", "a.yml")
+        assert (len(limits), done.returncode) == (2 - status, status), (limits, done)
+        assert ("before it is even edited" in done.stderr) == bool(status), done
+
+
+def test_typed_paths(monkeypatch: pytest.MonkeyPatch) -> None:
+    """Only where the last key is that of the path that is looked for, the path of a node is written."""
+    typed: list[Node] = []
+
+    def write_and_count(node: Node) -> str:
+        typed.append(node)
+        return ".".join(map(str, node.path))
+
+    monkeypatch.setattr(Node, "typed_path", property(write_and_count))
+    content = parse_nodes(b"a: [" + b"b: ," * 1_000 + b"]\nc: {d: 1}\n")
+    assert [node.text for node in content.list_values_at("c.d")] == [b"1"]
+    assert len(content.values) > 2_000 and len(typed) <= 2, len(typed)
+
+
 # Two sides that are merged before they are edited.
 CONFLICT_OF_VALUES = b"<<<<<<< ours\ny: 1\n%b=======\ny: 2\n%b>>>>>>> theirs\n" % (BLOCK, block("old", name="other"))
-
-
-def limits_of(place: Place, interval: float, companion: str, *words: str) -> tuple[list[float], Done]:
-    """Return the time that each reading of a run may take, if each took so much of it."""
-    done = run_changed(place, companion, CLOCK.format(interval), [*place.by_file("old"), *words])
-    return [float(limit) for limit in place.get("../limits").decode().split()], done
 
 
 def put_versions(place: Place) -> None:
@@ -181,7 +209,6 @@ def test_time_of_conflict(place: Place) -> None:
     ended("the edit", done, 0)
     assert len(limits) >= 10 and limits == sorted({*limits}, reverse=True), limits
     assert max(before - after for before, after in zip(limits, limits[1:])) > 1, limits
-    place.put("../limits", b"")
     put_versions(place)
     limits, done = limits_of(place, 0.01, MERGE, "../base", "a.yml", "../theirs", "a.yml")
     ended("the merge", done, 0)

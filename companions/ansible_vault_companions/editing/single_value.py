@@ -78,6 +78,7 @@ def _tag(data: bytes, path: str, is_chosen: bool, effort: Effort) -> Content:
     if conflicts.is_unmerged(data):
         raise Refused(f"it {conflicts.UNMERGED}")
     file = require_nodes(data, effort)
+    effort.require_third()
     if is_chosen and KEY.fullmatch(path) and not file.list_values_at(path):
         tag = _add_key(data, path)
     else:

@@ -13,6 +13,7 @@ from collections.abc import Callable, Iterable, Iterator
 from ansible_vault_companions import bounding
 from ansible_vault_companions.envelopes.detection import may_have_envelope
 from ansible_vault_companions.envelopes.header import MAGIC, WITH_DIGITS
+from ansible_vault_companions.envelopes.key_paths import type_key
 from ansible_vault_companions.envelopes.layout import apply_replacements, replace_envelope
 from ansible_vault_companions.envelopes.node import WHOLE, Node
 from ansible_vault_companions.envelopes.strays import find_strays
@@ -65,8 +66,7 @@ class Content:
     def list_values_at(self, path: str) -> list[Node]:
         """The values at a typed path that are encrypted or have the tag, else all nodes there. A list item may also be
         written as `[]`."""
-        names = ((value, value.typed_path) for value in self.values)
-        values = [value for value, name in names if path in (name, NUMBER.sub("[]", name))]
+        values = [value for value in self.values if _leads_to(path, value)]
         return [value for value in values if value.is_value] or values
 
     def find_value_at(self, path: str) -> Node:
@@ -80,6 +80,14 @@ class Content:
             what = "number the items of lists, as in `users[0].name`, or rename a key that is there twice"
             raise Refused(f"{len(values)} values are at {escape(path)}; {what}")
         return values[0]
+
+
+def _leads_to(path: str, value: Node) -> bool:
+    """Whether a typed path is that of a node. Most nodes have another last key, and writing all paths takes long."""
+    last = value.path[-1] if value.path else ""
+    if not path.endswith("]" if isinstance(last, int) else type_key(last)):
+        return False
+    return path in (value.typed_path, NUMBER.sub("[]", value.typed_path))
 
 
 def parse_envelopes(data: bytes, effort: Effort | None = None) -> Content:
