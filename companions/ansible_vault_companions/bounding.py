@@ -4,13 +4,12 @@ from __future__ import annotations
 
 import _signal  # type: ignore
 import _thread
-import math
 import os
 import resource
 import threading
 import time
 from contextlib import contextmanager, suppress
-from typing import Callable, Iterator
+from typing import TYPE_CHECKING, Callable, Iterator, NamedTuple
 
 from ansible_vault_companions.limits import (
     MEGABYTES,
@@ -18,24 +17,37 @@ from ansible_vault_companions.limits import (
     SECONDS,
     TOO_MUCH,
     TOO_SLOW,
-    TOO_SLOW_PROGRAM,
     Effort,
     TooMuch,
 )
 from ansible_vault_companions.refusals import Refused
 
-# Seconds of processor time, of all threads together, between two looks at that of the main thread.
+if TYPE_CHECKING:
+    from subprocess import Popen
+
+# Seconds of this process's time between two looks at what is limited.
 INTERVAL = 0.1
+# A program is started, or asked, only if so many seconds are left. The system counts whole ones.
+LEAST = 0.5
 # A library in C may fail without saying why.
 OUT_OF_MEMORY = (MemoryError, SystemError)
 
 
-class FileTimeOver(Exception):
-    """The limit of processor time for a file is reached."""
+# The programs whose time is limited, of which those that have not ended count for the run.
+_programs: set[Popen[bytes]] = set()
+# The limit of a whole run, if there is one.
+_run: Run | None = None
 
 
-class ReviewTimeOver(Exception):
-    """The limit of processor time for a review is reached."""
+class Run(NamedTuple):
+    """When the time of a run is over, as `_measure_run_time` measures it, and what is said then."""
+
+    end: float
+    text: str
+
+
+class TimeOver(Exception):
+    """A limit of processor time is reached."""
 
 
 @contextmanager
@@ -50,8 +62,9 @@ def limit_work(effort: Effort) -> Iterator[None]:
     begin = time.thread_time()
     megabytes = MEGABYTES if _thread._count() == 0 else 0
     try:
-        with _limit_memory(megabytes), _limit_thread_time(SECONDS - effort.seconds):
-            yield
+        with _limit_memory(megabytes):
+            with _limit_time(time.thread_time, SECONDS - effort.seconds, TOO_SLOW.format(SECONDS)):
+                yield
     finally:
         effort.seconds += time.thread_time() - begin
 
@@ -70,28 +83,53 @@ def count_programs(effort: Effort) -> Iterator[None]:
 @contextmanager
 def limit_review(size: int) -> Iterator[None]:
     """A context for the review of a repository with so many MB, which may take as much time and memory again for each
-    of them, so the work is in proportion to it. Each program that is started in it has the same limits."""
-    with _limit_memory(MEGABYTES * (1 + size)), _limit_process_time(SECONDS * (1 + size)):
+    of them, so the work is in proportion to it. Each program that is started in it may take as much memory."""
+    with _limit_memory(MEGABYTES * (1 + size)), limit_run(SECONDS * (1 + size)):
         yield
 
 
-def measure_time_left() -> int:
-    """The seconds of processor time that a program may take: what is left for this process, from which the time of
-    programs that have ended is taken. Raises TooMuch if there is none."""
-    soft, _ = resource.getrlimit(resource.RLIMIT_CPU)
-    if soft == resource.RLIM_INFINITY:
+@contextmanager
+def limit_run(seconds: int) -> Iterator[None]:
+    """A context that raises TooMuch after so much processor time of this process and its programs together."""
+    global _run
+    _run = Run(_measure_run_time() + seconds, TOO_SLOW.format(seconds))
+    try:
+        with _limit_time(_measure_run_time, seconds, _run.text):
+            yield
+    finally:
+        _run = None
+
+
+def measure_time_left() -> float:
+    """The seconds of processor time that a program may take. Raises TooMuch if there are next to none."""
+    if not _run:
         return SECONDS
-    left = soft - math.floor(sum(os.times()[:4]))
-    if left < 1:
-        raise TooMuch(TOO_SLOW_PROGRAM)
+    left = _run.end - _measure_run_time()
+    if left < LEAST:
+        raise TooMuch(_run.text)
     return left
 
 
-def limit_program(number: int, seconds: int) -> None:
-    """Limits the processor time of a program, by the number of its process."""
-    _, hard = resource.getrlimit(resource.RLIMIT_CPU)
+def limit_program(program: Popen[bytes], seconds: float) -> None:
+    """Limits the processor time of a program to so much more than it has taken."""
+    _programs.add(program)
+    soft, hard = resource.getrlimit(resource.RLIMIT_CPU)
+    most = _lower(soft, round(_measure_program_time(program.pid) + seconds))
     with suppress(ProcessLookupError):
-        resource.prlimit(number, resource.RLIMIT_CPU, (_lower(hard, seconds), hard))
+        resource.prlimit(program.pid, resource.RLIMIT_CPU, (most, hard))
+
+
+def _measure_run_time() -> float:
+    """The processor time of this process and its programs, even of those that have not ended."""
+    running = [program.pid for program in _programs if program.returncode is None]
+    return sum(os.times()[:4]) + sum(map(_measure_program_time, running))
+
+
+def _measure_program_time(number: int) -> float:
+    """The processor time of a process that has not been waited for. Linux makes the number of its clock so."""
+    with suppress(OSError):
+        return time.clock_gettime(~number << 3 | 2)
+    return 0.0
 
 
 @contextmanager
@@ -111,38 +149,29 @@ def _limit_memory(megabytes: int) -> Iterator[None]:
 
 
 @contextmanager
-def _limit_thread_time(seconds: float) -> Iterator[None]:
-    """A context that raises TooMuch after this much processor time, the rest of what a file may take. The timer counts
-    all threads, so each of its signals only asks for the time of this one."""
-    end = time.thread_time() + seconds
+def _limit_time(measure: Callable[[], float], seconds: float, text: str) -> Iterator[None]:
+    """A context that raises TooMuch with this text after so much time by this measure. It may be in another one. The
+    timer counts all threads of this process, so each of its signals only asks for the time."""
+    end = measure() + seconds
+    over, outer = TimeOver(), _signal.getsignal(_signal.SIGPROF)
 
-    def check_time(_number: int, _frame: object) -> None:
-        if time.thread_time() >= end:
-            raise FileTimeOver
+    def check_time(number: int, frame: object) -> None:
+        if measure() >= end:
+            raise over
+        if callable(outer):
+            outer(number, frame)
 
-    with _name_limit(FileTimeOver, TOO_SLOW.format(SECONDS)), _raise_at(_signal.SIGPROF, check_time):
-        # No time would be no limit.
-        _signal.setitimer(_signal.ITIMER_PROF, max(seconds, INTERVAL), INTERVAL)
-        try:
-            yield
-        finally:
-            _signal.setitimer(_signal.ITIMER_PROF, 0)
-
-
-@contextmanager
-def _limit_process_time(seconds: int) -> Iterator[None]:
-    """A context that raises TooMuch after this much processor time, or after less if this process may not take as much.
-    The system sends the signal, and ends the programs that have inherited the limit by it."""
-
-    def end_time(_number: int, _frame: object) -> None:
-        raise ReviewTimeOver
-
-    before = math.floor(time.process_time())
-    most = before + seconds
-    text = TOO_SLOW.format(_lower(resource.getrlimit(resource.RLIMIT_CPU)[0], most) - before)
-    with _name_limit(ReviewTimeOver, text), _raise_at(_signal.SIGXCPU, end_time):
-        with _lower_limit(resource.RLIMIT_CPU, most):
-            yield
+    try:
+        with _raise_at(_signal.SIGPROF, check_time):
+            timer = _signal.setitimer(_signal.ITIMER_PROF, INTERVAL, INTERVAL)
+            try:
+                yield
+            finally:
+                _signal.setitimer(_signal.ITIMER_PROF, *timer)
+    except TimeOver as fault:
+        if fault is not over:
+            raise
+        raise TooMuch(text) from None
 
 
 @contextmanager

@@ -47,8 +47,8 @@ LONGEST_SETTING = 2_048
 # The characters of a value in it, which may have several lines. A variable in it is expanded by itself.
 LONGEST_VALUE = 16_384
 # Processor time, and memory beyond what the companion has already. A review by the hook has no more for all its work on
-# a repository of less than 1 MB, and as much again for each whole MB. So does each git process. By the limits above,
-# the slowest content takes 5 s.
+# a repository of less than 1 MB, and as much again for each whole MB. The time is that of its git processes, too. By
+# the limits above, the slowest content takes 5 s.
 SECONDS = 10
 MEGABYTES = 256
 

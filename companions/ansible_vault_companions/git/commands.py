@@ -56,11 +56,11 @@ def build_environment(index: str | None = None, folder: str | None = None) -> di
 def start_git(
     words: tuple[str, ...], index: str | None = None, folder: str | None = None, **options: Any
 ) -> Popen[bytes]:
-    """Starts a git command, with a limit of processor time."""
+    """Starts a git command, with a limit of processor time. None is started if no time is left."""
     environment = build_environment(index, folder)
     seconds = bounding.measure_time_left()
     git = processes.start_program(build_command(words), env=environment, cwd=folder, **options)
-    bounding.limit_program(git.pid, seconds)
+    bounding.limit_program(git, seconds)
     return git
 
 

@@ -7,6 +7,7 @@ import subprocess
 from contextlib import suppress
 from typing import NoReturn, TypeVar
 
+from ansible_vault_companions import bounding
 from ansible_vault_companions.git.commands import CUT, LONGEST_MESSAGE, describe_failure, start_git
 from ansible_vault_companions.refusals import Refused
 
@@ -41,6 +42,7 @@ class Server:
 
     def ask(self, question: bytes) -> None:
         assert self.git.stdin
+        bounding.limit_program(self.git, bounding.measure_time_left())
         # If git has ended, the answer is cut.
         with suppress(BrokenPipeError):
             self.git.stdin.write(question)
