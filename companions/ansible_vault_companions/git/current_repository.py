@@ -3,14 +3,12 @@
 from __future__ import annotations
 
 import os
+from contextlib import suppress
 
 from ansible_vault_companions.files.link_bounds import find_current_folder
-from ansible_vault_companions.git.commands import CUT, list_records, read_line
+from ansible_vault_companions.git.commands import read_line
 from ansible_vault_companions.git.repository import find_repository
 from ansible_vault_companions.refusals import Refused
-
-# The last count that git prints of a repository's own objects.
-LAST_COUNT = b"size-garbage"
 
 
 def find_top() -> str:
@@ -23,11 +21,14 @@ def find_top() -> str:
 
 
 def measure_repository() -> int:
-    """How many MB the objects of the current repository have, as they are stored."""
-    sizes = {}
-    for line in list_records("count-objects", "-v"):
-        what, _, size = line.partition(b": ")
-        sizes[what] = size
-    if LAST_COUNT not in sizes:
-        raise Refused(CUT.format("count-objects"))
-    return int(sizes[b"size"]) + int(sizes[b"size-pack"]) >> 10
+    """How many MB the objects of the current repository have, as they are stored. Their blocks on the disk, as `git
+    count-objects` counts them, would be more than a hundred times as many if they are small."""
+    folders = os.walk(read_line("rev-parse", "--git-path", "objects"))
+    return sum(_measure_file(os.path.join(folder, name)) for folder, _, names in folders for name in names) >> 20
+
+
+def _measure_file(path: str) -> int:
+    """The bytes of a file; 0 if git has removed it meanwhile."""
+    with suppress(FileNotFoundError):
+        return os.lstat(path).st_size
+    return 0
