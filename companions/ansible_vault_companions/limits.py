@@ -51,6 +51,8 @@ LONGEST_VALUE = 16_384
 # the limits above, the slowest content takes 5 s.
 SECONDS = 10
 MEGABYTES = 256
+# Of that time, what the attributes of all files take together in a check, before the first file is read.
+ATTRIBUTE_SECONDS = 4
 
 TOO_DEEP = f"it is nested over {DEEPEST} levels"
 KEY_TOO_LONG = f"it has a key of over {LONGEST_KEY:,} bytes"
@@ -63,6 +65,7 @@ TOO_LONG = f"it has over {LONGEST_PLAINTEXT:,} bytes"
 TOO_SLOW = "it takes over {} s of processor time"
 TOO_SLOW_TO_EDIT = f"it takes over a third of {SECONDS} s of processor time before it is even edited"
 TOO_SLOW_PROGRAM = "it takes too much processor time"
+TOO_SLOW_PATTERNS = "the patterns in .gitattributes take too much processor time"
 TOO_MUCH = "it takes over {} MB of memory"
 NO_MEMORY = "it takes more memory than this program may have"
 

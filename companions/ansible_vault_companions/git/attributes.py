@@ -5,12 +5,14 @@ from __future__ import annotations
 import os
 import re
 from functools import cache
-from typing import Callable, Collection, Container, Iterable, Iterator, NamedTuple
+from typing import Collection, Container, Iterable, Iterator, Mapping, NamedTuple
 
+from ansible_vault_companions import bounding
 from ansible_vault_companions.files import link_bounds, reading
 from ansible_vault_companions.git.commands import CUT
 from ansible_vault_companions.git.repository import find_repository
 from ansible_vault_companions.git.servers import Server
+from ansible_vault_companions.limits import ATTRIBUTE_SECONDS, TooMuch
 from ansible_vault_companions.refusals import Refused, describe_refusal
 
 # The first attribute marks a file if it has this value, the second if it is set. Unset, the second exempts a file. The
@@ -83,15 +85,18 @@ def _make_attributes(diff: bytes, vault: bytes, plain: bytes) -> Attributes:
     return Attributes(is_marked, is_exempt, frozenset(os.fsdecode(plain).split(",") if has_values else ()))
 
 
-def find_marked(paths: list[str]) -> set[str]:
-    """Those that are marked in the repository that they are in, if any. A link counts by its own name, too."""
-    links = [path for path in paths if os.path.islink(path)]
-    groups = [*_group_by_repository(paths).items(), *_group_by_repository(links, follows=False).items()]
+def find_marked(targets: Mapping[str, str]) -> set[str]:
+    """Of these paths, each with the real path of its file, those that are marked in the repository that they are in, if
+    any. A link counts by its own name, too."""
     marked = set[str]()
-    for folder, names in groups:
-        _require_readable(folder, names)
-        with AttributeReader(folder=folder) as reader:
-            marked.update(names[name] for name, given in reader.read(names).items() if given.is_marked)
+    try:
+        with bounding.limit_run(ATTRIBUTE_SECONDS):
+            for folder, names in _group_by_repository(targets).items():
+                _require_readable(folder, names)
+                with AttributeReader(folder=folder) as reader:
+                    marked.update(names[name] for name, given in reader.read(names).items() if given.is_marked)
+    except TooMuch as fault:
+        raise Refused(f"{os.fsdecode(FILE)}: {fault}") from None
     return marked
 
 
@@ -108,30 +113,24 @@ def _require_readable(repository: str, names: Iterable[bytes]) -> None:
             raise Refused(describe_refusal(path, fault)) from None
 
 
-def _group_by_repository(paths: list[str], follows: bool = True) -> dict[str, dict[bytes, str]]:
-    """The paths in each repository, by their names there: for a link, the name of the file that it points to, or its
-    own. Files outside of repositories are left out, and so is what leads nowhere."""
+def _group_by_repository(targets: Mapping[str, str]) -> dict[str, dict[bytes, str]]:
+    """The paths in each repository, by their names there, and by those of their files. What is outside of repositories
+    is left out, and so is what leads nowhere."""
     repositories: dict[str, dict[bytes, str]] = {}
     # Many files may be in one directory, and deep.
     find_folder = cache(link_bounds.find_target)
-    for path in paths:
+    for path, target in targets.items():
+        folder, name = os.path.split(path)
         try:
-            target = _find_name(path, follows, find_folder)
+            own = os.path.join(find_folder(folder), name)
         except OSError:
             continue
-        repository = find_repository(os.path.dirname(target))
-        if repository:
-            name = os.fsencode(os.path.relpath(target, repository))
-            repositories.setdefault(repository, {})[name] = path
+        for place in {own, target}:
+            repository = find_repository(os.path.dirname(place))
+            if repository:
+                below = os.fsencode(os.path.relpath(place, repository))
+                repositories.setdefault(repository, {})[below] = path
     return repositories
-
-
-def _find_name(path: str, follows: bool, find_folder: Callable[[str], str]) -> str:
-    """The real path of a file or, if it may be a link that is not followed, of its name."""
-    if follows and os.path.islink(path):
-        return link_bounds.find_target(path)
-    folder, name = os.path.split(path)
-    return os.path.join(find_folder(folder), name)
 
 
 def list_attribute_files(names: Iterable[bytes]) -> list[bytes]:

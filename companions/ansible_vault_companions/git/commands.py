@@ -6,7 +6,7 @@ import _signal  # type: ignore
 import os
 
 from ansible_vault_companions import bounding, processes
-from ansible_vault_companions.limits import TOO_SLOW_PROGRAM
+from ansible_vault_companions.limits import TOO_SLOW_PATTERNS, TOO_SLOW_PROGRAM
 from ansible_vault_companions.refusals import Refused
 
 # The module `typing` takes long to import.
@@ -99,12 +99,12 @@ def require_success(command: str, done: CompletedProcess[bytes]) -> None:
 
 def describe_failure(command: str, status: int, errors: bytes) -> str:
     """Why a git command failed, if possible in git's own words."""
-    return f"git {command} failed: {_describe_end(status, errors)}"
+    return f"git {command} failed: {_describe_end(command, status, errors)}"
 
 
-def _describe_end(status: int, errors: bytes) -> str:
+def _describe_end(command: str, status: int, errors: bytes) -> str:
     if status == -_signal.SIGXCPU:
-        return TOO_SLOW_PROGRAM
+        return TOO_SLOW_PATTERNS if command == "check-attr" else TOO_SLOW_PROGRAM
     end = f"signal {-status} ended it" if status < 0 else f"it ended with status {status}"
     return _read_messages(errors) or end
 
