@@ -2,13 +2,17 @@
 
 from __future__ import annotations
 
+from typing import Collection
+
 from ansible_vault_companions.git.commands import CUT, find_object, find_warning, list_records, read_line
+from ansible_vault_companions.limits import MOST_PARENTS
 from ansible_vault_companions.quoting import escape
 from ansible_vault_companions.refusals import Refused
 
 # How many digits of a commit are enough for a message.
 DIGITS = 10
 SHALLOW = "earlier commits are missing: run `git fetch --unshallow`, or set fetch-depth or GIT_DEPTH of a pipeline to 0"
+TOO_MANY_PARENTS = f"{{}} has over {MOST_PARENTS} parents"
 UNAMBIGUOUS = "give a whole ID, or a whole name such as refs/remotes/origin/main"
 
 
@@ -35,6 +39,12 @@ def find_typed_commit(name: str) -> str:
 def list_parents(commit: str) -> list[str]:
     """The parents of a commit. git prints them after the commit itself."""
     return read_line("rev-list", "--parents", "--max-count=1", commit, "--").split()[1:]
+
+
+def require_few_parents(commit: str, parents: Collection[str]) -> None:
+    """Refuses a commit that would have to be compared with too many others."""
+    if len(parents) > MOST_PARENTS:
+        raise Refused(TOO_MANY_PARENTS.format(commit))
 
 
 def list_commits(first: str, last: str) -> list[list[str]]:

@@ -18,6 +18,7 @@ from ansible_vault_companions.git.differences import (
     list_differences,
     make_differences,
 )
+from ansible_vault_companions.git.history import require_few_parents
 from ansible_vault_companions.git.index_files import find_empty_tree, open_index_file
 from ansible_vault_companions.quoting import escape
 from ansible_vault_companions.refusals import Refused
@@ -30,6 +31,7 @@ class Index:
     """The files that are staged, and the parents of the next commit."""
 
     def __init__(self, parents: list[str]) -> None:
+        require_few_parents("the next commit", parents)
         # The parent of a first commit is the empty tree.
         self.parents = parents or [find_empty_tree()]
 

@@ -8,6 +8,7 @@ from typing import Collection
 from ansible_vault_companions.git.attributes import AttributeReader, Attributes, is_attribute_file
 from ansible_vault_companions.git.blobs import Blobs
 from ansible_vault_companions.git.differences import Difference, Differences, File, make_differences, require_once
+from ansible_vault_companions.git.history import DIGITS, require_few_parents
 from ansible_vault_companions.git.index_files import find_empty_tree, open_index_file
 from ansible_vault_companions.git.trees import Trees
 
@@ -34,6 +35,7 @@ class Snapshot:
         self.trees.__exit__()
 
     def move_to(self, commit: str, parents: list[str]) -> None:
+        require_few_parents(commit[:DIGITS], parents)
         tree = self.blobs.find_tree(commit)
         for difference in self.trees.compare(self.tree, tree):
             self._apply(commit, difference)
