@@ -40,7 +40,8 @@ LONGEST_ANSWER = 65_536
 # The bytes of a link that git has, as many as Linux allows.
 LONGEST_LINK = 4_096
 # The directories and links through which a link leads. A text of that length has 2,000 of them, and may name others.
-MOST_STEPS = 1_000
+# Thousands of links may have the same text.
+MOST_STEPS = 100
 # The parents of a commit, each of which the hook compares with it. The largest merge of Linux has 66.
 MOST_PARENTS = 100
 # The characters of an ansible.cfg, and of a line in it: Python's parser takes quadratic time for the blanks of a line.

@@ -42,6 +42,6 @@ def _is_same(first: str, second: str) -> bool:
     """Whether two paths lead to the same place. If the current directory is gone, a relative one leads nowhere, and
     Python cannot follow a long chain of links."""
     try:
-        return second != "" and os.path.realpath(first) == os.path.realpath(second)
+        return second != "" and (first == second or os.path.realpath(first) == os.path.realpath(second))
     except (OSError, RecursionError):
-        return first == second
+        return False
