@@ -131,14 +131,16 @@ from ansible_vault_companions import bounding
 
 looks = itertools.count()
 bounding.time = types.SimpleNamespace(thread_time=lambda: next(looks) * {})
-limit = bounding._limit_thread_time
+# The timer would look as well.
+bounding.INTERVAL = 100
+limit = bounding._limit_time
 
-def note_and_limit(seconds):
+def note_and_limit(measure, seconds, text):
     with open("../limits", "a") as file:
         print(seconds, file=file)
-    return limit(seconds)
+    return limit(measure, seconds, text)
 
-bounding._limit_thread_time = note_and_limit
+bounding._limit_time = note_and_limit
 """
 
 
@@ -237,6 +239,36 @@ def test_directive_in_conflict(place: Place) -> None:
         done = place.run(EDIT, *place.by_file("old"), "a.yml", EDITOR="true")
         is_merged = b"merge-file" in place.get("runs")
         assert ("line 2: `%TAG`" in done.stderr, is_merged) == (bool(directive), not directive), done
+
+
+# Work on files in a run that has a limit of its own.
+RUN = """
+from ansible_vault_companions import bounding, limits
+
+try:
+    with bounding.limit_run(1):
+        with bounding.limit_work(limits.Effort()):
+            {}
+        {}
+except limits.TooMuch as fault:
+    print(fault)
+"""
+
+
+@pytest.mark.parametrize("work", [("while True: pass", ""), ("pass", "while True: pass")], ids=["within", "behind"])
+def test_run_of_files(place: Place, work: tuple[str, str]) -> None:
+    """The limit of a run holds while a file is read, whose own is higher, and after that."""
+    done = place.run(sys.executable, "-c", RUN.format(*work), PYTHONPATH=str(place.companions))
+    ended("the run", done, 0, "it takes over 1 s of processor time\n")
+
+
+@pytest.mark.parametrize("names, why", [(99, ""), (103, "link.yml: Too many levels of symbolic links\n")])
+def test_names_of_links(place: Place, names: int, why: str) -> None:
+    """Thousands of links may have one long text, so each leads through no more than some names."""
+    place.put("d/a.yml", BLOCK)
+    (place.tree / "link.yml").symlink_to("d/../" * (names // 2) + "d/a.yml")
+    done = place.run(CHECK, "--list", "link.yml")
+    ended("the check", done, int(bool(why)), *([why] if why else ["1 listed, 0 failed\n"]))
 
 
 @pytest.mark.parametrize("rest, why", [(b"", ""), (b"z: *c\n", "its aliases stand for over 50,000 texts")])

@@ -2,10 +2,11 @@
 
 import os
 import re
+import shutil
 
 import pytest
 
-from companion_cases import CHECK, HOOK, TEXT, Place, block, ended, run_changed, sealed, silent
+from companion_cases import CHECK, HOOK, TEXT, Done, Place, block, ended, run_changed, sealed, silent
 from companion_cases.repository import WHOLE, add_and_commit, committed, staged, told, under_git
 
 pytestmark = pytest.mark.usefixtures("git")
@@ -54,7 +55,7 @@ def test_long_vault(place: Place) -> None:
     assert len(counts) == 1, counts
 
 
-DETOURS = {"none": ("", 1000), "short": ("a/../" * 10, 1000), "long": ("a/../" * 800, 1)}
+DETOURS = {"none": ("", 1000), "short": ("./", 1000), "long": ("a/../" * 800, 1)}
 
 
 @pytest.mark.parametrize("detour, count", DETOURS.values(), ids=DETOURS)
@@ -75,7 +76,7 @@ def test_links(place: Place, detour: str, count: int) -> None:
     if len(detour) < 1000:
         assert told(done) == [".gitattributes is not encrypted"]
     else:
-        ended("a link", done, 1, f"{HOOK}: l0 is a link that leads through over 1,000 directories\n")
+        ended("a link", done, 1, f"{HOOK}: l0 is a link that leads through over 100 directories\n")
 
 
 def test_long_message(place: Place) -> None:
@@ -122,8 +123,7 @@ def test_git_processes(place: Place) -> None:
 
 
 TOO_SLOW = "it takes over {} s of processor time"
-TOO_SLOW_PROGRAM = "it takes too much processor time"
-GIT_TOO_SLOW = f"git check-attr failed: {TOO_SLOW_PROGRAM}"
+TOO_SLOW_PATTERNS = "git check-attr failed: the patterns in .gitattributes take too much processor time"
 # A pattern that git compares with each choice of twelve letters in a name, and such a name.
 PATTERN, NAME = b"*a" * 12 + b"b x\n", "a" * 60 + "c"
 
@@ -137,11 +137,113 @@ def test_pattern_without_end(place: Place) -> None:
     place.put("../pattern", PATTERN)
     blob = place.shell("git hash-object -w ../pattern").stdout.strip()
     place.shell(f"git update-index --add --cacheinfo 100644,{blob},.gitattributes")
-    lower = "from ansible_vault_companions import limits\nlimits.SECONDS = 1"
-    ended("the hook", run_changed(place, HOOK, lower, []), 1, GIT_TOO_SLOW)
+    lower = "from ansible_vault_companions import limits\nlimits.SECONDS = 3; limits.ATTRIBUTE_SECONDS = 1"
+    ended("the hook", run_changed(place, HOOK, lower, []), 1, TOO_SLOW_PATTERNS)
     place.put(".gitattributes", PATTERN)
     done = run_changed(place, CHECK, lower, [*place.by_file("old"), NAME])
-    ended("the check", done, 1, GIT_TOO_SLOW)
+    ended("the check", done, 1, TOO_SLOW_PATTERNS)
+
+
+# A git that notes its command, and takes some processor time for each that has this word.
+SLOW_GIT = """
+import os, sys, time
+
+with open(os.environ["CALLS"], "a") as file:
+    print(*sys.argv[1:], file=file)
+while "{word}" in sys.argv and time.process_time() < {seconds}:
+    pass
+sys.argv[0] = "{git}"
+os.execv(sys.argv[0], sys.argv)
+"""
+
+
+def run_slowed(place: Place, word: str, seconds: float, limits: str, companion: str, *words: str) -> tuple[Done, int]:
+    """Run a companion with these limits, whose git processes of this command take time, and count them."""
+    calls = place.path / "calls"
+    calls.write_text("")
+    place.script(
+        SLOW_GIT.format(word=word, seconds=seconds, git=shutil.which("git")), "tools/git", "/usr/bin/env -S python3 -IB"
+    )
+    change = f"from ansible_vault_companions import bounding, limits\n{limits}"
+    done = run_changed(place, companion, change, [*words], CALLS=str(calls))
+    (place.tools / "git").unlink()
+    return done, len([line for line in calls.read_text().splitlines() if f" {word} " in f" {line} "])
+
+
+def test_attributes_of_repositories(place: Place) -> None:
+    """In a check, all repositories together have one limit, and no git is started when no time is left. Each has one
+    git process, even if there are links."""
+    for number in range(9):
+        place.shell(f"git init -q {number}; ln -s a.yml {number}/link.yml")
+        place.put(f"{number}/a.yml", block("old"))
+    place.put(".gitattributes", b"")
+    done, count = run_slowed(place, "check-attr", 0, "", CHECK, "--list", ".")
+    assert (done.returncode, count) == (0, 9), done
+    done, count = run_slowed(place, "check-attr", 0.6, "limits.ATTRIBUTE_SECONDS = 3", CHECK, "--list", ".")
+    assert done.returncode == 1 and ".gitattributes" in done.stderr and 0 < count < 6, (done, count)
+
+
+def test_no_time_left(place: Place) -> None:
+    """Programs that have ended count for the time of a review, so not all are started."""
+    under_git(place, "")
+    place.put("a.yml", sealed("old"))
+    add_and_commit(place)
+    needed = run_slowed(place, "--no-pager", 0, "", HOOK, "--all")
+    assert needed[0].returncode == 0 and needed[1] > 6, needed
+    done, count = run_slowed(place, "--no-pager", 0.9, "bounding.SECONDS = 3", HOOK, "--all")
+    ended("the hook", done, 1, TOO_SLOW.format(3))
+    assert 0 < count < 6, done
+
+
+def test_time_of_running_git(place: Place) -> None:
+    """A git process that has not ended counts as well."""
+    under_git(place, "")
+    for number in range(3):
+        place.put(f"{number}.yml", sealed("old", b"%d" % number))
+    place.shell("git add -A")
+    done, count = run_slowed(place, "--batch", 2, "bounding.SECONDS = 9", HOOK)
+    assert (done.returncode, count) == (0, 1), done
+    done, count = run_slowed(place, "--batch", 2, "bounding.SECONDS = 3; bounding.LEAST = 2", HOOK)
+    ended("the hook", done, 1, f"{TOO_SLOW.format(3)}; the last file that it read is 0.yml\n")
+
+
+def test_small_objects(place: Place) -> None:
+    """What is stored in many small files counts by its bytes, whatever they take on the disk."""
+    note = """
+from ansible_vault_companions import bounding
+limit = bounding.limit_review
+
+def note_and_limit(size):
+    with open("../sizes", "a") as file:
+        print(size, file=file)
+    return limit(size)
+
+bounding.limit_review = note_and_limit
+"""
+    under_git(place, "")
+    for number in range(600):
+        place.put(f"{number}", b"%d" % number)
+    for command in ("true", "head -c 3000000 /dev/urandom > random; git add random", "git gc -q"):
+        place.shell(f"git add -A; git commit -qm change; {command}")
+        silent("the hook", run_changed(place, HOOK, note, []))
+    assert place.get("../sizes").decode().split() == ["0", "2", "2"]
+
+
+@pytest.mark.parametrize("count, why", [(100, ""), (101, " has over 100 parents\n")])
+def test_parents(place: Place, count: int, why: str) -> None:
+    """A commit is compared with each of its parents."""
+    under_git(place, "")
+    add_and_commit(place)
+    each = "git commit-tree -m $number HEAD^{tree}"
+    made = place.shell(f"for number in $(seq {count}); do {each}; done", "bash").stdout.split()
+    parents = " ".join(f"-p {commit}" for commit in made)
+    place.shell(f"git reset -q --hard $(git commit-tree {parents} -m merge HEAD^{{tree}})")
+    assert len(place.shell("git rev-parse HEAD^@").stdout.split()) == count
+    head = place.shell("git rev-parse HEAD").stdout[:10]
+    for words in (["--all"], ["--since", "HEAD~1"]):
+        ended(words[0], place.run(HOOK, *words), int(bool(why)), *([f"{HOOK}: {head}{why}"] if why else []))
+    place.put("../tree/.git/MERGE_HEAD", "".join(f"{commit}\n" for commit in made[1:]).encode())
+    ended("a merge", place.run(HOOK), int(bool(why)), *([f"{HOOK}: the next commit{why}"] if why else []))
 
 
 # Without the limits of each file, which would be met first.
@@ -160,9 +262,8 @@ def test_whole_review(place: Place) -> None:
     for size in (0, 2):
         place.put("random", os.urandom(size << 20))
         add_and_commit(place)
-        # No time may be left when git is to be started.
         for change, why in (
-            ("bounding.SECONDS = 1", f"(?:{TOO_SLOW.format(1 + size)}|{TOO_SLOW_PROGRAM})"),
+            ("bounding.SECONDS = 1", TOO_SLOW.format(1 + size)),
             (f"{UNLIMITED}; bounding.MEGABYTES = 8", f"it takes over {8 + 8 * size} MB of memory"),
         ):
             change = f"from ansible_vault_companions import bounding\n{change}"
