@@ -2,6 +2,7 @@
 
 from collections.abc import Iterable
 from itertools import product
+from typing import NamedTuple
 
 import pytest
 
@@ -12,23 +13,72 @@ pytestmark = pytest.mark.usefixtures("git")
 
 VAULT, OTHER = sealed("old"), sealed("new")
 PW, PW2 = block("old", name="pw"), block("new", name="pw")
-OURS, THEIRS, OWN = b"pw: of ours\n", b"pw: of theirs\n", b"pw: of the merge\n"
+OURS = b"pw: of ours\n"
+THEIRS = b"pw: of theirs\n"
+OWN = b"pw: of the merge\n"
 X, Y = b"x: 1\n", b"x: 2\n"
+NO_LINES = b"# lines\n"
 Files = dict[str, bytes]
 
-# By the attribute that exempts a file: its contents before the branches, on each of them, and in the merge. An empty
-# file is not there.
+
+class Contents(NamedTuple):
+    """What a file may have before the branches, on each of them, and in the merge. An empty file is not there."""
+
+    base: list[bytes]
+    ours: list[bytes]
+    theirs: list[bytes]
+    merged: list[bytes]
+
+
+# By the attribute that exempts a file.
 KINDS = {
-    "-ansible-vault": ([VAULT, b""], [VAULT, OTHER], [VAULT, b"", THEIRS], [OTHER, OURS, THEIRS, OWN]),
-    "ansible-vault-plain=pw": (
-        [PW + X, X],
-        [PW + X, PW2 + Y],
-        [PW + X, X, THEIRS + X],
-        [each + x for each in (PW2, OURS, THEIRS, OWN) for x in (X, Y)],
+    "-ansible-vault": Contents(
+        base=[VAULT, b""],
+        ours=[VAULT, OTHER],
+        theirs=[VAULT, b"", THEIRS],
+        merged=[OTHER, OURS, THEIRS, OWN],
+    ),
+    "ansible-vault-plain=pw": Contents(
+        base=[PW + X, X],
+        ours=[PW + X, PW2 + Y],
+        theirs=[PW + X, X, THEIRS + X],
+        merged=[each + x for each in (PW2, OURS, THEIRS, OWN) for x in (X, Y)],
     ),
 }
-# Whether theirs has a line that exempts the file, and whether the merge adds one.
-LINES = [*product((False, True), repeat=2)]
+
+
+class Case(NamedTuple):
+    """The versions of a file, whether theirs has a line that exempts it, and whether the merge adds one."""
+
+    base: bytes
+    ours: bytes
+    theirs: bytes
+    merged: bytes
+    has_line: bool
+    adds_line: bool
+
+    def is_refused(self) -> bool:
+        """A line that the merge adds to one of theirs exempts nothing that is not exempt already."""
+        if not is_plain(self.merged):
+            return False
+        if self.has_line:
+            return not {*self.merged.splitlines()} <= {*self.theirs.splitlines(), *self.ours.splitlines()}
+        return not self.adds_line
+
+    def is_refused_on_branch(self) -> bool:
+        """Whether their commit is refused. Other files lose a value of this name in the same commit."""
+        return is_plain(self.theirs) and self.base != b"" and not self.has_line
+
+
+def is_plain(content: bytes) -> bool:
+    return content.startswith(b"pw: of")
+
+
+def list_cases(attribute: str) -> dict[str, Case]:
+    """Return each combination, in a file of its own."""
+    answers = [False, True]
+    combinations = product(*KINDS[attribute], answers, answers)
+    return {f"{number}.yml": Case(*values) for number, values in enumerate(combinations)}
 
 
 def commit(place: Place, files: Files, attributes: bytes) -> None:
@@ -41,8 +91,20 @@ def commit(place: Place, files: Files, attributes: bytes) -> None:
     assert done.returncode == 0, done
 
 
-def is_plain(content: bytes) -> bool:
-    return content.startswith(b"pw: of")
+def merge(place: Place, attribute: str, cases: dict[str, Case]) -> None:
+    """Commit the base and both branches, and stage the merge."""
+    of_theirs = b"".join(b"/%b %b\n" % (name.encode(), attribute.encode()) for name in cases if cases[name].has_line)
+    of_merge = b"".join(b"/%b %b x\n" % (name.encode(), attribute.encode()) for name in cases if cases[name].adds_line)
+    commit(place, {name: case.base for name, case in cases.items()}, NO_LINES)
+    place.shell("git checkout -qb theirs")
+    commit(place, {name: case.theirs for name, case in cases.items()}, of_theirs)
+    place.shell("git checkout -q -")
+    commit(place, {name: case.ours for name, case in cases.items()}, NO_LINES)
+    place.shell("git merge -q -s ours --no-commit theirs")
+    for name, case in cases.items():
+        place.put(name, case.merged)
+    place.put(".gitattributes", of_theirs + of_merge)
+    place.shell("git add -A")
 
 
 def list_names(lines: Iterable[str]) -> set[str]:
@@ -51,33 +113,14 @@ def list_names(lines: Iterable[str]) -> set[str]:
 
 @pytest.mark.parametrize("attribute", KINDS)
 def test_merged_lines(place: Place, attribute: str) -> None:
-    """Each combination, in a file of its own, is refused or not, as staged, as the last commit, and as a later one."""
+    """Each combination is refused or not, as staged, as the last commit, and as a later one."""
     under_git(place, "")
-    cases = {f"{number}.yml": case for number, case in enumerate(product(*KINDS[attribute], LINES))}
-    lines = {name: f"/{name} {attribute}\n".encode() for name in cases}
-    of_theirs = b"".join(lines[name] for name, case in cases.items() if case[4][0])
-    of_merge = b"".join(b" ".join(lines[name].split()) + b" x\n" for name, case in cases.items() if case[4][1])
-    commit(place, {name: case[0] for name, case in cases.items()}, b"# lines\n")
-    place.shell("git checkout -qb theirs")
-    commit(place, {name: case[2] for name, case in cases.items()}, of_theirs)
-    place.shell("git checkout -q -")
-    commit(place, {name: case[1] for name, case in cases.items()}, b"# lines\n")
-    place.shell("git merge -q -s ours --no-commit theirs")
-    for name, case in cases.items():
-        place.put(name, case[3])
-    place.put(".gitattributes", of_theirs + of_merge)
-    place.shell("git add -A")
-    refused, refused_before = set(), set()
-    for name, (base, ours, theirs, merged, (has_line, adds_line)) in cases.items():
-        # A line that the merge adds to one of theirs exempts nothing that is not exempt already.
-        is_of_parents = {*merged.splitlines()} <= {*theirs.splitlines(), *ours.splitlines()}
-        if is_plain(merged) and not (is_of_parents if has_line else adds_line):
-            refused.add(name)
-        # Other files lose a value of this name in the same commit.
-        if is_plain(theirs) and base and not has_line:
-            refused_before.add(name)
-    assert list_names(told(place.run(HOOK))) == refused
+    cases = list_cases(attribute)
+    merge(place, attribute, cases)
+    refused = {name for name, case in cases.items() if case.is_refused()}
+    on_branch = {name for name, case in cases.items() if case.is_refused_on_branch()}
+    assert list_names(told(place.run(HOOK))) == refused, "as staged"
     place.shell("git commit -qm merge --no-verify")
-    assert list_names(told(place.run(HOOK, "--all"))) == refused
+    assert list_names(told(place.run(HOOK, "--all"))) == refused, "as the last commit"
     since = told(place.run(HOOK, "--since", "HEAD^1"))
-    assert list_names(line.partition(": ")[2] for line in since) == refused | refused_before
+    assert list_names(line.partition(": ")[2] for line in since) == refused | on_branch, "as a later commit"
