@@ -11,6 +11,7 @@ import pytest
 
 from companion_cases import COMPANIONS, Companions, Place
 from companion_cases.forks import Forks
+from companion_cases.repository import AUTHOR, repository
 from lib.ansible_runs import AnsibleRuns
 from lib.needs import needs, needs_ansible
 
@@ -55,3 +56,12 @@ def ansible_runs() -> Iterator[AnsibleRuns]:
 @pytest.fixture
 def git() -> None:
     needs("git")
+
+
+@pytest.fixture
+def own_repository(git: None, tmp_path: Path, monkeypatch: pytest.MonkeyPatch) -> Path:
+    """A repository that is the current directory. git knows an author there, and none of the user's settings."""
+    for name, value in (AUTHOR | {"GIT_CONFIG_GLOBAL": "/dev/null", "GIT_CONFIG_SYSTEM": "/dev/null"}).items():
+        monkeypatch.setenv(name, value)
+    monkeypatch.chdir(repository(tmp_path, "merge"))
+    return tmp_path

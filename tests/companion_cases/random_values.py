@@ -1,7 +1,6 @@
 """Random YAML documents with values, and random commits. The hook lets through what is done to documents every day, and
 names each document in which a value becomes plaintext in the same commit."""
 
-import hashlib
 import json
 import subprocess
 from collections import Counter
@@ -10,14 +9,10 @@ from dataclasses import dataclass, field
 from pathlib import Path
 from random import Random
 
-import pytest
 from hypothesis import given, settings
 from hypothesis import strategies as st
 
-from companion_cases.repository import AUTHOR, find_staged_faults, repository
-from model.vaults import serialized
-
-pytestmark = pytest.mark.usefixtures("git")
+from companion_cases.repository import find_staged_faults, make_envelope, stage_alone
 
 EXAMPLES, DOCUMENTS = 20, 40
 NAME_KEYS = ["name", "id", "user"]
@@ -116,8 +111,7 @@ def write_item(key: str, item: Item) -> str:
 def write_text(content: int | str) -> str:
     if isinstance(content, str):
         return content
-    envelope = serialized(*(hashlib.sha256(b"%d %d" % (content, part)).digest() for part in range(3)))
-    return f"!vault {json.dumps(envelope.decode())}"
+    return f"!vault {json.dumps(make_envelope(content).decode())}"
 
 
 class Author:
@@ -227,9 +221,7 @@ class Author:
 
 
 def stage(folder: Path, authors: dict[str, Author]) -> None:
-    for name, author in authors.items():
-        (folder / name).write_text(write_node(author.document) + "\n")
-    subprocess.run(["git", "add", "-A"], check=True)
+    stage_alone(folder, {name: f"{write_node(author.document)}\n".encode() for name, author in authors.items()})
 
 
 def find_refused(folder: Path, authors: dict[str, Author]) -> set[str]:
@@ -238,10 +230,7 @@ def find_refused(folder: Path, authors: dict[str, Author]) -> set[str]:
     return find_staged_faults()
 
 
-def test_documents(tmp_path: Path, monkeypatch: pytest.MonkeyPatch) -> None:
-    for name, value in (AUTHOR | {"GIT_CONFIG_GLOBAL": "/dev/null", "GIT_CONFIG_SYSTEM": "/dev/null"}).items():
-        monkeypatch.setenv(name, value)
-    monkeypatch.chdir(repository(tmp_path, "merge"))
+def test_documents(own_repository: Path) -> None:
     counts: Counter[str] = Counter()
 
     @settings(max_examples=EXAMPLES, deadline=None, database=None)
@@ -249,13 +238,13 @@ def test_documents(tmp_path: Path, monkeypatch: pytest.MonkeyPatch) -> None:
     def commit(random: Random) -> None:
         # No two have the same first key, so that no value may have moved from one to another.
         authors = {f"{number}.yml": Author(random, f"top{number}") for number in range(DOCUMENTS)}
-        stage(tmp_path, authors)
+        stage(own_repository, authors)
         subprocess.run(["git", "commit", "-qm", "one", "--no-verify", "--allow-empty"], check=True)
         for author in authors.values():
             author.change()
-        assert find_refused(tmp_path, authors) == set()
+        assert find_refused(own_repository, authors) == set(), "nothing is leaked"
         leaks = {name for name, author in authors.items() if author.leak()}
-        assert find_refused(tmp_path, authors) == leaks
+        assert find_refused(own_repository, authors) == leaks, "every leak is named"
         counts.update(passes=DOCUMENTS, leaks=len(leaks))
 
     commit()

@@ -1,12 +1,14 @@
 """Helpers for a tree under git."""
 
+import hashlib
 import subprocess
+from collections.abc import Mapping
 from pathlib import Path
 
 from ansible_vault_companions.git.blobs import Blobs
 from ansible_vault_companions.guard.review import Review, review_staged
 from companion_cases import HOOK, MERGE, Done, Place
-from model.vaults import SALT
+from model.vaults import SALT, serialized
 
 # Three versions of a text, and their merge.
 BASE = b"one: 1\n2: 2\n3: 3\nfour: 4\n"
@@ -48,6 +50,21 @@ def staged(place: Place, files: dict[str, bytes]) -> list[str]:
     for name, content in files.items():
         place.put(name, content)
     return told(place.shell(f"git add -A && {HOOK}"))
+
+
+def stage_alone(folder: Path, files: Mapping[str, bytes]) -> None:
+    """Stage these files and no others in the repository that is the current directory."""
+    subprocess.run(["git", "rm", "-rfq", "--ignore-unmatch", "."], check=True)
+    for name, content in files.items():
+        (folder / name).parent.mkdir(parents=True, exist_ok=True)
+        (folder / name).write_bytes(content)
+    subprocess.run(["git", "add", "-A"], check=True)
+
+
+def make_envelope(number: int) -> bytes:
+    """Return an envelope, another one for each number. Its form is right, whatever its plaintext."""
+    salt, tag, ciphertext = (hashlib.sha256(b"%d %d" % (number, part)).digest() for part in range(3))
+    return serialized(salt, tag, ciphertext)
 
 
 def find_staged_faults() -> set[str]:

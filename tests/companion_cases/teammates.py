@@ -1,6 +1,5 @@
 """Random commits of a team. The hook lets pass what teammates do, and names the file in which one of them leaks."""
 
-import hashlib
 import subprocess
 from collections import Counter
 from collections.abc import Iterator
@@ -8,15 +7,11 @@ from itertools import islice
 from pathlib import Path
 from random import Random
 
-import pytest
 from hypothesis import given, settings
 from hypothesis import strategies as st
 
 from companion_cases import lines_of
-from companion_cases.repository import AUTHOR, find_staged_faults, repository
-from model.vaults import serialized
-
-pytestmark = pytest.mark.usefixtures("git")
+from companion_cases.repository import find_staged_faults, make_envelope, stage_alone
 
 # The number of an envelope, or a plaintext, by the name of the file and the keys. A vault has no keys.
 Steps = tuple[str, ...]
@@ -35,26 +30,40 @@ def below(contents: Contents) -> dict[str, Contents]:
     return found
 
 
-def written(contents: Contents, depth: int = 0) -> bytes:
-    """Return the content of a file as YAML, with its values in several styles."""
+def write_file(contents: Contents) -> bytes:
+    """Return the content of a file: a text, a vault, or YAML with keys."""
     if () not in contents:
-        rows = [(key, b" " if () in each else b"\n", each) for key, each in below(contents).items()]
-        lines = [b"%*s%s:%s%s" % (depth, b"", key.encode(), gap, written(each, depth + 1)) for key, gap, each in rows]
-        return b"\n".join(lines) + b"\n" * (not depth)
+        return write_keys(contents, 0) + b"\n"
     content = contents[()]
+    return content.encode() if isinstance(content, str) else make_envelope(content)
+
+
+def write_keys(contents: Contents, depth: int) -> bytes:
+    """Return lines of YAML, without a final newline."""
+    lines = []
+    for key, each in below(contents).items():
+        value = b" " + write_value(each[()], depth + 1) if () in each else b"\n" + write_keys(each, depth + 1)
+        lines.append(b" " * depth + key.encode() + b":" + value)
+    return b"\n".join(lines)
+
+
+def write_value(content: int | str, depth: int) -> bytes:
+    """Return a value as YAML. An envelope is a block or, if its number is a multiple of three, in quotes."""
     if isinstance(content, str):
         return content.encode()
-    # Its form is right, whatever its plaintext.
-    envelope = serialized(*(hashlib.sha256(b"%d %d" % (content, part)).digest() for part in range(3)))
-    quoted = b'!vault "%s"' % envelope.replace(b"\n", b"\\n")
-    return envelope if not depth else b"!vault |\n" + lines_of(envelope, depth + 2) if content % 3 else quoted
+    envelope = make_envelope(content)
+    if content % 3 == 0:
+        return b'!vault "%s"' % envelope.replace(b"\n", b"\\n")
+    return b"!vault |\n" + lines_of(envelope, depth + 2)
 
 
 class Team:
     """A commit in the making, and the one before it."""
 
     def __init__(self, random: Random, head: Contents) -> None:
-        self.random, self.head, self.files = random, head, {**head}
+        self.random = random
+        self.head = head
+        self.files = {**head}
 
     def number(self) -> int:
         return self.random.randrange(1 << 60)
@@ -113,7 +122,9 @@ class Team:
         """Do what nobody may do. Yield the file that is to be refused, if there is a place for it."""
         paths = [path for path in self.envelopes(*LEAKS[way]) if isinstance(self.head.get(path), int)]
         for name, *keys in self.random.sample(paths, len(paths)):
-            places, plain, stem = [name], self.random.choice(PLAIN), name.removesuffix(".yml")
+            places = [name]
+            plain = self.random.choice(PLAIN)
+            stem = name.removesuffix(".yml")
             if way == "above":
                 keys, plain = keys[:1], self.random.choice(["{}", "[{}]"])
             if way != "value":
@@ -137,40 +148,33 @@ CHANGES = [Team.add, Team.encrypt_again, Team.take_away, Team.change_text, Team.
 LEAKS = {"value": (2, 3), "above": (3,), "elsewhere": (2, 3), "vault": (1,), "vault, unchanged": (1,)}
 
 
-def refused(folder: Path, files: Contents) -> set[str]:
+def find_refused(folder: Path, files: Contents) -> set[str]:
     """Stage these files alone, and return those that the hook refuses."""
-    subprocess.run(["git", "rm", "-rfq", "--ignore-unmatch", "."], check=True)
-    for name, contents in below(files).items():
-        (folder / name).parent.mkdir(parents=True, exist_ok=True)
-        (folder / name).write_bytes(written(contents))
-    subprocess.run(["git", "add", "-A"], check=True)
+    stage_alone(folder, {name: write_file(contents) for name, contents in below(files).items()})
     return find_staged_faults()
 
 
-def test_commits(tmp_path: Path, monkeypatch: pytest.MonkeyPatch) -> None:
-    for name, value in (AUTHOR | {"GIT_CONFIG_GLOBAL": "/dev/null", "GIT_CONFIG_SYSTEM": "/dev/null"}).items():
-        monkeypatch.setenv(name, value)
-    monkeypatch.chdir(repository(tmp_path, "merge"))
+def test_commits(own_repository: Path) -> None:
     counts: Counter[str] = Counter()
 
     @settings(max_examples=EXAMPLES, deadline=None, database=None)
     @given(st.integers(0, 1 << 64).map(Random))
     def commits(random: Random) -> None:
         head = HEAD | {("a.yml", "m", "two"): random.choice([1, 4, 9]), ("w.yml",): 2}
-        refused(tmp_path, head)
+        find_refused(own_repository, head)
         for _ in range(5):
             subprocess.run(["git", "commit", "-qm", "one", "--allow-empty", "--no-verify"], check=True)
             team = Team(random, head)
             for _ in range(random.randrange(4)):
                 random.choice([*CHANGES, Team.drop] if team.files else [Team.add])(team)
-            assert refused(tmp_path, team.files) == set()
+            assert find_refused(own_repository, team.files) == set(), "nothing is leaked"
             counts["passes"] += 1
             head = {**team.files}
             leaks = ((way, name) for way in random.sample([*LEAKS], len(LEAKS)) for name in team.leak(way))
             for way, name in islice(leaks, 1):
-                assert refused(tmp_path, team.files) == {name}, way
+                assert find_refused(own_repository, team.files) == {name}, way
                 counts[way] += 1
-            refused(tmp_path, head)
+            find_refused(own_repository, head)
 
     commits()
     assert counts["passes"] >= 100 and all(counts[way] >= 5 for way in LEAKS), counts
