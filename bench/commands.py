@@ -39,7 +39,9 @@ QUICK_SIZES, QUICK_CHART_SIZES = {"1 KiB": 1 << 10}, {"4 KiB": 1 << 12}
 # The default, and the least number of runs whose median is shown.
 RUNS = 5
 RIGHT = b"the right password"
-OURS, THEIRS, ALIAS = "ours", "theirs", "the alias"
+OURS = "ours"
+THEIRS = "theirs"
+ALIAS = "the alias"
 # The alias should take at most this many times as long as the tool.
 ALIAS_GOAL = 2.0
 PYTHON = "/usr/bin/python3"

@@ -29,8 +29,10 @@ def check_length() -> None:
 
 def envelope(width: int, length: int) -> bytes:
     """Return an envelope of this much ciphertext, with lines of this many digits."""
-    parts = bytes([7] * 32), bytes([9] * 32), os.urandom(length)
-    digits = b"\n".join(part.hex().encode() for part in parts).hex().encode()
+    salt = bytes([7] * 32)
+    tag = bytes([9] * 32)
+    inner = b"\n".join(part.hex().encode() for part in (salt, tag, os.urandom(length)))
+    digits = inner.hex().encode()
     return HEADER + b"".join(digits[i : i + width] + b"\n" for i in range(0, len(digits), width))
 
 

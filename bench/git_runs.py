@@ -28,7 +28,10 @@ from model.vaults import seal, yaml_block
 
 LABEL = b"prod"
 PASSWORDS = {"old": b"the old password", "new": b"the new password"}
-OURS, FLOOR, THEIRS = TOOLS = "companion", "script", "Ansible's view"
+OURS = "companion"
+FLOOR = "script"
+THEIRS = "Ansible's view"
+TOOLS = [OURS, FLOOR, THEIRS]
 # The part of the versions and vaults that git shows with Ansible's tool.
 SHARE = 10
 
@@ -165,7 +168,9 @@ def main() -> None:
     parser.add_argument("--runs", type=int, default=11, metavar="N", help="of each command that shows one file")
     args = parser.parse_args()
     if args.quick:
-        args.versions, args.vaults, args.runs = 2, 2, 1
+        args.versions = 2
+        args.vaults = 2
+        args.runs = 1
     with tempfile.TemporaryDirectory() as folder:
         rows = Rows(args.program, Path(folder), args.runs)
         print(f"Processor time on {describe_processor()}:\n")

@@ -32,11 +32,25 @@ def bash_table(about: str, name: str, rows: Iterable[tuple[str, Iterable[str]]])
     return "\n".join([*lines, "    esac", "}\n"])
 
 
+def spellings_of(options: Iterable[Option]) -> list[str]:
+    """Return all names of these options."""
+    return [name for option in options for name in option.names]
+
+
+def spellings_by_kind() -> dict[str, list[str]]:
+    """Return the names of all options that take a value, by what that is."""
+    names: dict[str, list[str]] = {"id": [], "file": [], "text": []}
+    for command in commands():
+        for option in command.options:
+            if option.value:
+                names[option.kind] += [name for name in option.names if name not in names[option.kind]]
+    return names
+
+
 def bash() -> str:
     listed = [(name, [command.name for command in of_program(name)[1:]]) for name in NAMES if of_program(name)[1:]]
-    options = [(f'"{each.line}"', (name for option in each.options for name in option.names)) for each in commands()]
-    kinds = {name: option.kind for command in commands() for option in command.options for name in option.names}
-    values = [(" | ".join(name for name in kinds if kinds[name] == kind), [kind]) for kind in ("id", "file", "text")]
+    options = [(f'"{each.line}"', spellings_of(each.options)) for each in commands()]
+    values = [(" | ".join(names), [kind]) for kind, names in spellings_by_kind().items()]
     about_values = "What the value of an option is: a file, perhaps after a label, or any text."
     tables = [
         bash_table("The commands of a program.", "commands", listed),
@@ -76,7 +90,11 @@ def zsh_option(option: Option, single: set[str]) -> str:
     excluded = sorted(option.alternatives & single)
     if option.names[-1] in ("--help", "--version"):
         excluded = ["-", "*"]
-    before = "*" if option.repeats else f"({' '.join(excluded)})" if len(excluded) > 1 else ""
+    before = ""
+    if option.repeats:
+        before = "*"
+    elif len(excluded) > 1:
+        before = f"({' '.join(excluded)})"
     names = [f"{name}=" if option.value and name.startswith("--") else name for name in option.names]
     spelled = f"'{{{','.join(names)}}}'" if len(names) > 1 else names[0]
     said = option.summary.replace("]", r"\]").replace("'", r"'\''")
@@ -85,7 +103,7 @@ def zsh_option(option: Option, single: set[str]) -> str:
 
 
 def zsh_command(command: Command) -> list[str]:
-    single = {name for option in command.options if not option.repeats for name in option.names}
+    single = {*spellings_of(option for option in command.options if not option.repeats)}
     specifications = [zsh_option(option, single) for option in command.options]
     if command.argument:
         number = "*" if command.argument.repeats else "1"

@@ -54,7 +54,9 @@ def imported(text: str, used: str | None = None) -> Iterator[Path]:
     no explanation. Names with a hyphen are lemmas, which only proofs need.
     """
     for crate, module, names, other_name in IMPORT.findall(text):
-        folder, parts, words = CRATES / crate, module.split("."), set(re.findall(r"\w+", names or other_name))
+        folder = CRATES / crate
+        parts = module.split(".")
+        words = set(re.findall(r"\w+", names or other_name))
         is_lemma = names and all("-" in name for name in names.split(","))
         if is_lemma or used is not None and not words & set(re.findall(r"\w+", used)):
             continue

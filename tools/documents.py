@@ -67,7 +67,8 @@ def definition_files() -> list[Path]:
 def printed(pattern: str) -> str:
     """Return the code that matches a pattern in exactly one file, without comments, ghost lines and empty lines."""
     texts = [*code().values(), *(file.read_text() for file in definition_files())]
-    (found,) = (found for text in texts if (found := re.search(pattern, text, re.MULTILINE | re.DOTALL)))
+    matches = [re.search(pattern, text, re.MULTILINE | re.DOTALL) for text in texts]
+    [found] = filter(None, matches)
     lines = ("".join(found.groups()) or found[0]).splitlines()
     return "".join(f"{line}\n" for line in lines if line.strip() and not re.match(r" *(//|ghost )", line))
 

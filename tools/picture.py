@@ -27,8 +27,15 @@ TITLES = [
 ]
 # The characters in a line of each column.
 COLUMNS = (47, 65)
-# Pixels: a line, a character of DejaVu Sans Mono of this size, and what surrounds the text.
-LINE, SIZE, ADVANCE, MARGIN, TITLE, GAP = 16, 12, 7.225, 14, 32, 12
+# In pixels.
+LINE = 16
+# The width of a character of DejaVu Sans Mono of this size.
+ADVANCE = 7.225
+SIZE = 12
+# What surrounds the text, what is above it, and what is between windows.
+MARGIN = 14
+TITLE = 32
+GAP = 12
 WIDTHS = [round(columns * ADVANCE) + 2 * MARGIN for columns in COLUMNS]
 # The classes of git's colors, by their codes in a terminal.
 CLASSES = {"1": "head", "31": "old", "32": "new", "36": "place"}
@@ -112,7 +119,9 @@ def shorten(lines: list[Line], count: int) -> list[Line]:
 
 def draw_window(title: str, lines: list[Line], column: int, y: int, height: int) -> str:
     """Return a window. Lines that are too long end with a mark."""
-    x, width, columns = column * (WIDTHS[0] + GAP), WIDTHS[column], COLUMNS[column]
+    x = column * (WIDTHS[0] + GAP)
+    width = WIDTHS[column]
+    columns = COLUMNS[column]
     body = f'<rect class="window" x="{x + 0.5}" y="{y + 0.5}" width="{width - 1}" height="{height - 1}" rx="8"/>\n'
     body += f'<path class="rule" d="M{x + 1} {y + TITLE - 4}.5 h{width - 2}"/>\n'
     body += f'<text class="title" x="{x + MARGIN}" y="{y + 19}">{title}</text>\n'

@@ -103,7 +103,9 @@ def option_of(parser: argparse.ArgumentParser, action: argparse.Action) -> Optio
 
 def commands_of_parser(program: str, parser: argparse.ArgumentParser, name: str = "") -> Iterator[Command]:
     """Yield the command of a companion's parser, and those of its commands."""
-    listed, argument, inner = [], None, dict[str, argparse.ArgumentParser]()
+    listed = []
+    argument = None
+    inner: dict[str, argparse.ArgumentParser] = {}
     for action in parser._actions:
         if isinstance(action, argparse._SubParsersAction):
             inner = action.choices

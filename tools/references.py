@@ -87,7 +87,11 @@ class Repository:
 
 def find_dead_references(root: Path, files: list[Path]) -> Iterator[str]:
     """Yield a message for each dead reference in files below a directory, and if there are too few to look at."""
-    patterns = {file: pattern for file in files if (pattern := pattern_of_comments(file))}
+    patterns = {}
+    for file in files:
+        pattern = pattern_of_comments(file)
+        if pattern:
+            patterns[file] = pattern
     texts = {file: file.read_text(encoding="utf-8") for file in patterns}
     code = "\n".join(re.sub(pattern, "", texts[file]) for file, pattern in patterns.items())
     repository = Repository([file.relative_to(root) for file in files], code)
