@@ -141,8 +141,9 @@ def test_limits() -> None:
     numbers = [int(number) for number in re.findall(r"\d+", columns) if number != "1"]
     assert len(numbers) == len(LIMITS), "how many limits the table has"
     assert dict(zip(LIMITS, numbers)) == {name: limits[name] for name in LIMITS}, "the limits in the table"
-    assert f"at most {limits['SECRET_COUNT_LIMIT']} passwords" in table
-    assert (LONGEST_PLAINTEXT, LONGEST_VAULT) == (limits["PLAINTEXT_LIMIT"], limits["ENVELOPE_LIMIT"])
+    assert f"at most {limits['SECRET_COUNT_LIMIT']} passwords" in table, "the number of passwords"
+    assert LONGEST_PLAINTEXT == limits["PLAINTEXT_LIMIT"], "the companions' longest plaintext"
+    assert LONGEST_VAULT == limits["ENVELOPE_LIMIT"], "the companions' longest vault"
     assert {int(each.replace(",", "")) for each in re.findall(r"\d+,\d{3},\d{3}", TEXT)} <= {*limits.values()}
 
 
@@ -198,13 +199,15 @@ def test_binary(program: str) -> None:
     assert "is a position-independent executable with full RELRO and a non-executable stack" in TEXT
     listed = run_text(["readelf", "--wide", "--program-headers", "--dynamic", program]).stdout
     assert re.findall(r"GNU_STACK +(?:0x\w+ +)+(\w+) ", listed) == ["RW"]
-    assert ("GNU_RELRO" in listed, re.findall(r"Flags: (.*)", listed)) == (True, ["NOW PIE"])
+    assert "GNU_RELRO" in listed, "relocations are read-only"
+    assert re.findall(r"Flags: (.*)", listed) == ["NOW PIE"], "all at once, at any address"
     assert re.findall(r"\(NEEDED\).*\[(.*)\]", listed) == ["libc.so.6"]
     licensed = {*re.findall(r"^Files: (\w+)/\*$", (ROOT / "debian" / "copyright").read_text(), re.MULTILINE)}
     contained = {*re.findall(r" [a-zA-Z] <?(\w+)::", run_text(["nm", "--demangle", program]).stdout)}
     ours = {"ansible_vault", *(each.name for each in CRATES.glob("vault_*"))}
     others = {each for each in contained - ours - licensed if not re.match("std|core", each)}
-    assert (others, len(contained & licensed) > 2) == (set(), True)
+    assert others == set(), "crates that debian/copyright does not name"
+    assert len(contained & licensed) > 2, "crates that it names"
     symbols = run_text(["nm", "--dynamic", "--with-symbol-versions", program]).stdout
     newest = max((int(major), int(minor)) for major, minor in re.findall(r"@GLIBC_(\d+)\.(\d+)", symbols))
     for name, least in (("glibc", newest), ("Python", OLDEST)):

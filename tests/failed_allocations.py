@@ -24,6 +24,7 @@ def test_each_refused(cases: Cases, command: str, target: str, record_property: 
     library = build_library(str(cases.folder), "refuse_allocation")
     scenario = scenario_of(cases, command, target, 1_000)
     refused, whole = refusing_each(library, partial(scenario.run, [cases.program]))
-    assert [left for left in refused if left != scenario.untouched(Fault.MEMORY)] == []
-    assert (whole, len(refused) > 1) == (scenario.fault_free(), True)
+    assert [left for left in refused if left != scenario.untouched(Fault.MEMORY)] == [], "what others leave"
+    assert whole == scenario.fault_free(), "the run in which none is refused"
+    assert len(refused) > 1, "there are some to refuse"
     record_property("refused allocations", (len(refused), len(refused)))

@@ -63,7 +63,8 @@ def refusals(program: str, scenario: Scenario) -> Iterator[Refusal]:
 def is_allowed(left: Left, scenario: Scenario, call: Call, error: str) -> bool:
     """Return whether a run may leave this. A failure of close is ignored, and so is EINVAL from fsync. If the query
     whether a stream is open fails, the stream counts as closed."""
-    whole, creates = scenario.fault_free(), "O_CREAT" in call.args
+    whole = scenario.fault_free()
+    creates = "O_CREAT" in call.args
     if call.name in ("close", "fcntl") or (call.name, error) == ("fsync", "EINVAL"):
         return left == whole
     if error == "EINTR" and call.name in TRIED_AGAIN and left == whole:
@@ -120,8 +121,8 @@ def test_short_transfers(cases: Cases, command: str, target: str) -> None:
     library, scenario = build_library(str(cases.folder), "short_transfers"), scenario_of(cases, command, target, 1_000)
     for most in (1, 100):
         left, cut = run_with(library, {"MOST_BYTES": str(most)}, partial(scenario.run, [cases.program]))
-        # The first letters of the calls that were cut short.
-        assert (left, {*cut}) == (scenario.fault_free(), {*b"rw"})
+        assert left == scenario.fault_free(), f"the answer, {most} bytes at a time"
+        assert {*cut} == {*b"rw"}, "the first letters of the calls that were cut short"
 
 
 @pytest.mark.parametrize("number", (signal.SIGTERM, signal.SIGINT, signal.SIGHUP))
@@ -133,5 +134,6 @@ def test_signal_while_blocked(cases: Cases, number: signal.Signals) -> None:
         assert child.stdin
         child.stdin.write(TEXT * 100_000)
         child.send_signal(number)
-        assert (*child.communicate(timeout=SECONDS), child.returncode) == (b"", b"", -number)
-    assert Path(words[-1]).read_bytes() == OLD
+        assert child.communicate(timeout=SECONDS) == (b"", b""), "nothing is printed"
+        assert child.returncode == -number, "the signal ends it"
+    assert Path(words[-1]).read_bytes() == OLD, "the output is as it was"

@@ -4,6 +4,7 @@ import ast
 import runpy
 import shutil
 from pathlib import Path
+from typing import NamedTuple
 
 import pytest
 
@@ -13,13 +14,44 @@ from lib.paths import ROOT
 from lib.processes import run_text
 from lib.scripts import searched_first, write_script
 
-# What `make check` prints, its status, whether packages can be installed, and how .ci/run ends.
-RUNS = [
-    ("12 passed, 0 failed\\n8 passed, 2 failed, 1 skipped", 2, True, (2, "20 passed, 2 failed, 1 skipped")),
-    ("0 passed, 0 failed", 0, True, (1, "0 passed, 1 failed, 0 skipped")),
-    ("12 passed, 0 failed", 0, False, (1, "12 passed, 1 failed, 0 skipped")),
-    ("12 passed, 0 failed", 0, True, (0, "12 passed, 0 failed, 0 skipped")),
-]
+
+class Gate(NamedTuple):
+    """What `make check` prints, and its status; and then the status of .ci/run, and its last line."""
+
+    printed: str
+    status: int
+    ends_with: int
+    last_line: str
+    can_install: bool = True
+
+
+GATES = {
+    "some tests fail": Gate(
+        printed="12 passed, 0 failed\\n8 passed, 2 failed, 1 skipped",
+        status=2,
+        ends_with=2,
+        last_line="20 passed, 2 failed, 1 skipped",
+    ),
+    "there are no tests": Gate(
+        printed="0 passed, 0 failed",
+        status=0,
+        ends_with=1,
+        last_line="0 passed, 1 failed, 0 skipped",
+    ),
+    "packages cannot be installed": Gate(
+        printed="12 passed, 0 failed",
+        status=0,
+        ends_with=1,
+        last_line="12 passed, 1 failed, 0 skipped",
+        can_install=False,
+    ),
+    "all tests pass": Gate(
+        printed="12 passed, 0 failed",
+        status=0,
+        ends_with=0,
+        last_line="12 passed, 0 failed, 0 skipped",
+    ),
+}
 # Takes the place of dpkg-query: zsh was removed, but not purged.
 REMOVED = r"""printf "$(printf %s "${2#*=}" | sed 's/${Package}/zsh/; s/${db:Status-Status}/config-files/')" """
 
@@ -29,32 +61,38 @@ def test_progress(tmp_path: Path) -> None:
     said = "its own lines\nrt: vault_aes proved\n11 passed, 1 failed\n"
     command = [str(ROOT / "tools/progress.py"), str(tmp_path / "log"), "sh", "-c", f"printf '{said}'; exit 2"]
     done = run_text(command)
-    assert (done.returncode, (tmp_path / "log").read_text()) == (2, said)
-    assert "    its own lines\n" in done.stdout and done.stdout.endswith("\n11 passed, 1 failed\n")
+    assert done.returncode == 2, "the status of what it runs"
+    assert (tmp_path / "log").read_text() == said, "the whole log"
+    assert "    its own lines\n" in done.stdout and done.stdout.endswith("\n11 passed, 1 failed\n"), "what it prints"
 
 
-@pytest.mark.parametrize("printed, status, is_installed, end", RUNS)
-def test_ci(tmp_path: Path, printed: str, status: int, is_installed: bool, end: tuple[int, str]) -> None:
+@pytest.mark.parametrize("gate", GATES.values(), ids=GATES)
+def test_ci(tmp_path: Path, gate: Gate) -> None:
     """Stand-ins take the place of `make`, `apt-get` and tools/missing_packages."""
     (tmp_path / ".ci").mkdir()
     shutil.copy(ROOT / ".ci" / "run", tmp_path / ".ci")
     write_script(tmp_path / "tools" / "missing_packages", "echo acl zsh")
-    write_script(tmp_path / "make", f"echo \"$REQUIRE_ALL $*\"; printf '{printed}\\n'; exit {status}")
-    write_script(tmp_path / "apt-get", "exit 0" if is_installed else "exit 100")
+    write_script(tmp_path / "make", f"echo \"$REQUIRE_ALL $*\"; printf '{gate.printed}\\n'; exit {gate.status}")
+    write_script(tmp_path / "apt-get", "exit 0" if gate.can_install else "exit 100")
     run, environment = str(tmp_path / ".ci" / "run"), searched_first(tmp_path)
     done = run_text([run], env=environment)
     lines = done.stdout.splitlines()
-    assert (lines[0], (done.returncode, lines[-1])) == ("1 check CPU= PARTIAL=yes", end)
+    assert lines[0] == "1 check CPU= PARTIAL=yes", "what it asks of make"
+    assert lines[-1] == gate.last_line, "the counts"
+    assert done.returncode == gate.ends_with, "its status"
     (tmp_path / "bin" / "check.log").unlink()
     asked = run_text([run, "--help"], env=environment)
-    assert (asked.returncode, asked.stdout, [*tmp_path.glob("bin/check.log")]) == (2, "", []), "it starts nothing"
+    assert asked.returncode == 2, "it takes no arguments"
+    assert asked.stdout == "" and not [*tmp_path.glob("bin/check.log")], "it starts nothing"
 
 
 def test_missing_packages(program: str, tmp_path: Path) -> None:
     """One line names them before any test."""
     write_script(tmp_path / "dpkg-query", REMOVED)
     done = run_make(program, "test", "PYTEST=true", "PARTIAL=no", env=searched_first(tmp_path))
-    assert (done.returncode, done.stdout) == (2, "") and " zsh " in done.stderr.splitlines()[0]
+    assert done.returncode == 2, "it fails"
+    assert done.stdout == "", "no test is run"
+    assert " zsh " in done.stderr.splitlines()[0], "the package is named"
 
 
 # What tools/lint runs, besides other programs.

@@ -3,7 +3,7 @@ output. 20 MiB are enough for the longest plaintext."""
 
 import pytest
 
-from lib.cases import TEXT, Cases, answer_of
+from lib.cases import TEXT, Answer, Cases, answer_of, refusal
 from lib.processes import run
 from lib.samples import each_command, sample_of
 from model.faults import Fault
@@ -23,6 +23,8 @@ def test_address_space(cases: Cases, command: str, size: int) -> None:
         limited = ["prlimit", f"--as={amount}", "--core=0", cases.program]
         if run([*limited, "--version"]).returncode == 0:
             found.append(answer_of(run([*limited, *sample.words], sample.stdin)))
-    refused, whole = (Fault.MEMORY.status, b"", Fault.MEMORY.line), (0, sample.output, b"")
-    assert (found[0], found[-1]) == (refused, whole)
-    assert [each for each in found if each not in (refused, whole)] == []
+    refused = refusal(Fault.MEMORY)
+    whole = Answer(0, sample.output, b"")
+    assert found[0] == refused, "the answer under the least limit"
+    assert found[-1] == whole, "the answer under the greatest limit"
+    assert [each for each in found if each not in (refused, whole)] == [], "other answers"

@@ -10,6 +10,7 @@ from pathlib import Path
 
 import pytest
 
+from lib.cases import Answer, answer_of
 from lib.installed import PREFIX_FILES, SHARED, check_program, check_starts, compiled_modules, files_below, printed
 from lib.installed import run_make
 from lib.links import dead_links
@@ -17,7 +18,9 @@ from lib.scripts import searched_first, write_script
 
 SUMS = "lib/ansible-vault/installed.sha256"
 LOCAL_FILES = PREFIX_FILES | {SUMS}
-PROGRAM, LINK, MANUAL = "bin/ansible-vault", "bin/ansible-vault-edit", "share/man/man1/ansible-vault-edit.1"
+PROGRAM = "bin/ansible-vault"
+LINK = "bin/ansible-vault-edit"
+MANUAL = "share/man/man1/ansible-vault-edit.1"
 
 Make = Callable[..., subprocess.CompletedProcess[str]]
 
@@ -38,26 +41,29 @@ def check_files(prefix: Path) -> None:
     found = files_below(prefix)
     compiled = {each for each in found if each.endswith(".pyc")}
     modules = {f"lib/ansible-vault/{each}" for each in SHARED}
-    assert (found - compiled, compiled_modules(found)) == (LOCAL_FILES, modules)
+    assert found - compiled == LOCAL_FILES, "the installed files"
+    assert compiled_modules(found) == modules, "the compiled modules"
 
 
 def test_install(tmp_path: Path, make: Make) -> None:
     words = [f"DESTDIR={tmp_path}/a folder", "PREFIX=/opt/two words"]
     done, prefix = make("install", *words), tmp_path / "a folder/opt/two words"
-    assert (done.returncode, done.stdout, files_below(prefix)) == (0, "", LOCAL_FILES)
+    assert done.returncode == 0 and done.stdout == "", done
+    assert files_below(prefix) == LOCAL_FILES, "the installed files"
     check_program(prefix / PROGRAM, "the installed program")
     documents = [*(prefix / "share/doc/ansible-vault").rglob("*.md")]
     assert [(page.name, link) for page in documents for link in dead_links(page)] == [], "links that lead nowhere"
     assert make("uninstall", *words).returncode == 0
-    assert (files_below(tmp_path), [*tmp_path.rglob("ansible*")]) == (set(), []), "no file is left, and no folder"
+    assert files_below(tmp_path) == set(), "no file is left"
+    assert [*tmp_path.rglob("ansible*")] == [], "no folder is left"
     assert make("uninstall", *words).returncode != 0, "make uninstall fails if nothing is installed"
 
 
 def test_found(make: Make, place: Path) -> None:
     """Everybody can use what somebody with another umask installs. Without DESTDIR, a line says what to type next."""
     done = make("install", umask=0o077)
-    wanted = (0, "Type next: hash -r; ansible-vault --version\n", "")
-    assert (done.returncode, done.stdout, done.stderr) == wanted
+    wanted = Answer(0, "Type next: hash -r; ansible-vault --version\n", "")
+    assert answer_of(done) == wanted, "make install"
     check_files(place)
     modes = {path: stat.S_IMODE(path.stat().st_mode) for path in place.rglob("*")}
     programs = {place / PROGRAM, *(place / "lib/ansible-vault").glob("ansible-vault-*")}
@@ -78,7 +84,8 @@ def test_python(tmp_path: Path, make: Make, place: Path) -> None:
         assert starts == {f"#!{python} -IB", f"#!{python} -ISB"}
     for name in ("python3", "/two words/python3", f"{tmp_path}/none"):
         done = make("install", f"PYTHON={name}", f"PREFIX={tmp_path}/other")
-        assert (done.returncode != 0, (tmp_path / "other").exists(), "PYTHON" in done.stderr) == (True, False, True)
+        assert done.returncode != 0 and "PYTHON" in done.stderr, f"{name} is refused"
+        assert not (tmp_path / "other").exists(), f"nothing is installed for {name}"
 
 
 def theirs(path: Path) -> Path:

@@ -16,7 +16,10 @@ from lib.scripts import searched_first, write_script
 GOALS = {*PHONY.replace("\\\n", "").split()} - {"FORCE"}
 PROGRAM = "bin/ansible-vault"
 # The crates of the programs that are built.
-OURS, FAILURES, BENCH = CRATES = "ansible_vault", "vault_allocation_failures", "vault_bench"
+OURS = "ansible_vault"
+FAILURES = "vault_allocation_failures"
+BENCH = "vault_bench"
+CRATES = [OURS, FAILURES, BENCH]
 SOURCES = ["crates.txt", *(f"crates/vault_aes/{name}" for name in ("src/laws.rt", "specs/A.antt", "proofs/A/B.antt"))]
 # What goals build before their own commands. Others build the program, or nothing.
 BUILDS = {"test": {OURS, FAILURES}, "check": {OURS, FAILURES}, "bench": {OURS, BENCH}}
@@ -59,15 +62,19 @@ def test_built_again(folder: Path) -> None:
     """The program is built again if any source or the processor changes, and only then. If the prover fails, so does
     make, and it leaves no program."""
     build, newer = ([f"{OURS}: run {cpu}-- --version"] for cpu in ("", "--cpu x86-64-v3 "))
-    assert (asked(folder, PROGRAM), asked(folder, PROGRAM)) == (build, [])
+    assert asked(folder, PROGRAM) == build, "the first build"
+    assert asked(folder, PROGRAM) == [], "nothing has changed"
     for source in SOURCES:
         (folder / source).touch()
-        assert (source, asked(folder, PROGRAM), asked(folder, PROGRAM)) == (source, build, [])
-    found = [asked(folder, PROGRAM, "CPU=x86-64-v3"), asked(folder, PROGRAM), asked(folder, PROGRAM, "CPU=")]
-    assert found == [newer, [], build]
+        assert asked(folder, PROGRAM) == build, f"{source} has changed"
+        assert asked(folder, PROGRAM) == [], f"{source} has not changed again"
+    assert asked(folder, PROGRAM, "CPU=x86-64-v3") == newer, "another processor"
+    assert asked(folder, PROGRAM) == [], "the same processor"
+    assert asked(folder, PROGRAM, "CPU=") == build, "the first processor again"
     (folder / PROGRAM).unlink()
     (folder / f"crates/{OURS}/during").write_text("exit 1")
-    assert (make(folder, PROGRAM).returncode, (folder / PROGRAM).exists()) == (2, False)
+    assert make(folder, PROGRAM).returncode == 2, "make fails as the prover does"
+    assert not (folder / PROGRAM).exists(), "it leaves no program"
 
 
 @pytest.mark.parametrize("during, built", [(":", []), ("sleep 0.02; touch crates.txt", [OURS, FAILURES])])

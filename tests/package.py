@@ -54,7 +54,7 @@ def test_contents(package: Path, tmp_path: Path) -> None:
     assert shebangs == {"#!/usr/bin/python3 -IB", "#!/usr/bin/python3 -ISB"}, "the companions run by Debian's Python"
     needs("lintian")
     found = subprocess.run(["lintian", "--pedantic", str(package)], capture_output=True, text=True)
-    assert (found.returncode, found.stdout) == (0, "")
+    assert found.returncode == 0 and found.stdout == "", found.stdout
 
 
 def test_changelog() -> None:
@@ -113,8 +113,8 @@ THEIRS = {
 }
 BOTH_HAVE = [path for path in THEIRS if "ansible-vault" in path]
 # Calls of postrm that Debian's policy lists (6.5): those that take the diversions away, and those that keep them.
-TAKING = "remove", "disappear other 1", "abort-install", "abort-install 1 2"
-KEEPING = "purge", "upgrade 2", "failed-upgrade 1 2", "abort-upgrade 1 2"
+TAKING = ["remove", "disappear other 1", "abort-install", "abort-install 1 2"]
+KEEPING = ["purge", "upgrade 2", "failed-upgrade 1 2", "abort-upgrade 1 2"]
 
 
 @pytest.mark.parametrize("call", TAKING + KEEPING)

@@ -21,7 +21,9 @@ FIELDS = {
     for name, content in VECTORS.items()
 }
 ENVELOPES = [name for name, fields in FIELDS.items() if "form" not in fields]
+# Commands for a shell, which gets the program, a password's file and an envelope's.
 DECRYPT = 'exec "$0" decrypt --vault-password-file "$1" < "$2"'
+PRINTING = 'printf x; exec "$0" view --vault-password-file "$1" "$2"'
 
 
 def run(*words: str) -> list[str]:
@@ -50,13 +52,15 @@ def test_made(tmp_path: Path) -> None:
 def test_answers(program: str) -> None:
     """Both commands that read, one of a file, and the other of standard input."""
     wanted = [f"{len(ENVELOPES)} as expected, 0 not"]
-    assert run("--strict", "--", program, "view", "--vault-password-file", "{password}", "{file}") == wanted
-    assert run("--strict", "--", "sh", "-c", DECRYPT, program, "{password}", "{file}") == wanted
+    view = [program, "view", "--vault-password-file", "{password}", "{file}"]
+    assert run("--strict", "--", *view) == wanted, "view"
+    decrypt = ["sh", "-c", DECRYPT, program, "{password}", "{file}"]
+    assert run("--strict", "--", *decrypt) == wanted, "decrypt"
 
 
 def test_output_before_a_refusal(program: str) -> None:
-    command = 'printf x; exec "$0" view --vault-password-file "$1" "$2"'
-    *different, _ = run("--strict", "--kind", "tag", "--", "sh", "-c", command, program, "{password}", "{file}")
+    command = ["sh", "-c", PRINTING, program, "{password}", "{file}"]
+    *different, _ = run("--strict", "--kind", "tag", "--", *command)
     assert names_of(different) == sorted(name for name in ENVELOPES if name.startswith("tag-")), "all refusals differ"
 
 
@@ -100,7 +104,8 @@ WRONG = {"cat {file}": {"other plaintext", "accepted"}, "exit 1": {"refused"}, "
 
 @pytest.mark.parametrize("command", WRONG)
 def test_wrong_answers(command: str) -> None:
-    *answers, _ = run("--all", "--kind", "salt", "--", "sh", "-c", command)
+    shell = ["sh", "-c", command]
+    *answers, _ = run("--all", "--kind", "salt", "--", *shell)
     assert {line.partition(": ")[2].partition(", expected: ")[0] for line in answers} == WRONG[command]
 
 
@@ -111,4 +116,5 @@ def test_no_vectors(tmp_path: Path, options: list[str]) -> None:
     (tmp_path / "vectors").mkdir()
     script = TESTKIT / "run" if options else tmp_path / "run"
     done = subprocess.run([sys.executable, "-B", str(script), *options, "--", "true"], capture_output=True, text=True)
-    assert (done.returncode, done.stdout) == (2, "") and ": there are no vectors of " in done.stderr
+    assert done.returncode == 2 and done.stdout == "", done
+    assert ": there are no vectors of " in done.stderr, "the reason"

@@ -207,7 +207,9 @@ QUESTION, ANSWER = "String to encrypt (hidden): ", b"correct horse\n"
 COMMANDS = recipes() | examples("ansible-vault")
 OF_COMPANIONS = [(name, title) for name in COMPANIONS for title in examples(name)]
 # The titles of the commands that have a test of their own.
-MERGE, PIPELINE, TYPED = "Merge", "Run the checks in a pipeline", ["Type a password", "Type a password,"]
+MERGE = "Merge"
+PIPELINE = "Run the checks in a pipeline"
+TYPED = ["Type a password", "Type a password,"]
 
 
 def test_each_is_run() -> None:
@@ -229,7 +231,8 @@ def test_recipe(repository: Repository, title: str) -> None:
     editor = repository.script(f'sed -i {recipe.sed} "$1"')
     printed = repository.shown(COMMANDS[title], EDITOR=editor, secret="correct horse")
     left = repository.shown(recipe.after)
-    assert (fnmatchcase(printed, recipe.printed), fnmatchcase(left, recipe.left)) == (True, True), (printed, left)
+    assert fnmatchcase(printed, recipe.printed), f"what it prints: {printed}"
+    assert fnmatchcase(left, recipe.left), f"what is left: {left}"
 
 
 def typed(recording: str) -> Iterator[tuple[str, bytes]]:
@@ -261,7 +264,8 @@ def test_typed(repository: Repository, title: str) -> None:
         repository.put(name, vault(b"shown\n", "old.pass", ""))
     for password, is_right in (("the old one", True), ("another", False)):
         screen = repository.pasted(f"{COMMANDS[title].rstrip()}; exit\n", password)
-        assert ("shown\r\n" in screen, password in screen) == (is_right, False)
+        assert ("shown\r\n" in screen) == is_right, "only the right password shows the vault"
+        assert password not in screen, "what is typed is not shown"
 
 
 def commit_sides(repository: Repository, password: str = "prod.pass") -> None:
@@ -390,6 +394,7 @@ def test_companion_example(repository: Repository, name: str, title: str) -> Non
         repository.shell("git merge branch; git commit -qam merged")
         assert b"<<<<<<<" in repository.get(VAULT), "git alone tears the vault"
     ran = repository.shell(shell, EDITOR=editor, EDITOR_OF_TEST=editor, secret="correct horse", GIT_EDITOR="true")
-    assert (ran.returncode, ran.stderr) == (1 if "--dry-run" in shell else 0, "")
+    assert ran.returncode == (1 if "--dry-run" in shell else 0), ran
+    assert ran.stderr == "", "nothing fails"
     if name == "ansible-vault-merge":
         assert repository.shown(VIEW) == MERGED, "it has the changes of both sides"

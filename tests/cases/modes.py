@@ -6,7 +6,7 @@ from pathlib import Path
 
 import pytest
 
-from lib.cases import OLD, Cases, answer_of
+from lib.cases import OLD, Answer, Cases, answer_of
 from lib.samples import Sample, each_to_output, sample_of
 
 
@@ -16,7 +16,9 @@ def mode(path: str) -> str:
 
 def check_written(cases: Cases, umask: int, sample: Sample, path: str, wanted: int) -> None:
     done = cases.done([*sample.words, "--output", path], sample.stdin, umask=umask)
-    assert (*answer_of(done), Path(path).read_bytes(), mode(path)) == (0, b"", b"", sample.output, oct(wanted))
+    assert answer_of(done) == Answer(0, b"", b""), "nothing is printed"
+    assert Path(path).read_bytes() == sample.output, "the output"
+    assert mode(path) == oct(wanted), "its mode"
 
 
 @pytest.mark.parametrize("umask", (0, 0o077, 0o277))
@@ -36,18 +38,22 @@ def test_old_files(cases: Cases, command: str, umask: int) -> None:
     """By name; through a link, which stays; and by one of two names, which both stay. Plaintext is for its owner."""
     sample = sample_of(cases, command)
     for old in (0o600, 0o644, 0o666, 0o755):
-        target, link, twin = cases.file(OLD, old), cases.path(), cases.path()
+        target = cases.file(OLD, old)
+        link = cases.path()
+        twin = cases.path()
         os.symlink(target, link)
         os.link(target, twin)
         for path in (target, link, twin):
             Path(target).write_bytes(OLD)
             Path(target).chmod(old)
             check_written(cases, umask, sample, path, 0o600 if command == "decrypt" else old)
-        assert (os.readlink(link), os.stat(twin).st_nlink) == (target, 2)
+        assert os.readlink(link) == target, "the link stays"
+        assert os.stat(twin).st_nlink == 2, "both names stay"
 
 
 @each_to_output
 def test_devices(cases: Cases, command: str) -> None:
     sample, path = sample_of(cases, command), cases.device("null")
     done = cases.done([*sample.words, "--output", path], sample.stdin)
-    assert (*answer_of(done), mode(path)) == (0, b"", b"", oct(0o666))
+    assert answer_of(done) == Answer(0, b"", b""), "nothing is printed"
+    assert mode(path) == oct(0o666), "the device's mode stays"

@@ -9,14 +9,11 @@ import pytest
 from hypothesis import given, settings
 from hypothesis import strategies as st
 
-from lib.cases import Cases, answer_of
+from lib.cases import Answer, Cases, answer_of
 from lib.paths import version
 from lib.processes import run
 from lib.samples import COMMANDS
 from lib.texts import NAMES, PROGRAM, help_path, stored_mistakes
-
-
-Answer = tuple[int, bytes, bytes]
 
 
 def answers(cases: Cases, lines: Iterable[str]) -> dict[str, Answer]:
@@ -69,6 +66,7 @@ def test_in_words(program: str, line: str, word: str) -> None:
     """The message is the same as for the word with its unprintable characters escaped, and contains none."""
     assert len(CONTROLS) == 80
     escaped = UNPRINTABLE.sub(lambda found: f"\\u{{{ord(found[0]):x}}}", word)
-    found = message_of(program, line, word)
-    assert found == message_of(program, line, escaped)
-    assert found[:2] == (2, b"") and not UNPRINTABLE.search(found[2].replace("\n", ""))
+    status, output, message = message_of(program, line, word)
+    assert message_of(program, line, escaped) == (status, output, message), "the answer to the escaped word"
+    assert status == 2 and output == b"", message
+    assert not UNPRINTABLE.search(message.replace("\n", "")), "the message"

@@ -40,4 +40,5 @@ def test_full_standard_output(cases: Cases, command: str) -> None:
     sample, fault = sample_of(cases, command), Fault.NOT_WRITTEN
     with open("/dev/full", "wb") as full:
         done = cases.done(sample.words, sample.stdin, stdout=full)
-    assert (done.returncode, done.stderr) == (fault.status, fault.line)
+    assert done.returncode == fault.status, "the status"
+    assert done.stderr == fault.line, "the message"

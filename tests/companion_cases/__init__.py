@@ -15,6 +15,7 @@ from collections.abc import Callable, Iterable
 from pathlib import Path
 from typing import NamedTuple
 
+from lib.cases import Answer, answer_of
 from lib.paths import ROOT
 from lib.processes import SECONDS, run, run_text
 from model.vaults import apply_keystream, seal, tag_of, yaml_block
@@ -213,9 +214,14 @@ def ended(what: str, done: Done, status: int, *parts: str) -> None:
     assert (done.returncode, missing) == (status, []), (what, output)
 
 
+def check_answer(what: str, done: Done, status: int = 0, output: str | None = "", errors: str = "") -> None:
+    """Check the status, and both streams as a whole. If `output` is None, the output is not checked."""
+    assert answer_of(done) == Answer(status, done.stdout if output is None else output, errors), what
+
+
 def silent(what: str, done: Done) -> None:
     """Check that the run succeeds and prints nothing."""
-    assert (done.returncode, done.stdout, done.stderr) == (0, "", ""), what
+    assert answer_of(done) == Answer(0, "", ""), what
 
 
 def edit(place: Place, editor: str, *words: str, **variables: str) -> Done:

@@ -6,6 +6,7 @@ line. `STEPS` has what the team does, `LEAKS` what it must not do, and `STATES` 
 
 import re
 from collections.abc import Callable
+from functools import partial
 from random import Random
 from typing import NamedTuple
 
@@ -18,7 +19,9 @@ from companion_cases.repository import under_git
 
 pytestmark = [pytest.mark.usefixtures("git"), pytest.mark.faults]
 
-VAULT, VALUES, DOCUMENT = "all/vault.yml", "web.yml", "README.md"
+VAULT = "all/vault.yml"
+VALUES = "web.yml"
+DOCUMENT = "README.md"
 # Versions of a vault and of a value. Each of them is another envelope.
 VAULTS = [sealed("old", b"db_password: version %d\n" % number) for number in range(5)]
 BLOCKS = [block("old", b"version %d" % number, name="db_password") for number in range(5)]
@@ -214,22 +217,31 @@ class Watch(NamedTuple):
 
     def look(self, name: str, leak: Leak | None = None) -> None:
         """Run all commands in a state with this name. They change nothing."""
-        place, state, before = self.team.place, STATES[name], self.team.place.files()
-        first = place.run("git", "rev-list", "--max-parents=0", "HEAD").stdout.split()
-        bases = {"HEAD": state.since_this, **dict.fromkeys(("HEAD~1", *first), state.since_earlier)}
-        hooks = {"": state.staged, "--all": state.all} | {f"--since {base}": bases[base] for base in bases}
-        for words, status in hooks.items():
-            self.run(name, [HOOK, *words.split()], lambda run: is_hook_answer(run, status, leak if status else None))
+        place = self.team.place
+        before = place.files()
+        self.run_hook(name, leak)
         is_open = leak is not None or "conflict" in name
         number = None if is_open else count_envelopes(place)
         old = [*place.by_file("old"), *place.by_id("dev", "dev")]
-        self.run(name, [CHECK, *old, "."], lambda run: is_check_answer(run, number))
+        self.run(name, [CHECK, *old, "."], partial(is_check_answer, number=number))
         rotate = [ROTATE, "--dry-run", *old, *place.by_file("new", "new-"), "."]
-        self.run(name, rotate, lambda run: is_rotate_answer(run, number))
+        self.run(name, rotate, partial(is_rotate_answer, number=number))
         for path in self.team.random.sample(sorted(before), min(2, len(before))):
             leads_out = not (place.tree / path).resolve().is_relative_to(place.tree.resolve())
-            self.run(name, [TEXTCONV, *old, path], lambda run: is_textconv_answer(run, before[path], leads_out))
+            is_allowed = partial(is_textconv_answer, content=before[path], leads_out=leads_out)
+            self.run(name, [TEXTCONV, *old, path], is_allowed)
         assert place.files() == before, "nothing is changed"
+
+    def run_hook(self, name: str, leak: Leak | None) -> None:
+        """Run the hook for what is staged, and for the last commits."""
+        state = STATES[name]
+        statuses = {"": state.staged, "--all": state.all, "--since HEAD": state.since_this}
+        first = self.team.place.run("git", "rev-list", "--max-parents=0", "HEAD").stdout.split()
+        for base in ("HEAD~1", *first):
+            statuses[f"--since {base}"] = state.since_earlier
+        for options, status in statuses.items():
+            told = leak if status else None
+            self.run(name, [HOOK, *options.split()], partial(is_hook_answer, status=status, leak=told))
 
     def run(self, name: str, words: list[str], is_allowed: Callable[[Run], bool]) -> None:
         run = self.forks.run(self.team.place, *words)

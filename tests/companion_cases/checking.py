@@ -6,7 +6,7 @@ import subprocess
 import pytest
 
 from companion_cases import BODY, CHECK, EDIT, HOOK, MERGE, ROTATE, TEXT, TEXTCONV, WITH, Place, block, ended
-from companion_cases import sealed, summary
+from companion_cases import check_answer, sealed, summary
 from lib.paths import COMPANIONS
 from lib.processes import run_text
 from model.vaults import seal
@@ -23,7 +23,8 @@ def test_labels_and_secrets(place: Place) -> None:
     place.put("g.yml", b"x:\n- y: &z !vault |- # why\n" + BODY + b"\n- !vault-encrypted |\n" + BODY)
     place.put("header.yml", b"$ANSIBLE_VAULT\x1b[31m;1.1\n")
     secrets = [*place.by_file("prod"), *place.by_id("dev", "dev"), *place.by_id("prod", "prod"), *place.by_file("old")]
-    before, (default, dev, prod, old) = place.files(), secrets[1::2]
+    default, dev, prod, old = secrets[1::2]
+    before = place.files()
     done = place.run(CHECK, *secrets, ".", "missing")
     line = 3 + block("dev", label="dev").count(b"\n")
     wanted = [
@@ -37,8 +38,9 @@ def test_labels_and_secrets(place: Place) -> None:
         f"./g.yml:{4 + len(BODY.splitlines())}: default: decrypted by {old}",
         "8 decrypted, 3 failed",
     ]
-    found = done.stdout.splitlines(), len(done.stderr.splitlines()), place.files()
-    assert found == (wanted, 3, before), "what is decrypted, and nothing is written"
+    assert done.stdout.splitlines() == wanted, "what is decrypted"
+    assert len(done.stderr.splitlines()) == 3, "what is not has a line each"
+    assert place.files() == before, "nothing is written"
     tried = f"(label stage; tried {dev}, {prod}, {default}, {old}): name its password with --vault-id LABEL@SOURCE\n"
     parts = [
         f"./e.yml:2: secret: stage: no secret decrypts this vault {tried}",
@@ -163,8 +165,8 @@ def test_beside_a_rotation(place: Place) -> None:
             while overlaps < 8:
                 before = [os.stat(place.tree / name).st_ino for name in names]
                 done = place.run(CHECK, *old, *new, ".")
-                assert (done.returncode, done.stderr) == (0, "")
-                assert done.stdout.endswith("\n25 decrypted, 0 failed\n")
+                check_answer("a check meanwhile", done, output=None)
+                assert done.stdout.endswith("\n25 decrypted, 0 failed\n"), "each is decrypted"
                 assert rotation.poll() is None, "the rotation goes on"
                 overlaps += before != [os.stat(place.tree / name).st_ino for name in names]
         finally:
@@ -179,8 +181,8 @@ def test_same_password_in_another_file(place: Place) -> None:
     place.put("../first", LONG[:-7])
     place.put("../again", b" \t%s \r\n\n" % LONG[:-7])
     done = place.run(ROTATE, "--vault-id=dev@../first", "--new-vault-id=dev@../again", ".")
-    assert (done.returncode, done.stdout, done.stderr) == (0, f"{summary(0, 1)}\n", "")
-    assert place.files() == {"a.yml": vault}
+    check_answer("the rotation", done, output=f"{summary(0, 1)}\n")
+    assert place.files() == {"a.yml": vault}, "nothing is written"
 
 
 @pytest.mark.parametrize("holder", ("first", "first/second"))

@@ -30,10 +30,12 @@ def test_vaults(place: Place, style: str, end: bytes) -> None:
     words = [*place.by_file("old"), "a.yml"]
     ended("no choice", edit(place, 'cp "$1" ../seen', *words), 1, STILL)
     seen = place.get("../seen")
-    assert seen.startswith(b"<<<<<<< ") and seen.count(b"x: ours\n") == seen.count(b"x: theirs\n") == 1
-    assert (seen.endswith(b"\n" + LINES + b"y: ours\n"), place.get("a.yml")) == (True, before)
+    assert seen.startswith(b"<<<<<<< ") and seen.count(b"x: ours\n") == seen.count(b"x: theirs\n") == 1, "the conflict"
+    assert seen.endswith(b"\n" + LINES + b"y: ours\n"), "what is merged is below it"
+    assert place.get("a.yml") == before, "the file stays"
     ended("a marker", edit(place, "sed -i '/^<<<<<<< /d; /^>>>>>>> /d' \"$1\"", *words), 1, STILL)
-    assert (len(place.kept()), place.get("a.yml")) == (1, before)
+    assert len(place.kept()) == 1, "what was saved is kept"
+    assert place.get("a.yml") == before, "the file stays"
     texts = {TAKE_THEIRS: b"x: theirs\n" + LINES + b"y: ours\n", f"printf '{SIDES[1].decode()}' > \"$1\"": SIDES[1]}
     for editor, text in texts.items():
         place.put("a.yml", before)
@@ -49,7 +51,8 @@ def test_long_markers(place: Place) -> None:
     place.put("a.yml", before)
     why = "no whole conflict between markers of seven characters; take a side with `git checkout`"
     ended("edit", edit(place, "touch ../started", *place.by_file("old"), "a.yml"), 1, why)
-    assert (place.get("a.yml"), (place.path / "started").exists()) == (before, False)
+    assert not (place.path / "started").exists(), "no editor is started"
+    assert place.get("a.yml") == before, "the file stays"
 
 
 def test_merged_texts(place: Place) -> None:
@@ -66,7 +69,8 @@ def test_other_passwords(place: Place) -> None:
     why = "the labels differ: dev in ours, prod in theirs; choose one with --encrypt-vault-id"
     for label in ("", "prod"):
         ended("unclear", edit(place, "touch ../started", *words, ANSIBLE_VAULT_ENCRYPT_IDENTITY=label), 1, why)
-    assert (place.get("a.yml"), (place.path / "started").exists()) == (before, False)
+    assert not (place.path / "started").exists(), "no editor is started"
+    assert place.get("a.yml") == before, "the file stays"
     ended("it is chosen", edit(place, TAKE_THEIRS, "--encrypt-vault-id", "prod", *words), 0)
     assert decrypted("prod", place.get("a.yml")) == b"theirs\n"
 

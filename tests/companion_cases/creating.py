@@ -19,7 +19,8 @@ def test_what_is_created(cases: Companions, editor: str) -> None:
         variables = {"EDITOR": place.script(editor, "editor")} | ({} if tool == WITH else FOR_ANSIBLE)
         done = place.run(tool, "create", OLD, "new.yml", **variables)
         assert (done.returncode, done.stdout, place.names()) == (0, "", ["new.yml"]), done
-        assert (decrypted("old", place.get("new.yml")), place.mode("new.yml")) == (EDITORS[editor], "0o600")
+        assert decrypted("old", place.get("new.yml")) == EDITORS[editor], f"the text of {tool}"
+        assert place.mode("new.yml") == "0o600", f"the mode of {tool}"
         told = f"{EDIT}: new.yml: the new vault is empty; if the editor returned at once, give it an option to wait"
         assert tool != WITH or (told in done.stderr) == (EDITORS[editor] == b""), done
 
@@ -56,7 +57,8 @@ def test_refused(place: Place, line: str) -> None:
     before, (status, message) = place.names(), REFUSED[line]
     done = place.run("setsid", "--wait", *line.split(), EDITOR=place.script("touch ../started", "editor"))
     assert (done.returncode, message.format(place.tree) in done.stderr) == (status, True), done
-    assert (place.names(), place.get("a.yml")) == (before, sealed("old"))
+    assert place.names() == before, "no file is made"
+    assert place.get("a.yml") == sealed("old"), "the old one stays"
     assert not (place.path / "started").exists()
 
 

@@ -79,8 +79,14 @@ def test_beside_a_separator(place: Place) -> None:
     for each in ("a.yml", "--"):
         place.put(each, sealed("old"))
     edit = f"EDITOR=true {WITH} edit {OLD}"
-    lines = f"EDITOR=true {EDIT} {OLD} a.yml", f"{edit} a.yml", f"{edit} ./--", f"{TEXTCONV} {OLD} a.yml"
-    for line in (*lines, f"{TEXTCONV} {OLD} --"):
+    lines = [
+        f"EDITOR=true {EDIT} {OLD} a.yml",
+        f"{edit} a.yml",
+        f"{edit} ./--",
+        f"{TEXTCONV} {OLD} a.yml",
+        f"{TEXTCONV} {OLD} --",
+    ]
+    for line in lines:
         done = place.shell(f"{line}; exit $?")
         assert done.returncode == 0, (line, done)
     (place.tree / "--").unlink()

@@ -6,7 +6,7 @@ import re
 import pytest
 
 from companion_cases import AWKWARD, CHANGE, CHANGED, EDIT, TEXT, Done, Place, block, decrypted, edit, ended
-from companion_cases import envelope_of, sealed, silent, texts
+from companion_cases import check_answer, envelope_of, sealed, silent, texts
 
 
 @pytest.mark.parametrize("name", AWKWARD)
@@ -89,12 +89,14 @@ def test_editors(place: Place) -> None:
     place.put("shared/all.yml", sealed("old").replace(b"\n", b"\r\n"))
     (place.tree / "link.yml").symlink_to("shared/all.yml")
     done = edit(place, "false", *place.by_file("old"), "link.yml", VISUAL=f"X=1 '{script}' --wait 'two words'")
-    assert (done.returncode, done.stdout, done.stderr) == (0, "shown\n", ""), "it has the standard streams"
+    check_answer("it has the standard streams", done, output="shown\n")
     place.script('echo vi >> "$1"', "tools/vi")
     silent("the default", place.run(EDIT, *place.by_file("old"), "link.yml"))
     assert (place.path / "words").read_text() == "--wait|two words|"
-    link, after = os.readlink(place.tree / "link.yml"), place.get("shared/all.yml")
-    assert (link, decrypted("old", after), after[25:27]) == ("shared/all.yml", CHANGED + b"vi\n", b"\r\n")
+    assert os.readlink(place.tree / "link.yml") == "shared/all.yml", "the link stays"
+    after = place.get("shared/all.yml")
+    assert decrypted("old", after) == CHANGED + b"vi\n", "both editors' texts are in its file"
+    assert after[25:27] == b"\r\n", "its lines end as before"
     place.put("vars.yml", block("old") + b"b: !vault x\n")
     silent("it", edit(place, "true", *place.by_file("old"), "vars.yml"))
     assert texts(place.get("vars.yml"), "old") == [TEXT, b"x"]
@@ -128,7 +130,8 @@ def test_refused_forms(place: Place, text: str) -> None:
     """The file stays, and what was typed is kept."""
     done = type_into(place, before := block("old", b"x", name="b"), text)
     ended("the edit", done, 1, f"vars.yml: {MISREAD[text]}", f"; what you saved is encrypted in {place.copies()[0]}\n")
-    assert (place.kept(), place.get("vars.yml")) == ([text.encode()], before)
+    assert place.kept() == [text.encode()], "what was typed is kept"
+    assert place.get("vars.yml") == before, "the file stays"
 
 
 # What a stranger may have written around a text that looks like a tagged value, but is none.

@@ -41,7 +41,8 @@ def test_opened_again(place: Place, later: str, typed: list[bytes], status: int,
     assert (place.path / "seen").read_text() == SHOWN + f"{SHOWN}{TYPO}\n" * typed.count(YES)
     assert ("what you saved is encrypted in" in session.stderr, why in session.stderr) == (status != 0, True), session
     after = place.get("vars.yml")
-    assert (after.startswith(block("old")), texts(after, "old")[1:]) == (True, [] if why else [b"more"])
+    assert after.startswith(block("old")), "the old value stays"
+    assert texts(after, "old")[1:] == ([] if why else [b"more"]), "the new values"
 
 
 def test_resumed(place: Place) -> None:
@@ -70,7 +71,8 @@ def test_resumed_beside_a_swap_file(place: Place) -> None:
     ended("a failure", edit(place, f"{CHANGE}; exit 3", *words), 1, "--resume reopens it")
     done = edit(place, 'echo "# x" >> "$1"; echo typed > "$1.swp"', "--resume", *words)
     ended("it is resumed", done, 1, "is left, with a.yml.swp in it")
-    assert (decrypted("old", place.get("a.yml")), place.copies()) == (CHANGED + b"# x\n", [])
+    assert decrypted("old", place.get("a.yml")) == CHANGED + b"# x\n", "the texts of both edits"
+    assert place.copies() == [], "no copy is left"
 
 
 # A file at first, what somebody else makes of it, and why the text of an edit is not taken up, if it is not.
@@ -96,7 +98,8 @@ def test_changed_meanwhile(place: Place, before: bytes, changed: bytes, why: str
     done = edit(place, "touch ../started", *words, "--resume")
     if why:
         ended("it is refused", done, 1, why)
-        assert (place.get("a.yml"), (place.path / "started").exists()) == (changed, False)
+        assert not (place.path / "started").exists(), "no editor is started"
+        assert place.get("a.yml") == changed, "the file stays"
     else:
         silent("it is taken up", done)
         assert ({*texts(place.get("a.yml"), "prod2")}, place.copies()) == ({CHANGED}, []), "no copy is left"
@@ -146,7 +149,8 @@ def test_new_tags(place: Place, value: str) -> None:
     done, refused = (edit(place, f"cat >> \"$1\" << 'E'\n{text}E", *place.by_file("old"), "vars.yml") for text in typed)
     silent("others", done)
     ended("it", refused, 1, f"vars.yml: line 10: {WHY.format(10)}")
-    assert ("battery" in refused.stderr, place.get("vars.yml")) == (False, before + OTHERS.encode())
+    assert "battery" not in refused.stderr, "the value is not shown"
+    assert place.get("vars.yml") == before + OTHERS.encode(), "the file stays"
 
 
 @pytest.mark.parametrize("value", MISSPELT)

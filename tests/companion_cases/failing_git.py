@@ -12,7 +12,8 @@ import os
 import re
 import shutil
 from collections import Counter
-from collections.abc import Callable
+from collections.abc import Callable, Iterator
+from itertools import product
 from random import Random
 from typing import NamedTuple
 
@@ -24,21 +25,36 @@ from companion_cases.repository import under_git
 
 pytestmark = [pytest.mark.usefixtures("git"), pytest.mark.faults]
 
-NOTHING, RECORD, HALF, SHORT, ALL = "nothing", "the first record", "half", "all but the last byte", "all"
+NOTHING = "nothing"
+RECORD = "the first record"
+HALF = "half"
+SHORT = "all but the last byte"
+ALL = "all"
 # The line before each content in the answer of `cat-file --batch`.
 BATCH = re.compile(rb"^[0-9a-f]{40} blob \d+\n", re.MULTILINE)
 # A call with a status reads its input first.
 ENDS = {f"status {status}": f"cat > /dev/null; exit {status}" for status in (0, 1, 128)} | {"a signal": "kill -KILL $$"}
-# What a failing call prints, and how it ends.
-Way = tuple[str, str]
-WAYS: list[Way] = [
-    *((part, "status 0") for part in (NOTHING, RECORD, HALF, SHORT)),
-    *((NOTHING, end) for end in ("status 1", "status 128")),
-    (HALF, "a signal"),
-    (ALL, "status 1"),
-    (ALL, "a signal"),
+
+
+class Way(NamedTuple):
+    """What a failing call prints, and how it ends."""
+
+    part: str
+    end: str
+
+
+WAYS = [
+    Way(NOTHING, "status 0"),
+    Way(RECORD, "status 0"),
+    Way(HALF, "status 0"),
+    Way(SHORT, "status 0"),
+    Way(NOTHING, "status 1"),
+    Way(NOTHING, "status 128"),
+    Way(HALF, "a signal"),
+    Way(ALL, "status 1"),
+    Way(ALL, "a signal"),
 ]
-WHOLE: Way = (ALL, "status 0")
+WHOLE = Way(ALL, "status 0")
 # Kinds of calls whose answer would also be whole, and say something else, without its last records; and those whose
 # answer is a text, which has no form.
 FEWER_RECORDS = {
@@ -86,7 +102,9 @@ esac
 Files = dict[str, bytes | None]
 Steps = list[Files | str]
 
-VAULT, PW, PLAIN = sealed("old"), block("old", name="pw"), b"pw: plain\n"
+VAULT = sealed("old")
+PW = block("old", name="pw")
+PLAIN = b"pw: plain\n"
 LINES = b"".join(b"line%d: %d\n" % (number, number) for number in range(40))
 # Names that begin with m have to be encrypted, and old.yml need not be.
 MARKS: Files = {".gitattributes": b"m*.yml diff=ansible-vault\nold.yml -ansible-vault\n"}
@@ -220,9 +238,8 @@ class Failing(NamedTuple):
             (self.place.path / name).write_text("")
         fails = {}
         if call:
-            part, end = way
             name = call.kind if alike else f"{call.kind} {call.number}"
-            fails = {"FAILS": name, "BYTES": str(call.length(part)), "END": ENDS[end]}
+            fails = {"FAILS": name, "BYTES": str(call.length(way.part)), "END": ENDS[way.end]}
         changes = EDIT in self.line or "--install" in self.line
         if changes:
             shutil.rmtree(self.place.tree)
@@ -258,16 +275,50 @@ def names_call(result: Result, call: Call) -> bool:
 
 
 def is_failure(call: Call, way: Way) -> bool:
-    part, end = way
-    return end != "status 0" or call.length(part) < len(call.answer)
+    return way.end != "status 0" or call.length(way.part) < len(call.answer)
 
 
 def looks_whole(result: Result, call: Call, way: Way) -> bool:
     """Return whether there is a result because a companion cannot tell that the answer is cut."""
-    part, end = way
-    cut = call.answer[: call.length(part)]
+    cut = call.answer[: call.length(way.part)]
     has_records = call.kind in FEWER_RECORDS and cut[-1:] in (b"", b"\0", b"\n")
-    return end == "status 0" and (has_records or call.kind in TEXTS) and "Traceback" not in result.errors
+    return way.end == "status 0" and (has_records or call.kind in TEXTS) and "Traceback" not in result.errors
+
+
+class Failure(NamedTuple):
+    """A call, or all of its kind, and how it fails."""
+
+    call: Call
+    way: Way
+    is_of_kind: bool
+
+    def __str__(self) -> str:
+        which = "each call" if self.is_of_kind else f"call {self.call.number}"
+        return f"{which} of git {self.call.kind} prints {self.way.part} and ends with {self.way.end}"
+
+
+def choose_failures(calls: list[Call], share: int, random: Random) -> Iterator[Failure]:
+    """Yield one in so many failures of these calls, and at least one of each kind and way."""
+    every = list_failures(calls)
+    chosen = set[tuple[str, Way]]()
+    for call, way in random.sample(every, len(every)):
+        if (call.kind, way) in chosen and random.randrange(share) > 0:
+            continue
+        chosen.add((call.kind, way))
+        yield Failure(call, way, is_of_kind=random.random() < 0.3)
+
+
+def list_failures(calls: list[Call]) -> list[tuple[Call, Way]]:
+    """Return each way in which each call can fail."""
+    return [(call, way) for call, way in product(calls, WAYS) if is_failure(call, way)]
+
+
+def is_fine(result: Result, whole: Result, failure: Failure) -> bool:
+    """Return whether the answer of the failed call was not needed, is known to be missing, or cannot be told from a
+    whole one."""
+    if result == whole or names_call(result, failure.call):
+        return True
+    return looks_whole(result, failure.call, failure.way)
 
 
 @pytest.mark.parametrize("scenario", SCENARIOS.values(), ids=SCENARIOS)
@@ -278,24 +329,24 @@ def test_failures(
     pytestconfig: pytest.Config,
     record_property: Callable[[str, object], None],
 ) -> None:
-    share, random = int(pytestconfig.getoption("--share")), Random(int(pytestconfig.getoption("--seed")))
+    share = int(pytestconfig.getoption("--share"))
+    random = Random(int(pytestconfig.getoption("--seed")))
     prepare(place, scenario)
     failing = Failing(place, forks, scenario.line)
     whole, _ = failing.run()
     missing = [word for word in scenario.words.split(" ") if word not in whole.errors]
-    assert (whole.status, missing) == (scenario.status, []), whole
-    every = [(call, way) for call in failing.calls() for way in WAYS if is_failure(call, way)]
-    kinds, reached, wrong = set[tuple[str, Way]](), 0, []
-    for call, way in random.sample(every, len(every)):
-        if (call.kind, way) in kinds and random.randrange(share) > 0:
-            continue
-        kinds.add((call.kind, way))
-        alike = random.random() < 0.3
-        result, failed = failing.run(call, way, alike)
-        reached += failed
-        if not failed or not (result == whole or names_call(result, call) or looks_whole(result, call, way)):
-            part, end = way
-            what = f"{'each call' if alike else f'call {call.number}'} of git {call.kind}"
-            wrong.append(f"If {what} prints {part} and ends with {end}, {scenario.line} has {result}")
+    assert whole.status == scenario.status, whole
+    assert missing == [], whole
+    calls = failing.calls()
+    reached = 0
+    wrong = []
+    for failure in choose_failures(calls, share, random):
+        result, has_failed = failing.run(failure.call, failure.way, failure.is_of_kind)
+        if has_failed:
+            reached += 1
+        else:
+            wrong.append(f"{scenario.line} never comes to where {failure}")
+        if not is_fine(result, whole, failure):
+            wrong.append(f"If {failure}, {scenario.line} has {result}")
     assert not wrong, "\n".join(wrong)
-    record_property("failing calls of git", (reached, len(every)))
+    record_property("failing calls of git", (reached, len(list_failures(calls))))

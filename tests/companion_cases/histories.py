@@ -22,11 +22,14 @@ def users(*items: bytes) -> bytes:
 
 VAULT, OTHER = sealed("old"), sealed("new")
 # Vaults that the tool does not read.
-CUT, AES = VAULT[:-100], b"$ANSIBLE_VAULT;1.0;AES\n" + b"61" * 40 + b"\n"
+CUT = VAULT[:-100]
+AES = b"$ANSIBLE_VAULT;1.0;AES\n" + b"61" * 40 + b"\n"
 PW, PW2 = block("old", name="pw"), block("new", name="pw")
 IN_JSON = b'{"db": {"__ansible_vault": "%s"}}\n' % VAULT.replace(b"\n", b"\\n")
 HIDDEN = PW.replace(b"pw:", b"vault_pw:")
-PLAIN, JINJA, X = b"pw: plain\n", b'pw: "{{ vault_pw }}"\n', b"x: 1\n"
+PLAIN = b"pw: plain\n"
+JINJA = b'pw: "{{ vault_pw }}"\n'
+X = b"x: 1\n"
 DB, DB_PLAIN = below(b"db", PW), below(b"db", PLAIN)
 ANCHOR = below(b"x", DB).replace(b"x:", b"x: &x")
 CONFLICT = b"<<<<<<< HEAD\n%b=======\n%b>>>>>>> branch\n"
@@ -38,7 +41,8 @@ EXEMPT = {".gitattributes": b"a.yml ansible-vault-plain=pw\n"}
 # Lines that somebody has planted.
 PLANTED = b"b/* -ansible-vault\na.yml ansible-vault-plain=pw,users[].pw\n"
 IN_ADVANCE = {".gitattributes": PLANTED}
-POINTER, TAB = b"version https://git-lfs.github.com/spec/v1\noid sha256:61\nsize 5\n", b"\tx: 1\n"
+POINTER = b"version https://git-lfs.github.com/spec/v1\noid sha256:61\nsize 5\n"
+TAB = b"\tx: 1\n"
 
 # What a commit has in place of what was there before.
 PASSING: dict[str, tuple[Content, Content]] = {
@@ -107,7 +111,9 @@ PASSING: dict[str, tuple[Content, Content]] = {
     "meant damage": (X, {"a.txt": CONFLICT % (PW, CUT), ".gitattributes": b"*.txt -ansible-vault diff=ansible-vault"}),
 }
 pw, db, elsewhere = (IN_PART.format(key) for key in ("pw", "db.pw", "db.pw of a.yml"))
-DAMAGED, CUT_VALUE, UNMERGED = "is a damaged vault", "has a damaged value in line {}", "has git's conflict markers"
+DAMAGED = "is a damaged vault"
+CUT_VALUE = "has a damaged value in line {}"
+UNMERGED = "has git's conflict markers"
 NOT_YAML = "had encrypted values, but can no longer be checked: line 1: it cannot be read as YAML: "
 UNREAD = "had encrypted values, but can no longer be checked: line {}: {}"
 HIDDEN_BREAK = "it has U+0085, U+2028, U+2029 or U+FEFF, behind which a key may begin"
@@ -115,7 +121,8 @@ UNCLEAR_KEY = "a key is or has an alias, or is a list or a mapping that merges a
 NOT_COMPARED = "cannot be checked for pw of a.yml, which was encrypted in HEAD: "
 FEWER = "has fewer envelopes than in HEAD, and cannot be compared with what it was there: "
 GONE_ROLE = f"b/vars/main.yml {GONE.format('a/vars/main.yml')}"
-LFS, TOKEN = "is a pointer of git-lfs, so its content cannot be checked", "found character that cannot start any token"
+LFS = "is a pointer of git-lfs, so its content cannot be checked"
+TOKEN = "found character that cannot start any token"
 # The same of commits that are to be refused, with the reason, and with the file if that is not a.yml.
 REFUSED: dict[str, tuple[Content, Content, str]] = {
     "a vault of another format": (AES, TEXT, WHOLE),

@@ -5,6 +5,7 @@ import json
 import os
 import re
 from collections.abc import Callable
+from itertools import permutations
 from typing import NamedTuple
 
 import pytest
@@ -173,25 +174,42 @@ CONTENTS += ["x: plain\n# \u2028pw: plain\n".encode(), b"pw: plain\nx: " + b"[" 
 CONTENTS += [b"pw: plain\n" + block("old", name="y")[:-100] + b"\n", b""]
 
 
+class Change(NamedTuple):
+    """The name of a file, and what it was and is."""
+
+    name: str
+    before: bytes
+    after: bytes
+
+
+def list_changes() -> list[Change]:
+    """Return each change in a file that is marked, whose name begins with m, and in one that is not."""
+    changes: list[Change] = []
+    for before, after in permutations(CONTENTS, 2):
+        for kind in ("m", "x"):
+            changes.append(Change(f"{kind}{len(changes)}.yml", before, after))
+    return changes
+
+
 @pytest.mark.parametrize("folder", ["", "in/"])
 def test_one_line(place: Place, folder: str) -> None:
     """Where a line is shown, it is all that is needed, whatever the file was and is, marked or not, moved or not."""
     under_git(place, "m*.yml diff=ansible-vault\n")
-    pairs = [(kind, old, new) for kind in "mx" for old in CONTENTS for new in CONTENTS if old != new]
-    for number, (kind, old, _) in enumerate(pairs):
-        place.put(f"{kind}{number}.yml", old)
+    changes = list_changes()
+    for change in changes:
+        place.put(change.name, change.before)
     add_and_commit(place)
-    for number, (kind, _, new) in enumerate(pairs):
-        (place.tree / f"{kind}{number}.yml").unlink()
-        place.put(f"{folder}{kind}{number}.yml", new)
+    for change in changes:
+        (place.tree / change.name).unlink()
+        place.put(f"{folder}{change.name}", change.after)
     place.shell("git add -A")
     advice = list_advice(place)
     lines = [line for line in advice if " at the end of " in line]
-    assert len(lines) > len(pairs) / 3
+    assert len(lines) > len(changes) / 3, "how many lines are shown"
     for line in lines:
         paste(place, line)
     place.shell("git add -A")
-    assert len(list_advice(place)) == len(advice) - len(lines)
+    assert len(list_advice(place)) == len(advice) - len(lines), "each line is all that is needed"
 
 
 def test_one_line_for_all(place: Place) -> None:

@@ -95,7 +95,8 @@ def test_links(place: Place) -> None:
             done = place.run(HOOK, option, folder="project")
             why = f"{HOOK}: core.hooksPath: a link leads out of {place.tree}/project; name {place.tree}/out"
             ended(f"{option} of {given}", done, 1, why)
-            assert (done.stdout, os.listdir(place.tree / "out")) == ("", [])
+            assert done.stdout == "", "it says of no file that it is installed"
+            assert os.listdir(place.tree / "out") == [], "nothing is written there"
     for change, folder in {
         "git config core.hooksPath ../way": "out",
         "git config --unset core.hooksPath; rm -r .git/hooks; ln -s ../../own .git/hooks": "own",

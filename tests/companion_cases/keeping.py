@@ -96,9 +96,11 @@ def test_stops(place: Place, what: str) -> None:
     [name] = re.findall(r"; what you saved is (?:encrypted|left in plaintext) in (.+)\n", done.stderr)
     private = Path(name) if how == SEALED else Path(name, "all.yml")
     text = HEAD.sub(b"", decrypted("old", private.read_bytes()) or b"") if how == SEALED else private.read_bytes()
-    assert (text, private.stat().st_mode & 0o077, private.parent.stat().st_mode & 0o077) == (CHANGED, 0, 0)
+    assert text == CHANGED, "all of it is there"
+    assert (private.stat().st_mode | private.parent.stat().st_mode) & 0o077 == 0, "only its owner can open it"
     assert place.left() == ([name, str(private)] if how == PLAIN else []), "no other plaintext is left"
-    assert ([str(path) for path in place.copies()], place.files()) == ([name] if how == SEALED else [], stays)
+    assert [str(path) for path in place.copies()] == ([name] if how == SEALED else []), "no other copy is left"
+    assert place.files() == stays, "the files stay"
 
 
 def test_what_cannot_be_removed(place: Place) -> None:
@@ -219,5 +221,6 @@ def test_several_secrets(place: Place, what: str) -> None:
     both = [*place.by_id("dev", "dev"), *place.by_id(*second)]
     ended(what, edit(place, NO_YAML, *both, *words, "vars.yml"), 1, f"; what you saved is {how} in ")
     left = [Path(path).read_text()[-17:] for path in place.left() if path.endswith("/vars.yml")]
-    wanted = (['\nc: !vault "more\n'], 0) if how == PLAIN else ([], 1)
-    assert ((left, len(place.kept("dev"))), place.files()) == (wanted, {"vars.yml": content})
+    assert left == (['\nc: !vault "more\n'] if how == PLAIN else []), "the plaintexts that are left"
+    assert len(place.kept("dev")) == (0 if how == PLAIN else 1), "the copies under the first password"
+    assert place.files() == {"vars.yml": content}, "the file stays"

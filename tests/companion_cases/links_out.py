@@ -11,7 +11,7 @@ from typing import NamedTuple
 import pytest
 
 from companion_cases import CHECK, EDIT, HOOK, NOBODY, ROTATE, TEXT, TEXTCONV, WITH, Place, block, ended, first_line
-from companion_cases import sealed, to_new
+from companion_cases import check_answer, sealed, to_new
 from companion_cases.repository import committed, under_git
 from lib.needs import needs, needs_root
 from lib.subtests import SubTests
@@ -137,6 +137,34 @@ def list_contents(place: Place) -> dict[str, bytes]:
     return {name: path.read_bytes() for name, path in paths.items() if "/.git/" not in name or name.endswith(".yml")}
 
 
+class Outcome(NamedTuple):
+    """The status and the messages of a run, the files that it changes, and whether it shows what is in the file."""
+
+    status: int
+    message: str
+    changed: list[str]
+    is_shown: bool
+
+
+def try_command(place: Place, command: str, path: str) -> Outcome:
+    before = list_contents(place)
+    status, shown, message = run_command(place, COMMANDS[command].words, path)
+    changed = [name for name, content in list_contents(place).items() if before.get(name) != content]
+    return Outcome(status, message, changed, is_shown=SHOWN.get(command, "correct horse") in shown)
+
+
+def check_refused(command: str, outcome: Outcome, why: str, status: int) -> None:
+    assert why in outcome.message, "it is refused"
+    assert outcome.status == status, "the status of a refusal"
+    assert outcome.changed == [], "no file changes"
+    assert outcome.is_shown == (command == "several views"), "no vault but the other one is shown"
+
+
+def check_followed(command: str, outcome: Outcome, file: str) -> None:
+    _, _, writes, status = COMMANDS[command]
+    assert outcome == Outcome(status, "", [file] if writes else [], is_shown=not writes), "it is followed"
+
+
 @pytest.mark.usefixtures("git")
 @pytest.mark.parametrize("is_repository", (True, False))
 @pytest.mark.parametrize("name", KINDS)
@@ -144,23 +172,17 @@ def test_each_link(place: Place, name: str, is_repository: bool, subtests: SubTe
     """A path that may be followed leads to its file. Any other is refused, and nothing changes."""
     kind = KINDS[name]
     place.shell("git init -q project" if is_repository else "mkdir project")
-    for command, (words, content, writes, status) in COMMANDS.items():
-        prepare(place, kind, content)
-        before = list_contents(place)
-        result, shown, message = run_command(place, words, kind.path)
-        changed = [path for path, data in list_contents(place).items() if before.get(path) != data]
-        is_shown = SHOWN.get(command, "correct horse") in shown
-        why = expected(kind, is_repository, place.tree)
-        if not why and kind.file not in FILES and command != "edit":
-            why = MISSING
-            status = 3 if command in BY_PROGRAM else 1
+    why = expected(kind, is_repository, place.tree)
+    for command in COMMANDS:
+        prepare(place, kind, COMMANDS[command].content)
+        outcome = try_command(place, command, kind.path)
         with subtests.test(command):
             if why:
-                assert f": {kind.path}: {why}" in message
-                assert (result, changed, is_shown) == (status or 1, [], command == "several views")
+                check_refused(command, outcome, f": {kind.path}: {why}", COMMANDS[command].status or 1)
+            elif kind.file not in FILES and command != "edit":
+                check_refused(command, outcome, f": {kind.path}: {MISSING}", 3 if command in BY_PROGRAM else 1)
             else:
-                assert (result, message) == (status, "")
-                assert (changed, is_shown) == ([kind.file] if writes else [], not writes)
+                check_followed(command, outcome, kind.file)
 
 
 @pytest.mark.parametrize("owner", (NOBODY, 0))
@@ -224,7 +246,7 @@ def test_nested_repository(place: Place, target: str) -> None:
             assert list_contents(place) == before, command
     place.put("project/clone/a.yml", VAULT)
     done = place.run(TEXTCONV, *place.by_file("old"), "clone/own.yml", folder="project")
-    assert (done.returncode, done.stdout, done.stderr) == (0, first_line() + TEXT.decode(), "")
+    check_answer("a repository within it", done, output=first_line() + TEXT.decode())
 
 
 # The content of a file outside of the repository, and whether a link to it makes a search fail.
@@ -249,7 +271,8 @@ def test_found_link(place: Place, content: bytes, fails: bool) -> None:
     told = f"./l.yml: a link leads out of {place.tree}/project; name {place.tree}/outside.yml instead\n"
     for words in (check, rotate):
         done = place.run(*words, folder="project")
-        assert (done.returncode, done.stderr) == (int(fails), f"{words[0]}: {told}")
+        assert done.returncode == (1 if fails else 0), done
+        assert done.stderr == f"{words[0]}: {told}", "the link is named"
     place.put("project/.gitattributes", b"l.yml ansible-vault\n")
     ended(
         "a marked one", place.run(CHECK, *place.by_file("new"), ".", folder="project"), 1, told, "1 decrypted, 1 failed"
@@ -272,8 +295,9 @@ def test_descriptor_of_a_password(place: Place) -> None:
             assert (done.returncode, done.stdout) == (1, ""), path
             assert "leads out of" in done.stderr or "it is not a regular file" in done.stderr or MISSING in done.stderr
     done = place.run(CHECK, *secrets, ".")
-    assert (done.returncode, done.stdout) == (0, "0 decrypted, 0 failed\n")
-    assert ".yml: a link leads out of " in done.stderr and "the password" not in done.stderr
+    assert done.returncode == 0, done
+    assert done.stdout == "0 decrypted, 0 failed\n", "nothing is read"
+    assert ".yml: a link leads out of " in done.stderr and "the password" not in done.stderr, "each link is named"
 
 
 @pytest.mark.usefixtures("git")
@@ -288,10 +312,13 @@ def test_output(place: Place) -> None:
         for name, target in (("out", "new"), ("full", "old")):
             done = place.run(WITH, *words, *place.by_file("old"), f"--output={name}", folder="project")
             why = f"{WITH}: {name}: a link leads out of {place.tree}/project; name {place.tree}/{target} instead\n"
-            assert (done.returncode, done.stdout, done.stderr[-len(why) :]) == (1, "", why)
+            assert done.returncode == 1, f"an output through {name}"
+            assert done.stdout == "", f"an output through {name}"
+            assert done.stderr.endswith(why), "the reason"
         assert place.run(WITH, *words, *place.by_file("old"), "--output=in", folder="project").returncode == 0
         (place.tree / "project/b.yml").unlink()
-    assert (place.get("old"), (place.tree / "new").exists()) == (b"old\n", False)
+    assert place.get("old") == b"old\n", "the file outside stays"
+    assert not (place.tree / "new").exists(), "no file is made outside"
 
 
 # What a shell makes of a file, as words of the alias, and what is printed.
@@ -311,7 +338,7 @@ def test_streams(place: Place, line: str) -> None:
     needs("bash")
     place.put("a.yml", sealed("old"))
     done = place.shell(f"{WITH} --vault-password-file {place.secret('old')} {line}", "bash")
-    assert (done.returncode, done.stdout, done.stderr) == (0, TEXT.decode(), "")
+    check_answer(line, done, output=TEXT.decode())
 
 
 def test_streams_that_are_no_files(place: Place) -> None:
@@ -331,8 +358,8 @@ def test_no_current_directory(place: Place) -> None:
     for companion, shown in ((TEXTCONV, first_line() + TEXT.decode()), (f"{WITH} view", TEXT.decode())):
         line = f"mkdir gone && cd gone && rmdir ../gone && {companion} --vault-password-file {secret}"
         done = place.shell(f"{line} {path}")
-        assert (done.returncode, done.stdout, done.stderr) == (0, shown, "")
-        assert place.shell(f"{line} a.yml").returncode == 1
+        check_answer(f"{companion} of an absolute path", done, output=shown)
+        assert place.shell(f"{line} a.yml").returncode == 1, "a relative path needs it"
 
 
 # What happens to the file while the editor runs. Each leads to a copy of it elsewhere.
@@ -361,7 +388,7 @@ def test_swapped_before_the_program_runs(place: Place) -> None:
     (place.tree / "l.yml").symlink_to("a.yml")
     place.wrap_tool("ln -sf ../outside.yml l.yml")
     done = place.run(WITH, "view", *place.by_file("old"), "l.yml")
-    assert (done.returncode, done.stdout, done.stderr) == (0, TEXT.decode(), "")
+    check_answer("the file that the link had", done, output=TEXT.decode())
     assert os.readlink(place.tree / "l.yml") == "../outside.yml"
 
 
@@ -385,4 +412,5 @@ def test_under_git(place: Place) -> None:
             done = place.shell(f"git {command} | grep '^[-+][a-z./]'", folder=folder, TMPDIR=f"{place.path}/t")
             links = {"diff": ["../other.yml", "/proc/self/fd/3"], "log -p -1": ["../outside.yml", "../other.yml"]}
             wanted = [f"{sign}{text}" for pair in (texts, links[command]) for sign, text in zip("-+", pair)]
-            assert (done.stdout.splitlines(), done.stderr) == (wanted, "")
+            assert done.stdout.splitlines() == wanted, f"git {command} in {folder}"
+            assert done.stderr == "", f"git {command} in {folder}"

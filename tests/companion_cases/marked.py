@@ -2,7 +2,7 @@
 
 import pytest
 
-from companion_cases import CHECK, HOOK, TEXT, Place, block, ended, sealed
+from companion_cases import CHECK, HOOK, TEXT, Place, block, check_answer, ended, sealed
 from companion_cases.repository import under_git
 from lib.needs import needs_root
 
@@ -73,7 +73,7 @@ def test_unreadable_attributes(place: Place, line: str, why: str, folder: str) -
     environment = {"GIT_CONFIG_COUNT": "1", "GIT_CONFIG_KEY_0": "safe.directory", "GIT_CONFIG_VALUE_0": "*"}
     place.environment |= environment
     done = place.as_nobody(CHECK, *place.by_file("old"), "deep")
-    assert (done.returncode, done.stderr) == (1, f"{CHECK}: {place.tree}/{path}: {why}\n")
+    check_answer("attributes that are not read", done, 1, None, f"{CHECK}: {place.tree}/{path}: {why}\n")
     done = place.as_nobody(CHECK, *place.by_file("old"), "other")
     assert done.returncode == (1 if folder == "" else 0), done
 

@@ -142,7 +142,8 @@ def test_conflict_as_base(tmp_path: Path, monkeypatch: pytest.MonkeyPatch) -> No
     assert Model().merged([base, base, sealed("old", ours)]).content == sealed("old", ours)
     value, base = block("old"), lines % both([b"x: ours\n", b"x: theirs\n"], 9)
     merged = Model().merged([base + value, ours + value, theirs + value])
-    assert (merged.content.count(b"<<<<<<< ours"), merged.why) == (2, "2 conflicts")
+    assert merged.why == "2 conflicts", "the values conflict one by one"
+    assert merged.content.count(b"<<<<<<< ours") == 2, "each is marked"
 
 
 # Enough lines between two changes for git to take them for two conflicts.
@@ -165,27 +166,37 @@ VAULTS = [("prod", name) for name in ("prod", "prod2", "dev")] + [("dev", "dev")
 VAULTS += [("", name) for name in ("prod", "prod2", "dev", "old", "new")]
 
 
+def check_secret(before: Value, ours: Value, theirs: Value, text: bytes) -> str | None:
+    """Check that a merge has this text under the secret of the change, or is refused. Return the secret."""
+    case = f"the merge of {before}, {ours} and {theirs}"
+    contents = [each.envelope() for each in (before, ours, theirs)]
+    tool = Model()
+    result = tool.merged(contents)
+    secrets: list[set[str | None]] = [{f"{each.label}@{each.password}"} for each in (before, ours, theirs)]
+    secret = common(*secrets)
+    is_clear = ours.label == theirs.label and not (ours.is_mislabelled() or theirs.is_mislabelled())
+    if not (secret and is_clear):
+        assert result.why, f"it is refused: {case}"
+        assert result.content == both(contents[1:]), f"both sides are whole: {case}"
+        return None
+    opened = tool.opened(result.content)
+    assert result.why == "", f"it is merged: {case}"
+    assert opened.password.source.place == secret.partition("@")[2], f"its password: {case}"
+    assert opened.text == text, f"its text: {case}"
+    return secret
+
+
 def test_secrets_of_vaults(tmp_path: Path, monkeypatch: pytest.MonkeyPatch) -> None:
     """A text is encrypted with the password of its side, or if all versions have one label, with the changed one."""
     monkeypatch.chdir(repository(tmp_path, "diff3"))
     counts: Counter[str] = Counter()
     # Both sides change the text, or one of them.
     changes = {(BASE, OURS, THEIRS): BOTH, (BASE, OURS, BASE): OURS, (BASE, BASE, THEIRS): THEIRS}
-    for changed, vaults in itertools.product(changes, itertools.product(VAULTS, repeat=3)):
-        rows = enumerate(zip(changed, vaults))
+    for texts, vaults in itertools.product(changes, itertools.product(VAULTS, repeat=3)):
+        rows = enumerate(zip(texts, vaults))
         before, ours, theirs = (Value("", text, *vault, number, 0) for number, (text, vault) in rows)
-        tool = Model()
-        contents = [each.envelope() for each in (before, ours, theirs)]
-        result = tool.merged(contents)
-        used: list[set[str | None]] = [{f"{each.label}@{each.password}"} for each in (before, ours, theirs)]
-        wanted = common(*used)
-        is_clear = ours.label == theirs.label and not (ours.is_mislabelled() or theirs.is_mislabelled())
-        if not (wanted and is_clear):
-            assert (bool(result.why), result.content) == (True, both(contents[1:])), vaults
+        if not check_secret(before, ours, theirs, changes[texts]):
             counts["refused"] += 1
-            continue
-        opened = tool.opened(result.content)
-        counts["under a new secret"] += ours.password != theirs.password
-        found = (result.why, opened.password.source.place, opened.text)
-        assert found == ("", wanted.partition("@")[2], changes[changed]), vaults
+        elif ours.password != theirs.password:
+            counts["under a new secret"] += 1
     assert counts["refused"] > 10 and counts["under a new secret"] == 24, counts

@@ -194,7 +194,8 @@ def are_used(place: Place, where: str, runner: list[str]) -> tuple[bool, bool]:
     kept, seen = Path(path), (place.path / "seen").read_text().strip()
     file = kept if how == "encrypted" else kept / "all.yml"
     text = file.read_bytes()
-    assert (file.stat().st_mode & 0o777, file.parent.stat().st_mode & 0o777) == (0o600, 0o700)
+    assert oct(file.stat().st_mode & 0o777) == "0o600", "only the user reads the file"
+    assert oct(file.parent.stat().st_mode & 0o777) == "0o700", "only the user opens its folder"
     if how == "encrypted":
         text = decrypted("old", text) or b""
     else:

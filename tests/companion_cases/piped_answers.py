@@ -135,4 +135,5 @@ def test_a_terminal_at_standard_input(place: Place) -> None:
         os.write(controller, PASSWORDS["old"] + b"\n")
         output, _ = program.communicate(timeout=SECONDS)
     os.close(controller)
-    assert (program.returncode, output) == (0, TEXT)
+    assert program.returncode == 0, "the vault is decrypted"
+    assert output == TEXT, "its text is printed"

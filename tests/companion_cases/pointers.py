@@ -3,7 +3,7 @@
 import re
 
 from companion_cases import CHECK, CONFLICT, EDIT, MERGE, NOT_DECRYPTED, ROTATE, TEXTCONV, WITH, Place
-from companion_cases import block, ended, first_line, line_of_values, sealed, summary, to_new, versions
+from companion_cases import block, check_answer, ended, first_line, line_of_values, sealed, summary, to_new, versions
 from companion_cases.repository import add_and_commit, under_git
 from lib.needs import needs
 
@@ -27,16 +27,16 @@ def test_each_companion(place: Place) -> None:
     place.put("a.yml", sealed("old"))
     old = place.by_file("old")
     done = place.run(CHECK, *old, ".")
-    assert (done.returncode, done.stderr) == (0, f"{CHECK}: ./image.png: {NAMED}\n")
+    check_answer("the check", done, output=None, errors=f"{CHECK}: ./image.png: {NAMED}\n")
     done = place.run(ROTATE, *to_new(place), ".")
-    assert (done.returncode, done.stderr) == (0, f"{ROTATE}: ./image.png: {NAMED}\n")
+    check_answer("the rotation", done, output=None, errors=f"{ROTATE}: ./image.png: {NAMED}\n")
     place.put("big.vault.yml", POINTER)
     ended("a marked one", place.run(CHECK, *place.by_file("new"), "."), 1, f"./big.vault.yml: {NAMED}\n", "1 failed")
     ended("none is rotated", place.run(ROTATE, *to_new(place), "big.vault.yml"), 1, NAMED, summary(0, failed=1))
     place.put("big.vault.yml", POINTER)
     shown = place.run(TEXTCONV, *old, "big.vault.yml")
     told = f"{TEXTCONV}: big.vault.yml: shown as it is: {NAMED}\n"
-    assert (shown.returncode, shown.stdout, shown.stderr) == (0, NOT_DECRYPTED + POINTER.decode(), told)
+    check_answer("textconv", shown, output=NOT_DECRYPTED + POINTER.decode(), errors=told)
     runs = [[TEXTCONV, *old, "--value", "x"], [EDIT, *old], [EDIT, *old, "--value", "x"], [WITH, "view", *old]]
     for command, passwords in (("encrypt", old), ("decrypt", old), ("rekey", to_new(place))):
         runs += [[WITH, command, *passwords], [WITH, command, *passwords, "--output", "out.yml"]]

@@ -121,7 +121,9 @@ def test_keys(place: Place, words: list[str], key: bytes, status: int) -> None:
     """The keys for an interrupt and for quitting end the question, and the terminal is as it was."""
     place.put("a.yml", sealed("dev"))
     session = ask(place, *words, "-J", "a.yml", answers=[(ASKED, key)])
-    assert (session.returncode, session.stdout, session.echoes) == (status, "", True)
+    assert session.returncode == status, "the key ends it"
+    assert session.stdout == "", "nothing is decrypted"
+    assert session.echoes, "the terminal shows again what is typed"
 
 
 def test_suspended(place: Place) -> None:

@@ -27,7 +27,9 @@ def test_without_pyyaml(place: Place) -> None:
     folder = shutil.copytree(place.companions, place.path / "without")
     (folder / "yaml.py").write_text("raise ModuleNotFoundError\n")
     place.environment["PATH"] = f"{folder}:{place.environment['PATH']}"
-    old, content, package = place.by_file("old"), block("old", b"one"), "python3-yaml"
+    old = place.by_file("old")
+    content = block("old", b"one")
+    package = "python3-yaml"
     place.put("all.yml", sealed("old"))
     place.put("vars.yml", content)
     silent("edit", edit(place, CHANGE, *old, "all.yml"))
@@ -42,5 +44,7 @@ def test_without_pyyaml(place: Place) -> None:
         assert done.stdout == ""
     ended("edit", edit(place, "touch started", *old, "vars.yml"), 1, "vars.yml: PyYAML, ", package)
     done = place.run(TEXTCONV, *old, "vars.yml")
-    assert (done.returncode, done.stdout, place.files()) == (0, NOT_DECRYPTED + content.decode(), before)
-    assert done.stderr.startswith(f"{TEXTCONV}: vars.yml: shown as it is: PyYAML, ") and package in done.stderr
+    assert done.returncode == 0, "git continues"
+    assert done.stdout == NOT_DECRYPTED + content.decode(), "git shows it as it is"
+    assert done.stderr.startswith(f"{TEXTCONV}: vars.yml: shown as it is: PyYAML, ") and package in done.stderr, done
+    assert place.files() == before, "the files stay"

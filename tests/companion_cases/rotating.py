@@ -9,7 +9,7 @@ from operator import attrgetter
 import pytest
 
 from companion_cases import CHECK, NOBODY, PASSWORDS, ROTATE, TEXT, Place, block, decrypted, ended, sealed, summary
-from companion_cases import texts, to_new
+from companion_cases import check_answer, texts, to_new
 from lib.needs import needs_root
 from model.vaults import seal
 
@@ -159,9 +159,10 @@ def test_documents(place: Place) -> None:
         place.put(name, content)
     (place.tree / "link.md").symlink_to("vars.yml")
     done = place.run(CHECK, *place.by_file("old"), *place.by_file("new"), ".")
-    assert (done.returncode, done.stderr) == (0, ""), "the check"
+    check_answer("the check", done, output=None)
     done = place.run(ROTATE, *to_new(place), ".")
-    assert (done.returncode, done.stderr, done.stdout.splitlines()[-1]) == (0, "", summary(5, 1, 1, " (prod 1)"))
+    check_answer("the rotation", done, output=None)
+    assert done.stdout.splitlines()[-1] == summary(5, 1, 1, " (prod 1)"), "what is counted"
     assert {name: place.get(name) for name in stay} == stay, "examples stay"
     place.put("vars.yml", block("dev"))
     place.put("vault.md", sealed("dev"))

@@ -4,7 +4,7 @@ import os
 
 import pytest
 
-from companion_cases import AWKWARD, PASSWORDS, TEXT, WITH, Place, decrypted, ended, sealed, silent, texts
+from companion_cases import AWKWARD, PASSWORDS, TEXT, WITH, Place, check_answer, decrypted, ended, sealed, silent, texts
 from lib.needs import needs
 
 # Command lines that the tool takes, too, if a secret is added.
@@ -125,8 +125,8 @@ def test_those_that_fail(place: Place) -> None:
     whys = {"plain.yml": r"out of \x1bmemory", "new.yml": f"no secret decrypts this vault {tried}"}
     whys["missing.yml"] = "No such file or directory"
     done = place.run(WITH, "rekey", *place.by_file("old"), *place.by_file("dev", "new-"), *whys, "a.yml")
-    messages = [f"{WITH}: {name}: {why}" for name, why in whys.items()]
-    assert (done.returncode, done.stdout, done.stderr.splitlines()) == (4, "", messages)
+    messages = "".join(f"{WITH}: {name}: {why}\n" for name, why in whys.items())
+    check_answer("those that fail", done, 4, errors=messages)
     assert decrypted("dev", place.get("a.yml")) == TEXT, "the others go on"
     assert place.files() == before | {"a.yml": place.get("a.yml")}, "and these stay"
 
@@ -136,9 +136,8 @@ def test_several_views(place: Place) -> None:
     for name, text in {"a.yml": TEXT, "b.yml": b"no line end", "-c.yml": b""}.items():
         place.put(name, sealed("old", text))
     place.script("mkdir ../once && cat ../secrets/old")
-    done = place.run(WITH, "view", "--vault-id", "../script", "--", "b.yml", "-c.yml", "a.yml", "b.yml")
-    wanted = f"no line end\n{TEXT.decode()}no line end"
-    assert (done.returncode, done.stdout, done.stderr) == (0, wanted, "")
+    done = place.shell(f"{WITH} view --vault-id ../script -- b.yml -c.yml a.yml b.yml")
+    check_answer("four views", done, output=f"no line end\n{TEXT.decode()}no line end")
 
 
 def test_several_strings(place: Place) -> None:
@@ -146,8 +145,9 @@ def test_several_strings(place: Place) -> None:
     done = place.shell(f"{WITH} {STRINGS} 'a word' another --name x --output blocks.yml")
     notes = ["# Value 1 is the variable x, from the command line."]
     notes.append("# Value 2 is a string without a name, from the command line.")
-    assert (done.returncode, done.stdout, done.stderr.splitlines()) == (0, "", notes), "names"
-    assert (place.mode("blocks.yml"), texts(place.get("blocks.yml"), "dev")) == ("0o600", [b"a word", b"another"])
+    check_answer("two strings", done, errors="".join(f"{note}\n" for note in notes))
+    assert texts(place.get("blocks.yml"), "dev") == [b"a word", b"another"], "both are encrypted"
+    assert place.mode("blocks.yml") == "0o600", "for its owner alone"
     assert "word" not in (place.path / "seen").read_text(), "strings are no arguments of the tool"
 
 

@@ -4,7 +4,7 @@ from pathlib import Path
 
 import pytest
 
-from companion_cases import CHECK, PASSWORDS, TEXT, TEXTCONV, WITH, Place, decrypted, first_line, sealed
+from companion_cases import CHECK, PASSWORDS, TEXT, TEXTCONV, WITH, Place, check_answer, decrypted, first_line, sealed
 from companion_cases.terminal import READING, ask
 
 # Options that name scripts, and the arguments that each script gets.
@@ -26,8 +26,8 @@ def test_how_they_start(place: Place, request: pytest.FixtureRequest, option: st
     done = place.run("setsid", "--wait", WITH, "view", option, "a.yml")
     errors = "" if "keys-client" in name and not name.endswith(".d.sh") else "hello\n"
     started = (place.path / "started").read_text()
-    assert (done.returncode, done.stdout, done.stderr) == (0, TEXT.decode(), errors)
-    assert started == f"{place.path}/{name}{arguments}\n"
+    check_answer("the view", done, output=TEXT.decode(), errors=errors)
+    assert started == f"{place.path}/{name}{arguments}\n", "the script and its arguments"
     ansible = request.getfixturevalue("ansible_runs")
     _, output, _ = ansible.run(["view", option, "a.yml"], place.tree, place.environment)
     assert TEXT in output and (place.path / "started").read_text() == 2 * started, "as Ansible's tool"
@@ -49,26 +49,23 @@ def test_those_that_fail(place: Place, name: str, text: str, why: str) -> None:
     place.put("a.yml", sealed("dev"))
     place.put(f"../{name}", f"{text}\n".encode(), 0o755)
     done = place.run(CHECK, "--vault-id", f"dev@../{name}", "a.yml")
-    assert (done.returncode, done.stdout, done.stderr) == (1, "", f"{CHECK}: dev@../{name}: {why}\n")
+    check_answer("the check", done, 1, errors=f"{CHECK}: dev@../{name}: {why}\n")
     shown = place.run(TEXTCONV, "--vault-id", f"../{name}", *place.by_file("dev"), "a.yml")
     told = f"{TEXTCONV}: ../{name}: {why}; it is ignored\n"
-    assert (shown.returncode, shown.stdout, shown.stderr) == (
-        0,
-        first_line() + TEXT.decode(),
-        told,
-    ), "another secret is there"
+    check_answer("another secret is there", shown, output=first_line() + TEXT.decode(), errors=told)
 
 
 def test_standard_input(place: Place) -> None:
     """A script may ask at the terminal through its standard input. Any other input is left to the companion."""
     place.put("a.yml", sealed("dev"))
     place.script("printf 'Which? ' > /dev/tty; read -r word; echo \"$word\"", "asking")
-    words = [*READING, WITH, "view", "--vault-password-file", "../asking", "a.yml"]
+    words = [*READING, *f"{WITH} view --vault-password-file ../asking a.yml".split()]
     session = ask(place, *words, answers=[("Which? ", PASSWORDS["dev"] + b"\n")])
     assert (session.returncode, session.stdout, session.stderr) == (0, TEXT.decode(), ""), "a terminal"
     place.script("cat > ../swallowed; cat ../secrets/dev", "asking")
-    encrypted = place.run_on(TEXT, WITH, "encrypt", "--vault-id", "@../asking", "--output", "b.yml")
-    assert (encrypted.returncode, decrypted("dev", place.get("b.yml"))) == (0, TEXT), "all of it is encrypted"
+    encrypt = [WITH, "encrypt", "--vault-id", "@../asking", "--output", "b.yml"]
+    assert place.run_on(TEXT, *encrypt).returncode == 0
+    assert decrypted("dev", place.get("b.yml")) == TEXT, "all of it is encrypted"
     assert (place.path / "swallowed").read_bytes() == b"", "it reads nothing"
 
 
@@ -77,7 +74,7 @@ def test_signals(place: Place) -> None:
     place.put("a.yml", sealed("dev"))
     place.script("echo $$ > ../sleeping; kill -TERM $PPID; exec sleep 600")
     done = place.run(CHECK, "--vault-password-file", "../script", "a.yml")
-    assert (done.returncode, done.stdout, done.stderr) == (-15, "", ""), "it ends by the signal"
+    check_answer("it ends by the signal", done, -15)
     # A zombie has no command line.
     line = Path("/proc", (place.path / "sleeping").read_text().strip(), "cmdline")
     assert not line.exists() or line.read_bytes() == b"", "and nothing goes on"

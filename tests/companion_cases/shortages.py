@@ -8,7 +8,8 @@ from random import Random
 import pytest
 
 from companion_cases import CHANGE, CHANGED, CHECK, COMPANIONS, CONFLICT, EDIT, HOOK, MERGE, ROTATE, TEXT, TEXTCONV
-from companion_cases import WITH, Companions, Done, Place, block, run_changed, sealed, summary, texts, to_new, versions
+from companion_cases import WITH, Companions, Done, Place
+from companion_cases import block, check_answer, run_changed, sealed, summary, texts, to_new, versions
 from lib.needs import needs
 
 NAMES = (EDIT, ROTATE, MERGE, CHECK, TEXTCONV, HOOK, WITH)
@@ -118,7 +119,7 @@ def test_recursion(place: Place) -> None:
     """What recurses in a library too deeply, for all that is done to prevent it, ends a run in a line."""
     code = f"{START} as it; it.prepare_process(); recurse = lambda: recurse(); recurse()"
     done = place.run("python3", "-IBc", code)
-    assert (done.returncode, done.stderr) == (1, "-c: maximum recursion depth exceeded\n")
+    check_answer("the run", done, 1, errors="-c: maximum recursion depth exceeded\n")
 
 
 def test_length_of_files(place: Place) -> None:
@@ -127,8 +128,8 @@ def test_length_of_files(place: Place) -> None:
     place.put("../long", b"x" * 1_500)
     place.put("a.txt", TEXT)
     done = place.run("prlimit", "--fsize=1024", WITH, "encrypt", "--vault-password-file=../long", "a.txt")
-    assert (done.returncode, done.stderr.splitlines()) == (1, [f"{WITH}: ../long: File too large"])
-    assert place.get("a.txt") == TEXT
+    check_answer("the encryption", done, 1, errors=f"{WITH}: ../long: File too large\n")
+    assert place.get("a.txt") == TEXT, "the file stays"
 
 
 def test_input_that_does_not_wait(place: Place) -> None:
@@ -137,8 +138,8 @@ def test_input_that_does_not_wait(place: Place) -> None:
     unblocked = "import os, sys; os.set_blocking(0, False); os.execvp(sys.argv[1], sys.argv[1:])"
     words = shlex.join(["python3", "-c", unblocked, EDIT, *place.by_file("old"), "--value=secret", "a.yml"])
     done = place.shell(f"(sleep 0.3; printf abc; sleep 0.3; printf def) | {words}")
-    assert (done.returncode, done.stderr) == (0, "")
-    assert texts(place.get("a.yml"), "old") == [b"abcdef"]
+    check_answer("the edit", done)
+    assert texts(place.get("a.yml"), "old") == [b"abcdef"], "all of the input"
 
 
 def test_no_proc(place: Place) -> None:
@@ -242,8 +243,10 @@ def test_directory_that_is_not_synced(place: Place, git: None, companion: str) -
     if companion == ROTATE:
         assert done.stdout.endswith(f"{summary(1, failed=1)}\n"), "it is rotated all the same"
     found = texts(place.get("a.yml"), password)
-    assert found == {EDIT: [CHANGED], MERGE: [TEXT, TEXT]}.get(companion, [TEXT])
-    assert (place.left(), place.copies(), place.names()) == ([], [], ["a.yml"])
+    assert found == {EDIT: [CHANGED], MERGE: [TEXT, TEXT]}.get(companion, [TEXT]), "what is written"
+    assert place.names() == ["a.yml"], "no temporary file is left"
+    assert place.left() == [], "no plaintext is left"
+    assert place.copies() == [], "no copy is left"
 
 
 @pytest.mark.parametrize("line", [f"{WITH} view a.yml", f"{WITH} create new.yml", f"{EDIT} a.yml", f"{CHECK} a.yml"])

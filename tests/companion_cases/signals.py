@@ -60,7 +60,7 @@ def check_edit(place: Place, errors: str, wanted: bytes = CHANGED) -> None:
     is_replaced = decrypted("old", place.get("a.yml")) == wanted
     # The editor may be ended before it notes that it has saved.
     is_unsaved = not kept and not (place.path / "saved").exists()
-    assert kept == [wanted] * (not is_replaced) or is_unsaved, ("what was saved is kept", kept)
+    assert kept == ([] if is_replaced else [wanted]) or is_unsaved, "what was saved is kept"
     named = re.findall(r"; what you saved is encrypted in (.+)\n", errors)
     assert named == [*map(str, copies)], "the message says where"
     check_whole(place)
@@ -151,8 +151,9 @@ def test_postponed_signals(place: Place) -> None:
     keys = "kill -INT $PPID; kill -QUIT $PPID"
     editor = f"cat /proc/self/status > ../editing; {keys}; sed -i s/correct/wrong/"
     silent("the edit", place.run(EDIT, *place.by_file("old"), "a.yml", EDITOR=editor))
-    assert (blocked(place.path / "encrypting"), blocked(place.path / "editing")) == (wanted, set())
-    assert decrypted("old", place.get("a.yml")) == CHANGED
+    assert blocked(place.path / "encrypting") == wanted, "what is postponed while the text is encrypted"
+    assert blocked(place.path / "editing") == set(), "what is postponed for the editor"
+    assert decrypted("old", place.get("a.yml")) == CHANGED, "it is edited"
     check_whole(place)
 
 
@@ -167,7 +168,8 @@ def test_ignored_signals(place: Place, name: str) -> None:
     line = " ".join([EDIT, *place.by_file("old"), "a.yml"])
     editor = place.script(f"kill -{name} $PPID; {CHANGE}", "editor")
     silent("the edit", place.shell(f"trap '' {name}; {line}", EDITOR=editor))
-    assert (decrypted("old", place.get("a.yml")), place.kept()) == (CHANGED, [])
+    assert decrypted("old", place.get("a.yml")) == CHANGED, "it is edited"
+    assert place.kept() == [], "nothing has to be kept"
     check_whole(place)
 
 
@@ -376,7 +378,7 @@ def test_later_edits(place: Place) -> None:
         assert (done.returncode, place.kept()) == (-signal.SIGTERM, [CHANGED] * number), done.stderr
         assert "b.yml: signal 15 ended the edit; what you saved is encrypted in " in done.stderr
         assert [decrypted("old", place.get(name)) for name in ("a.yml", "b.yml")] == [CHANGED, TEXT]
-    assert (place.left(), os.listdir(place.temporary)) == ([], [])
+    assert (place.left(), os.listdir(place.temporary)) == ([], []), "nothing is left"
 
 
 @pytest.mark.parametrize("number", (1, 2))
@@ -440,7 +442,8 @@ def test_random_moments(cases: Companions, git: None, pytestconfig: pytest.Confi
     random, longest = Random(f"{pytestconfig.getoption('--seed')} {name}"), 0.0
     for attempt in range(MOMENTS):
         place, number = cases.place(), random.choice((signal.SIGTERM, signal.SIGHUP))
-        words, begin = prepare(place, name), time.monotonic()
+        words = prepare(place, name)
+        begin = time.monotonic()
         streams = {"stdout": subprocess.DEVNULL, "stderr": subprocess.PIPE}
         with started(words, cwd=place.tree, env=place.environment, text=True, **streams) as process:
             if attempt == 0:

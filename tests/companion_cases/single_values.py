@@ -64,7 +64,7 @@ def test_shown(place: Place, both: list[str]) -> None:
     """Other values need not be decrypted, but a vault around it has to be. In git's commit message, it would stay."""
     check_values(place, both[2:], {"app.users[].pw": ANY_BYTES})
     done = place.shell(f"{TEXTCONV} {' '.join(both)} --value db_password vars.yml 7>> COMMIT_EDITMSG")
-    assert (done.returncode, done.stdout) == (1, "")
+    assert done.returncode == 1 and done.stdout == "", "the commit message shows nothing"
     silent("the same text", set_to(place, b"correct horse", *both, "--value", "db_password", "vars.yml"))
     assert place.get("vars.yml") == FILE, "it keeps its envelope"
     place.put("vars.yml", VAULT)
@@ -104,8 +104,9 @@ def test_chosen_label(
     (place.tree / "vars.yml").unlink()
     if content is not None:
         place.put("vars.yml", content)
-    silent("it", set_to(place, text, *both[2:], "--encrypt-vault-id", "prod", "--value", path, "vars.yml"))
-    assert written in place.get("vars.yml")
+    words = [*both[2:], "--encrypt-vault-id", "prod", "--value", path, "vars.yml"]
+    silent("it", set_to(place, text, *words))
+    assert written in place.get("vars.yml"), "its line"
     check_values(place, both, (VALUES if content == FILE else {}) | {path: text})
     assert place.mode("vars.yml") == ("0o600" if content is None else "0o644")
 
@@ -135,4 +136,5 @@ def test_refused(place: Place, both: list[str], standard_input: str, words: str,
     line = f"{EDIT} {' '.join(both)} {words} {standard_input}"
     session = ask(place, "sh", "-c", line, answers=[("", b"\x04")])
     assert (session.returncode, why in session.stderr) == (1, True), session
-    assert (place.files(), place.left()) == (before, [])
+    assert place.files() == before, "the files stay"
+    assert place.left() == [], "no plaintext is left"

@@ -6,19 +6,8 @@ import textwrap
 
 import pytest
 
-from companion_cases import (
-    AWKWARD,
-    NOT_DECRYPTED,
-    NOT_ENCRYPTED,
-    TEXT,
-    TEXTCONV,
-    Place,
-    block,
-    ended,
-    first_line,
-    line_of_values,
-    sealed,
-)
+from companion_cases import AWKWARD, NOT_DECRYPTED, NOT_ENCRYPTED, TEXT, TEXTCONV, Place
+from companion_cases import block, check_answer, ended, first_line, line_of_values, sealed
 from companion_cases.repository import add_and_commit, under_git
 from lib.needs import needs
 
@@ -77,8 +66,12 @@ def test_shown(place: Place, content: bytes, line: str, shown: bytes, told: str)
     """What cannot be decrypted is shown as it is, and git continues."""
     place.put("-a.yml", content)
     done = place.run_on(b"", TEXTCONV, *place.by_file("old"), *place.by_file("new"), "--", "-a.yml")
-    assert (done.returncode, done.stdout, bool(done.stderr)) == (0, line.encode() + shown, bool(told))
-    assert done.stderr.decode().startswith(f"{TEXTCONV}: -a.yml{told}" if told else "")
+    assert done.returncode == 0, "git continues"
+    assert done.stdout == line.encode() + shown, "what is shown"
+    if told:
+        assert done.stderr.decode().startswith(f"{TEXTCONV}: -a.yml{told}"), "the reason"
+    else:
+        assert done.stderr == b"", "there is nothing to say"
 
 
 @pytest.mark.parametrize("forged", [first_line("prod"), line_of_values(1), NOT_ENCRYPTED, NOT_DECRYPTED])
@@ -102,7 +95,8 @@ def test_several_files(place: Place) -> None:
     place.put("a.yml", sealed("old", b"1", "prod"))
     place.put("\x1b.yml", TEXT)
     script = place.script('echo >> ../started; cat "$HOME/secrets/old"')
-    done = place.run(TEXTCONV, "--vault-id", script, "a.yml", "missing.yml", "\x1b.yml", "a.yml")
+    files = ["a.yml", "missing.yml", "\x1b.yml", "a.yml"]
+    done = place.run(TEXTCONV, "--vault-id", script, *files)
     first = f"==> a.yml <==\n{labeled('prod').decode()}1"
     others = f"==> missing.yml <==\n\n==> '\\x1b.yml' <==\n{NOT_ENCRYPTED}{TEXT.decode()}"
     assert (done.returncode, done.stdout) == (1, f"{first}\n{others}\n{first}"), done
@@ -118,7 +112,7 @@ def test_conflict_of_labels(place: Place) -> None:
         "a.yml", b"<<<<<<< a\n%s=======\n%s>>>>>>> b\n" % (sealed("dev", b"1", "dev"), sealed("prod", b"1", "prod"))
     )
     done = place.run(TEXTCONV, *place.by_id("dev", "dev"), *place.by_id("prod", "prod"), "a.yml")
-    assert (done.returncode, done.stdout, done.stderr) == (0, labeled("dev and prod").decode() + "1", "")
+    check_answer("textconv", done, output=labeled("dev and prod").decode() + "1")
 
 
 def test_differences(place: Place) -> None:
@@ -134,7 +128,7 @@ def test_differences(place: Place) -> None:
     for content in versions.values():
         place.put("vault.yml", content)
         add_and_commit(place)
-    done = place.run("git", "log", "-p", "--reverse", "--format=", "--", "vault.yml")
+    done = place.shell("git log -p --reverse --format= -- vault.yml")
     changed = re.findall("^[-+] *# ansible-vault: (.*)", done.stdout, re.MULTILINE)
     prod, dev, plain, default = versions
     assert changed == [prod, prod, dev, dev, plain, plain, default], done
@@ -182,7 +176,8 @@ def test_messages(place: Place) -> None:
             place.put(name, sealed("old", text))
     done = place.shell("git add -A && git diff --cached")
     changed = re.findall(r"^[-+] *(password: .*)", done.stdout, re.MULTILINE)
-    assert (done.returncode, changed, done.stderr) == (0, ["password: first", "password: second"] * len(AWKWARD), "")
+    check_answer("git diff", done, output=None)
+    assert changed == ["password: first", "password: second"] * len(AWKWARD), "each file is shown"
     place.shell("git commit -qm one && git worktree add -q ../second HEAD~1 && cp -- * ../second")
     editor = place.script('cp "$1" ../message; sed -i 1s/^/m/ "$1"', "editor")
     done = place.shell("git commit -av", folder="../second", EDITOR=editor)

@@ -9,7 +9,7 @@ import pytest
 from ansible_vault_companions.envelopes import detection
 from ansible_vault_companions.envelopes.header import MAGIC
 from ansible_vault_companions.files import reading
-from companion_cases import AWKWARD, CHECK, ROTATE, TEXT, Place, block, ended, sealed, summary, to_new
+from companion_cases import AWKWARD, CHECK, ROTATE, TEXT, Place, block, check_answer, ended, sealed, summary, to_new
 
 
 def found(place: Place, *paths: str) -> list[str]:
@@ -74,12 +74,10 @@ def test_links(place: Place, is_repository: bool) -> None:
     told, before = list_messages(place), place.files()
     done = place.run(CHECK, *place.by_file("old"), "tree", "tree/all.yml")
     wanted = sorted(f"{CHECK}: tree/{name}: {why}" for name, why in told.items())
-    assert (done.returncode, sorted(done.stderr.splitlines())) == (1, wanted)
-    assert [line.partition(": ")[0] for line in done.stdout.splitlines()] == [
-        "tree/all.yml",
-        "tree/deep/b.yml",
-        "2 decrypted, 2 failed",
-    ]
+    assert done.returncode == 1, "what is behind two links counts as failed"
+    assert sorted(done.stderr.splitlines()) == wanted, "each link out is named"
+    shown = [line.partition(": ")[0] for line in done.stdout.splitlines()]
+    assert shown == ["tree/all.yml", "tree/deep/b.yml", "2 decrypted, 2 failed"], "each file is named once"
     done = place.run(ROTATE, *to_new(place), "tree")
     ended("links out", done, 1, f"tree/chain.yml: {told['chain.yml']}\n", "2 rotated, 0 already under", "2 failed")
     changed = {name for name, content in place.files().items() if content != before[name]}
@@ -94,9 +92,10 @@ def test_messages_on_links(place: Place, is_repository: bool) -> None:
     link_files(place, is_repository)
     left_out = [f"--exclude={name}" for name in (*list_messages(place), "outside.yml")]
     done = place.run(CHECK, *place.by_file("old"), *left_out, "tree")
-    assert (done.returncode, done.stderr) == (0, "")
+    check_answer("a check without the links", done, output=None)
     shared = f"{place.tree}/shared/vault.yml"
-    done = place.run(ROTATE, *to_new(place), "tree", shared, "tree-old", "shared/plain.yml", f"{place.tree}/elsewhere")
+    targets = [shared, "tree-old", "shared/plain.yml", f"{place.tree}/elsewhere"]
+    done = place.run(ROTATE, *to_new(place), "tree", *targets)
     ended("their files are rotated", done, 0, f"tree/chain.yml ({shared}): rotated\n", summary(5))
     assert done.stderr == ""
 
@@ -115,9 +114,9 @@ def test_paths_that_are_links(place: Place) -> None:
         path = f"{place.tree}/elsewhere{name.removeprefix('folder')}"
         why = f"tree/{name}: a link leads out of {place.tree}/tree; name {path} instead\n"
         done = place.run(*check, f"tree/{name}")
-        assert (done.returncode, done.stdout, done.stderr) == (1, "0 decrypted, 1 failed\n", f"{CHECK}: {why}")
+        check_answer(f"a path through {name}", done, 1, "0 decrypted, 1 failed\n", f"{CHECK}: {why}")
         done = place.run(*check, f"--exclude=tree/{name}", f"tree/{name}", path)
-        assert (done.returncode, done.stderr) == (0, ""), "it is left out, and its target is a path"
+        check_answer("it is left out, and its target is a path", done, output=None)
     place.shell("mv tree/.git .git")
     done = place.run(*check, "tree/folder")
     ended("within the repository", done, 0, "tree/folder/below/deep.yml: ", "1 decrypted, 0 failed\n")

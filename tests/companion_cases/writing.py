@@ -7,9 +7,18 @@ import re
 import pytest
 
 from companion_cases import CHANGE, CHANGED, CHECK, CONFLICT, EDIT, HOOK, MERGE, NOBODY, ROTATE, TEXT, TEXTCONV, WITH
-from companion_cases import Place, block, decrypted, ended, run_changed, sealed, silent, summary, to_new, versions
+from companion_cases import Place, block, check_answer, decrypted, ended, run_changed, sealed, silent, summary, to_new
+from companion_cases import versions
 from lib.needs import needs
 from lib.subtests import SubTests
+
+
+def list_steps(lines: list[str], steps: dict[str, str]) -> list[str]:
+    """Return the names of the steps that lines of a trace match, in their order."""
+    found = []
+    for line in lines:
+        found += [name for name, pattern in steps.items() if re.match(pattern, line)]
+    return found
 
 
 def test_syncs(place: Place, subtests: SubTests) -> None:
@@ -29,8 +38,8 @@ def test_syncs(place: Place, subtests: SubTests) -> None:
     for words, wanted in ((rotate, [*steps]), (edit, ["synced", *steps])):
         with subtests.test(words[0]):
             done, lines = place.traced("-y -e trace=write,fsync,rename,link,linkat", *words)
-            found = [step for line in lines for step, pattern in steps.items() if re.match(pattern, line)]
-            assert (done.returncode, found) == (0, wanted), done.stderr
+            assert done.returncode == 0, done.stderr
+            assert list_steps(lines, steps) == wanted, "the steps of the run"
 
 
 # What a call of the system does, and why the run is refused.
@@ -49,8 +58,12 @@ def test_metadata(place: Place, call: str, what: str, why: str) -> None:
     place.put("a.yml", sealed("old"))
     changed = f"def {call}(*_, **_options):\n    {what}\nos.{call} = {call}"
     done = run_changed(place, WITH, changed, ["rekey", *to_new(place), "a.yml"])
-    wanted = (1, f"{WITH}: a.yml: {why}\n", "old") if why else (0, "", "new")
-    assert (done.returncode, done.stderr, decrypted(wanted[2], place.get("a.yml"))) == (*wanted[:2], TEXT)
+    if why:
+        check_answer("it is refused", done, 1, errors=f"{WITH}: a.yml: {why}\n")
+        assert decrypted("old", place.get("a.yml")) == TEXT, "the file stays"
+    else:
+        silent("it is replaced", done)
+        assert decrypted("new", place.get("a.yml")) == TEXT, "it has the new password"
 
 
 def test_access_control_lists(place: Place) -> None:

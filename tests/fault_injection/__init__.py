@@ -16,7 +16,9 @@ OUTPUT = "output"
 OLD_MODE, OWNER_ONLY = 0o640, 0o600
 # In memory if possible, since there are thousands of files.
 SCRATCH = "/dev/shm" if os.access("/dev/shm", os.W_OK) else None
-NEW_FILE, OLD_FILE, STREAM = "a new file", "an old file", "standard output"
+NEW_FILE = "a new file"
+OLD_FILE = "an old file"
+STREAM = "standard output"
 # The commands, each with the targets of its output.
 TARGETS = [(command, target) for command in TO_OUTPUT for target in (NEW_FILE, OLD_FILE)]
 TARGETS += [(command, STREAM) for command in COMMANDS]
@@ -68,7 +70,10 @@ class Scenario(NamedTuple):
 def scenario_of(cases: Cases, command: str, target: str, size: int) -> Scenario:
     """Return a run with a plaintext of this size. If the output is a new file, the input is FILE, if there is one."""
     sample = sample_of(cases, command, (TEXT * size)[:size])
-    path, words = cases.file(sample.stdin), [*sample.words, *([] if target == STREAM else ["--output", OUTPUT])]
+    path = cases.file(sample.stdin)
+    words = [*sample.words]
+    if target != STREAM:
+        words += ["--output", OUTPUT]
     if target == NEW_FILE and command != "encrypt_string":
         return Scenario([*words, path], cases.file(b"not asked for"), sample.output, target)
     return Scenario(words, path, sample.output, target)

@@ -5,7 +5,7 @@ import stat
 import subprocess
 from collections.abc import Sequence
 from pathlib import Path
-from typing import Any
+from typing import Any, NamedTuple
 
 from lib.processes import run
 from model.faults import Fault
@@ -22,12 +22,20 @@ def by_id(path: str, label: str = "default") -> list[str]:
     return ["--vault-id", f"{label}@{path}"]
 
 
-def answer_of(done: subprocess.CompletedProcess[bytes]) -> tuple[int, bytes, bytes]:
-    return done.returncode, done.stdout, done.stderr
+class Answer(NamedTuple):
+    """The status of a run, and all that it prints."""
+
+    status: int
+    output: bytes | str
+    errors: bytes | str
 
 
-def refusal(fault: Fault) -> tuple[int, bytes, bytes]:
-    return fault.status, b"", fault.line
+def answer_of(done: subprocess.CompletedProcess[Any]) -> Answer:
+    return Answer(done.returncode, done.stdout, done.stderr)
+
+
+def refusal(fault: Fault) -> Answer:
+    return Answer(fault.status, b"", fault.line)
 
 
 class Cases:
@@ -70,7 +78,7 @@ class Cases:
     ) -> bytes:
         """Check the status and both streams, and return the output. If `out` is None, the output is not checked."""
         done = self.done(words, stdin)
-        assert answer_of(done) == (status, done.stdout if out is None else out, err)
+        assert answer_of(done) == Answer(status, done.stdout if out is None else out, err), words
         return done.stdout
 
     def decrypts(self, options: Sequence[str], vault: bytes, plaintext: bytes) -> None:
