@@ -2,6 +2,7 @@
 
 import os
 import subprocess
+from typing import NamedTuple
 
 import pytest
 
@@ -90,12 +91,22 @@ REFUSED = [
     (b"$ANSIBLE_VAULT", "a password file is itself a vault"),
     (b"#!/bin/sh\nprintf '\\033'\nexit 1\n", "this script ended with status 1"),
 ]
+
+
+class Run(NamedTuple):
+    """A companion, the option that names the secret, and the other words."""
+
+    name: str
+    option: str
+    line: str
+
+
 RUNS = [
-    (CHECK, "--vault-id", "a.yml"),
-    (EDIT, "--vault-id", "a.yml"),
-    (ROTATE, "--vault-id", f"{NEW} a.yml"),
-    (ROTATE, "--new-vault-id", f"{OLD} a.yml"),
-    (WITH, "--vault-id", "decrypt a.yml"),
+    Run(name=CHECK, option="--vault-id", line="a.yml"),
+    Run(name=EDIT, option="--vault-id", line="a.yml"),
+    Run(name=ROTATE, option="--vault-id", line=f"{NEW} a.yml"),
+    Run(name=ROTATE, option="--new-vault-id", line=f"{OLD} a.yml"),
+    Run(name=WITH, option="--vault-id", line="decrypt a.yml"),
 ]
 
 
@@ -122,18 +133,36 @@ def test_help(name: str) -> None:
     assert max(map(len, lines)) <= 80 and (len(lines) <= 34 or name == WITH) and "None" not in map(str.strip, lines)
 
 
-# What happens to files between the search and their reading, the paths, the status, and what is said.
+class Vanishing(NamedTuple):
+    """What happens to files between the search and their reading, the paths, the status, and what is said."""
+
+    change: str
+    paths: list[str]
+    status: int
+    said: str
+
+
 VANISHED = {
-    "a file": ("rm -f t/z.yml", ["t"], 0, "41 decrypted, 0 failed\n"),
-    "a directory": ("rm -rf t/z", ["t"], 0, "41 decrypted, 0 failed\n"),
-    "a directory that is renamed": ("mv t/z y", ["t"], 0, "41 decrypted, 0 failed\n"),
-    "a directory that becomes a file": ("rm -rf t/z; : > t/z", ["t"], 1, "t/x.yml: Not a directory\n"),
-    "a directory that becomes a link to nothing": ("mv t/z y; ln -s x t/z", ["t"], 0, "41 decrypted, 0 failed\n"),
-    "a directory that becomes a loop": ("mv t/z y; ln -s z t/z", ["t"], 1, "it is not a regular file\n"),
-    "the directory that is named": ("mv t y", ["t"], 0, "0 failed\n"),
-    "a file that becomes a directory": ("rm -rf t/z.yml; mkdir -p t/z.yml", ["t"], 1, "t/z.yml: Is a directory\n"),
-    "a named file": ("rm -f t/z.yml", ["t", "t/z.yml"], 1, "t/z.yml: No such file or directory\n"),
-    "one of its paths": ("rm -f t/x.yml", ["t"], 0, "42 decrypted, 0 failed\n"),
+    "a file": Vanishing(change="rm -f t/z.yml", paths=["t"], status=0, said="41 decrypted, 0 failed\n"),
+    "a directory": Vanishing(change="rm -rf t/z", paths=["t"], status=0, said="41 decrypted, 0 failed\n"),
+    "a directory that is renamed": Vanishing(change="mv t/z y", paths=["t"], status=0, said="41 decrypted, 0 failed\n"),
+    "a directory that becomes a file": Vanishing(
+        change="rm -rf t/z; : > t/z", paths=["t"], status=1, said="t/x.yml: Not a directory\n"
+    ),
+    "a directory that becomes a link to nothing": Vanishing(
+        change="mv t/z y; ln -s x t/z", paths=["t"], status=0, said="41 decrypted, 0 failed\n"
+    ),
+    "a directory that becomes a loop": Vanishing(
+        change="mv t/z y; ln -s z t/z", paths=["t"], status=1, said="it is not a regular file\n"
+    ),
+    "the directory that is named": Vanishing(change="mv t y", paths=["t"], status=0, said="0 failed\n"),
+    "a file that becomes a directory": Vanishing(
+        change="rm -rf t/z.yml; mkdir -p t/z.yml", paths=["t"], status=1, said="t/z.yml: Is a directory\n"
+    ),
+    "a named file": Vanishing(
+        change="rm -f t/z.yml", paths=["t", "t/z.yml"], status=1, said="t/z.yml: No such file or directory\n"
+    ),
+    "one of its paths": Vanishing(change="rm -f t/x.yml", paths=["t"], status=0, said="42 decrypted, 0 failed\n"),
 }
 
 

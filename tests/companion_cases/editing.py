@@ -2,6 +2,7 @@
 
 import os
 import re
+from typing import NamedTuple
 
 import pytest
 
@@ -38,7 +39,21 @@ def test_where_the_plaintext_lies(place: Place, folder: str) -> None:
 
 UNCHANGED = "nothing was changed; if the editor returned at once, give it an option to wait"
 LEFT_NONE = ".yml: the editor left no file; nothing was changed\n"
-STAYS = [("true", 0, UNCHANGED), ("exit 3", 1, "status 3); nothing was changed\n"), ('rm -r "${1%/*}"', 1, LEFT_NONE)]
+
+
+class Stay(NamedTuple):
+    """What an editor does, the status, and the reason."""
+
+    editor: str
+    status: int
+    why: str
+
+
+STAYS = [
+    Stay(editor="true", status=0, why=UNCHANGED),
+    Stay(editor="exit 3", status=1, why="status 3); nothing was changed\n"),
+    Stay(editor='rm -r "${1%/*}"', status=1, why=LEFT_NONE),
+]
 
 
 @pytest.mark.parametrize("editor, status, why", STAYS)
@@ -172,44 +187,74 @@ def test_closed(place: Place, text: bytes) -> None:
     assert texts(after, "old") == [text, b"\nB"]
 
 
-THREE = "dev:one prod:two dev:three"
-# The items of a list, each with its secret; what stands there afterwards; an option that chooses a label for new
-# values; and the labels of the items, or none if it is unclear which secret an item gets.
-LISTS = [
-    (THREE, "neu eins two three", "--encrypt-vault-id=prod", ""),
-    (THREE, "two three new", "", ""),
-    (THREE, "one three!", "", ""),
-    (THREE, "one! two! three", "", "dev prod dev"),
-    (THREE, "three two one", "", "dev prod dev"),
-    (THREE, "one two new three", "--encrypt-vault-id=prod", "dev prod prod dev"),
-    ("dev:one", "neu eins", "--encrypt-vault-id=prod", ""),
-    ("prod:one prod2:two", "two!", "", ""),
-    ("dev:same prod:same", "changed same", "", "dev prod"),
-    ("dev:same prod:same", "x y same same", "--encrypt-vault-id=dev", ""),
-]
+class Item(NamedTuple):
+    """An item of a list: the name of its password, and its text."""
+
+    password: str
+    text: str
 
 
-@pytest.mark.parametrize("items, typed, option, labels", LISTS)
-def test_lists(place: Place, items: str, typed: str, option: str, labels: str) -> None:
-    """Texts and places identify items of a list. If they do not tell which secret an item gets, it is refused."""
-    known = [item.split(":") for item in items.split()]
-    content = b"l:\n- " + b"- ".join(block(name, text.encode(), name.rstrip("2"), "") for name, text in known)
-    place.put("vars.yml", content)
+class ListEdit(NamedTuple):
+    """A list, the texts that stand there afterwards, the labels of these items, and the label that is chosen for new
+    values, if one is. Without labels, it is unclear which secret an item gets."""
+
+    items: list[Item]
+    typed: list[str]
+    labels: list[str]
+    label_of_new: str = ""
+
+
+UNCLEAR: list[str] = []
+THREE = [Item("dev", "one"), Item("prod", "two"), Item("dev", "three")]
+SAME = [Item("dev", "same"), Item("prod", "same")]
+LISTS = {
+    "one before a changed one": ListEdit(THREE, ["neu", "eins", "two", "three"], UNCLEAR, label_of_new="prod"),
+    "one behind, and the first one removed": ListEdit(THREE, ["two", "three", "new"], UNCLEAR),
+    "one removed, and the last one changed": ListEdit(THREE, ["one", "three!"], UNCLEAR),
+    "two changed in their places": ListEdit(THREE, ["one!", "two!", "three"], ["dev", "prod", "dev"]),
+    "another order": ListEdit(THREE, ["three", "two", "one"], ["dev", "prod", "dev"]),
+    "one between": ListEdit(THREE, ["one", "two", "new", "three"], ["dev", "prod", "prod", "dev"], label_of_new="prod"),
+    "one before the only one, which is changed": ListEdit(
+        [Item("dev", "one")], ["neu", "eins"], UNCLEAR, label_of_new="prod"
+    ),
+    "one removed, and the other one changed": ListEdit([Item("prod", "one"), Item("prod2", "two")], ["two!"], UNCLEAR),
+    "one of two with the same text, changed": ListEdit(SAME, ["changed", "same"], ["dev", "prod"]),
+    "two before two with the same text": ListEdit(SAME, ["x", "y", "same", "same"], UNCLEAR, label_of_new="dev"),
+}
+
+
+def label_of(password: str) -> str:
+    """Two passwords have the label prod."""
+    return password.rstrip("2")
+
+
+def edit_list(place: Place, row: ListEdit) -> Done:
     # Of two passwords with a label, neither is for new values.
-    names = ["dev", "prod"] if option else ["dev", "prod", "prod2"]
-    secrets = [word for name in names for word in place.by_id(name.rstrip("2"), name)]
-    words = [*secrets, *option.split(), "vars.yml"]
-    lines = "".join(f"- !vault {item}\\n" for item in typed.split())
-    done = edit(place, f"printf 'l:\\n{lines}' > \"$1\"", *words)
-    after = place.get("vars.yml")
-    if not labels:
-        first = next(number for number, item in enumerate(typed.split(), 2) if item not in items)
-        ended("it", done, 1, f"line {first}: this value may be a new value or a changed one")
-        assert after == content
+    passwords = ["dev", "prod"] if row.label_of_new else ["dev", "prod", "prod2"]
+    words = [word for name in passwords for word in place.by_id(label_of(name), name)]
+    if row.label_of_new:
+        words.append(f"--encrypt-vault-id={row.label_of_new}")
+    lines = "".join(f"- !vault {text}\\n" for text in row.typed)
+    return edit(place, f"printf 'l:\\n{lines}' > \"$1\"", *words, "vars.yml")
+
+
+@pytest.mark.parametrize("row", LISTS.values(), ids=LISTS)
+def test_lists(place: Place, row: ListEdit) -> None:
+    """Texts and places identify items of a list. If they do not tell which secret an item gets, it is refused."""
+    blocks = [block(item.password, item.text.encode(), label_of(item.password), "") for item in row.items]
+    before = b"l:\n- " + b"- ".join(blocks)
+    place.put("vars.yml", before)
+    done = edit_list(place, row)
+    if row.labels == UNCLEAR:
+        old = [item.text for item in row.items]
+        first = next(number for number, text in enumerate(row.typed, 2) if text not in old)
+        ended("it is unclear", done, 1, f"line {first}: this value may be a new value or a changed one")
+        assert place.get("vars.yml") == before, "the file stays"
         return
-    silent("it", done)
-    assert re.findall(r"AES256;(\w+)", after.decode()) == labels.split()
-    for label, text, envelope in zip(labels.split(), typed.split(), after.split(b"- !vault |")[1:]):
-        assert texts(envelope, label) == [text.encode()], "its secret is that of its label"
+    silent("it is clear", done)
+    after = place.get("vars.yml")
+    assert re.findall(r"AES256;(\w+)", after.decode()) == row.labels, "the labels"
+    for label, text, envelope in zip(row.labels, row.typed, after.split(b"- !vault |")[1:]):
+        assert texts(envelope, label) == [text.encode()], f"the secret of {text} is that of its label"
         is_kept = envelope.strip() in block(label, text.encode(), label, "")
-        assert is_kept == ([label, text] in known)
+        assert is_kept == (Item(label, text) in row.items), f"only an unchanged {text} keeps its envelope"

@@ -1,4 +1,5 @@
 """What was saved cannot be put back: at a terminal, the editor opens again, and --resume continues a kept edit."""
+from typing import NamedTuple
 
 import pytest
 
@@ -18,12 +19,22 @@ if grep -q '^new' "$1"; then {{}}; else echo '{TYPO}' >> "$1"; fi
 """
 NO_YAML = "vars.yml: line 4: it cannot be read as YAML: "
 YES = b"yes\n"
-# What the editor does when it opens again, what is typed at each question, the status, and a part of the message.
+
+
+class End(NamedTuple):
+    """What the editor does when it opens again, what is typed at each question, the status, and a part of what is said."""
+
+    later: str
+    typed: list[bytes]
+    status: int
+    why: str
+
+
 ENDS = {
-    "mended": (MEND, [YES], 0, ""),
-    "no answer, later": (":", [YES, YES, b"\x04"], 1, NO_YAML),
-    "an interrupt": (":", [b"\x03"], 130, NO_YAML),
-    "the editor fails": ("exit 3", [YES], 1, "status 3"),
+    "mended": End(later=MEND, typed=[YES], status=0, why=""),
+    "no answer, later": End(later=":", typed=[YES, YES, b"\x04"], status=1, why=NO_YAML),
+    "an interrupt": End(later=":", typed=[b"\x03"], status=130, why=NO_YAML),
+    "the editor fails": End(later="exit 3", typed=[YES], status=1, why="status 3"),
 }
 
 
@@ -78,12 +89,22 @@ def test_resumed_beside_a_swap_file(place: Place) -> None:
 # A file at first, what somebody else makes of it, and why the text of an edit is not taken up, if it is not.
 CHANGED_SINCE = "its text or its label has changed since the edit that left "
 VAULT, VALUE = sealed("prod", label="prod"), block("prod", label="prod")
+
+
+class Change(NamedTuple):
+    """A file at first, what somebody else makes of it, and why the text of an edit is not taken up, if it is not."""
+
+    before: bytes
+    changed: bytes
+    why: str
+
+
 CHANGES = {
-    "another label": (VAULT, sealed("dev", label="dev"), CHANGED_SINCE),
-    "a false label": (VAULT, sealed("dev", label="prod"), "its label is prod, but dev@"),
-    "a value": (VALUE, block("prod", label="prod", name="b"), CHANGED_SINCE),
-    "two passwords": (VALUE, VALUE + block("dev", label="dev"), CHANGED_SINCE),
-    "a rotated value": (VALUE, block("prod2", label="prod"), ""),
+    "another label": Change(before=VAULT, changed=sealed("dev", label="dev"), why=CHANGED_SINCE),
+    "a false label": Change(before=VAULT, changed=sealed("dev", label="prod"), why="its label is prod, but dev@"),
+    "a value": Change(before=VALUE, changed=block("prod", label="prod", name="b"), why=CHANGED_SINCE),
+    "two passwords": Change(before=VALUE, changed=VALUE + block("dev", label="dev"), why=CHANGED_SINCE),
+    "a rotated value": Change(before=VALUE, changed=block("prod2", label="prod"), why=""),
 }
 
 

@@ -4,6 +4,7 @@ import os
 import re
 from pathlib import Path
 from random import Random
+from typing import NamedTuple
 
 import pytest
 
@@ -66,19 +67,52 @@ def fail(path):
 os.unlink = fail
 """
 SEALED, PLAIN = "encrypted", "left in plaintext"
-# What the editor does, a change of the companion, the reason in the message, how the text is kept, and the files that
-# stay.
+
+
+class Stop(NamedTuple):
+    """What the editor does, a change of the companion, the reason in the message, how the text is kept, and the files
+    that stay."""
+
+    editor: str
+    change: str
+    why: str
+    how: str
+    stays: dict[str, bytes]
+
+
 STOPS = {
-    "hard links": (f"{CHANGE}; ln all.yml ../second", "", "it has 2 names (hard links); ", SEALED, STAYS),
-    "a removal": (f"{CHANGE}; rm all.yml", "", CHANGED_MEANWHILE, SEALED, {}),
-    "an exception": (CHANGE, BROKEN, "too deep", SEALED, STAYS),
-    "an exception of the file": (CHANGE, UNWRITTEN, "no memory to write", SEALED, STAYS),
-    "an exception of a question": (CHANGE, UNASKED, "no answer", PLAIN, STAYS),
-    "a full disk": (CHANGE, FULL, "no space", SEALED, STAYS),
-    "no memory to read it": (CHANGE, UNREAD, "no memory to read", PLAIN, STAYS),
-    "no vault": (CHANGE, UNSEALED, "no memory; an encrypted copy cannot be kept: no memory", PLAIN, STAYS),
-    "no text": (CHANGE, SILENT, "MemoryError; an encrypted copy cannot be kept: MemoryError", PLAIN, STAYS),
-    "no directory for copies": (f"{CHANGE}; rm all.yml", "", CHANGED_MEANWHILE, PLAIN, {}),
+    "hard links": Stop(
+        editor=f"{CHANGE}; ln all.yml ../second",
+        change="",
+        why="it has 2 names (hard links); ",
+        how=SEALED,
+        stays=STAYS,
+    ),
+    "a removal": Stop(editor=f"{CHANGE}; rm all.yml", change="", why=CHANGED_MEANWHILE, how=SEALED, stays={}),
+    "an exception": Stop(editor=CHANGE, change=BROKEN, why="too deep", how=SEALED, stays=STAYS),
+    "an exception of the file": Stop(
+        editor=CHANGE, change=UNWRITTEN, why="no memory to write", how=SEALED, stays=STAYS
+    ),
+    "an exception of a question": Stop(editor=CHANGE, change=UNASKED, why="no answer", how=PLAIN, stays=STAYS),
+    "a full disk": Stop(editor=CHANGE, change=FULL, why="no space", how=SEALED, stays=STAYS),
+    "no memory to read it": Stop(editor=CHANGE, change=UNREAD, why="no memory to read", how=PLAIN, stays=STAYS),
+    "no vault": Stop(
+        editor=CHANGE,
+        change=UNSEALED,
+        why="no memory; an encrypted copy cannot be kept: no memory",
+        how=PLAIN,
+        stays=STAYS,
+    ),
+    "no text": Stop(
+        editor=CHANGE,
+        change=SILENT,
+        why="MemoryError; an encrypted copy cannot be kept: MemoryError",
+        how=PLAIN,
+        stays=STAYS,
+    ),
+    "no directory for copies": Stop(
+        editor=f"{CHANGE}; rm all.yml", change="", why=CHANGED_MEANWHILE, how=PLAIN, stays={}
+    ),
 }
 
 
@@ -169,22 +203,32 @@ def test_planted_exceptions(cases: Companions, subtests: SubTests, is_kept: bool
 
 
 KILLED = "kill -KILL $$"
-# What an editor does, and the files that are left. A backup has a text that the file had.
+
+
+class Leftover(NamedTuple):
+    """What an editor does, and the files that are left. A backup has a text that the file had."""
+
+    editor: str
+    names: str
+
+
 LEFTOVERS = {
-    "nothing": (":", ""),
-    "a backup of the first text": (f'cp "$1" "$1~"; {CHANGE}', ""),
-    "backups of both texts": (f'cp "$1" "$1.1~"; {CHANGE}; cp "$1" "$1.2~"', ""),
-    "a backup, and nothing saved": ('cp "$1" "$1~"', ""),
-    "the file under another name": (f'{CHANGE}; mv "$1" "$1.bak"', "all.yml.bak"),
-    "a text under another name": (f'{CHANGE}; echo typed > "${{1%/*}}/b.yml"', "b.yml"),
-    "what was not saved": (f'echo typed > "${{1%/*}}/.all.yml.swp"; {KILLED}', ".all.yml.swp"),
-    "what was not saved, beside what was": (f'{CHANGE}; cp "$1" "$1~"; echo typed > "$1.save"', "all.yml.save"),
-    "an empty file": (f'{CHANGE}; : > "$1.lock"', ""),
-    "a link to nothing": (f'{CHANGE}; ln -s nothing "$1.link"', ""),
-    "a link to a file": (f'{CHANGE}; echo typed > ../kept; ln -s "$PWD/../kept" "$1.link"', ""),
-    "a pipe": (f'{CHANGE}; mkfifo "$1.pipe"', ""),
-    "an awkward name": (f"{CHANGE}; echo typed > \"$1\"'\n'", "'all.yml\\n'"),
-    "a directory": (f'{CHANGE}; mkdir "${{1%/*}}/more"; echo typed > "${{1%/*}}/more/a"', "more"),
+    "nothing": Leftover(editor=":", names=""),
+    "a backup of the first text": Leftover(editor=f'cp "$1" "$1~"; {CHANGE}', names=""),
+    "backups of both texts": Leftover(editor=f'cp "$1" "$1.1~"; {CHANGE}; cp "$1" "$1.2~"', names=""),
+    "a backup, and nothing saved": Leftover(editor='cp "$1" "$1~"', names=""),
+    "the file under another name": Leftover(editor=f'{CHANGE}; mv "$1" "$1.bak"', names="all.yml.bak"),
+    "a text under another name": Leftover(editor=f'{CHANGE}; echo typed > "${{1%/*}}/b.yml"', names="b.yml"),
+    "what was not saved": Leftover(editor=f'echo typed > "${{1%/*}}/.all.yml.swp"; {KILLED}', names=".all.yml.swp"),
+    "what was not saved, beside what was": Leftover(
+        editor=f'{CHANGE}; cp "$1" "$1~"; echo typed > "$1.save"', names="all.yml.save"
+    ),
+    "an empty file": Leftover(editor=f'{CHANGE}; : > "$1.lock"', names=""),
+    "a link to nothing": Leftover(editor=f'{CHANGE}; ln -s nothing "$1.link"', names=""),
+    "a link to a file": Leftover(editor=f'{CHANGE}; echo typed > ../kept; ln -s "$PWD/../kept" "$1.link"', names=""),
+    "a pipe": Leftover(editor=f'{CHANGE}; mkfifo "$1.pipe"', names=""),
+    "an awkward name": Leftover(editor=f"{CHANGE}; echo typed > \"$1\"'\n'", names="'all.yml\\n'"),
+    "a directory": Leftover(editor=f'{CHANGE}; mkdir "${{1%/*}}/more"; echo typed > "${{1%/*}}/more/a"', names="more"),
 }
 
 
@@ -206,11 +250,25 @@ def test_leftovers(place: Place, what: str) -> None:
 
 OF_DEV = block("dev", b"one", "dev", "a")
 NO_YAML = "printf '%s\\n' 'c: !vault \"more' >> \"$1\""
-# A file, a second secret, more options, and how the text is kept: with several passwords, none may read all of it.
-SECRETS: dict[str, tuple[bytes, tuple[str, str], list[str], str]] = {
-    "two passwords": (OF_DEV + block("prod", b"two", "prod", "b"), ("prod", "prod"), [], PLAIN),
-    "one password": (OF_DEV, ("other", "dev"), [], SEALED),
-    "the secret of a new value": (OF_DEV, ("prod", "prod"), ["--encrypt-vault-id", "prod"], PLAIN),
+
+
+class Secrets(NamedTuple):
+    """A file, a second secret, more options, and how the text is kept: of several passwords, none may read all of it."""
+
+    content: bytes
+    second: tuple[str, str]
+    words: list[str]
+    how: str
+
+
+SECRETS = {
+    "two passwords": Secrets(
+        content=OF_DEV + block("prod", b"two", "prod", "b"), second=("prod", "prod"), words=[], how=PLAIN
+    ),
+    "one password": Secrets(content=OF_DEV, second=("other", "dev"), words=[], how=SEALED),
+    "the secret of a new value": Secrets(
+        content=OF_DEV, second=("prod", "prod"), words=["--encrypt-vault-id", "prod"], how=PLAIN
+    ),
 }
 
 

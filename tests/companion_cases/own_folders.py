@@ -152,18 +152,26 @@ def test_groups(tmp_path: Path, mode: int, group: str) -> None:
         assert succeeds(user, lambda: require_own_folder(str(paths[-1]))) == (not is_open), access
 
 
-# Directories by owner and mode; and whether plaintext and copies are put there, and below, where one is the user's own.
+class Kind(NamedTuple):
+    """A directory's owner and mode, and whether plaintext and copies are put there, and into one of the user's below."""
+
+    owner: int
+    mode: int
+    is_used: bool
+    is_used_below: bool
+
+
 KINDS = {
-    "mine": (NOBODY, 0o700, True, True),
-    "mine, readable": (NOBODY, 0o755, True, True),
-    "mine, writable": (NOBODY, 0o777, False, False),
-    "mine, writable for a group": (NOBODY, 0o770, False, False),
-    "mine, sticky": (NOBODY, 0o1777, True, True),
-    "another's": (OTHER, 0o777, False, False),
-    "another's, sticky": (OTHER, 0o1777, False, False),
-    "root's": (0, 0o755, False, True),
-    "root's, writable": (0, 0o777, False, False),
-    "root's, sticky": (0, 0o1777, True, True),
+    "mine": Kind(owner=NOBODY, mode=0o700, is_used=True, is_used_below=True),
+    "mine, readable": Kind(owner=NOBODY, mode=0o755, is_used=True, is_used_below=True),
+    "mine, writable": Kind(owner=NOBODY, mode=0o777, is_used=False, is_used_below=False),
+    "mine, writable for a group": Kind(owner=NOBODY, mode=0o770, is_used=False, is_used_below=False),
+    "mine, sticky": Kind(owner=NOBODY, mode=0o1777, is_used=True, is_used_below=True),
+    "another's": Kind(owner=OTHER, mode=0o777, is_used=False, is_used_below=False),
+    "another's, sticky": Kind(owner=OTHER, mode=0o1777, is_used=False, is_used_below=False),
+    "root's": Kind(owner=0, mode=0o755, is_used=False, is_used_below=True),
+    "root's, writable": Kind(owner=0, mode=0o777, is_used=False, is_used_below=False),
+    "root's, sticky": Kind(owner=0, mode=0o1777, is_used=True, is_used_below=True),
 }
 
 

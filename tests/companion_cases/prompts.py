@@ -1,4 +1,5 @@
 """Passwords typed at a terminal, compared with Ansible's own tool."""
+from typing import NamedTuple
 
 import pytest
 
@@ -81,16 +82,27 @@ BOTH = "--vault-id dev@../secrets/dev --vault-id prod@prompt"
 OF_ANOTHER = block("dev", b"one", "dev", "a")
 # Questions for the label of a new value.
 WHICH = [("Label to encrypt word with (dev, prod): ", label) for label in (b"stage\n", b" prod \n")]
-# Command lines for a password that was not typed for encryption, the file, and what is typed at each question.
-ONLY_ENCRYPTING: dict[str, tuple[str, bytes, list[tuple[str, bytes]]]] = {
-    "a new value": (f"{EDIT} -J a.yml", NEW_VALUE, typed("prod", ASKED, AGAIN)),
-    "a label that is typed": (
-        f"{EDIT} {BOTH} a.yml < /dev/tty",
-        OF_ANOTHER + NEW_VALUE,
-        [OF_PROD[0], *WHICH, OF_PROD[1]],
+
+
+class Encryption(NamedTuple):
+    """A command line for a password that was not typed for encryption, the file, and what is typed at each question."""
+
+    line: str
+    before: bytes
+    answers: list[tuple[str, bytes]]
+
+
+ONLY_ENCRYPTING = {
+    "a new value": Encryption(line=f"{EDIT} -J a.yml", before=NEW_VALUE, answers=typed("prod", ASKED, AGAIN)),
+    "a label that is typed": Encryption(
+        line=f"{EDIT} {BOTH} a.yml < /dev/tty",
+        before=OF_ANOTHER + NEW_VALUE,
+        answers=[OF_PROD[0], *WHICH, OF_PROD[1]],
     ),
-    "one that is set": (f"printf new | {EDIT} {BY_LABEL} --value=word a.yml", NEW_VALUE, OF_PROD),
-    "rekey": (f"{WITH} rekey --encrypt-vault-id=prod a.yml", sealed("old"), OF_PROD),
+    "one that is set": Encryption(
+        line=f"printf new | {EDIT} {BY_LABEL} --value=word a.yml", before=NEW_VALUE, answers=OF_PROD
+    ),
+    "rekey": Encryption(line=f"{WITH} rekey --encrypt-vault-id=prod a.yml", before=sealed("old"), answers=OF_PROD),
 }
 
 

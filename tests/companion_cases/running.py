@@ -1,6 +1,7 @@
 """ansible-vault-with: the tool's own answers, and files in place. Its own parser refuses invalid command lines."""
 
 import os
+from typing import NamedTuple
 
 import pytest
 
@@ -62,30 +63,61 @@ STRINGS, REKEY = f"encrypt_string {DEV}", "rekey --vault-id prod@../secrets/old 
 SALT_FOR_ONE = "--salt and --salt-file are for a single FILE or STRING"
 NOT_NAMED = "there are more names than STRINGs; --stdin-name is the name of standard input"
 NOT_NEW = "no new password has the label that was chosen for encryption, prod"
-# Command lines that are refused, the status, and a part of the message.
+
+
+class Refusal(NamedTuple):
+    """A command line that is refused, the status, and a part of the message."""
+
+    line: str
+    status: int
+    part: str
+
+
 REFUSED = [
-    (OLD, 2, "no command is given"),
-    (f"view {OLD} $'a\\nline.yml'", 3, f"{WITH}: 'a\\nline.yml': No such file or directory\n"),
-    (f"encrypt {OLD} --salt-file /dev/zero plain.yml plain.yml", 2, SALT_FOR_ONE),
-    (f"{STRINGS} a --stdin-name x --salt salt", 2, SALT_FOR_ONE),
-    (f"{STRINGS} a --prompt --salt-file ../secrets/old", 2, SALT_FOR_ONE),
-    (f"{STRINGS} --name x < plain.yml", 2, NOT_NAMED),
-    (f"{STRINGS} --name x --stdin-name y < plain.yml", 2, NOT_NAMED),
-    (f"{STRINGS} --name x - < plain.yml", 2, NOT_NAMED),
-    (f"{STRINGS} a --name x --name y", 2, NOT_NAMED),
-    (f"{STRINGS} --prompt --name x --name y", 2, NOT_NAMED),
-    (f"{STRINGS} a b --encrypt-vault-id prod", 1, "no secret has the label of --encrypt-vault-id"),
+    Refusal(line=OLD, status=2, part="no command is given"),
+    Refusal(line=f"view {OLD} $'a\\nline.yml'", status=3, part=f"{WITH}: 'a\\nline.yml': No such file or directory\n"),
+    Refusal(line=f"encrypt {OLD} --salt-file /dev/zero plain.yml plain.yml", status=2, part=SALT_FOR_ONE),
+    Refusal(line=f"{STRINGS} a --stdin-name x --salt salt", status=2, part=SALT_FOR_ONE),
+    Refusal(line=f"{STRINGS} a --prompt --salt-file ../secrets/old", status=2, part=SALT_FOR_ONE),
+    Refusal(line=f"{STRINGS} --name x < plain.yml", status=2, part=NOT_NAMED),
+    Refusal(line=f"{STRINGS} --name x --stdin-name y < plain.yml", status=2, part=NOT_NAMED),
+    Refusal(line=f"{STRINGS} --name x - < plain.yml", status=2, part=NOT_NAMED),
+    Refusal(line=f"{STRINGS} a --name x --name y", status=2, part=NOT_NAMED),
+    Refusal(line=f"{STRINGS} --prompt --name x --name y", status=2, part=NOT_NAMED),
+    Refusal(
+        line=f"{STRINGS} a b --encrypt-vault-id prod", status=1, part="no secret has the label of --encrypt-vault-id"
+    ),
     # The old secret is not taken for the new one, even if it has the label that was chosen.
-    (REKEY, 1, NOT_NEW),
-    (f"{REKEY} --new-vault-id dev@../secrets/new", 1, NOT_NEW),
-    (f"rekey {OLD} --new-vault-id x@y --new-vault-password-file z a.yml", 2, "rekey takes one new password"),
-    (f"decrypt {OLD} --output out.yml a.yml plain.yml", 2, f"{WITH}: error: --output is for a single FILE\n"),
-    (f"encrypt {OLD} --output - plain.yml -", 2, f"{WITH}: error: --output is for a single FILE\n"),
+    Refusal(line=REKEY, status=1, part=NOT_NEW),
+    Refusal(line=f"{REKEY} --new-vault-id dev@../secrets/new", status=1, part=NOT_NEW),
+    Refusal(
+        line=f"rekey {OLD} --new-vault-id x@y --new-vault-password-file z a.yml",
+        status=2,
+        part="rekey takes one new password",
+    ),
+    Refusal(
+        line=f"decrypt {OLD} --output out.yml a.yml plain.yml",
+        status=2,
+        part=f"{WITH}: error: --output is for a single FILE\n",
+    ),
+    Refusal(
+        line=f"encrypt {OLD} --output - plain.yml -", status=2, part=f"{WITH}: error: --output is for a single FILE\n"
+    ),
     # Nobody can type a password.
-    ("view -J a.yml", 1, f"{WITH}: --ask-vault-password: there is no terminal on which to ask for the password; name "),
-    ("view a.yml", 1, f"{WITH}: no password is given: name one with --vault-id or --vault-password-file, in "),
-    (f"rekey {OLD} a.yml", 1, f"{WITH}: no new password is given: name one with --new-vault-id or "),
-    (f"create {OLD} a.yml", 1, "a.yml exists already; use `edit`"),
+    Refusal(
+        line="view -J a.yml",
+        status=1,
+        part=f"{WITH}: --ask-vault-password: there is no terminal on which to ask for the password; name ",
+    ),
+    Refusal(
+        line="view a.yml",
+        status=1,
+        part=f"{WITH}: no password is given: name one with --vault-id or --vault-password-file, in ",
+    ),
+    Refusal(
+        line=f"rekey {OLD} a.yml", status=1, part=f"{WITH}: no new password is given: name one with --new-vault-id or "
+    ),
+    Refusal(line=f"create {OLD} a.yml", status=1, part="a.yml exists already; use `edit`"),
 ]
 
 

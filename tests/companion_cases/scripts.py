@@ -1,6 +1,7 @@
 """Password files that are programs, compared with Ansible's own tool."""
 
 from pathlib import Path
+from typing import NamedTuple
 
 import pytest
 
@@ -35,12 +36,25 @@ def test_how_they_start(place: Place, request: pytest.FixtureRequest, option: st
 
 NO_PROGRAM = "this script cannot be run: Exec format error; if it is not a script, run `chmod -x ../data`"
 SPACE = "the password of this script begins or ends with white space, which a file cannot have"
-# Names and texts of scripts that fail, and why. A client's own messages are shown in one line.
+
+
+class Failing(NamedTuple):
+    """The name and the text of a script that fails, and why. A client's own messages are shown in one line."""
+
+    name: str
+    text: str
+    why: str
+
+
 FAILING = [
-    ("data", "no script", NO_PROGRAM),
-    ("script", "#!/bin/sh\nkill -9 $$", "signal 9 ended this script"),
-    ("script", "#!/bin/sh\nprintf ' word'", SPACE),
-    ("keys-client", "#!/bin/sh\nprintf 'no\\n\\033[2J' >&2; exit 9", "this script ended with status 9: 'no \\x1b[2J'"),
+    Failing(name="data", text="no script", why=NO_PROGRAM),
+    Failing(name="script", text="#!/bin/sh\nkill -9 $$", why="signal 9 ended this script"),
+    Failing(name="script", text="#!/bin/sh\nprintf ' word'", why=SPACE),
+    Failing(
+        name="keys-client",
+        text="#!/bin/sh\nprintf 'no\\n\\033[2J' >&2; exit 9",
+        why="this script ended with status 9: 'no \\x1b[2J'",
+    ),
 ]
 
 

@@ -10,6 +10,7 @@ from collections.abc import Callable
 from functools import partial
 from pathlib import Path
 from random import Random
+from typing import NamedTuple
 
 import pytest
 
@@ -252,14 +253,22 @@ SILENT = ": > ../started-by-$PPID; cat > /dev/null; exit"
 # The options of a password, which each command line is to have.
 OLD = "--vault-password-file ../secrets/old"
 PIPE = "--vault-password-file ../pipe"
-# A companion that waits, with the numbers of its system call and of the descriptor, if there is one.
+
+
+class Wait(NamedTuple):
+    """A companion that waits, with the numbers of its system call and of the descriptor, if there is one."""
+
+    line: str
+    call: str
+
+
 WAITS = {
-    "standard input": (f"{EDIT} {OLD} --value secret b.yml", "0 0x0 "),
-    "a pipe with a password": (f"{CHECK} {PIPE} a.yml", "257 "),
-    "a signal that was blocked": (f"env --block-signal=TERM {CHECK} {PIPE} a.yml", "257 "),
-    "a pipe with a password of the alias": (f"{WITH} view {PIPE} a.yml", "257 "),
-    "a reader": (f"{TEXTCONV} {OLD} long.yml", "1 0x1 "),
-    "a reader of the alias": (f"{WITH} view {OLD} long.yml long.yml", "1 0x1 "),
+    "standard input": Wait(line=f"{EDIT} {OLD} --value secret b.yml", call="0 0x0 "),
+    "a pipe with a password": Wait(line=f"{CHECK} {PIPE} a.yml", call="257 "),
+    "a signal that was blocked": Wait(line=f"env --block-signal=TERM {CHECK} {PIPE} a.yml", call="257 "),
+    "a pipe with a password of the alias": Wait(line=f"{WITH} view {PIPE} a.yml", call="257 "),
+    "a reader": Wait(line=f"{TEXTCONV} {OLD} long.yml", call="1 0x1 "),
+    "a reader of the alias": Wait(line=f"{WITH} view {OLD} long.yml long.yml", call="1 0x1 "),
 }
 # A companion that works, or that waits for git or for workers, whose programs are endless.
 WORKS = {

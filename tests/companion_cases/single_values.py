@@ -1,6 +1,7 @@
 """One value of YAML for scripts: `ansible-vault-textconv --value` writes it, `ansible-vault-edit --value` sets it."""
 
 import os
+from typing import NamedTuple
 
 import pytest
 
@@ -22,14 +23,37 @@ VALUES = {"db_password": b"correct horse", "app.users[0].pw": ANY_BYTES, '"a.b \
 SENTENCE = b"$ANSIBLE_VAULT;1.1;AES256 begins a vault"
 VAULT_TEXT = b"db:\n  password: 'it''s'\n  list: [1]\nabout: " + SENTENCE + b"\n" + block("prod", b"inner", "prod", "x")
 VAULT = sealed("dev", VAULT_TEXT, "dev")
-# The content of a file, a path that leads to no single value, and why.
+
+
+class NotShown(NamedTuple):
+    """The content of a file, a path that leads to no single value, and why."""
+
+    content: bytes
+    path: str
+    why: str
+
+
 NOT_SHOWN = [
-    (FILE, "pw", 'no value pw; encrypted here: db_password, app.users[0].pw, "a.b \\"c\\\\d\\""[0].x'),
-    (FILE, "app.plain", "app.plain is not encrypted"),
-    (block("dev", b"one", "dev", "a") * 2, "a", "2 values are at a; number the items of lists, as in "),
-    (VAULT, "db", "db is a list, a mapping or an alias"),
-    (block("dev") + b"b: 'x\n", "secret", "it cannot be read as YAML: found unexpected end of stream"),
-    (block("old"), "secret", "vars.yml: no secret decrypts this vault (label default; tried dev@"),
+    NotShown(
+        content=FILE,
+        path="pw",
+        why='no value pw; encrypted here: db_password, app.users[0].pw, "a.b \\"c\\\\d\\""[0].x',
+    ),
+    NotShown(content=FILE, path="app.plain", why="app.plain is not encrypted"),
+    NotShown(
+        content=block("dev", b"one", "dev", "a") * 2,
+        path="a",
+        why="2 values are at a; number the items of lists, as in ",
+    ),
+    NotShown(content=VAULT, path="db", why="db is a list, a mapping or an alias"),
+    NotShown(
+        content=block("dev") + b"b: 'x\n",
+        path="secret",
+        why="it cannot be read as YAML: found unexpected end of stream",
+    ),
+    NotShown(
+        content=block("old"), path="secret", why="vars.yml: no secret decrypts this vault (label default; tried dev@"
+    ),
 ]
 
 
@@ -83,15 +107,30 @@ def test_set(place: Place, both: list[str], path: str) -> None:
 
 
 TO_PROD = b": !vault |\n          $ANSIBLE_VAULT;1.2;AES256;prod\n"
-# A file, if there is one, the path of a new value or of one that moves to another label, and what is written there.
+
+
+class NewLabel(NamedTuple):
+    """A file, if there is one, the path of a value that is new or moves to another label, and what is written there."""
+
+    content: bytes | None
+    path: str
+    written: bytes
+
+
 NEW = [
-    (FILE, "app.plain", b"\n  plain: !vault | # why\n            $ANSIBLE_VAULT;1.2;AES256;prod\n"),
-    (FILE, "app.nothing", b"\n  nothing: !vault |\n            $ANSIBLE_VAULT;1.2;AES256;prod\n"),
-    (FILE, "db_password", b"\ndb_password" + TO_PROD),
-    (FILE, '"n.w: x"', b'\n"n.w: x"' + TO_PROD),
-    (b"# a\n---  # b", "new", b"# a\n---  # b\nnew" + TO_PROD),
-    (None, "db pw", b'"db pw"' + TO_PROD),
-    (None, "No", b'"No"' + TO_PROD),
+    NewLabel(
+        content=FILE,
+        path="app.plain",
+        written=b"\n  plain: !vault | # why\n            $ANSIBLE_VAULT;1.2;AES256;prod\n",
+    ),
+    NewLabel(
+        content=FILE, path="app.nothing", written=b"\n  nothing: !vault |\n            $ANSIBLE_VAULT;1.2;AES256;prod\n"
+    ),
+    NewLabel(content=FILE, path="db_password", written=b"\ndb_password" + TO_PROD),
+    NewLabel(content=FILE, path='"n.w: x"', written=b'\n"n.w: x"' + TO_PROD),
+    NewLabel(content=b"# a\n---  # b", path="new", written=b"# a\n---  # b\nnew" + TO_PROD),
+    NewLabel(content=None, path="db pw", written=b'"db pw"' + TO_PROD),
+    NewLabel(content=None, path="No", written=b'"No"' + TO_PROD),
 ]
 
 
@@ -114,14 +153,32 @@ def test_chosen_label(
 # The standard input, the options and the file, and why the edit is refused. Most paths are refused before anything is
 # read.
 NEVER = "<> ../never"
+
+
+class Refusal(NamedTuple):
+    """The standard input, the options and the file, and why the edit is refused."""
+
+    standard_input: str
+    words: str
+    why: str
+
+
 REFUSED = [
-    (NEVER, "--encrypt-vault-id prod --value app.users vars.yml", "app.users is a list, a mapping or an alias"),
-    ("< /dev/null", "--value a relabelled.yml", "its label is prod, but dev@"),
-    (NEVER, "--value port vars.yml", "port is not encrypted; to encrypt it there, choose its password with"),
-    ("< /dev/tty", "--value db_password vars.yml", "use a pipe or a file"),
-    ("< vault.yml", "--value db_password vars.yml", "what you gave is a vault"),
-    ("< /dev/null", "--value db_password vars.yml", "standard input is empty"),
-    ("< ../long", "--value db_password vars.yml", "more than a vault can hold"),
+    Refusal(
+        standard_input=NEVER,
+        words="--encrypt-vault-id prod --value app.users vars.yml",
+        why="app.users is a list, a mapping or an alias",
+    ),
+    Refusal(standard_input="< /dev/null", words="--value a relabelled.yml", why="its label is prod, but dev@"),
+    Refusal(
+        standard_input=NEVER,
+        words="--value port vars.yml",
+        why="port is not encrypted; to encrypt it there, choose its password with",
+    ),
+    Refusal(standard_input="< /dev/tty", words="--value db_password vars.yml", why="use a pipe or a file"),
+    Refusal(standard_input="< vault.yml", words="--value db_password vars.yml", why="what you gave is a vault"),
+    Refusal(standard_input="< /dev/null", words="--value db_password vars.yml", why="standard input is empty"),
+    Refusal(standard_input="< ../long", words="--value db_password vars.yml", why="more than a vault can hold"),
 ]
 
 

@@ -3,6 +3,7 @@
 import json
 import re
 import textwrap
+from typing import NamedTuple
 
 import pytest
 
@@ -27,37 +28,56 @@ SIDES = b"<<<<<<< a\n%s=======\n%s>>>>>>> b\n" % (sealed("old", b"1\n2\n"), seal
 SIDES_SHOWN = b"<<<<<<< a\n1\n2\n=======\n1\n3\n>>>>>>> b\n"
 TAGGED = b"secret: !vault plain\n"
 MERGED = b"1\n<<<<<<< ours\n2\n=======\n3\n>>>>>>> theirs\n"
-# The content of a file, the first line, what follows it, and the beginning of the message after the file's name.
+
+
+class Content(NamedTuple):
+    """The content of a file, the first line, what follows it, and how the message begins after the file's name."""
+
+    content: bytes
+    line: str
+    shown: bytes
+    told: str
+
+
 CONTENTS = {
-    "a vault": (sealed("old", b"\x00\xff", "prod"), first_line("prod"), b"\x00\xff", ""),
-    "a vault without a label": (sealed("old", b"1"), first_line("default"), b"1", ""),
-    "blocks": (BLOCKS, line_of_values(2), SHOWN, ""),
-    "a list": (b"a:\n- " + block("old", b"one", name=""), line_of_values(1), b"a:\n- !vault |-\n  one\n", ""),
-    "two blocks": (
-        OTHER + block("old", b" a\n\n"),
-        line_of_values(2),
-        OTHER + b"secret: !vault |2+\n   a\n\n",
-        f":2: {NO_SECRET} (",
+    "a vault": Content(content=sealed("old", b"\x00\xff", "prod"), line=first_line("prod"), shown=b"\x00\xff", told=""),
+    "a vault without a label": Content(content=sealed("old", b"1"), line=first_line("default"), shown=b"1", told=""),
+    "blocks": Content(content=BLOCKS, line=line_of_values(2), shown=SHOWN, told=""),
+    "a list": Content(
+        content=b"a:\n- " + block("old", b"one", name=""),
+        line=line_of_values(1),
+        shown=b"a:\n- !vault |-\n  one\n",
+        told="",
     ),
-    "another vault": (sealed("dev"), NOT_DECRYPTED, sealed("dev"), f": {NO_SECRET} (label default; tried "),
-    "a malformed header": (
-        MALFORMED,
-        NOT_DECRYPTED,
-        MALFORMED,
-        ": shown as it is: it is damaged: vault header line is malformed",
+    "two blocks": Content(
+        content=OTHER + block("old", b" a\n\n"),
+        line=line_of_values(2),
+        shown=OTHER + b"secret: !vault |2+\n   a\n\n",
+        told=f":2: {NO_SECRET} (",
     ),
-    "a conflict": (SIDES, first_line("default"), MERGED, ""),
-    "a conflict that does not end": (SIDES + b"<<<<<<< a\n", line_of_values(2), SIDES_SHOWN + b"<<<<<<< a\n", ""),
-    "plaintext": (TEXT, NOT_ENCRYPTED, TEXT, NO_VAULT),
-    "a tagged plaintext": (TAGGED, NOT_ENCRYPTED, TAGGED, ""),
-    "what is too deep": (DEEP, NOT_DECRYPTED, DEEP, f": shown as it is: {TOO_DEEP}"),
-    "a block above it": (
-        block("old", b"one") + DEEP,
-        line_of_values(1),
-        b"secret: !vault |\n          one\n" + DEEP,
-        f": some of its values may be shown as they are: {TOO_DEEP}",
+    "another vault": Content(
+        content=sealed("dev"), line=NOT_DECRYPTED, shown=sealed("dev"), told=f": {NO_SECRET} (label default; tried "
     ),
-    "nothing": (b"", NOT_ENCRYPTED, b"", NO_VAULT),
+    "a malformed header": Content(
+        content=MALFORMED,
+        line=NOT_DECRYPTED,
+        shown=MALFORMED,
+        told=": shown as it is: it is damaged: vault header line is malformed",
+    ),
+    "a conflict": Content(content=SIDES, line=first_line("default"), shown=MERGED, told=""),
+    "a conflict that does not end": Content(
+        content=SIDES + b"<<<<<<< a\n", line=line_of_values(2), shown=SIDES_SHOWN + b"<<<<<<< a\n", told=""
+    ),
+    "plaintext": Content(content=TEXT, line=NOT_ENCRYPTED, shown=TEXT, told=NO_VAULT),
+    "a tagged plaintext": Content(content=TAGGED, line=NOT_ENCRYPTED, shown=TAGGED, told=""),
+    "what is too deep": Content(content=DEEP, line=NOT_DECRYPTED, shown=DEEP, told=f": shown as it is: {TOO_DEEP}"),
+    "a block above it": Content(
+        content=block("old", b"one") + DEEP,
+        line=line_of_values(1),
+        shown=b"secret: !vault |\n          one\n" + DEEP,
+        told=f": some of its values may be shown as they are: {TOO_DEEP}",
+    ),
+    "nothing": Content(content=b"", line=NOT_ENCRYPTED, shown=b"", told=NO_VAULT),
 }
 
 

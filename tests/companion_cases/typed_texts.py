@@ -1,4 +1,5 @@
 """Texts that are typed at the terminal, to encrypt or decrypt them."""
+from typing import NamedTuple
 
 import pytest
 
@@ -14,16 +15,29 @@ READY = f"{READING}\r\n"
 BOTH = "> /dev/tty 2>&1"
 OUTPUT, ERRORS = "> /dev/tty", "> ../shown 2> /dev/tty"
 END = b"\x04\x04"
-# Command lines that read standard input, what is typed, and what follows it.
+
+
+class Typed(NamedTuple):
+    """A command line that reads standard input, what is typed, and what follows it."""
+
+    line: str
+    typed: bytes
+    follows: str
+
+
 TYPED = [
-    (f"encrypt_string {OLD} --stdin-name q", b"xyz", "q: !vault |\n"),
-    (f"encrypt_string {OLD} --stdin-name q", b"one\nxyz", "q: !vault |\n"),
-    (f"encrypt_string {OLD} -", b"xyz", "!vault |\n"),
-    (f"encrypt_string {OLD} -n r word --stdin-name q", b"xyz", "# Value 1 is the variable q, from standard input.\n"),
-    (f"encrypt {OLD}", b"xyz", "$ANSIBLE_VAULT;1.1;AES256\n"),
-    (f"encrypt {OLD} -", b"xyz", "$ANSIBLE_VAULT;1.1;AES256\n"),
-    (f"view {OLD}", sealed("old")[:-1], TEXT.decode()),
-    (f"rekey {OLD} {NEW}", sealed("old")[:-1], "$ANSIBLE_VAULT;1.1;AES256\n"),
+    Typed(line=f"encrypt_string {OLD} --stdin-name q", typed=b"xyz", follows="q: !vault |\n"),
+    Typed(line=f"encrypt_string {OLD} --stdin-name q", typed=b"one\nxyz", follows="q: !vault |\n"),
+    Typed(line=f"encrypt_string {OLD} -", typed=b"xyz", follows="!vault |\n"),
+    Typed(
+        line=f"encrypt_string {OLD} -n r word --stdin-name q",
+        typed=b"xyz",
+        follows="# Value 1 is the variable q, from standard input.\n",
+    ),
+    Typed(line=f"encrypt {OLD}", typed=b"xyz", follows="$ANSIBLE_VAULT;1.1;AES256\n"),
+    Typed(line=f"encrypt {OLD} -", typed=b"xyz", follows="$ANSIBLE_VAULT;1.1;AES256\n"),
+    Typed(line=f"view {OLD}", typed=sealed("old")[:-1], follows=TEXT.decode()),
+    Typed(line=f"rekey {OLD} {NEW}", typed=sealed("old")[:-1], follows="$ANSIBLE_VAULT;1.1;AES256\n"),
 ]
 
 

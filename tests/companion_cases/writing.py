@@ -3,6 +3,7 @@
 import errno
 import os
 import re
+from typing import NamedTuple
 
 import pytest
 
@@ -42,14 +43,25 @@ def test_syncs(place: Place, subtests: SubTests) -> None:
             assert list_steps(lines, steps) == wanted, "the steps of the run"
 
 
-# What a call of the system does, and why the run is refused.
+class System(NamedTuple):
+    """A call of the system, what it does, and why the run is refused, if it is."""
+
+    call: str
+    what: str
+    why: str
+
+
 SYSTEMS = {
     # The system gives the new file these attributes. The user may lack the right to set or remove them.
-    "labels of security modules": ("listxattr", "return ['security.selinux']", ""),
-    "no attributes": ("listxattr", f"raise OSError({errno.ENOTSUP}, 'no attributes')", ""),
-    "attributes that cannot be read": ("listxattr", f"raise OSError({errno.EIO}, 'broken')", "broken"),
-    "owners that cannot even be kept": ("fchown", "raise PermissionError(1, 'no owners')", ""),
-    "no syncs of directories": ("fsync", f"if os.path.isdir(_[0]): raise OSError({errno.EINVAL}, '')", ""),
+    "labels of security modules": System(call="listxattr", what="return ['security.selinux']", why=""),
+    "no attributes": System(call="listxattr", what=f"raise OSError({errno.ENOTSUP}, 'no attributes')", why=""),
+    "attributes that cannot be read": System(
+        call="listxattr", what=f"raise OSError({errno.EIO}, 'broken')", why="broken"
+    ),
+    "owners that cannot even be kept": System(call="fchown", what="raise PermissionError(1, 'no owners')", why=""),
+    "no syncs of directories": System(
+        call="fsync", what=f"if os.path.isdir(_[0]): raise OSError({errno.EINVAL}, '')", why=""
+    ),
 }
 
 
