@@ -22,7 +22,7 @@ YES = b"yes\n"
 
 
 class End(NamedTuple):
-    """What the editor does when it opens again, what is typed at each question, the status, and a part of what is said."""
+    """What the editor does when it opens again, what is typed at each question, the status, and part of the message."""
 
     later: str
     typed: list[bytes]

@@ -253,7 +253,7 @@ NO_YAML = "printf '%s\\n' 'c: !vault \"more' >> \"$1\""
 
 
 class Secrets(NamedTuple):
-    """A file, a second secret, more options, and how the text is kept: of several passwords, none may read all of it."""
+    """A file, a second secret, more options, and how it is kept: of several passwords, none may read all of it."""
 
     content: bytes
     second: tuple[str, str]

@@ -153,7 +153,7 @@ def test_groups(tmp_path: Path, mode: int, group: str) -> None:
 
 
 class Kind(NamedTuple):
-    """A directory's owner and mode, and whether plaintext and copies are put there, and into one of the user's below."""
+    """A directory's owner and mode, and whether plaintext and copies are put there, and into the user's own below."""
 
     owner: int
     mode: int

@@ -150,8 +150,7 @@ def test_chosen_label(
     assert place.mode("vars.yml") == ("0o600" if content is None else "0o644")
 
 
-# The standard input, the options and the file, and why the edit is refused. Most paths are refused before anything is
-# read.
+# Most paths are refused before anything is read.
 NEVER = "<> ../never"
 
 
