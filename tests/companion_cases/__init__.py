@@ -211,7 +211,8 @@ def ended(what: str, done: Done, status: int, *parts: str) -> None:
     """Check the status, and that each part is printed, on either stream."""
     output = done.stdout + done.stderr
     missing = [part for part in parts if part not in output]
-    assert (done.returncode, missing) == (status, []), (what, output)
+    assert missing == [], f"{what}: it does not print this, but {output}"
+    assert done.returncode == status, f"{what}: its status; it prints {output}"
 
 
 def check_answer(what: str, done: Done, status: int = 0, output: str | None = "", errors: str = "") -> None:
