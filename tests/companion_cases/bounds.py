@@ -64,11 +64,11 @@ def test_longest_path(place: Place, size: int, why: str) -> None:
     place.put("a.yml", BLOCK + b"%b:\n  %b:\n    %b" % (key, key, block("old", name="k" * (size - 2_000))))
     place.shell("git init -q && git add a.yml")
     place.environment["EDITOR"] = place.script('echo "# x" >> "$1"', "editor")
-    expected = (int(bool(why)), *([why] if why else []))
-    ended("the hook", place.run(HOOK), *expected)
-    ended("the check", place.run(CHECK, *place.by_file("old"), "a.yml"), *expected)
-    ended("a value", place.run(TEXTCONV, "--value", "secret", *place.by_file("old"), "a.yml"), *expected)
-    ended("the edit", place.run(EDIT, *place.by_file("old"), "a.yml"), *expected)
+    status = 1 if why else 0
+    ended("the hook", place.run(HOOK), status, why)
+    ended("the check", place.run(CHECK, *place.by_file("old"), "a.yml"), status, why)
+    ended("a value", place.run(TEXTCONV, "--value", "secret", *place.by_file("old"), "a.yml"), status, why)
+    ended("the edit", place.run(EDIT, *place.by_file("old"), "a.yml"), status, why)
 
 
 @pytest.mark.parametrize("depth", [2, 60])

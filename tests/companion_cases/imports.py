@@ -4,12 +4,14 @@ Most of a start is imports, and git starts some companions for each version of a
 """
 
 import sys
+from collections import Counter
 
 import pytest
 
 from companion_cases import CHECK, EDIT, HOOK, MERGE, ROTATE, TEXTCONV, WITH, Place, block, sealed
 from companion_cases.repository import BASE, OURS, THEIRS, add_and_commit, under_git
 from lib.needs import needs, needs_pyyaml
+from lib.paths import ROOT
 
 OWN = "ansible_vault_companions."
 # Modules of others that take a millisecond or more.
@@ -26,9 +28,9 @@ def own(package: str, names: str) -> set[str]:
 
 # What every companion imports.
 START = own("", "exit_status limits output parsers processes quoting refusals signals startup")
-START |= own("files", "link_bounds") | own("passwords", "paths settings") | {"argparse"}
+START |= own("files", "link_bounds") | own("passwords", "path_expansion settings") | {"argparse"}
 # What takes passwords, and what gives them to the program.
-PASSWORDS = own("passwords", "labels loading options password prompts scripts sources unusable")
+PASSWORDS = own("passwords", "labels loading options password prompts scripts sources unusable_passwords")
 TOOL = own("", "tool") | own("files", "reading")
 # What reads YAML; and what does without PyYAML or processes if it can.
 YAML = own("", "bounding") | {"json", "typing"}
@@ -59,7 +61,7 @@ RUNS = {
     f"{TEXTCONV} {OLD} values.yml": SHOWING_VALUES | PARSER | WORKERS,
     f"{WITH} view {OLD} vault.yml": START
     | PASSWORDS
-    | own("alias", "command_line password_choice paths standard_input takeover")
+    | own("alias", "command_line file_paths password_choice standard_input takeover")
     | own("envelopes", "header pointers")
     | own("files", "reading"),
     f"{CHECK} {OLD} .": BATCH
@@ -78,7 +80,7 @@ RUNS = {
     | own("editing", "private_directory rescue_copies saved_text single_value typed_tags vault_draft yaml_draft")
     | own("git", "pathspecs repository")
     | own("merging", "unmerged_file")
-    | own("passwords", "none_named")
+    | own("passwords", "no_password")
     | {"dataclasses"},
     f"{MERGE} {OLD} base.yml vault.yml theirs.yml vault.yml": START
     | PASSWORDS
@@ -100,6 +102,14 @@ RUNS = {
     | own("guard", "removed_values removed_vaults review rules successor_rule tag_rule unreadable_rule")
     | own("guard", "value_rule vault_rule vault_texts"),
 }
+
+
+def test_names_of_modules() -> None:
+    """A name leads to one module, whatever its package is."""
+    modules = (ROOT / "companions").rglob("[!_]*.py")
+    numbers = Counter(module.stem for module in modules)
+    assert len(numbers) > 100, "the modules are found"
+    assert [name for name, number in numbers.items() if number > 1] == []
 
 
 def list_imports(place: Place, *words: str) -> set[str]:

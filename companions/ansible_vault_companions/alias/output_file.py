@@ -9,7 +9,7 @@ from functools import partial
 
 from ansible_vault_companions import exit_status, output
 from ansible_vault_companions.alias.command_line import DECRYPT, NAME, STANDARD_INPUT
-from ansible_vault_companions.alias.paths import STATUS_NOT_OPENED, resolve_new
+from ansible_vault_companions.alias.file_paths import STATUS_NOT_OPENED, resolve_new
 from ansible_vault_companions.files import reading
 from ansible_vault_companions.quoting import escape
 from ansible_vault_companions.refusals import Refused

@@ -8,8 +8,8 @@ from argparse import Namespace
 
 from ansible_vault_companions import processes, refusals
 from ansible_vault_companions.alias.command_line import ENCRYPT_STRING, ENCRYPTING, REKEY, STANDARD_INPUT, VIEW
+from ansible_vault_companions.alias.file_paths import require_readable, resolve_path
 from ansible_vault_companions.alias.password_choice import Call
-from ansible_vault_companions.alias.paths import require_readable, resolve_path
 from ansible_vault_companions.alias.standard_input import read_standard_input, replace_standard_input
 from ansible_vault_companions.envelopes.pointers import POINTER_START, Pointer
 from ansible_vault_companions.files import reading
@@ -39,9 +39,9 @@ def run_program(companion: str, args: Namespace) -> int:
     explains = args.command == REKEY or call.policy.switched_off and args.command not in ENCRYPTING
     if explains and len(args.arguments) < 2:
         # Imported here, since most runs replace this process, and so start faster without this module.
-        from ansible_vault_companions.alias import each_file
+        from ansible_vault_companions.alias import file_by_file
 
-        return each_file.run_to_output(companion, call, reads_input)
+        return file_by_file.run_to_output(companion, call, reads_input)
     names = [f"--name={name}" for name in getattr(args, "name", [])]
     arguments = ["--", *args.arguments] if args.arguments else []
     passwords = [password.descriptor for password in (*call.passwords, *call.new)]

@@ -12,7 +12,7 @@ from contextlib import suppress
 from ansible_vault_companions.files import link_bounds
 from ansible_vault_companions.git import merge_driver
 from ansible_vault_companions.git.commands import read_line, run_git
-from ansible_vault_companions.passwords.paths import expand_path
+from ansible_vault_companions.passwords.path_expansion import expand_path
 from ansible_vault_companions.quoting import escape, quote_word
 from ansible_vault_companions.refusals import Refused
 

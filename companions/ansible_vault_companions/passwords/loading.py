@@ -10,7 +10,7 @@ from ansible_vault_companions.limits import LONGEST_PASSWORD
 from ansible_vault_companions.passwords import prompts, scripts
 from ansible_vault_companions.passwords.labels import is_allowed
 from ansible_vault_companions.passwords.password import Password
-from ansible_vault_companions.passwords.paths import expand_path
+from ansible_vault_companions.passwords.path_expansion import expand_path
 from ansible_vault_companions.passwords.prompts import Asking, NoAnswer
 from ansible_vault_companions.passwords.sources import ASK_ID, Source, parse_vault_id
 from ansible_vault_companions.refusals import Refused, describe_fault

@@ -19,7 +19,7 @@ from ansible_vault_companions.passwords.sources import (
     make_path_source,
     parse_vault_id,
 )
-from ansible_vault_companions.passwords.unusable import read_passwords
+from ansible_vault_companions.passwords.unusable_passwords import read_passwords
 
 ANY_LABEL_HELP = "accept a password whose label differs from the vault's"
 
@@ -77,7 +77,7 @@ def load_named(
         passwords = read_passwords(companion, sources, asking, skips)
     else:
         # Most runs do not need this module.
-        from ansible_vault_companions.passwords.none_named import ask_or_refuse
+        from ansible_vault_companions.passwords.no_password import ask_or_refuse
 
         passwords = [ask_or_refuse(args, asking, parser)]
     requires_match = getattr(args, "require_id_match", False)

@@ -14,7 +14,7 @@ from collections.abc import Callable
 
 from ansible_vault_companions.files import link_bounds
 from ansible_vault_companions.limits import LONGEST_SETTING, LONGEST_SETTINGS, LONGEST_VALUE, TooMuch
-from ansible_vault_companions.passwords.paths import CURRENT, expand_path, is_absolute
+from ansible_vault_companions.passwords.path_expansion import CURRENT, expand_path, is_absolute
 from ansible_vault_companions.quoting import escape
 from ansible_vault_companions.refusals import Refused, describe_refusal
 

@@ -8,8 +8,8 @@ from argparse import Namespace
 from ansible_vault_companions import processes
 from ansible_vault_companions.alias import command_line
 from ansible_vault_companions.alias.command_line import CREATE, EDIT
-from ansible_vault_companions.alias.paths import require_readable, resolve_new
-from ansible_vault_companions.passwords import none_named, options
+from ansible_vault_companions.alias.file_paths import require_readable, resolve_new
+from ansible_vault_companions.passwords import no_password, options
 from ansible_vault_companions.quoting import escape
 from ansible_vault_companions.refusals import Refused
 
@@ -30,7 +30,7 @@ def run_edit_program(companion: str, args: Namespace) -> NoReturn:
         raise Refused(f"there is no {EDIT_PROGRAM} beside this program; install it")
     for file in args.arguments:
         _require_fitting(args.command, file)
-    words = [none_named.ASK_IF_NONE, *options.repeat_options(args), *command_line.list_passed_on(args)]
+    words = [no_password.ASK_IF_NONE, *options.repeat_options(args), *command_line.list_passed_on(args)]
     if args.command == CREATE:
         words.append(ALLOW_EMPTY)
     # To ansible-vault-edit, a word that begins with a dash may be an option.
