@@ -16,7 +16,7 @@ PW, PW2 = block("old", name="pw"), block("new", name="pw")
 OURS = b"pw: of ours\n"
 THEIRS = b"pw: of theirs\n"
 OWN = b"pw: of the merge\n"
-X, Y = b"x: 1\n", b"x: 2\n"
+X, Y = b"x: first\n", b"x: second\n"
 NO_LINES = b"# lines\n"
 Files = dict[str, bytes]
 
@@ -40,8 +40,8 @@ KINDS = {
     ),
     "ansible-vault-plain=pw": Contents(
         base=[PW + X, X],
-        ours=[PW + X, PW2 + Y],
-        theirs=[PW + X, X, THEIRS + X],
+        ours=[PW + X, PW2 + Y, X],
+        theirs=[PW + X, X, THEIRS + X, THEIRS + Y],
         merged=[each + x for each in (PW2, OURS, THEIRS, OWN) for x in (X, Y)],
     ),
 }

@@ -47,7 +47,7 @@ def list_losable_values(evidence: Evidence, file: File) -> frozenset[str]:
     if not names:
         return names
     for other, own in evidence.list_merged(file):
-        versions = [evidence.before[file], other.find_facts(own.before, needs_plain=True)]
+        versions = [evidence.find_facts(file.before, needs_plain=True), other.find_facts(own.before, needs_plain=True)]
         if has_other_text(evidence.now[file], versions):
             names &= _list_added_values(other, own)
     return names
