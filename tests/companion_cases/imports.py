@@ -97,7 +97,7 @@ RUNS = {
     | own("files", "leftovers reading")
     | own("git", "attributes blobs commands current_repository differences history index_files indexes installing")
     | own("git", "links merge_driver pathspecs repository servers snapshots trees versions")
-    | own("guard", "advice byte_order_mark_rule comparison copy_rule damage_rule evidence exemptions facts")
+    | own("guard", "advice byte_order_mark_rule comparison copy_rule damage_rule evidence exemptions facts file_names")
     | own("guard", "followed_links key_names leftover_rule list_items marked_file_rule placeholders pointer_rule")
     | own("guard", "removed_values removed_vaults review rules successor_rule tag_rule unreadable_rule")
     | own("guard", "value_rule vault_rule vault_texts"),

@@ -8,7 +8,7 @@ from ansible_vault_companions.git.differences import File
 from ansible_vault_companions.guard import exemptions
 from ansible_vault_companions.guard.advice import Fault
 from ansible_vault_companions.guard.evidence import Evidence
-from ansible_vault_companions.guard.removed_vaults import READ_ALIKE, is_read, list_stems
+from ansible_vault_companions.guard.file_names import READ_ALIKE, is_read, list_stems
 from ansible_vault_companions.guard.vault_texts import may_be_text_of
 from ansible_vault_companions.quoting import escape
 

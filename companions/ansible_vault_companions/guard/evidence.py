@@ -93,21 +93,13 @@ class Evidence:
     @cached_property
     def removed_vaults(self) -> RemovedVaults:
         before, now = self.before, self.now
-        removed = [self._measure_text(file, file.before) for file in before if before[file].is_vault and not file.blob]
-        if not removed:
+        vaults = [file for file in before if before[file].is_vault and not file.blob]
+        if not vaults:
             return RemovedVaults([], [], [])
+        removed = [Text(file.name, self.measure_padded(file.before)) for file in vaults]
         new = [file.name for file in now if now[file].is_vault and not before[file].is_vault]
         others = [file.name for file in now if file.blob and not file.before and not now[file].is_vault]
         return RemovedVaults(removed, new, others)
-
-    def find_replaced_vault(self, file: File) -> bytes | None:
-        """The removed vault whose place a new file takes."""
-        if file.before or not self.removed_vaults.left_at:
-            return None
-        return self.removed_vaults.find_replaced(self._measure_text(file, file.blob))
-
-    def _measure_text(self, file: File, blob: str) -> Text:
-        return Text(file.name, self.measure_padded(blob))
 
     @cached_property
     def merged(self) -> list[Evidence]:

@@ -6,7 +6,7 @@ from ansible_vault_companions.git.differences import File
 from ansible_vault_companions.guard import exemptions
 from ansible_vault_companions.guard.advice import Fault
 from ansible_vault_companions.guard.evidence import Evidence
-from ansible_vault_companions.guard.removed_vaults import is_read
+from ansible_vault_companions.guard.file_names import is_read
 
 WAS_VAULT = "is not a vault, but was one{}"
 
