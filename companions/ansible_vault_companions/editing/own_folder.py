@@ -1,4 +1,4 @@
-"""Which directory is the user's own, so that nobody else can read or exchange what is in it, such as plaintext."""
+"""Which directory is the user's own, and which is open to others, who could read or exchange what is in it."""
 
 from __future__ import annotations
 

@@ -1,4 +1,5 @@
-"""Which password and label the result of a merge gets: those that both sides have in common, else the chosen ones."""
+"""Which password and label the result of a merge gets: those of both sides, or the new ones if one side alone rotated to
+another password with the same labels; else the chosen ones."""
 
 from __future__ import annotations
 
@@ -15,8 +16,8 @@ VersionKeys = AbstractSet[Optional[Key]]
 
 
 def choose_vault_key(ours: Key, base: VersionKeys, theirs: Key, chosen: Key | None) -> Key:
-    """The key of a merged vault. Refuses sides without a common one, if none is chosen."""
-    key = _find_common_key({ours}, base, {theirs}) or chosen
+    """The key of a merged vault. Refuses sides that do not agree on one, if none is chosen."""
+    key = _find_agreed_key({ours}, base, {theirs}) or chosen
     if key:
         return key
     if ours.label == theirs.label:
@@ -29,13 +30,13 @@ def choose_value_key(
 ) -> Key | None:
     """The key of the merged values with a label; None if each keeps its own. Unlike a vault, a value keeps its label,
     so the chosen key is only for those with its label."""
-    key = _find_common_key(ours, base, theirs)
+    key = _find_agreed_key(ours, base, theirs)
     if key is None and chosen and chosen.label == label and ours != theirs:
         return chosen
     return key
 
 
-def _find_common_key(ours: VersionKeys, base: VersionKeys, theirs: VersionKeys) -> Key | None:
+def _find_agreed_key(ours: VersionKeys, base: VersionKeys, theirs: VersionKeys) -> Key | None:
     """The key of both sides; or, if one side alone changed it to another with the same labels, the new one."""
     if base == theirs or ours == theirs:
         new = ours
@@ -43,5 +44,6 @@ def _find_common_key(ours: VersionKeys, base: VersionKeys, theirs: VersionKeys) 
         new = theirs
     else:
         return None
-    of_both = {key and (key.password.label, key.label) for key in ours | theirs}
-    return next(iter(new)) if len(ours) == len(theirs) == len(of_both) == 1 else None
+    labels = {(key.password.label, key.label) for key in ours | theirs if key}
+    has_one_key_each = len(ours) == len(theirs) == 1 and None not in ours | theirs
+    return next(iter(new)) if has_one_key_each and len(labels) == 1 else None
