@@ -117,7 +117,7 @@ def test_most_keys(place: Place, items: int, why: str) -> None:
 def test_keys_of_sides(place: Place) -> None:
     """What is between git's conflict markers and around them counts for each side."""
     place.environment["EDITOR"] = place.script('echo "# x" >> "$1"', "editor")
-    text = BLOCK + b"x: [%s]\n" % (b"~," * 170_000)
+    text = BLOCK + b"x: %s%s%s\n" % (b"[" * 10, b"~," * 42_500, b"]" * 10)
     place.put("a.yml", text)
     ended("the edit", place.run(EDIT, *place.by_file("old"), "a.yml"), 0)
     place.put("a.yml", b"<<<<<<< ours\ny: 1\n=======\ny: 2\n>>>>>>> theirs\n" + text)
@@ -126,11 +126,11 @@ def test_keys_of_sides(place: Place) -> None:
 
 # A clock that is looked at twice for each reading, and the limits that it leads to.
 CLOCK = """
-import itertools, types
+import itertools, time, types
 from ansible_vault_companions import bounding
 
 looks = itertools.count()
-bounding.time = types.SimpleNamespace(thread_time=lambda: next(looks) * {})
+bounding.time = types.SimpleNamespace(clock_gettime=time.clock_gettime, thread_time=lambda: next(looks) * {})
 # The timer would look as well.
 bounding.INTERVAL = 100
 limit = bounding._limit_time

@@ -393,19 +393,19 @@ def test_later_edits(place: Place) -> None:
 @pytest.mark.parametrize("number", (1, 2))
 def test_time_of_an_edit(place: Place, number: int) -> None:
     """What was saved is parsed for a limited time, though signals are postponed, and so is what is to be written."""
-    place.put("vars.yml", block("old") + b"x: [%s]\n" % b", ".join([b"1"] * 100_000))
+    place.put("vars.yml", block("old") + b"x: [%s]\n" % b", ".join([b"1"] * 20_000))
     # The editor has saved before a time limit that nothing meets applies.
     change = f"""
 from ansible_vault_companions import bounding
-limited = bounding._limit_thread_time
+limited = bounding._limit_time
 number = 0
 
-def limit_less(seconds):
+def limit_less(measure, seconds, text):
     global number
     number += os.path.exists("../saved")
-    return limited(1e-6 if number == {number} else seconds)
+    return limited(measure, 1e-6 if number == {number} else seconds, text)
 
-bounding._limit_thread_time = limit_less
+bounding._limit_time = limit_less
 """
     editor = place.script('echo "a: !vault more" >> "$1"; : > ../saved', "editor")
     done = run_changed(place, EDIT, change, [*place.by_file("old"), "vars.yml"], EDITOR=editor)
@@ -488,9 +488,10 @@ from ansible_vault_companions.bounding import _signal
 start = _signal.setitimer
 
 def start_and_end(timer, seconds, *interval):
-    start(timer, seconds, *interval)
+    before = start(timer, seconds, *interval)
     if seconds:
         os.kill(os.getpid(), signal.SIGPROF)
+    return before
 
 _signal.setitimer = start_and_end
 """
