@@ -2,10 +2,12 @@
 
 import os
 import shlex
+from typing import NamedTuple
 
 import pytest
 
-from companion_cases import HOOK, MERGE, ROTATE, TEXT, TEXTCONV, Place, ended, run_changed, sealed, silent
+from companion_cases import HOOK, MERGE, ROTATE, TEXT, TEXTCONV, Place, ended, run_changed, sealed, silent, summary
+from companion_cases import check_answer, to_new
 from companion_cases.repository import BASE, OURS, THEIRS, add_and_commit, fork, told, under_git
 
 pytestmark = pytest.mark.usefixtures("git")
@@ -14,6 +16,7 @@ ATTRIBUTES = "*.vault.yml diff=ansible-vault merge=ansible-vault\n"
 NAMES = ["pre-commit", "pre-merge-commit"]
 OR_ELSE = '|| { [ "$?" -eq 128 ] || git merge-file -q %A %O %B; exit 1; }'
 DIFF, DRIVER = SETTINGS = ["diff.ansible-vault.textconv", "merge.ansible-vault.driver"]
+NOT_IN_GIT = "git diff in this clone lacks the new password: name it to ansible-vault-hook --install, too\n"
 
 
 @pytest.mark.parametrize("file", ["", ".git/config", "../settings"])
@@ -81,8 +84,56 @@ def test_rotation(place: Place, names: list[str], lacks: bool) -> None:
         "another, with nothing to do": place.run(*line),
     }
     for what, done in runs.items():
-        is_said = "git diff in this clone lacks the new password" in done.stdout
-        assert is_said == (lacks and what == "a rotation"), what
+        assert (NOT_IN_GIT in done.stdout) == (lacks and what == "a rotation"), what
+
+
+class Words(NamedTuple):
+    """What follows the program in git's setting, and whether git diff then lacks the new password."""
+
+    words: str
+    lacks: bool
+
+
+WORDS = {
+    "a home directory": Words("--vault-id 'prod@~/secrets/new'", lacks=False),
+    "a variable": Words("--vault-id='$HOME/secrets/new'", lacks=False),
+    "another spelling": Words("--vault-pass-file {secrets}/../secrets/new", lacks=False),
+    "a path from the top": Words("--vault-password-file=../secrets/new", lacks=False),
+    "a link": Words("--vault-id {secrets}/link", lacks=False),
+    "beside another": Words("--vault-id=~nobody-has-this-name/new --vault-id={secrets}/new", lacks=False),
+    "a longer name": Words("--vault-id prod@{secrets}/new.old", lacks=True),
+    "a label": Words("--vault-id {secrets}/new@{secrets}/old", lacks=True),
+    "another option": Words("--value {secrets}/new", lacks=True),
+    "a missing file": Words("--vault-id {secrets}/none", lacks=True),
+    "no home directory": Words("--vault-id=~nobody-has-this-name/new", lacks=True),
+    "a prompt": Words("--vault-id prompt", lacks=True),
+    "an open quote": Words("--vault-id {secrets}/new '", lacks=True),
+    "a missing value": Words("--vault-id {secrets}/new --vault-id", lacks=True),
+    "help": Words("--help", lacks=True),
+}
+
+
+@pytest.mark.parametrize("words, lacks", WORDS.values(), ids=WORDS)
+def test_setting_in_other_words(place: Place, words: str, lacks: bool) -> None:
+    """What counts is the file that an option of the setting leads to, not how its path is written."""
+    under_git(place, ATTRIBUTES)
+    place.put("inner/a.vault.yml", sealed("old"))
+    (place.secrets / "new.old").symlink_to("old")
+    for link in (place.secrets / "link", place.tree / "prompt"):
+        link.symlink_to(place.secret("new"))
+    place.run("git", "config", DIFF, f"{TEXTCONV} {words.format(secrets=place.secrets)}")
+    done = place.run(ROTATE, *to_new(place), ".", folder="inner")
+    last = NOT_IN_GIT if lacks else ""
+    check_answer("the rotation", done, output=f"./a.vault.yml: rotated\n{summary(1)}\n{last}")
+
+
+def test_new_password_without_a_file(place: Place) -> None:
+    """A new password whose file is gone after the rotation is in no setting, even if the setting's is gone, too."""
+    under_git(place, ATTRIBUTES)
+    place.put("a.vault.yml", sealed("old"))
+    place.run("git", "config", DIFF, f"{TEXTCONV} --vault-id none")
+    place.wrap_tool("rm -f ../secrets/new")
+    ended("the rotation", place.run(ROTATE, *to_new(place), "."), 0, f"{summary(1)}\n{NOT_IN_GIT}")
 
 
 def test_links(place: Place) -> None:

@@ -68,7 +68,9 @@ RUNS = {
     | own("batch", "checking")
     | own("envelopes", "conflicts damage")
     | own("git", "attributes commands pathspecs repository servers"),
-    f"{ROTATE} {OLD} {NEW} .": BATCH | own("batch", "rotation") | own("git", "commands installing merge_driver"),
+    f"{ROTATE} {OLD} {NEW} .": BATCH
+    | own("batch", "rotation")
+    | own("git", "commands current_repository installing merge_driver repository textconv_passwords"),
     f"{EDIT} {OLD} vault.yml": START
     | PASSWORDS
     | TOOL

@@ -12,7 +12,6 @@ from contextlib import suppress
 from ansible_vault_companions.files import link_bounds
 from ansible_vault_companions.git import merge_driver
 from ansible_vault_companions.git.commands import read_line, run_git
-from ansible_vault_companions.passwords.path_expansion import expand_path
 from ansible_vault_companions.quoting import escape, quote_word
 from ansible_vault_companions.refusals import Refused
 
@@ -85,13 +84,6 @@ def make_setting(setting: str, program: str, passwords: list[str]) -> str:
 def read_setting(setting: str, *options: str) -> str:
     """The value of a setting; empty if it is not set. Without a default, git would have the status of a failure."""
     return read_line("config", *options, "--default", "", "--get", setting)
-
-
-def lacks_passwords(paths: list[str]) -> bool:
-    """Whether `git diff` is set up in this clone, but without one of these password files."""
-    value = read_setting(TEXTCONV)
-    is_set = SETTINGS[TEXTCONV][0] in value
-    return is_set and not all(path in value or expand_path(path) in value for path in paths)
 
 
 def install_setting(setting: str, value: str) -> str:

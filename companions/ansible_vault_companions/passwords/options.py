@@ -86,17 +86,17 @@ def load_named(
 
 def load_new_passwords(args: argparse.Namespace, reads_lines: bool = False) -> list[Password]:
     """The new passwords from a command line."""
-    return [loading.load_password(source, Asking(True, reads_lines)) for source in _list_new_sources(args)]
+    sources = _parse_sources(args.new_vault_id, args.new_vault_password_file)
+    return [loading.load_password(source, Asking(True, reads_lines)) for source in sources]
 
 
-def list_new_files(args: argparse.Namespace) -> list[str]:
-    """The paths of the files that have the new passwords, as they were written."""
-    return [source.place for source in _list_new_sources(args) if not source.is_prompt]
+def list_files(ids: list[str], paths: list[str]) -> list[str]:
+    """The paths of the password files that the values of these options name, as they were written."""
+    return [source.place for source in _parse_sources(ids, paths) if not source.is_prompt]
 
 
-def _list_new_sources(args: argparse.Namespace) -> list[Source]:
-    sources = [parse_vault_id(text) for text in args.new_vault_id]
-    return sources + [make_path_source(path) for path in args.new_vault_password_file]
+def _parse_sources(ids: list[str], paths: list[str]) -> list[Source]:
+    return [*(parse_vault_id(text) for text in ids), *(make_path_source(path) for path in paths)]
 
 
 def repeat_options(args: argparse.Namespace) -> list[str]:
