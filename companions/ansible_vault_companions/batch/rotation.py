@@ -7,6 +7,7 @@ differ. Nothing is decrypted again.
 from __future__ import annotations
 
 import os
+from contextlib import suppress
 from dataclasses import dataclass
 
 from ansible_vault_companions.batch.each_envelope import Work
@@ -17,11 +18,13 @@ from ansible_vault_companions.envelopes.content import Content, parse_envelopes
 from ansible_vault_companions.envelopes.node import Node
 from ansible_vault_companions.files import replacing
 from ansible_vault_companions.files.searching import FoundFile
+from ansible_vault_companions.git.textconv_passwords import textconv_lacks
 from ansible_vault_companions.passwords.password import Password
 from ansible_vault_companions.quoting import escape
 from ansible_vault_companions.refusals import Refused
 from ansible_vault_companions.tool import DAMAGED, Decryption, Key, NotDecrypted
 
+NOT_IN_GIT = "git diff in this clone lacks the new password: name it to ansible-vault-hook --install, too"
 # A placeholder for the new envelope in a dry run.
 DRY = b"$ANSIBLE_VAULT;1.1;AES256\n%s\n" % (b"61" * 16)
 
@@ -115,8 +118,18 @@ class Rotation(Work):
         return self.change_envelopes(text, place.path, report, outer=place)
 
 
-def summarize(total: Total, is_dry: bool) -> str:
-    """The last line that ansible-vault-rotate prints."""
+def list_summary(total: Total, is_dry: bool, new_files: list[str]) -> list[str]:
+    """The last lines that ansible-vault-rotate prints: the counts, and whether `git diff` lacks one of the new password
+    files, if something was rotated."""
+    lines = [_describe_counts(total, is_dry)]
+    # The rotation is done, even if git cannot be asked.
+    with suppress(Refused, OSError):
+        if total.counts[ROTATED] and textconv_lacks(new_files):
+            lines.append(NOT_IN_GIT)
+    return lines
+
+
+def _describe_counts(total: Total, is_dry: bool) -> str:
     counts = total.counts
     done = f"{counts[TO_BE_ROTATED]} to be rotated" if is_dry else f"{counts[ROTATED]} rotated"
     kept = f"{counts[KEPT]} already under the new password"
