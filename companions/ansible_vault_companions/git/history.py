@@ -1,4 +1,4 @@
-"""Finds commits by their names."""
+"""Commits: by their names, their parents, and those between two."""
 
 from __future__ import annotations
 
@@ -16,10 +16,14 @@ TOO_MANY_PARENTS = f"{{}} has over {MOST_PARENTS} parents"
 UNAMBIGUOUS = "give a whole ID, or a whole name such as refs/remotes/origin/main"
 
 
-def find_commit(name: str) -> str:
-    """The ID of the commit with this name. Raises Refused if there is none, or if the clone lacks earlier ones."""
+def require_whole_history() -> None:
+    """Refuses a shallow clone. A partial one fails where it lacks a content, since git is asked not to fetch any."""
     if read_line("rev-parse", "--is-shallow-repository") == "true":
         raise Refused(SHALLOW)
+
+
+def find_commit(name: str) -> str:
+    """The ID of the commit with this name. Raises Refused if there is none."""
     commit = find_object("--end-of-options", f"{name}^{{commit}}")
     if not commit:
         raise Refused(f"{escape(name)} is not a commit in this clone; if others have it, run `git fetch`")

@@ -80,6 +80,7 @@ def review_since(review: Review, name: str) -> None:
     """Reviews each commit after this one, and what all of them change since the merge bases."""
     if not name.strip("0"):
         raise Refused(NO_COMMIT.format(name or "nothing"))
+    history.require_whole_history()
     first, last = history.find_typed_commit(name), history.find_commit("HEAD")
     commits = history.list_commits(first, last)
     with Snapshot(review.blobs) as snapshot:
@@ -97,6 +98,7 @@ def review_since(review: Review, name: str) -> None:
 
 def review_all(review: Review) -> None:
     """Reviews all files, the changes of the last commit, and every file that was a vault in an earlier commit."""
+    history.require_whole_history()
     commit = history.find_commit("HEAD")
     advise = partial(advice.write_advice, words=advice.COMMITTED)
     with Snapshot(review.blobs) as snapshot:
