@@ -64,6 +64,7 @@ DIRECTIVES_TOO_LONG = f"it has directives `%TAG` of over {LONGEST_DIRECTIVES:,} 
 TOO_MANY = f"it has over {MOST_KEYS:,} keys and texts, with those above each"
 TOO_MANY_ALIASED = f"its aliases stand for over {MOST_ALIASED:,} texts"
 TOO_MANY_VALUES = f"it has over {MOST_VALUES} values"
+TOO_MANY_DIFFER = f"its versions have over {MOST_VALUES} values that differ"
 TOO_LONG = f"it has over {LONGEST_PLAINTEXT:,} bytes"
 TOO_SLOW = "it takes over {} s of processor time"
 TOO_SLOW_TO_EDIT = f"it takes over a third of {SECONDS} s of processor time before it is even edited"
@@ -77,10 +78,10 @@ class TooMuch(Refused):
     """A file exceeds a limit."""
 
 
-def require_few_values(count: int) -> None:
-    """Refuses a file with too many values to decrypt or encrypt."""
+def require_few_values(count: int, text: str = TOO_MANY_VALUES) -> None:
+    """Refuses a file with too many values to decrypt or encrypt. One of many, by its path, needs no more than one run."""
     if count > MOST_VALUES:
-        raise TooMuch(TOO_MANY_VALUES)
+        raise TooMuch(text)
 
 
 class Effort:

@@ -15,7 +15,6 @@ from threading import Semaphore
 from typing import Any, Callable, Optional, Sequence, TypeVar
 
 from ansible_vault_companions import signals
-from ansible_vault_companions.limits import require_few_values
 from ansible_vault_companions.refusals import Refused
 
 # How many seconds to wait for the end of a thread. One that lacks memory may never begin.
@@ -111,7 +110,6 @@ class Workers:
     def share(self, work: Callable[[Item], Result], items: Sequence[Item]) -> list[Result]:
         """The results for the values of a file, each of which takes a run of ansible-vault. The caller, which may be a
         worker, does itself what no other worker has begun."""
-        require_few_values(len(items))
         others = items[1:]
         tasks = [self.begin(work, item) for item in others]
         results = [work(item) for item in items[:1]]

@@ -344,6 +344,18 @@ def test_most_values(place: Place, line: str, opened: list[str]) -> None:
         assert count == 0 and (TOO_MANY in output or name not in opened), (name, output)
 
 
+def test_most_differing_values(place: Place) -> None:
+    """In a merge, those count that differ between the versions, of which a rotation makes two of each."""
+    for count, why in ((200, ""), (201, "its versions have over 400 values that differ")):
+        runs(place, OPENING[MERGE][0], b"")
+        old = repeated("other values", count)
+        place.put("../base", old)
+        place.put("../theirs", old.replace(b"  0", b"  1"))
+        place.put("a.yml", old + b"y: 1\n")
+        done = place.shell(OPENING[MERGE][0])
+        ended("the merge", done, CONFLICT if why else 0, why)
+
+
 def test_most_typed_values(place: Place) -> None:
     """So many texts are encrypted at once. With one more, only what was saved is."""
     for count in (400, 401):

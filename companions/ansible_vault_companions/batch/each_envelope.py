@@ -9,6 +9,7 @@ from ansible_vault_companions.batch.report import FAILED, KEPT, ROTATED, TO_BE_R
 from ansible_vault_companions.envelopes.content import Content
 from ansible_vault_companions.envelopes.node import Node
 from ansible_vault_companions.files.searching import FoundFile
+from ansible_vault_companions.limits import require_few_values
 from ansible_vault_companions.passwords.labels import Policy
 from ansible_vault_companions.passwords.password import Password
 from ansible_vault_companions.refusals import Refused
@@ -65,6 +66,7 @@ class Work:
             return self._report_on(value, find_place(value, path, outer), is_prose)
 
         envelopes = content.number_envelopes()
+        require_few_values(len(envelopes))
         new: dict[int, bytes] = {}
         for number, (text, own) in zip(envelopes, self.workers.share(process, [*envelopes.values()])):
             report.add(own)

@@ -19,7 +19,7 @@ from ansible_vault_companions.envelopes.content import Content
 from ansible_vault_companions.envelopes.header import MAGIC
 from ansible_vault_companions.envelopes.layout import NOT_UTF_8, Replacement
 from ansible_vault_companions.envelopes.node import ALIAS, NO_SCALAR, PLAIN, Node
-from ansible_vault_companions.limits import Effort
+from ansible_vault_companions.limits import Effort, require_few_values
 from ansible_vault_companions.parallel import work_at_once
 from ansible_vault_companions.refusals import Refused
 from ansible_vault_companions.tool import Decrypt, Key, Tool
@@ -84,12 +84,14 @@ class YamlDraft:
         check_tags(self.shown, after)
         found = find_matches([*self.opened.values()], [*typed.values()], self.choice)
         matches = dict(zip(typed, found))
+        require_few_values(len(typed))
         envelopes = dict(zip(typed, work_at_once(lambda number: _seal(tool, typed[number], matches[number]), typed)))
         blocks = {number: self._block(text, typed[number], envelopes[number], matches[number]) for number in typed}
         blocks = {number: block for number, block in blocks.items() if block}
         return write_values(after, envelopes, blocks, effort).data
 
     def _open(self, decrypt: Decrypt) -> None:
+        require_few_values(len(self.tagged))
         results = work_at_once(lambda value: _try_to_open(value, decrypt), self.tagged.values())
         for (number, value), result in zip(self.tagged.items(), results):
             if isinstance(result, DecryptedValue):

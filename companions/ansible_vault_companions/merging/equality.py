@@ -8,6 +8,7 @@ from __future__ import annotations
 from typing import Hashable, NamedTuple, Union
 
 from ansible_vault_companions.envelopes.node import Node
+from ansible_vault_companions.limits import TOO_MANY_DIFFER, require_few_values
 from ansible_vault_companions.merging.line_merge import SIDES
 from ansible_vault_companions.merging.result_key import choose_value_key
 from ansible_vault_companions.parallel import work_at_once
@@ -51,6 +52,7 @@ class Meanings:
         """Those that not all versions have, if a password decrypts them that their labels allow."""
         texts = [{value.text for value in self.values[side]} for side in SIDES]
         differing = sorted(set[bytes]().union(*texts).difference(set.intersection(*texts)))
+        require_few_values(len(differing), TOO_MANY_DIFFER)
         decryptions = work_at_once(lambda text: _try_to_decrypt(decrypt, text), differing)
         return {each.envelope: each for each in decryptions if each}
 

@@ -9,6 +9,7 @@ from ansible_vault_companions.envelopes.content import Content, parse_envelopes
 from ansible_vault_companions.envelopes.header import MAGIC
 from ansible_vault_companions.envelopes.layout import Replacement, apply_replacements, put_plaintext
 from ansible_vault_companions.envelopes.node import Node
+from ansible_vault_companions.limits import require_few_values
 from ansible_vault_companions.merging.unmerged_file import find_versions
 from ansible_vault_companions.merging.vault_merge import VaultMerge
 from ansible_vault_companions.output import write_error
@@ -57,6 +58,7 @@ def _show_values(companion: str, file: Content, path: str, decrypt: Decrypt) -> 
     if file.is_too_much:
         write_error(f"{companion}: {escape(path)}: {MAY_LACK.format(file.fault)}")
     values = [*file.number_envelopes().values()]
+    require_few_values(len(values))
     changes: list[Replacement] = []
     for result, value in zip(work_at_once(lambda value: _try_to_show(file.data, value, decrypt), values), values):
         if isinstance(result, Refused):
