@@ -3,7 +3,7 @@
 import pytest
 
 from companion_cases import EDIT, WITH, Companions, Place, decrypted, described, ended, sealed
-from companion_cases.terminal import FOR_ANSIBLE
+from companion_cases.terminal import FOR_ANSIBLE, type_for_ansible
 from lib.needs import needs_ansible
 
 OLD = "--vault-password-file=../secrets/old"
@@ -17,7 +17,8 @@ def test_what_is_created(cases: Companions, editor: str) -> None:
     for tool in (WITH, needs_ansible()):
         place = cases.place()
         variables = {"EDITOR": place.script(editor, "editor")} | ({} if tool == WITH else FOR_ANSIBLE)
-        done = place.run(tool, "create", OLD, "new.yml", **variables)
+        line = f"create {OLD} new.yml"
+        done = place.run(tool, *(line if tool == WITH else type_for_ansible(line)).split(), **variables)
         assert (done.returncode, done.stdout, place.names()) == (0, "", ["new.yml"]), done
         assert decrypted("old", place.get("new.yml")) == EDITORS[editor], f"the text of {tool}"
         assert place.mode("new.yml") == "0o600", f"the mode of {tool}"

@@ -6,7 +6,7 @@ from typing import NamedTuple
 import pytest
 
 from companion_cases import FOUND, PASSWORDS, TEXT, WITH, Companions, Place, described, sealed
-from companion_cases.terminal import FOR_ANSIBLE, Session, ask
+from companion_cases.terminal import FOR_ANSIBLE, Session, ask, type_for_ansible
 from lib.ansible import ansible_release
 from lib.needs import needs, needs_ansible
 
@@ -91,8 +91,7 @@ def test_lines(cases: Companions, row: Row) -> None:
     assert ours[0] is True, f"status ({session.stderr} {session.shown})"
     ansible = needs_ansible()
     if ansible_release() >= row.since:
-        # Since 2.19, Ansible's tool creates a file only at a terminal, or with this option.
-        line = re.sub("^create", "create --skip-tty-check", row.line) if ansible_release() >= (2, 19) else row.line
+        line = type_for_ansible(row.line)
         # It asks for strings through its standard streams.
         line += " < /dev/tty > /dev/tty 2>&1" if row.typed and "--output" in line else ""
         theirs, session = outcome(cases.place(), row, ansible, line, **FOR_ANSIBLE)

@@ -129,7 +129,8 @@ PATTERN, NAME = b"*a" * 12 + b"b x\n", "a" * 60 + "c"
 
 
 def test_pattern_without_end(place: Place) -> None:
-    """git is ended at its limit, which is lower here, in the hook and in the check."""
+    """git is ended at its limit, which is lower here, in the hook and in the check. Newer releases of git compare a
+    name with any pattern at once."""
     under_git(place, "")
     place.put(NAME, TEXT)
     place.shell("git add -A")
@@ -137,11 +138,13 @@ def test_pattern_without_end(place: Place) -> None:
     place.put("../pattern", PATTERN)
     blob = place.shell("git hash-object -w ../pattern").stdout.strip()
     place.shell(f"git update-index --add --cacheinfo 100644,{blob},.gitattributes")
+    is_slow = place.shell(f"timeout 5 git check-attr --cached -a {NAME}").returncode == 124
+    status, why = (1, TOO_SLOW_PATTERNS) if is_slow else (0, "")
     lower = "from ansible_vault_companions import limits\nlimits.SECONDS = 3; limits.ATTRIBUTE_SECONDS = 1"
-    ended("the hook", run_changed(place, HOOK, lower, []), 1, TOO_SLOW_PATTERNS)
+    ended("the hook", run_changed(place, HOOK, lower, []), status, why)
     place.put(".gitattributes", PATTERN)
     done = run_changed(place, CHECK, lower, [*place.by_file("old"), NAME])
-    ended("the check", done, 1, TOO_SLOW_PATTERNS)
+    assert (TOO_SLOW_PATTERNS in done.stderr) == is_slow, done
 
 
 # A git that notes its command, and takes some processor time for each that has this word.

@@ -11,7 +11,7 @@ from hypothesis import strategies as st
 
 from ansible_vault_companions.git.index_files import open_index_file
 from companion_cases import HOOK, ROTATE, TEXT, WITH, Place, ended, sealed, silent, to_new
-from companion_cases.repository import add_and_commit, under_git
+from companion_cases.repository import AUTHOR, add_and_commit, under_git
 from lib.subtests import SubTests
 
 pytestmark = pytest.mark.usefixtures("git")
@@ -79,6 +79,8 @@ def test_name_twice(place: Place, monkeypatch: pytest.MonkeyPatch, subtests: Sub
     monkeypatch.chdir(place.tree)
     under_git(place, "")
     add_and_commit(place)
+    for variable, value in AUTHOR.items():
+        monkeypatch.setenv(variable, value)
     first = run_git("rev-parse", "HEAD")[:-2].decode()
     blobs = [run_git("hash-object", "-w", "--stdin", data=data)[:-2].decode() for data in (sealed("old"), TEXT)]
     for order, folder in itertools.product((1, -1), ("", "d")):

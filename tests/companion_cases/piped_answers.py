@@ -9,7 +9,7 @@ import pytest
 
 from companion_cases import CHECK, EDIT, PASSWORDS, TEXT, TEXTCONV, WITH, Companions, Place, block, sealed
 from companion_cases.guide import opened
-from companion_cases.terminal import FOR_ANSIBLE, shown_until
+from companion_cases.terminal import FOR_ANSIBLE, shown_until, type_for_ansible
 from lib.needs import needs_ansible
 from lib.processes import SECONDS
 
@@ -36,11 +36,12 @@ SHOWN = re.compile(rb"Variable name \(enter for no name\): |String to encrypt:")
 def outcome(place: Place, line: str, *words: str, **variables: str) -> tuple[bool, bytes, dict[str, bytes]]:
     """Return whether the run succeeded, what it printed, and each file. There is no terminal."""
     lines, password = PIPED[line]
+    typed = line if WITH in words else type_for_ansible(line)
     for name in ("a.yml", "b.yml"):
         place.put(name, sealed(password) if password else TEXT)
     data = b"".join(PASSWORDS.get(word, word.encode()) + b"\n" for word in lines.split())
     editor = place.script('echo more >> "$1"', "editor")
-    done = place.run_on(data, "setsid", "--wait", *words, *line.split(), EDITOR=editor, **variables)
+    done = place.run_on(data, "setsid", "--wait", *words, *typed.split(), EDITOR=editor, **variables)
     files = {name: opened(content) for name, content in place.files().items()}
     return done.returncode == 0, opened(SHOWN.sub(b"", done.stdout)), files
 

@@ -85,7 +85,7 @@ def test_memory(cases: Companions, git: None, pytestconfig: pytest.Config, name:
 
 # The part of a new thread that lacks memory: what begins it, or its wait for work.
 LACKS = {
-    "at the start": "threading.Thread._set_tstate_lock",
+    "at the start": "threading.Thread._set_native_id",
     "at work": "concurrent.futures.Future.set_running_or_notify_cancel",
 }
 

@@ -2,6 +2,7 @@
 
 import fcntl
 import os
+import re
 import select
 import signal
 import subprocess
@@ -10,6 +11,7 @@ from contextlib import suppress
 from typing import Any, NamedTuple
 
 from companion_cases import Place
+from lib.ansible import ansible_release
 from lib.processes import SECONDS
 from shells import all_shown
 
@@ -22,6 +24,12 @@ SHELL = ["sh", "-c", f"PS1='{READY}' exec bash --norc --noediting -i < /dev/tty 
 LEADER = 'trap : INT QUIT; "$@"; exit $?'
 # Hides our programs from Ansible's tool, and gives it UTF-8.
 FOR_ANSIBLE = {"PATH": os.environ["PATH"], "LC_ALL": "C.UTF-8"}
+
+
+def type_for_ansible(line: str) -> str:
+    """Return the same command line for Ansible's tool. Since 2.19, it creates a file only at a terminal, or with this
+    option."""
+    return re.sub("^create", "create --skip-tty-check", line) if ansible_release() >= (2, 19) else line
 
 
 class Session(NamedTuple):
