@@ -6,8 +6,8 @@ from random import Random
 
 import pytest
 
-from ansible_vault_companions.envelopes.content import parse_nodes
 from ansible_vault_companions.envelopes.node import Node
+from ansible_vault_companions.envelopes.parsed_text import parse_nodes
 from companion_cases import CHECK, CONFLICT, EDIT, HOOK, MERGE, NOT_ENCRYPTED, ROTATE, TEXTCONV, WITH, Done, Place
 from companion_cases import block, ended, run_changed, to_new
 from lib.needs import needs
@@ -185,9 +185,9 @@ def test_typed_paths(monkeypatch: pytest.MonkeyPatch) -> None:
         return ".".join(map(str, node.path))
 
     monkeypatch.setattr(Node, "typed_path", property(write_and_count))
-    content = parse_nodes(b"a: [" + b"b: ," * 1_000 + b"]\nc: {d: 1}\n")
-    assert [node.text for node in content.list_values_at("c.d")] == [b"1"]
-    assert len(content.values) > 2_000 and len(typed) <= 2, len(typed)
+    parsed = parse_nodes(b"a: [" + b"b: ," * 1_000 + b"]\nc: {d: 1}\n")
+    assert [node.text for node in parsed.list_values_at("c.d")] == [b"1"]
+    assert len(parsed.values) > 2_000 and len(typed) <= 2, len(typed)
 
 
 # Two sides that are merged before they are edited.

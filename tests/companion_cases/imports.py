@@ -34,7 +34,7 @@ PASSWORDS = own("passwords", "labels loading options password prompts scripts so
 TOOL = own("", "tool") | own("files", "reading")
 # What reads YAML; and what does without PyYAML or processes if it can.
 YAML = own("", "bounding") | {"json", "typing"}
-YAML |= own("envelopes", "content detection header key_paths layout node pointers strays yaml_nodes")
+YAML |= own("envelopes", "detection header key_paths layout node parsed_text pointers strays yaml_nodes")
 PARSER = {"subprocess", "yaml"}
 # What runs several programs at a time.
 WORKERS = own("", "workers") | {"concurrent.futures"}

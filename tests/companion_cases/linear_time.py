@@ -8,8 +8,8 @@ from timeit import repeat
 import pytest
 
 from ansible_vault_companions.editing.typed_tags import check_tags
-from ansible_vault_companions.envelopes import conflicts, content, header
-from ansible_vault_companions.envelopes.content import Content
+from ansible_vault_companions.envelopes import conflicts, header
+from ansible_vault_companions.envelopes.parsed_text import ParsedText, parse_envelopes, parse_nodes
 from ansible_vault_companions.refusals import Refused
 from lib.needs import needs_pyyaml
 
@@ -18,7 +18,7 @@ needs_pyyaml()
 
 def check_new_tags(data: bytes) -> None:
     with suppress(Refused):
-        check_tags(Content(b""), Content(data))
+        check_tags(ParsedText(b""), ParsedText(data))
 
 
 # Each piece is repeated to make a hostile file.
@@ -39,12 +39,12 @@ PIECES = [
 SMALL, TIMES = 1 << 15, 8
 START = b"x: !vault |\n  $ANSIBLE_VAULT;1.1;AES256\n  61\n"
 WORKS: dict[str, Callable[[bytes], object]] = {
-    "the envelopes": lambda data: content.parse_envelopes(START + data),
-    "every node": lambda data: content.parse_nodes(START + data),
-    "a file that is no YAML": lambda data: content.parse_envelopes(b"[$ANSIBLE_VAULT;1.1;AES256" + data),
-    "a line with a margin": lambda data: content.parse_envelopes(b"#" * len(data) + data),
+    "the envelopes": lambda data: parse_envelopes(START + data),
+    "every node": lambda data: parse_nodes(START + data),
+    "a file that is no YAML": lambda data: parse_envelopes(b"[$ANSIBLE_VAULT;1.1;AES256" + data),
+    "a line with a margin": lambda data: parse_envelopes(b"#" * len(data) + data),
     "a whole vault": lambda data: header.is_whole_envelope(b"$ANSIBLE_VAULT;1.1;AES256\n" + data),
-    "typed tags": lambda data: check_tags(Content(data), Content(data)),
+    "typed tags": lambda data: check_tags(ParsedText(data), ParsedText(data)),
     "tags in new lines": lambda data: check_new_tags(data),
     "conflict markers": lambda data: (conflicts.is_unmerged(data), conflicts.split_sides(b"<<<<<<<\n" + data)),
 }

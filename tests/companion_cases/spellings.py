@@ -12,11 +12,11 @@ from typing import NamedTuple
 
 import pytest
 
-from ansible_vault_companions.envelopes import content, header
-from ansible_vault_companions.envelopes.content import Content
+from ansible_vault_companions.envelopes import header
 from ansible_vault_companions.envelopes.header import LINE_END
 from ansible_vault_companions.envelopes.key_paths import KeyPath
 from ansible_vault_companions.envelopes.node import LOOSE, STRAY, TAGS
+from ansible_vault_companions.envelopes.parsed_text import ParsedText, parse_envelopes, parse_nodes
 from companion_cases import BODY, CHECK, ROTATE, Place, block, ended, lines_of, sealed, summary, to_new
 from lib.needs import needs_pyyaml
 
@@ -266,7 +266,7 @@ def walked(node: yaml.Node, path: KeyPath, seen: set[int]) -> Iterator[Composed]
 
 def around(data: bytes) -> list[bytes]:
     """What is before, between and behind the envelopes."""
-    values = content.parse_envelopes(data).values
+    values = parse_envelopes(data).values
     places = [0, *(place for value in values for place in (value.start, value.end)), len(data)]
     return [data[begin:end] for begin, end in zip(places[::2], places[1::2])]
 
@@ -282,24 +282,24 @@ def list_composed(data: bytes) -> list[tuple[KeyPath, str]] | None:
     return None if values is None else [text_at(value.path, value.text) for value in values]
 
 
-def check_places(data: bytes, parse: Callable[[bytes], Content]) -> None:
+def check_places(data: bytes, parse: Callable[[bytes], ParsedText]) -> None:
     """Check that each place is within the content, even if it is no YAML."""
     for value in parse(data).values:
         assert 0 <= value.begin <= value.start <= value.end <= len(data) or value.style == STRAY, (value, data)
 
 
-def replace_some(random: Random, read: Content) -> dict[int, bytes]:
+def replace_some(random: Random, parsed: ParsedText) -> dict[int, bytes]:
     """Choose the envelopes to replace, by their numbers."""
-    return {number: NEW for number in range(len(read.values)) if random.random() < 0.5}
+    return {number: NEW for number in range(len(parsed.values)) if random.random() < 0.5}
 
 
-def check_replaced(data: bytes, read: Content, new: dict[int, bytes]) -> None:
+def check_replaced(data: bytes, parsed: ParsedText, new: dict[int, bytes]) -> None:
     """Check that new envelopes are where the old ones were, and that all around them stays."""
-    after = read.replace_envelopes(new)
+    after = parsed.replace_envelopes(new)
     assert around(after) == around(data), (data, after)
     assert {*LINE_END.findall(after)} <= {*LINE_END.findall(data)}, (data, after)
     wanted = []
-    for number, value in enumerate(read.values):
+    for number, value in enumerate(parsed.values):
         if value.style not in (STRAY, LOOSE):
             wanted.append(text_at(value.path, new.get(number, value.text).decode()))
     assert list_composed(after) == wanted, (data, after)
@@ -312,15 +312,15 @@ def test_random_yaml(monkeypatch: pytest.MonkeyPatch, pytestconfig: pytest.Confi
         monkeypatch.setattr(yaml, "CSafeLoader", LOADERS[number % 2], raising=False)
         data = Generator(random).data()
         damaged = data[: random.randrange(999)] + random.randbytes(9) + data
-        check_places(damaged, content.parse_nodes if number % 3 == 0 else content.parse_envelopes)
+        check_places(damaged, parse_nodes if number % 3 == 0 else parse_envelopes)
         wanted = list_composed(data)
         if wanted is None:
             continue
-        read = content.parse_envelopes(data)
-        values = [value for value in read.values if value.style not in (STRAY, LOOSE)]
+        parsed = parse_envelopes(data)
+        values = [value for value in parsed.values if value.style not in (STRAY, LOOSE)]
         assert [text_at(value.path, value.text.decode()) for value in values] == wanted, data
-        new = replace_some(random, read)
-        check_replaced(data, read, new)
+        new = replace_some(random, parsed)
+        check_replaced(data, parsed, new)
         counts.update(values=len(wanted), replaced=len(new))
     assert min(counts["values"], counts["replaced"]) > 500, counts
 
@@ -344,13 +344,13 @@ def test_escapes(monkeypatch: pytest.MonkeyPatch, pytestconfig: pytest.Config) -
     for data in (b'["\\ud83d"]', b'["\\ude00\\ud83d"]', b"""['', "\\ud83d"]""", b'a: "\\U0000dfff"'):
         for loader in LOADERS:
             monkeypatch.setattr(yaml, "CSafeLoader", loader, raising=False)
-            assert content.parse_nodes(data).fault.startswith("line 1: it cannot be read as YAML: "), data
+            assert parse_nodes(data).fault.startswith("line 1: it cannot be read as YAML: "), data
 
 
 def read_texts(data: bytes) -> list[bytes]:
-    read = content.parse_nodes(data)
-    assert not read.fault, (data, read.fault)
-    return [value.text for value in read.values if value.path]
+    parsed = parse_nodes(data)
+    assert not parsed.fault, (data, parsed.fault)
+    return [value.text for value in parsed.values if value.path]
 
 
 BLANKS = ["", "", " ", "\t", "  "]

@@ -8,8 +8,8 @@ from ansible_vault_companions.batch.each_envelope import Work
 from ansible_vault_companions.batch.places import Place
 from ansible_vault_companions.batch.report import DECRYPTED, FAILED, LISTED, OTHER_LABEL, Report, Total
 from ansible_vault_companions.envelopes import conflicts, damage, file_kinds
-from ansible_vault_companions.envelopes.content import Content, parse_envelopes
 from ansible_vault_companions.envelopes.node import Node
+from ansible_vault_companions.envelopes.parsed_text import ParsedText, parse_envelopes
 from ansible_vault_companions.files.searching import FoundFile
 from ansible_vault_companions.git.pathspecs import make_pathspec
 from ansible_vault_companions.passwords.password import Password
@@ -32,20 +32,20 @@ class Check(Work):
     marked: set[str]
     names_values = True
 
-    def process_file(self, found: FoundFile, content: Content, report: Report) -> None:
+    def process_file(self, found: FoundFile, parsed: ParsedText, report: Report) -> None:
         """Checks a file. It is marked if one of its paths is."""
         path = next((path for path in found.paths if path in self.marked), found.paths[0])
         is_marked = path in self.marked
-        is_prose = file_kinds.is_prose(found.target) and not (is_marked or content.is_vault)
-        why = file_kinds.find_yaml_fault(content, path, found.target)
+        is_prose = file_kinds.is_prose(found.target) and not (is_marked or parsed.is_vault)
+        why = file_kinds.find_yaml_fault(parsed, path, found.target)
         try:
-            self.change_envelopes(content, path, report, is_prose=is_prose)
+            self.change_envelopes(parsed, path, report, is_prose=is_prose)
         except Refused as fault:
             why = why or str(fault)
-        if damage.is_unmerged(content):
+        if damage.is_unmerged(parsed):
             why = f"{conflicts.UNMERGED}; {RESOLVE.format(make_pathspec(path))}"
-        if is_marked and content.data.strip() and not (why or report.count(FAILED)):
-            why = damage.find_unencrypted(content)
+        if is_marked and parsed.data.strip() and not (why or report.count(FAILED)):
+            why = damage.find_unencrypted(parsed)
         if why:
             report.add_file(FAILED, path, why)
 

@@ -6,8 +6,8 @@ from dataclasses import dataclass
 
 from ansible_vault_companions.batch.places import Place, find_place
 from ansible_vault_companions.batch.report import FAILED, KEPT, ROTATED, TO_BE_ROTATED, Report
-from ansible_vault_companions.envelopes.content import Content
 from ansible_vault_companions.envelopes.node import Node
+from ansible_vault_companions.envelopes.parsed_text import ParsedText
 from ansible_vault_companions.files.searching import FoundFile
 from ansible_vault_companions.limits import require_few_values
 from ansible_vault_companions.passwords.labels import Policy
@@ -28,7 +28,7 @@ class Work:
     # Whether messages name values and labels.
     names_values = False
 
-    def process_file(self, found: FoundFile, content: Content, report: Report) -> bytes | None:
+    def process_file(self, found: FoundFile, parsed: ParsedText, report: Report) -> bytes | None:
         """Works on a file, in a thread. Returns its new content; None if it stays."""
         raise NotImplementedError
 
@@ -54,25 +54,25 @@ class Work:
             raise
 
     def change_envelopes(
-        self, content: Content, path: str, report: Report, outer: Place | None = None, is_prose: bool = False
+        self, parsed: ParsedText, path: str, report: Report, outer: Place | None = None, is_prose: bool = False
     ) -> bytes:
         """The data of a file, or of an envelope's plaintext, with the texts that take the places of envelopes. What
         fails stays, and is reported."""
 
-        if content.hides_envelope:
+        if parsed.hides_envelope:
             report.add_hidden(path, outer)
 
         def process(value: Node) -> tuple[bytes | None, Report]:
             return self._report_on(value, find_place(value, path, outer), is_prose)
 
-        envelopes = content.number_envelopes()
+        envelopes = parsed.number_envelopes()
         require_few_values(len(envelopes))
         new: dict[int, bytes] = {}
         for number, (text, own) in zip(envelopes, self.workers.share(process, [*envelopes.values()])):
             report.add(own)
             if text is not None:
                 new[number] = text
-        return content.replace_envelopes(new) if new else content.data
+        return parsed.replace_envelopes(new) if new else parsed.data
 
     def _report_on(self, value: Node, place: Place, is_prose: bool) -> tuple[bytes | None, Report]:
         report = Report()

@@ -11,7 +11,7 @@ from ansible_vault_companions import refusals
 from ansible_vault_companions.batch.each_envelope import Work
 from ansible_vault_companions.batch.report import FAILED, ROTATED, SKIPPED, TO_BE_ROTATED, Entry, Report, Total
 from ansible_vault_companions.envelopes import detection, file_kinds
-from ansible_vault_companions.envelopes.content import Content, parse_envelopes
+from ansible_vault_companions.envelopes.parsed_text import ParsedText, parse_envelopes
 from ansible_vault_companions.envelopes.pointers import Pointer
 from ansible_vault_companions.files import replacing
 from ansible_vault_companions.files.searching import FoundFile, Search
@@ -78,12 +78,12 @@ class Runner:
     def _begin(self, found: FoundFile) -> Begun:
         """Reads a file and begins the work on it. A failure is in its report, so other files are still processed."""
         try:
-            content = parse_envelopes(detection.read_envelope_file(found.target))
+            parsed = parse_envelopes(detection.read_envelope_file(found.target))
         except (Refused, OSError) as fault:
             return Begun(Task(Outcome, found, self._report_unread(found, fault)))
         if found.refusal:
-            return Begun(Task(Outcome, found, self._report_refused(found, content)))
-        return Begun(self.work.workers.begin(_do_work, found, content, self.work), len(content.data))
+            return Begun(Task(Outcome, found, self._report_refused(found, parsed)))
+        return Begun(self.work.workers.begin(_do_work, found, parsed, self.work), len(parsed.data))
 
     def _report_unread(self, found: FoundFile, fault: Exception) -> Report:
         """The report on a file that cannot be read."""
@@ -105,13 +105,13 @@ class Runner:
     def _is_marked(self, found: FoundFile) -> bool:
         return any(path in self.marked for path in found.paths)
 
-    def _report_refused(self, found: FoundFile, content: Content) -> Report:
+    def _report_refused(self, found: FoundFile, parsed: ParsedText) -> Report:
         """The report on a link that leads out: a failure if there is something to do in its file."""
         path = found.paths[0]
         fails = (
             self._is_marked(found)
-            or content.number_envelopes()
-            or file_kinds.find_yaml_fault(content, path, found.target)
+            or parsed.number_envelopes()
+            or file_kinds.find_yaml_fault(parsed, path, found.target)
         )
         report = Report()
         report.add_file(FAILED if fails else SKIPPED, path, found.refusal)
@@ -157,10 +157,10 @@ def _is_gone(path: str, fault: Exception) -> bool:
     return isinstance(fault, FileNotFoundError) or isinstance(fault, NotADirectoryError) and not os.path.lexists(path)
 
 
-def _do_work(found: FoundFile, content: Content, work: Work) -> Outcome:
-    outcome = Outcome(found, before=content.data)
+def _do_work(found: FoundFile, parsed: ParsedText, work: Work) -> Outcome:
+    outcome = Outcome(found, before=parsed.data)
     try:
-        outcome.after = work.process_file(found, content, outcome.report)
+        outcome.after = work.process_file(found, parsed, outcome.report)
     except (Refused, OSError) as fault:
         outcome.fail(fault)
     return outcome

@@ -14,8 +14,8 @@ from ansible_vault_companions.batch.each_envelope import Work
 from ansible_vault_companions.batch.places import Place
 from ansible_vault_companions.batch.report import FAILED, KEPT, OTHER_LABEL, ROTATED, TO_BE_ROTATED, Report, Total
 from ansible_vault_companions.envelopes import file_kinds
-from ansible_vault_companions.envelopes.content import Content, parse_envelopes
 from ansible_vault_companions.envelopes.node import Node
+from ansible_vault_companions.envelopes.parsed_text import ParsedText, parse_envelopes
 from ansible_vault_companions.files import replacing
 from ansible_vault_companions.files.searching import FoundFile
 from ansible_vault_companions.git.textconv_passwords import textconv_lacks
@@ -39,13 +39,13 @@ class Rotation(Work):
     new_for_any: Password | None
     is_dry: bool
 
-    def process_file(self, found: FoundFile, content: Content, report: Report) -> bytes | None:
+    def process_file(self, found: FoundFile, parsed: ParsedText, report: Report) -> bytes | None:
         path = found.paths[0]
-        if not content.values and file_kinds.find_yaml_fault(content, path, found.target):
-            raise Refused(content.fault)
-        is_prose = file_kinds.is_prose(found.target) and not content.is_vault
-        after = self.change_envelopes(content, path, report, is_prose=is_prose)
-        return after if after != content.data else None
+        if not parsed.values and file_kinds.find_yaml_fault(parsed, path, found.target):
+            raise Refused(parsed.fault)
+        is_prose = file_kinds.is_prose(found.target) and not parsed.is_vault
+        after = self.change_envelopes(parsed, path, report, is_prose=is_prose)
+        return after if after != parsed.data else None
 
     def write_file(self, found: FoundFile, after: bytes, before: bytes) -> None:
         if self.is_dry:
@@ -112,10 +112,10 @@ class Rotation(Work):
 
     def _within(self, plaintext: bytes, place: Place, report: Report) -> bytes:
         """The plaintext of an envelope, with the envelopes in it rotated."""
-        text = parse_envelopes(plaintext)
-        if text.is_vault:
+        parsed = parse_envelopes(plaintext)
+        if parsed.is_vault:
             raise Refused("its plaintext is itself a vault, which ansible-vault does not encrypt; decrypt it first")
-        return self.change_envelopes(text, place.path, report, outer=place)
+        return self.change_envelopes(parsed, place.path, report, outer=place)
 
 
 def list_summary(total: Total, is_dry: bool, new_files: list[str]) -> list[str]:

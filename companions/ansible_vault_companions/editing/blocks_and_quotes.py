@@ -6,7 +6,6 @@ The result is read again, and is refused unless all other values are as before.
 from __future__ import annotations
 
 from ansible_vault_companions.envelopes import conflicts
-from ansible_vault_companions.envelopes.content import Content
 from ansible_vault_companions.envelopes.header import LINE_END
 from ansible_vault_companions.envelopes.key_paths import KeyPath
 from ansible_vault_companions.envelopes.layout import (
@@ -19,6 +18,7 @@ from ansible_vault_companions.envelopes.layout import (
     put_plaintext,
 )
 from ansible_vault_companions.envelopes.node import LITERAL, Node
+from ansible_vault_companions.envelopes.parsed_text import ParsedText
 from ansible_vault_companions.limits import Effort, TooMuch
 from ansible_vault_companions.refusals import Refused
 
@@ -27,26 +27,26 @@ NOT_WRITABLE = "its values cannot be written where they are; write each as `NAME
 KeyPathAndText = tuple[KeyPath, bytes]
 
 
-def require_nodes(data: bytes, effort: Effort) -> Content:
+def require_nodes(data: bytes, effort: Effort) -> ParsedText:
     """All nodes of a YAML text, or of the sides of one with a conflict."""
-    text = conflicts.parse_nodes_of_sides(data, effort)
-    if text.fault:
-        raise Refused(text.fault)
-    return text
+    parsed = conflicts.parse_nodes_of_sides(data, effort)
+    if parsed.fault:
+        raise Refused(parsed.fault)
+    return parsed
 
 
 def write_values(
-    text: Content, contents: dict[int, bytes], blocks: dict[int, list[Replacement]], effort: Effort
-) -> Content:
-    """The text with these contents in place of values, by their numbers: as these blocks, or in double quotes where
-    there is no block or where it does not read as expected. All other values stay. It is read at most three times: with
-    all blocks, without those that read otherwise, and without any."""
-    if not contents:
-        return text
-    wanted = [(value.path, contents.get(number, value.text)) for number, value in enumerate(text.values)]
+    parsed: ParsedText, new_texts: dict[int, bytes], blocks: dict[int, list[Replacement]], effort: Effort
+) -> ParsedText:
+    """The text with new texts in place of values, by their numbers: as these blocks, or in double quotes where there is
+    no block or where it does not read as expected. All other values stay. It is read at most three times: with all
+    blocks, without those that read otherwise, and without any."""
+    if not new_texts:
+        return parsed
+    wanted = [(value.path, new_texts.get(number, value.text)) for number, value in enumerate(parsed.values)]
     is_first = True
     while True:
-        after = conflicts.parse_nodes_of_sides(_put(text, contents, blocks), effort)
+        after = conflicts.parse_nodes_of_sides(_put(parsed, new_texts, blocks), effort)
         if after.is_too_much:
             raise TooMuch(after.fault)
         nodes = [] if after.fault else [(value.path, value.text) for value in after.values]
@@ -54,26 +54,26 @@ def write_values(
             return after
         if not blocks:
             raise Refused(NOT_WRITABLE)
-        wrong = _find_wrong(text, nodes, wanted, blocks) if is_first else [*blocks]
+        wrong = _find_wrong(parsed, nodes, wanted, blocks) if is_first else [*blocks]
         blocks = {number: block for number, block in blocks.items() if number not in wrong}
         is_first = False
 
 
-def _put(text: Content, contents: dict[int, bytes], blocks: dict[int, list[Replacement]]) -> bytes:
+def _put(parsed: ParsedText, new_texts: dict[int, bytes], blocks: dict[int, list[Replacement]]) -> bytes:
     changes = [change for block in blocks.values() for change in block]
-    quoted = [number for number in contents if number not in blocks]
-    changes += [put_in_quotes(text.values[number], contents[number].decode()) for number in quoted]
-    return apply_replacements(text.data, changes)
+    quoted = [number for number in new_texts if number not in blocks]
+    changes += [put_in_quotes(parsed.values[number], new_texts[number].decode()) for number in quoted]
+    return apply_replacements(parsed.data, changes)
 
 
 def _find_wrong(
-    text: Content, nodes: list[KeyPathAndText], wanted: list[KeyPathAndText], blocks: dict[int, list[Replacement]]
+    parsed: ParsedText, nodes: list[KeyPathAndText], wanted: list[KeyPathAndText], blocks: dict[int, list[Replacement]]
 ) -> list[int]:
     """The numbers of the blocks to write in double quotes instead."""
     if len(nodes) == len(wanted):
         return [number for number in blocks if nodes[number] != wanted[number]] or [*blocks]
     # A value that is no block yet may be where no block can be, and so break the text around it.
-    return [number for number in blocks if text.values[number].style != LITERAL] or [*blocks]
+    return [number for number in blocks if parsed.values[number].style != LITERAL] or [*blocks]
 
 
 def make_plain_block(data: bytes, value: Node, text: bytes) -> list[Replacement]:

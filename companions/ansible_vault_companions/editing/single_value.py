@@ -9,11 +9,11 @@ import re
 from ansible_vault_companions.editing.blocks_and_quotes import make_sealed_block, require_nodes, write_values
 from ansible_vault_companions.editing.encrypting_password import Choice, keep_key
 from ansible_vault_companions.envelopes import conflicts
-from ansible_vault_companions.envelopes.content import NO_SCALAR_THERE, VALUE_NOT_ENCRYPTED, Content, parse_nodes
 from ansible_vault_companions.envelopes.header import MAGIC
 from ansible_vault_companions.envelopes.key_paths import KeyPath, quote_key
 from ansible_vault_companions.envelopes.layout import Replacement, apply_replacements
 from ansible_vault_companions.envelopes.node import ALIAS, NO_SCALAR, Node
+from ansible_vault_companions.envelopes.parsed_text import NO_SCALAR_THERE, VALUE_NOT_ENCRYPTED, ParsedText, parse_nodes
 from ansible_vault_companions.files import reading, replacing
 from ansible_vault_companions.limits import LONGEST_PLAINTEXT, Effort, TooMuch
 from ansible_vault_companions.quoting import escape
@@ -41,8 +41,9 @@ class SingleValue:
         if content is None and not is_chosen:
             raise FileNotFoundError(errno.ENOENT, os.strerror(errno.ENOENT), target)
         self.effort = Effort()
-        self.text = _tag(content or b"", path, is_chosen, self.effort)
-        self.value = self.text.find_value_at(path)
+        # The file, with the tag before the value.
+        self.parsed = _tag(content or b"", path, is_chosen, self.effort)
+        self.value = self.parsed.find_value_at(path)
         # The old text, if the password that opens it is to encrypt the new one.
         self.before: bytes | None = None
         if is_chosen:
@@ -60,38 +61,38 @@ class SingleValue:
 
     def _encrypt(self, tool: Tool, text: bytes) -> bytes:
         """The file with the value encrypted."""
-        number, envelope = self.text.values.index(self.value), tool.encrypt(text, self.key)
+        number, envelope = self.parsed.values.index(self.value), tool.encrypt(text, self.key)
         old = self.value if self.value.is_envelope else None
-        block = make_sealed_block(self.text.data, self.value, envelope, old)
+        block = make_sealed_block(self.parsed.data, self.value, envelope, old)
         try:
-            return write_values(self.text, {number: envelope}, {number: block} if block else {}, self.effort).data
+            return write_values(self.parsed, {number: envelope}, {number: block} if block else {}, self.effort).data
         except TooMuch:
             raise
         except Refused:
             raise Refused(NO_PLACE_IN_YAML.format(escape(self.path))) from None
 
 
-def _tag(data: bytes, path: str, is_chosen: bool, effort: Effort) -> Content:
+def _tag(data: bytes, path: str, is_chosen: bool, effort: Effort) -> ParsedText:
     """The nodes of a file, with the tag before the value, which may be a new one if its password is chosen."""
     if data.startswith(MAGIC):
         raise Refused("the whole file is a vault; edit it without --value")
     if conflicts.is_unmerged(data):
         raise Refused(f"it {conflicts.UNMERGED}")
-    file = require_nodes(data, effort)
+    parsed = require_nodes(data, effort)
     effort.require_third()
-    if is_chosen and KEY.fullmatch(path) and not file.list_values_at(path):
+    if is_chosen and KEY.fullmatch(path) and not parsed.list_values_at(path):
         tag = _add_key(data, path)
     else:
-        value = file.find_value_at(path)
+        value = parsed.find_value_at(path)
         if value.is_tagged and value.is_envelope:
-            return file
+            return parsed
         if not is_chosen:
             raise Refused(VALUE_NOT_ENCRYPTED.format(escape(path)) + HOW_TO_ENCRYPT)
         tag = _add_tag(value, path)
     after = parse_nodes(apply_replacements(data, [tag]), effort)
     if after.is_too_much:
         raise TooMuch(after.fault)
-    if after.fault or _list_others(after, path) != _list_others(file, path):
+    if after.fault or _list_others(after, path) != _list_others(parsed, path):
         raise Refused(NO_PLACE_IN_YAML.format(escape(path)))
     return after
 
@@ -111,10 +112,10 @@ def _add_tag(value: Node, path: str) -> Replacement:
     return Replacement(value.begin, value.begin, b"" if value.is_tagged else text)
 
 
-def _list_others(file: Content, path: str) -> list[tuple[KeyPath, str, bytes]]:
+def _list_others(parsed: ParsedText, path: str) -> list[tuple[KeyPath, str, bytes]]:
     """All nodes except the value, and except the empty one of a file without any."""
-    here = file.list_values_at(path)
-    others = [value for value in file.values if (value.path or value.text) and value not in here]
+    here = parsed.list_values_at(path)
+    others = [value for value in parsed.values if (value.path or value.text) and value not in here]
     return [(value.path, value.tag, value.text) for value in others]
 
 

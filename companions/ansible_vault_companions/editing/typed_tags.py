@@ -14,9 +14,9 @@ from bisect import bisect_right
 from collections import Counter
 from typing import Iterator
 
-from ansible_vault_companions.envelopes.content import Content
 from ansible_vault_companions.envelopes.header import LINE_END
 from ansible_vault_companions.envelopes.node import PLAIN, TAGS, Node
+from ansible_vault_companions.envelopes.parsed_text import ParsedText
 from ansible_vault_companions.envelopes.yaml_nodes import DIRECTIVE, require_pyyaml
 from ansible_vault_companions.refusals import Refused
 
@@ -61,7 +61,7 @@ def refuse_directive(data: bytes) -> None:
         raise Refused(HAS_DIRECTIVE.format(_find_line(data, found.end())))
 
 
-def check_tags(shown: Content, saved: Content) -> None:
+def check_tags(shown: ParsedText, saved: ParsedText) -> None:
     """Refuses a typed text that is cut short, and a line that was not shown if a tag in it, or beside it, may be meant
     to encrypt it and does not."""
     anchors = {value.anchor for value in shown.values} | {""}
@@ -71,7 +71,7 @@ def check_tags(shown: Content, saved: Content) -> None:
     _refuse_new_line(shown, saved)
 
 
-def _refuse_cut_text(saved: Content, value: Node, anchors: set[str]) -> None:
+def _refuse_cut_text(saved: ParsedText, value: Node, anchors: set[str]) -> None:
     """Refuses a typed text of which YAML takes the beginning for an anchor, or the end for something else."""
     if value.anchor not in anchors:
         raise Refused(NEW_ANCHOR.format(value.line))
@@ -79,7 +79,7 @@ def _refuse_cut_text(saved: Content, value: Node, anchors: set[str]) -> None:
         raise Refused(CUT_SHORT.format(value.line))
 
 
-def _refuse_new_line(shown: Content, saved: Content) -> None:
+def _refuse_new_line(shown: ParsedText, saved: ParsedText) -> None:
     """Refuses a line that was not shown if a `!` in it is no tag. Beside one that encrypts nothing, refuses any such
     line, and names the one that may be meant to encrypt it: in it or below it, or else the last one."""
     idle = sorted([*_find_loose_words(saved), *_find_unknown_tags(saved)])
@@ -102,37 +102,37 @@ def _is_tag(data: bytes, place: int, begins: set[int]) -> bool:
     return tag is not None and tag.end() in begins
 
 
-def _find_lines_outside(text: Content) -> Iterator[re.Match[bytes]]:
+def _find_lines_outside(parsed: ParsedText) -> Iterator[re.Match[bytes]]:
     """The lines without the texts of tagged values, which may divide them."""
     place = 0
-    for value in sorted((value for value in text.values if value.is_tagged), key=lambda value: value.begin):
-        yield from LINE.finditer(text.data, place, value.begin)
+    for value in sorted((value for value in parsed.values if value.is_tagged), key=lambda value: value.begin):
+        yield from LINE.finditer(parsed.data, place, value.begin)
         place = max(place, value.end)
-    yield from LINE.finditer(text.data, place)
+    yield from LINE.finditer(parsed.data, place)
 
 
-def _find_loose_words(text: Content) -> Iterator[tuple[int, str]]:
+def _find_loose_words(parsed: ParsedText) -> Iterator[tuple[int, str]]:
     """The place of each such word that is neither a known tag nor within the quotes or the block of a tagged value, and
     what to say of it."""
-    values = sorted((value for value in text.values if value.is_tagged), key=lambda value: value.begin)
+    values = sorted((value for value in parsed.values if value.is_tagged), key=lambda value: value.begin)
     begins = [value.begin for value in values]
     known = _list_known_tags()
-    after_tags = {value.begin for value in text.values if value.tag in known}
-    for word in WORD.finditer(text.data):
+    after_tags = {value.begin for value in parsed.values if value.tag in known}
+    for word in WORD.finditer(parsed.data):
         place = word.start(word.lastindex or 0)
         number = bisect_right(begins, place)
         is_within = number > 0 and place < values[number - 1].end and values[number - 1].style != PLAIN
-        tag = TAG.match(text.data, place)
+        tag = TAG.match(parsed.data, place)
         if not is_within and not (tag and tag.end() in after_tags):
-            yield place, LOOSE_WORD if text.data.startswith(b"!vault", place) else LIKE_A_TAG
+            yield place, LOOSE_WORD if parsed.data.startswith(b"!vault", place) else LIKE_A_TAG
 
 
-def _find_unknown_tags(text: Content) -> Iterator[tuple[int, str]]:
+def _find_unknown_tags(parsed: ParsedText) -> Iterator[tuple[int, str]]:
     """The place of each tag that Ansible does not read, and what to say of it."""
     known = _list_known_tags()
-    for value in text.values:
+    for value in parsed.values:
         if value.tag and value.tag not in known:
-            yield text.data.rfind(b"!", 0, value.begin), UNKNOWN_TAG
+            yield parsed.data.rfind(b"!", 0, value.begin), UNKNOWN_TAG
 
 
 def _list_known_tags() -> set[str]:

@@ -15,10 +15,10 @@ from ansible_vault_companions.editing.encrypting_password import Choice
 from ansible_vault_companions.editing.matching import Match, DecryptedValue, describe_place, find_matches
 from ansible_vault_companions.editing.typed_tags import check_tags, refuse_directive
 from ansible_vault_companions.envelopes import conflicts
-from ansible_vault_companions.envelopes.content import Content
 from ansible_vault_companions.envelopes.header import MAGIC
 from ansible_vault_companions.envelopes.layout import NOT_UTF_8, Replacement
 from ansible_vault_companions.envelopes.node import ALIAS, NO_SCALAR, PLAIN, Node
+from ansible_vault_companions.envelopes.parsed_text import ParsedText
 from ansible_vault_companions.limits import Effort, require_few_values
 from ansible_vault_companions.parallel import work_at_once
 from ansible_vault_companions.refusals import Refused
@@ -41,13 +41,13 @@ class YamlDraft:
         self.content: bytes | None = content
         self.edited = edited
         self.effort = effort
-        file = require_nodes(edited, self.effort)
-        self.tagged = {number: value for number, value in enumerate(file.values) if value.is_tagged}
+        parsed = require_nodes(edited, self.effort)
+        self.tagged = {number: value for number, value in enumerate(parsed.values) if value.is_tagged}
         # The values that are shown in plaintext; and those that stay encrypted, and why.
         self.opened: dict[int, DecryptedValue] = {}
         self.faults: list[tuple[Node, Refused]] = []
         self._open(decrypt)
-        self.shown = self._show(file)
+        self.shown = self._show(parsed)
         self.effort.require_third()
 
     @property
@@ -99,13 +99,13 @@ class YamlDraft:
             elif result:
                 self.faults.append((value, result))
 
-    def _show(self, file: Content) -> Content:
+    def _show(self, parsed: ParsedText) -> ParsedText:
         """The text with plaintexts in place of the values that were opened, and its tagged values: with all nodes, an
         edit would need much memory."""
         texts = {number: old.decrypted.text for number, old in self.opened.items()}
-        blocks = {number: make_plain_block(file.data, self.tagged[number], texts[number]) for number in texts}
-        shown = write_values(file, texts, {number: block for number, block in blocks.items() if block}, self.effort)
-        return Content(shown.data, [value for value in shown.values if value.is_tagged])
+        blocks = {number: make_plain_block(parsed.data, self.tagged[number], texts[number]) for number in texts}
+        shown = write_values(parsed, texts, {number: block for number, block in blocks.items() if block}, self.effort)
+        return ParsedText(shown.data, [value for value in shown.values if value.is_tagged])
 
     def _block(self, text: bytes, value: Node, envelope: bytes, match: Match) -> list[Replacement]:
         """The changes that write an envelope as a block. One that stays is written as it was."""

@@ -7,8 +7,8 @@ from bisect import bisect_left
 from collections import Counter
 from collections.abc import Callable, Hashable
 
-from ansible_vault_companions.envelopes.content import Content, parse_envelopes, parse_nodes
 from ansible_vault_companions.envelopes.node import Node
+from ansible_vault_companions.envelopes.parsed_text import ParsedText, parse_envelopes, parse_nodes
 from ansible_vault_companions.limits import Effort
 
 # How each marker begins, before each side and at the end.
@@ -86,20 +86,20 @@ def join_sides(ours: bytes, theirs: bytes) -> bytes:
     return OURS_MARKER + b" ours" + end + texts[0] + THEIRS_MARKER + end + texts[1] + END_MARKER + b" theirs" + end
 
 
-def parse_envelopes_of_sides(data: bytes, effort: Effort) -> Content:
+def parse_envelopes_of_sides(data: bytes, effort: Effort) -> ParsedText:
     """The envelopes of a file on all sides. If one of its sides is no YAML, nor is the file."""
     # A line of several sides may be part of a longer text on one of them.
     return _parse_sides(data, parse_envelopes, lambda value: value.end, effort)
 
 
-def parse_nodes_of_sides(data: bytes, effort: Effort) -> Content:
+def parse_nodes_of_sides(data: bytes, effort: Effort) -> ParsedText:
     """The same of every node."""
     return _parse_sides(data, parse_nodes, lambda value: (value.end, value.start), effort)
 
 
 def _parse_sides(
-    data: bytes, parse: Callable[[bytes, Effort], Content], identify: Callable[[Node], Hashable], effort: Effort
-) -> Content:
+    data: bytes, parse: Callable[[bytes, Effort], ParsedText], identify: Callable[[Node], Hashable], effort: Effort
+) -> ParsedText:
     """The values of all sides, those that are the same once."""
     effort.begin_version()
     texts = split_sides(data, is_masked=True).values()
@@ -107,9 +107,9 @@ def _parse_sides(
         return parse(data, effort)
     line_ends = [end.start() for end in re.finditer(b"\n", data)]
     values: dict[Hashable, Node] = {}
-    for side in (parse(text, effort) for text in texts):
-        if side.fault:
+    for parsed in (parse(text, effort) for text in texts):
+        if parsed.fault:
             return parse(data, effort)
-        for value in side.values:
+        for value in parsed.values:
             values.setdefault(identify(value), value._replace(line=bisect_left(line_ends, value.start) + 1))
-    return Content(data, sorted(values.values(), key=lambda value: (value.start, value.end)))
+    return ParsedText(data, sorted(values.values(), key=lambda value: (value.start, value.end)))

@@ -3,9 +3,9 @@
 from __future__ import annotations
 
 from ansible_vault_companions.envelopes import conflicts, header
-from ansible_vault_companions.envelopes.content import Content
 from ansible_vault_companions.envelopes.header import MAGIC
 from ansible_vault_companions.envelopes.node import LOOSE, STRAY
+from ansible_vault_companions.envelopes.parsed_text import ParsedText
 
 HEADER = MAGIC + b";"
 
@@ -16,36 +16,36 @@ DAMAGED_VAULT = "is a damaged vault"
 DAMAGED_VALUE = "has a damaged value in line {}"
 
 
-def is_unmerged(document: Content) -> bool:
+def is_unmerged(parsed: ParsedText) -> bool:
     """Whether git's conflict markers are in an envelope or beside one, even if git has torn it."""
-    return conflicts.is_unmerged(document.data) and bool(document.values or HEADER in document.data)
+    return conflicts.is_unmerged(parsed.data) and bool(parsed.values or HEADER in parsed.data)
 
 
-def find_damage(document: Content) -> str:
+def find_damage(parsed: ParsedText) -> str:
     """What is wrong with the envelopes of a file; empty if nothing is."""
-    if is_unmerged(document):
+    if is_unmerged(parsed):
         return conflicts.UNMERGED
-    if document.is_vault:
-        return "" if header.is_whole_envelope(document.data) else DAMAGED_VAULT
-    for value in document.values:
+    if parsed.is_vault:
+        return "" if header.is_whole_envelope(parsed.data) else DAMAGED_VAULT
+    for value in parsed.values:
         if value.is_envelope and value.style != LOOSE and not value.is_whole:
             return DAMAGED_VALUE.format(value.line)
     return ""
 
 
-def find_tagged(document: Content) -> str:
+def find_tagged(parsed: ParsedText) -> str:
     """What is wrong with a text that has the tag of an envelope and is none; empty if there is no such text."""
-    for value in document.values:
+    for value in parsed.values:
         if value.is_tagged and not value.is_envelope:
             return TAGGED.format(value.line)
     return ""
 
 
-def find_unencrypted(document: Content) -> str:
+def find_unencrypted(parsed: ParsedText) -> str:
     """Why to refuse a file that is marked and not empty. The result is empty if nothing is wrong."""
-    if not document.is_vault:
-        if document.fault and document.values:
-            return NOT_READ.format(document.fault)
-        if not any(value.is_envelope for value in document.values if value.style not in (STRAY, LOOSE)):
+    if not parsed.is_vault:
+        if parsed.fault and parsed.values:
+            return NOT_READ.format(parsed.fault)
+        if not any(value.is_envelope for value in parsed.values if value.style not in (STRAY, LOOSE)):
             return NOT_ENCRYPTED
-    return find_tagged(document) or find_damage(document)
+    return find_tagged(parsed) or find_damage(parsed)

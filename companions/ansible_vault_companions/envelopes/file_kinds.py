@@ -2,7 +2,7 @@
 
 from __future__ import annotations
 
-from ansible_vault_companions.envelopes.content import Content
+from ansible_vault_companions.envelopes.parsed_text import ParsedText
 from ansible_vault_companions.envelopes.yaml_nodes import BINARY
 
 # Documents. An envelope in one that no password decrypts is an example.
@@ -18,8 +18,8 @@ def is_yaml(path: str) -> bool:
     return path.lower().endswith(YAML)
 
 
-def find_yaml_fault(document: Content, path: str, target: str) -> str:
+def find_yaml_fault(parsed: ParsedText, path: str, target: str) -> str:
     """Why a file with an envelope that is YAML, by its name or by that of its target, cannot be read; else empty."""
     if not (is_yaml(path) or is_yaml(target)):
         return ""
-    return document.fault if document.values or BINARY in document.data else ""
+    return parsed.fault if parsed.values or BINARY in parsed.data else ""

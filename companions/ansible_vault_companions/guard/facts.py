@@ -8,7 +8,6 @@ from types import MappingProxyType
 from typing import Iterator, Mapping, NamedTuple
 
 from ansible_vault_companions import bounding, limits
-from ansible_vault_companions.envelopes.content import Content
 from ansible_vault_companions.envelopes.damage import (
     HEADER,
     NOT_ENCRYPTED,
@@ -21,6 +20,7 @@ from ansible_vault_companions.envelopes.detection import may_have_envelope
 from ansible_vault_companions.envelopes.header import LINE_END, MAGIC
 from ansible_vault_companions.envelopes.key_paths import MERGE_TAG, KeyPath
 from ansible_vault_companions.envelopes.node import ALIAS, NO_SCALAR, Node
+from ansible_vault_companions.envelopes.parsed_text import ParsedText
 from ansible_vault_companions.envelopes.pointers import is_pointer
 from ansible_vault_companions.envelopes.strays import find_strays
 from ansible_vault_companions.envelopes.yaml_nodes import BINARY, NotYaml, read_nodes
@@ -75,12 +75,12 @@ def find_facts(data: bytes, needs_plain: bool = False) -> Facts:
 
 def _read_facts(data: bytes, needs_plain: bool) -> Facts:
     if data.startswith(MAGIC):
-        vault = Content(data)
+        parsed = ParsedText(data)
         return Facts(
             is_vault=True,
             envelopes=1,
-            damage=find_damage(vault),
-            is_unmerged=is_unmerged(vault),
+            damage=find_damage(parsed),
+            is_unmerged=is_unmerged(parsed),
             unencrypted="",
         )
     if len(data) > limits.LONGEST_PLAINTEXT:
@@ -91,15 +91,15 @@ def _read_facts(data: bytes, needs_plain: bool) -> Facts:
         return Facts(is_pointer=True, fault=IN_LFS, unencrypted=IN_LFS)
     if not (needs_plain or may_have_envelope(data)):
         return Facts()
-    document, leaves, keys = _read_leaves(data)
+    parsed, leaves, keys = _read_leaves(data)
     return Facts(
-        fault=document.fault,
+        fault=parsed.fault,
         ambiguity=_find_hidden_break(data) or _find_unclear_key(keys),
-        envelopes=data.count(HEADER) if document.fault else sum(value.is_envelope for value in document.values),
-        damage=find_damage(document),
-        is_unmerged=is_unmerged(document),
-        tagged=find_tagged(document),
-        unencrypted=find_unencrypted(document),
+        envelopes=data.count(HEADER) if parsed.fault else sum(value.is_envelope for value in parsed.values),
+        damage=find_damage(parsed),
+        is_unmerged=is_unmerged(parsed),
+        tagged=find_tagged(parsed),
+        unencrypted=find_unencrypted(parsed),
         encrypted=_count_texts(leaves, are_encrypted=True),
         plain=_count_texts(leaves, are_encrypted=False),
         leaves=tuple(leaf._replace(path=drop_merges(leaf.path)) for leaf in leaves),
@@ -125,10 +125,10 @@ def _count_texts(leaves: list[Leaf], are_encrypted: bool) -> Texts:
     return texts
 
 
-def _read_leaves(data: bytes) -> tuple[Content, list[Leaf], list[Node]]:
+def _read_leaves(data: bytes) -> tuple[ParsedText, list[Leaf], list[Node]]:
     """The envelopes, the texts at each path that leads to them, and the nodes within keys, from one look at the
     nodes."""
-    document, leaves, keys = Content(data), list[Leaf](), list[Node]()
+    parsed, leaves, keys = ParsedText(data), list[Leaf](), list[Node]()
     effort = Effort()
     # How many of the leaves aliases add.
     aliased = 0
@@ -137,7 +137,7 @@ def _read_leaves(data: bytes) -> tuple[Content, list[Leaf], list[Node]]:
     try:
         for node in read_nodes(data):
             if node.is_value:
-                document.values.append(node)
+                parsed.values.append(node)
             if node.is_key:
                 keys.append(node)
             for leaf in _list_leaves(node, leaves, anchors):
@@ -148,10 +148,10 @@ def _read_leaves(data: bytes) -> tuple[Content, list[Leaf], list[Node]]:
                     raise TooMuch(limits.TOO_MANY_ALIASED)
                 leaves.append(leaf)
     except NotYaml as fault:
-        document, leaves = Content(data, fault=str(fault)), []
+        parsed, leaves = ParsedText(data, fault=str(fault)), []
     if BINARY not in data:
-        document.values += find_strays(data, document.values)
-    return document, leaves, keys
+        parsed.values += find_strays(data, parsed.values)
+    return parsed, leaves, keys
 
 
 def _list_leaves(node: Node, leaves: list[Leaf], anchors: dict[str, tuple[KeyPath, int]]) -> Iterator[Leaf]:

@@ -54,14 +54,14 @@ def _split_answers(output: bytes, questions: list[bytes]) -> list[bytes]:
     contents, place = [], 0
     for question in questions:
         missing = question + b" missing\n"
-        content = HEAD_OF_CONTENT.match(output, place)
-        if content:
-            begin, end = content.end(), content.end() + int(content["size"])
+        head = HEAD_OF_CONTENT.match(output, place)
+        if head:
+            begin, end = head.end(), head.end() + int(head["size"])
             contents.append(output[begin:end])
             place = end + 1
         else:
             contents.append(b"")
             place += len(missing)
-        if not (content or output.endswith(missing, 0, place)) or place > len(output):
+        if not (head or output.endswith(missing, 0, place)) or place > len(output):
             raise Refused(commands.CUT.format("cat-file"))
     return contents

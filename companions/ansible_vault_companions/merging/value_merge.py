@@ -6,9 +6,9 @@ from collections import Counter
 
 from ansible_vault_companions import bounding
 from ansible_vault_companions.envelopes import conflicts
-from ansible_vault_companions.envelopes.content import Content, parse_envelopes
 from ansible_vault_companions.envelopes.layout import apply_replacements
 from ansible_vault_companions.envelopes.node import LOOSE, Node
+from ansible_vault_companions.envelopes.parsed_text import ParsedText, parse_envelopes
 from ansible_vault_companions.limits import Effort, require_few_values
 from ansible_vault_companions.merging.equality import Meanings
 from ansible_vault_companions.merging.line_merge import OURS, SIDES, THEIRS, MergedLines, Versions, merge_lines
@@ -27,8 +27,8 @@ class ValueMerge:
 
     def __init__(self, decrypt: Decrypt, versions: Versions, chosen: Key | None, effort: Effort) -> None:
         self.effort = effort
-        self.contents = {side: _parse_version(data, effort) for side, data in zip(SIDES, versions)}
-        self.values = {side: [*filter(_has_token, self.contents[side].values)] for side in SIDES}
+        self.parsed_versions = {side: _parse_version(data, effort) for side, data in zip(SIDES, versions)}
+        self.values = {side: [*filter(_has_token, self.parsed_versions[side].values)] for side in SIDES}
         # A merged value may be encrypted again.
         for values in self.values.values():
             require_few_values(len(values))
@@ -40,7 +40,7 @@ class ValueMerge:
         shadows = Versions(*(self._shadow(side, tokens) for side in SIDES))
         with bounding.count_programs(self.effort):
             text, count = merge_lines(shadows)
-        if count and any(conflicts.count_markers(self.contents[side].data) for side in SIDES):
+        if count and any(conflicts.count_markers(self.parsed_versions[side].data) for side in SIDES):
             raise Refused(HAS_MARKERS)
         restoration = Restoration(tokens, self.meanings.decryptions, tool)
         content = restoration.restore(text, has_conflict=count > 0)
@@ -49,7 +49,7 @@ class ValueMerge:
 
     def _shadow(self, side: str, tokens: Tokens) -> bytes:
         """The data of a side, with tokens in place of its envelopes."""
-        data = self.contents[side].data
+        data = self.parsed_versions[side].data
         changes = []
         for value in self.values[side]:
             meaning = self.meanings.find_meaning(value.text)
@@ -58,16 +58,16 @@ class ValueMerge:
 
     def _check(self, content: bytes, envelopes: list[bytes], has_conflict: bool) -> None:
         """Refuses a result that is no YAML though both sides are, or that has other envelopes than these."""
-        result = conflicts.parse_envelopes_of_sides(content, self.effort)
-        are_yaml = not any(self.contents[side].fault for side in (OURS, THEIRS))
-        if result.fault and are_yaml and not has_conflict:
-            raise Refused(MERGED_NOT_YAML.format(result.fault))
-        found = Counter(value.text.strip() for value in result.values if _has_token(value))
+        parsed = conflicts.parse_envelopes_of_sides(content, self.effort)
+        are_yaml = not any(self.parsed_versions[side].fault for side in (OURS, THEIRS))
+        if parsed.fault and are_yaml and not has_conflict:
+            raise Refused(MERGED_NOT_YAML.format(parsed.fault))
+        found = Counter(value.text.strip() for value in parsed.values if _has_token(value))
         if found != Counter(envelope.strip() for envelope in envelopes):
             raise Refused(NEW_VALUE)
 
 
-def _parse_version(data: bytes, effort: Effort) -> Content:
+def _parse_version(data: bytes, effort: Effort) -> ParsedText:
     effort.begin_version()
     return parse_envelopes(data, effort)
 

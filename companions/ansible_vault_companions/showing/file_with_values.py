@@ -5,10 +5,10 @@ from __future__ import annotations
 from contextlib import suppress
 
 from ansible_vault_companions.envelopes import detection
-from ansible_vault_companions.envelopes.content import Content, parse_envelopes
 from ansible_vault_companions.envelopes.header import MAGIC
 from ansible_vault_companions.envelopes.layout import Replacement, apply_replacements, put_plaintext
 from ansible_vault_companions.envelopes.node import Node
+from ansible_vault_companions.envelopes.parsed_text import ParsedText, parse_envelopes
 from ansible_vault_companions.limits import require_few_values
 from ansible_vault_companions.merging.unmerged_file import find_versions
 from ansible_vault_companions.merging.vault_merge import VaultMerge
@@ -24,48 +24,48 @@ NO_ENVELOPE = "it is not a vault and has no encrypted value"
 MAY_LACK = "some of its values may be shown as they are: {}"
 
 
-def read_envelopes(target: str) -> Content:
-    """The content of a file. Refuses one without envelopes."""
-    file = parse_envelopes(detection.read_envelope_file(target))
-    if not file.values:
-        if file.is_too_much:
-            raise Refused(file.fault)
+def read_envelopes(target: str) -> ParsedText:
+    """A file and its envelopes. Refuses one without any."""
+    parsed = parse_envelopes(detection.read_envelope_file(target))
+    if not parsed.values:
+        if parsed.is_too_much:
+            raise Refused(parsed.fault)
         raise NoEnvelope(NO_ENVELOPE)
-    return file
+    return parsed
 
 
-def show_envelopes(companion: str, file: Content, path: str, target: str, decrypt: Decrypt) -> bytes:
+def show_envelopes(companion: str, parsed: ParsedText, path: str, target: str, decrypt: Decrypt) -> bytes:
     """The file's data with plaintext in place of its envelopes, as far as they can be decrypted and shown; for a
     conflict of two vaults, the merged text."""
     with suppress(Refused):
-        sides = find_versions(target, file.data)
+        sides = find_versions(target, parsed.data)
         if sides and sides.ours.startswith(MAGIC) and sides.theirs.startswith(MAGIC):
             vaults = VaultMerge(decrypt, sides)
             labels = dict.fromkeys((vaults.ours.key.label, vaults.theirs.key.label))
             return first_line.describe_vault(" and ".join(labels)) + vaults.merged_lines.text
-    return _choose_first_line(file) + _show_values(companion, file, path, decrypt)
+    return _choose_first_line(parsed) + _show_values(companion, parsed, path, decrypt)
 
 
-def _choose_first_line(file: Content) -> bytes:
-    if file.is_vault:
+def _choose_first_line(parsed: ParsedText) -> bytes:
+    if parsed.is_vault:
         # One that can be decrypted is shown elsewhere.
         return first_line.AS_IT_IS
-    count = len(file.number_envelopes())
+    count = len(parsed.number_envelopes())
     return first_line.describe_values(count) if count else first_line.NOTHING
 
 
-def _show_values(companion: str, file: Content, path: str, decrypt: Decrypt) -> bytes:
-    if file.is_too_much:
-        write_error(f"{companion}: {escape(path)}: {MAY_LACK.format(file.fault)}")
-    values = [*file.number_envelopes().values()]
+def _show_values(companion: str, parsed: ParsedText, path: str, decrypt: Decrypt) -> bytes:
+    if parsed.is_too_much:
+        write_error(f"{companion}: {escape(path)}: {MAY_LACK.format(parsed.fault)}")
+    values = [*parsed.number_envelopes().values()]
     require_few_values(len(values))
     changes: list[Replacement] = []
-    for result, value in zip(work_at_once(lambda value: _try_to_show(file.data, value, decrypt), values), values):
+    for result, value in zip(work_at_once(lambda value: _try_to_show(parsed.data, value, decrypt), values), values):
         if isinstance(result, Refused):
             write_error(f"{companion}: {value.describe_place(path)}: shown as it is: {result}")
         else:
             changes += result
-    return apply_replacements(file.data, changes)
+    return apply_replacements(parsed.data, changes)
 
 
 def _try_to_show(data: bytes, value: Node, decrypt: Decrypt) -> list[Replacement] | Refused:

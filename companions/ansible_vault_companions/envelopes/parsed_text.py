@@ -32,7 +32,7 @@ NO_SCALAR_THERE = "{} is a list, a mapping or an alias; name a value in it"
 VALUE_NOT_ENCRYPTED = "{} is not encrypted"
 
 
-class Content:
+class ParsedText:
     """The bytes of a file or of a plaintext, and what was read from them."""
 
     def __init__(self, data: bytes, values: Iterable[Node] = (), fault: str = "") -> None:
@@ -90,45 +90,45 @@ def _leads_to(path: str, value: Node) -> bool:
     return path in (value.typed_path, NUMBER.sub("[]", value.typed_path))
 
 
-def parse_envelopes(data: bytes, effort: Effort | None = None) -> Content:
+def parse_envelopes(data: bytes, effort: Effort | None = None) -> ParsedText:
     """The envelopes of a file or of a plaintext, and the scalars that have the tag. This may be one of several texts of
     a file, which share an effort."""
     if data.startswith(MAGIC):
-        return Content(data, [_make_vault(data)])
-    content = Content(data)
+        return ParsedText(data, [_make_vault(data)])
+    parsed = ParsedText(data)
     if may_have_envelope(data):
         effort = effort or Effort()
-        _read_yaml(content, read_envelopes, effort)
+        _read_yaml(parsed, read_envelopes, effort)
         with bounding.limit_work(effort):
-            _add_strays(content)
-    return content
+            _add_strays(parsed)
+    return parsed
 
 
-def parse_nodes(data: bytes, effort: Effort | None = None) -> Content:
+def parse_nodes(data: bytes, effort: Effort | None = None) -> ParsedText:
     """Every node of a text in YAML, which may be one of several texts of a file, which share an effort."""
     if data.startswith(MAGIC):
-        return Content(data, [_make_vault(data)])
-    content = Content(data)
-    _read_yaml(content, read_nodes, effort or Effort())
-    return content
+        return ParsedText(data, [_make_vault(data)])
+    parsed = ParsedText(data)
+    _read_yaml(parsed, read_nodes, effort or Effort())
+    return parsed
 
 
-def _read_yaml(content: Content, read: Callable[[bytes, Effort], Iterator[Node]], effort: Effort) -> None:
+def _read_yaml(parsed: ParsedText, read: Callable[[bytes, Effort], Iterator[Node]], effort: Effort) -> None:
     try:
         with bounding.limit_work(effort):
-            content.values = list(read(content.data, effort))
+            parsed.values = list(read(parsed.data, effort))
     except (NotYaml, TooMuch) as fault:
-        content.fault = str(fault)
-        content.is_too_much = isinstance(fault, TooMuch)
+        parsed.fault = str(fault)
+        parsed.is_too_much = isinstance(fault, TooMuch)
 
 
-def _add_strays(content: Content) -> None:
+def _add_strays(parsed: ParsedText) -> None:
     """Adds the envelopes outside of YAML values, unless the data is no text."""
-    if BINARY in content.data:
-        content.hides_envelope = WITH_DIGITS.search(content.data) is not None
+    if BINARY in parsed.data:
+        parsed.hides_envelope = WITH_DIGITS.search(parsed.data) is not None
     else:
-        content.values += find_strays(content.data, content.values)
-        content.values.sort(key=lambda value: value.start)
+        parsed.values += find_strays(parsed.data, parsed.values)
+        parsed.values.sort(key=lambda value: value.start)
 
 
 def _make_vault(data: bytes) -> Node:
