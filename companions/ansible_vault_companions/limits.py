@@ -79,7 +79,7 @@ class TooMuch(Refused):
 
 
 def require_few_values(count: int, text: str = TOO_MANY_VALUES) -> None:
-    """Refuses a file with too many values to decrypt or encrypt. One of many, by its path, needs no more than one run."""
+    """Refuses a file with too many values to decrypt or encrypt. One of them by its path needs a single run."""
     if count > MOST_VALUES:
         raise TooMuch(text)
 

@@ -1,5 +1,5 @@
-"""Which password and label the result of a merge gets: those of both sides, or the new ones if one side alone rotated to
-another password with the same labels; else the chosen ones."""
+"""Which password and label the result of a merge gets: those of both sides, or the new ones if one side alone rotated
+to another password with the same labels; else the chosen ones."""
 
 from __future__ import annotations
 
