@@ -297,7 +297,7 @@ def test_names_of_several(place: Place) -> None:
     place.shell("git update-ref refs/remotes/origin/main HEAD")
     last = committed(place, "a.yml", TEXT)
     whole = place.shell("git rev-parse HEAD~1").stdout.strip()
-    place.shell(f"for name in origin/main {first} {whole} HEAD; do git tag $name HEAD; done")
+    place.shell(f"for name in origin/main {first} {whole} HEAD; do git update-ref refs/tags/$name HEAD; done")
     for setting in ("true", "false"):
         place.shell(f"git config core.warnAmbiguousRefs {setting}")
         for name in ("origin/main", "origin/main~0", first, "HEAD~1"):
