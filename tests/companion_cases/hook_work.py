@@ -192,10 +192,10 @@ def test_no_time_left(place: Place) -> None:
     place.put("a.yml", sealed("old"))
     add_and_commit(place)
     needed = run_slowed(place, "--no-pager", 0, "", HOOK, "--all")
-    assert needed[0].returncode == 0 and needed[1] > 6, needed
-    done, count = run_slowed(place, "--no-pager", 0.9, "bounding.SECONDS = 3", HOOK, "--all")
+    assert needed[0].returncode == 0, needed
+    done, count = run_slowed(place, "--no-pager", 0.7, "bounding.SECONDS = 3", HOOK, "--all")
     ended("the hook", done, 1, TOO_SLOW.format(3))
-    assert 0 < count < 6, done
+    assert 0 < count < needed[1], done
 
 
 def test_time_of_running_git(place: Place) -> None:
