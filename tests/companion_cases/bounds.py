@@ -12,7 +12,10 @@ from companion_cases import CHECK, CONFLICT, EDIT, HOOK, MERGE, NOT_ENCRYPTED, R
 from companion_cases import block, ended, run_changed, to_new
 from lib.needs import needs
 
-SECONDS, KILOBYTES = 8, 100_000
+# Of processor time, where the loop of MEASURE takes LOOP_SECONDS. A machine that does more takes longer for both.
+SECONDS = 8
+LOOP_SECONDS = 0.25
+KILOBYTES = 100_000
 BLOCK, COMMENT = block("old"), b"".join(b"# " + line for line in block("old").splitlines(keepends=True))
 # The content of a file with an envelope in YAML that is not deep, and whose other lines are plain.
 FILES = {
@@ -25,20 +28,25 @@ FILES = {
     "headers in one line": COMMENT + b"$ANSIBLE_VAULT;1.1;AES256 " * 100_000,
     "blanks behind a header": COMMENT + b"$ANSIBLE_VAULT;1.1;AES256\n" + b" " * 16_000_000,
 }
-# Runs a program from a small process, whose own memory does not count, and prints what it used.
+# Runs a program from a small process, whose own memory does not count, and prints what it used, and what a loop takes.
 MEASURE = """
-import os, sys
+import os, sys, time
 discarded = [(os.POSIX_SPAWN_OPEN, stream, os.devnull, os.O_WRONLY, 0) for stream in (1, 2)]
 child = os.posix_spawnp(sys.argv[1], sys.argv[1:], os.environ, file_actions=discarded)
 _, status, used = os.wait4(child, 0)
-print(os.waitstatus_to_exitcode(status), used.ru_utime + used.ru_stime, used.ru_maxrss)
+begin = time.process_time()
+for _number in range(5_000_000):
+    pass
+loop = time.process_time() - begin
+print(os.waitstatus_to_exitcode(status), used.ru_utime + used.ru_stime, used.ru_maxrss, loop)
 """
 
 
 def used(place: Place, *words: str) -> int:
     """Return the status of a companion, which has to keep to the bounds."""
-    status, seconds, memory = place.run(sys.executable, "-c", MEASURE, *words).stdout.split()
-    assert float(seconds) < SECONDS and int(memory) < KILOBYTES, (words[0], seconds, memory)
+    status, seconds, memory, loop = place.run(sys.executable, "-c", MEASURE, *words).stdout.split()
+    assert float(seconds) < SECONDS * float(loop) / LOOP_SECONDS, (words[0], seconds, loop)
+    assert int(memory) < KILOBYTES, (words[0], memory)
     return int(status)
 
 
