@@ -81,6 +81,10 @@ class Edit(NamedTuple):
 COPIED_LINE = Edit(["first: !vault |", "  20", "# new: !vault hunter2"], 0, ["# new: !vault hunter2"], OLD_TEXT)
 
 
+# A tag without a text does not get that of the next line.
+EMPTY_KEY = Edit(["first: !vault |", "  20"], 0, ["? !vvault &hunter2"], OLD_TEXT)
+
+
 @st.composite
 def tags(draw: st.DrawFn) -> str:
     """Return the tag, or one that somebody may take for it."""
@@ -132,6 +136,7 @@ def test_typed_values(request: pytest.FixtureRequest) -> None:
     )
     @hypothesis.given(edits())
     @hypothesis.example(COPIED_LINE)
+    @hypothesis.example(EMPTY_KEY)
     def check(edit: Edit) -> None:
         try:
             after = save(edit)

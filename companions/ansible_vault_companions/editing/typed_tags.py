@@ -83,7 +83,7 @@ def _refuse_new_line(shown: ParsedText, saved: ParsedText) -> None:
     """Refuses a line that was not shown if a `!` in it is no tag. Beside one that encrypts nothing, refuses any such
     line, and names the one that may be meant to encrypt it: in it or below it, or else the last one."""
     idle = sorted([*_find_loose_words(saved), *_find_unknown_tags(saved)])
-    begins = {value.begin for value in saved.values}
+    begins = {value.begin for value in saved.values if value.tag}
     unseen = Counter(line[0].strip() for line in _find_lines_outside(shown))
     for line in _find_lines_outside(saved):
         unseen[line[0].strip()] -= 1
@@ -97,7 +97,7 @@ def _refuse_new_line(shown: ParsedText, saved: ParsedText) -> None:
 
 
 def _is_tag(data: bytes, place: int, begins: set[int]) -> bool:
-    """Whether a `!` begins the tag of a value."""
+    """Whether a `!` begins the tag of a value, by where the texts of tagged values begin."""
     tag = ANY_TAG.match(data, place)
     return tag is not None and tag.end() in begins
 
