@@ -143,7 +143,7 @@ def test_imports(place: Place, line: str) -> None:
     companion, *words = line.split()
     path = place.tools / companion
     options = path.read_text().partition("\n")[0].split()[-1]
-    # What Python imports for itself differs from machine to machine, and what argparse imports, from release to release.
+    # What Python imports for itself differs from machine to machine, and what argparse does, from release to release.
     of_python = list_imports(place, options, "-c", "import argparse; argparse.ArgumentParser()") - {"argparse"}
     listed = choose_listed(list_imports(place, options, str(path), *words) - of_python)
     expected = RUNS[line] - of_python
