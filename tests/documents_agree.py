@@ -158,6 +158,13 @@ def test_files_of_companions() -> None:
     assert names <= {*re.findall("`([^`]+)`", end)}
 
 
+def test_passwords_stay() -> None:
+    """A command of a document that writes a password overwrites none."""
+    writes = re.compile(r"[^->]> ?(?:~/\.vault/|[\w./]*\bpass\b)|(?<![-\w])(?:cp|install|mv|tee) .*~/\.vault/")
+    writing = [line for line in TEXT.splitlines() if writes.search(line)]
+    assert len(writing) > 5 and [line for line in writing if "set -C" not in line] == []
+
+
 def test_bytes() -> None:
     """docs/formats.md lists the bytes that are whitespace, and those that a label may contain."""
     page = FORMATS.read_text()
