@@ -11,10 +11,12 @@ from pathlib import Path
 
 import pytest
 
+from lib.ansible import ansible_release
 from lib.cases import Cases, by_file, by_id
 from lib.needs import needs_ansible
 from lib.paths import ROOT
 from lib.processes import run
+from lib.scripts import write_script
 from model.vaults import seal, yaml_block
 
 TEXTS = [(b"key: value\n" * (size // 11 + 1))[:size] for size in (0, 1, 15, 16, 17, 1 << 20)]
@@ -43,10 +45,10 @@ class Both:
         self.options = by_id(self.password, label) if label else by_file(self.password)
         self.choice = ["--encrypt-vault-id", label] if label else []
 
-    def run(self, command: list[str]) -> subprocess.CompletedProcess[bytes]:
+    def run(self, command: list[str], **variables: str) -> subprocess.CompletedProcess[bytes]:
         """Run one of the tools where it finds no configuration file."""
         folder = self.cases.folder
-        return run(command, cwd=folder, env={**ENVIRONMENT, "HOME": str(folder)})
+        return run(command, cwd=folder, env={**ENVIRONMENT, "HOME": str(folder), **variables})
 
     def theirs(self, *words: str) -> bytes:
         done = self.run([self.ansible, *words])
@@ -124,19 +126,46 @@ FILES = {"right": RIGHT, "wrong": NEW, "empty": b"", "plain": b"a: 1\n", "vault"
 FILES["odd"] = VAULT.partition(b"\n")[0] + b"\nxyz\n"
 FILES["short"] = VAULT[: VAULT.rindex(b"\n", 0, -1) + 1]
 ROW = re.compile(r"^\| (.+) \| `(.+)` \| (\d) \| `(.+)` \| (\d) \|$", re.MULTILINE)
-# How messages begin. Those of later releases may name the file, and one begins with a capital letter.
-STARTS = r"ERROR! |\[ERROR\]: (?:Failed to view .*: )?", "ERROR! "
+NOT_A_VAULT = "input is not vault encrypted data..."
+
+
+def their_line(said: str) -> str:
+    """Return what their message of the page is in the release that is tested."""
+    if ansible_release() < (2, 19):
+        return f"ERROR! {said}"
+    if said == NOT_A_VAULT:
+        said = said.capitalize()
+        return f"[ERROR]: Failed to view '...': {said}" if ansible_release() >= (2, 22) else f"[ERROR]: {said}"
+    return f"[ERROR]: ...{said}" if ansible_release() >= (2, 22) else f"[ERROR]: {said}"
 
 
 def test_messages(cases: Cases) -> None:
     both, rows = Both(cases, needs_ansible(), ""), ROW.findall(PAGE.read_text())
     assert sorted(row[0] for row in rows) == sorted(REFUSED)
+    assert NOT_A_VAULT in [row[1] for row in rows]
     for name, content in FILES.items():
         (cases.folder / name).write_bytes(content)
     for what, theirs, their_status, ours, our_status in rows:
-        runs = (both.ansible, theirs, their_status), (cases.program, ours, our_status)
-        for start, (tool, said, status) in zip(STARTS, runs):
+        runs = (both.ansible, their_line(theirs), their_status), (cases.program, f"ERROR! {ours}", our_status)
+        for tool, line, status in runs:
             done = both.run([tool, *REFUSED[what].split()])
-            pattern = re.compile(f"(?:{start}){'.*'.join(map(re.escape, said.split('...')))}", re.IGNORECASE)
-            is_said = any(map(pattern.fullmatch, done.stderr.decode().splitlines()))
-            assert (done.returncode, is_said) == (int(status), True), (tool, what, done.stderr)
+            pattern = re.compile(".*".join(map(re.escape, line.split("..."))))
+            assert done.returncode == int(status), f"status of {tool} if {what}"
+            assert any(map(pattern.fullmatch, done.stderr.decode().splitlines())), (tool, what, done.stderr)
+
+
+def test_salt_of_a_variable(both: Both) -> None:
+    """As the page says, releases of the last column use it."""
+    words = ["encrypt", *both.options, *both.choice, "--output", "-", both.cases.file(b"a: 1\n")]
+    done = both.run([both.ansible, *words], ANSIBLE_VAULT_ENCRYPT_SALT="a salt")
+    assert (salt_of(done.stdout) == b"a salt") == (ansible_release() >= (2, 19)), done.stderr
+
+
+def test_failing_editor(both: Both) -> None:
+    """As the page says, the text that it saved is encrypted, except in 2.22, where it is lost."""
+    editor = write_script(both.cases.folder / "editor", 'echo "b: 2" >> "$1"; exit 1')
+    path = Path(both.cases.file(both.sealed(b"a: 1\n", bytes(32))))
+    done = both.run([both.ansible, "edit", *both.options, str(path)], EDITOR=str(editor))
+    is_lost = ansible_release() >= (2, 22)
+    assert (done.returncode != 0) == is_lost, done.stderr
+    both.cases.decrypts(both.options, path.read_bytes(), b"a: 1\n" if is_lost else b"a: 1\nb: 2\n")
