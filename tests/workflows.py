@@ -159,8 +159,11 @@ RECIPES = {
             for each in 1 2; do mv ../$each {VAULT}; git add .; git commit -qm $each; done""",
         printed=f"# ansible-vault: encrypted, label prod\ndb_password: b\n{VAULT}:db_password: b\n*\n+{FIRST_LINE}\n*"
         "\n+++ b/.gitattributes\n*",
-        after="git log -p --format= 2> /dev/null | grep '^[-+][#d]'",
-        left="-# ansible-vault: not encrypted\n-db_password: a\n"
+        after=f"""exec 2> /dev/null
+            git blame -s {VAULT} | sed 's/.*) //'; git log --format=%s -S 'db_password: b'
+            git log -p --format= | grep '^[-+][#d]'""",
+        left="# ansible-vault: encrypted, label prod\ndb_password: b\n2\n"
+        "-# ansible-vault: not encrypted\n-db_password: a\n"
         "+# ansible-vault: encrypted, label prod\n+db_password: b\n"
         "+# ansible-vault: not encrypted\n+db_password: a\n",
     ),
@@ -276,11 +279,24 @@ def commit_sides(repository: Repository, password: str = "prod.pass") -> None:
         repository.shell("git add -A && git commit -qm change")
 
 
-def test_merge(repository: Repository) -> None:
+# The commands that merge as the document's `git merge` does, and the text of the vault then.
+MERGING = {
+    "git merge --no-edit branch": MERGED,
+    "git rebase branch": MERGED,
+    "git cherry-pick branch": MERGED,
+    "git reset -q --soft HEAD^ && git stash -q && git merge -q branch && git stash pop": MERGED,
+    "git merge --no-edit branch && git revert --no-edit branch": SIDES[2].decode(),
+}
+
+
+@pytest.mark.parametrize("merging, text", MERGING.items(), ids=MERGING)
+def test_merge(repository: Repository, merging: str, text: str) -> None:
     commit_sides(repository)
-    merge, _, _ = COMMANDS[MERGE].partition("\nansible-vault-edit ")
-    assert repository.shell(merge).returncode == 0, "git merges what does not conflict"
-    assert repository.shown(VIEW) == MERGED, "both changes are in the vault"
+    commands, _, _ = COMMANDS[MERGE].partition("\nansible-vault-edit ")
+    install, merge = commands.split("\n")
+    assert merge in MERGING
+    assert repository.shell(f"{install} && {merging}").returncode == 0, "git merges what does not conflict"
+    assert repository.shown(VIEW) == text, "what the vault has then"
 
 
 def test_pipeline(repository: Repository) -> None:
