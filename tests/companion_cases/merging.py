@@ -7,9 +7,11 @@ from pathlib import Path
 
 import pytest
 
-from companion_cases import CONFLICT, EDIT, MERGE, Place, block, decrypted, ended, sealed, silent, versions
+from companion_cases import CONFLICT, EDIT, FOUND, MERGE, PASSWORDS, Place, block, decrypted, ended, sealed, silent
+from companion_cases import texts, versions
 from companion_cases.random_merges import Model, Value, common
-from companion_cases.repository import BASE, BOTH, OURS, THEIRS, fork, repository, set_driver, under_git
+from companion_cases.repository import BASE, BOTH, OURS, SALTS, THEIRS, fork, repository, set_driver, under_git
+from model.vaults import seal, yaml_block
 
 pytestmark = pytest.mark.usefixtures("git")
 
@@ -144,6 +146,22 @@ def test_conflict_as_base(tmp_path: Path, monkeypatch: pytest.MonkeyPatch) -> No
     merged = Model().merged([base + value, ours + value, theirs + value])
     assert merged.why == "2 conflicts", "the values conflict one by one"
     assert merged.content.count(b"<<<<<<< ours") == 2, "each is marked"
+
+
+def test_copies(place: Place) -> None:
+    """Where a side has rotated, what the other one adds gets the new password: each of its envelopes once, however
+    many copies of it there are. Those that differ still do."""
+    first, second = (seal(PASSWORDS["old"], b"text", b"", salt) for salt in SALTS[:2])
+    added = b"".join(yaml_block((first, second)[n % 3 == 0], b"k%d" % n) for n in range(30))
+    contents = block("old"), block("old") + added, block("new")
+    words = [*place.by_file("old"), *place.by_file("new"), *versions(place, "a.yml", *contents)]
+    place.wrap_tool('echo "$1" >> ../runs')
+    silent("the merge", place.run(MERGE, *words))
+    found = FOUND.findall(place.get("a.yml"))
+    assert found.pop(0) in block("new") and len(found) == 30
+    assert {*texts(place.get("a.yml"), "new")[1:]} == {b"text"}
+    assert [each == found[0] for each in found] == [n % 3 == 0 for n in range(30)], "the same are copies"
+    assert len({*found}) == 2 and place.get("../runs").decode().split().count("encrypt") == 2
 
 
 # Enough lines between two changes for git to take them for two conflicts.

@@ -7,6 +7,7 @@ torn, lost, in plaintext, or under another's password.
 
 import itertools
 import re
+import threading
 from collections import Counter
 from collections.abc import Callable
 from pathlib import Path
@@ -23,7 +24,7 @@ from ansible_vault_companions.merging.line_merge import Versions
 from ansible_vault_companions.passwords.labels import Policy
 from ansible_vault_companions.passwords.password import Password
 from ansible_vault_companions.passwords.sources import parse_vault_id
-from ansible_vault_companions.tool import Decryption, Key, NotDecrypted, Tool
+from ansible_vault_companions.tool import MOST_REMEMBERED, Decryption, Key, NotDecrypted, Tool
 from companion_cases import PASSWORDS, decrypted
 from companion_cases.repository import SALTS, by_git, repository
 from lib.needs import needs, needs_pyyaml
@@ -140,8 +141,11 @@ class Model(Tool):
 
     def __init__(self) -> None:
         self.salts = itertools.cycle(range(len(SALTS)))
-        # The new values, by their envelopes.
+        # The new values, by their envelopes, and how many there are of each text and key.
         self.made: dict[bytes, Value] = {}
+        self.counts: Counter[tuple[bytes, Key]] = Counter()
+        # As in the program's own.
+        self.lock, self.results, self.room = threading.Lock(), {}, MOST_REMEMBERED
 
     def view(self, envelope: bytes, secret: Password) -> bytes:
         text = decrypted(secret.source.place, envelope)
@@ -156,6 +160,7 @@ class Model(Tool):
         label = "" if key.label == "default" else key.label
         value = Value("", plaintext, label, key.password.source.place, next(self.salts), 0)
         self.made[value.envelope()] = value
+        self.counts[plaintext, key] += 1
         return value.envelope()
 
     def merged(self, contents: list[bytes]) -> MergedFile:
@@ -230,6 +235,15 @@ def describe_blocks(merge: Merge, result: MergedFile, known: dict[bytes, Value])
     return BLOCK.sub(describe, result.content)
 
 
+def check_encryptions(merge: Merge, tool: Model) -> None:
+    """Check that no more envelopes are made than a side has with this text and label: copies stay copies."""
+    _, *sides = merge.versions
+    for (text, key), count in tool.counts.items():
+        label = "" if key.label == "default" else key.label
+        envelopes = ({each.envelope() for each in side if (each.text, each.label) == (text, label)} for side in sides)
+        assert count <= max(map(len, envelopes)), (text, key.label)
+
+
 def check_merge(folder: Path, merge: Merge) -> list[str]:
     """Check a merge, and return of which kinds it was."""
     import yaml
@@ -240,6 +254,7 @@ def check_merge(folder: Path, merge: Merge) -> list[str]:
     text, count = by_git(folder, merge.written(merge.plain))
     assert describe_blocks(merge, result, known) == BELOW.sub(b"", text), "the merge is git's"
     assert bool(result.why) == (count > 0), f"{count} conflicts by git: {result.why}"
+    check_encryptions(merge, tool)
     assert b"clear" not in result.content, "nothing is in plaintext"
     if not result.why:
         yaml.load(result.content, Loader=yaml.BaseLoader)

@@ -22,6 +22,8 @@ class Restoration:
         self.tool = tool
         # How many envelopes of each side and meaning are used, and all that are, in order.
         self.uses: Counter[tuple[str, Meaning]] = Counter()
+        # What _list_choices finds.
+        self.choices: dict[tuple[str, Meaning], tuple[list[bytes], bool]] = {}
         self.envelopes: list[bytes] = []
 
     def restore(self, text: bytes, has_conflict: bool) -> bytes:
@@ -47,24 +49,32 @@ class Restoration:
         return b"".join(pieces)
 
     def _choose(self, meaning: Meaning, side: str) -> bytes:
-        """The next envelope with a meaning, or the last one again; a new one if there is none."""
+        """The next envelope with a meaning, or the last one again. If it is not under the key of the result, a new one
+        for it: copies stay copies, and other envelopes with the same text differ."""
         if isinstance(meaning, bytes):
             return meaning
         number = self.uses[side or OURS, meaning]
         for each in [side] if side else SIDES:
             self.uses[each, meaning] += 1
-        for envelopes in self._list_choices(meaning, side):
-            if envelopes:
-                return envelopes[min(number, len(envelopes) - 1)]
-        return self.tool.encrypt(meaning.text, meaning.key)
+        envelopes, has_key = self._find_choices(meaning, side)
+        envelope = envelopes[min(number, len(envelopes) - 1)]
+        return envelope if has_key else self.tool.encrypt_again(envelope, meaning.text, meaning.key)
 
-    def _list_choices(self, meaning: KeyAndText, side: str) -> list[list[bytes]]:
-        """The envelopes with a meaning, the best first: in a conflict those of its side, and otherwise those under the
-        key of the result, if possible of the side that changed them."""
+    def _find_choices(self, meaning: KeyAndText, side: str) -> tuple[list[bytes], bool]:
+        """The envelopes to choose from, which are computed once for all that mean the same."""
+        if (side, meaning) not in self.choices:
+            self.choices[side, meaning] = self._list_choices(meaning, side)
+        return self.choices[side, meaning]
+
+    def _list_choices(self, meaning: KeyAndText, side: str) -> tuple[list[bytes], bool]:
+        """The best envelopes with a meaning, and whether they may stay. In a conflict, they are those of its side, and
+        otherwise those under the key of the result, if possible of the side that changed them."""
         if side:
-            return [self.tokens.envelopes[side, meaning]]
+            return self.tokens.envelopes[side, meaning], True
         ours, base, theirs = (self.tokens.envelopes[each, meaning] for each in SIDES)
         by_preference = [theirs if ours == base else ours, ours, theirs]
-        return [
-            [each for each in envelopes if self.decryptions[each].key == meaning.key] for envelopes in by_preference
-        ]
+        for envelopes in by_preference:
+            under_key = [each for each in envelopes if self.decryptions[each].key == meaning.key]
+            if under_key:
+                return under_key, True
+        return next(filter(None, by_preference)), False
