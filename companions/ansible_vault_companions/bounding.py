@@ -63,7 +63,7 @@ def limit_work(effort: Effort) -> Iterator[None]:
     megabytes = MEGABYTES if _thread._count() == 0 else 0
     try:
         with _limit_memory(megabytes):
-            with _limit_time(time.thread_time, SECONDS - effort.seconds, TOO_SLOW.format(SECONDS)):
+            with _limit_time(time.thread_time, effort.left, TOO_SLOW.format(SECONDS)):
                 yield
     finally:
         effort.seconds += time.thread_time() - begin

@@ -6,6 +6,8 @@ work goes on with the next file.
 
 from __future__ import annotations
 
+import _thread
+
 from ansible_vault_companions.refusals import Refused
 
 # The levels of YAML, with those of an alias at its place. libyaml takes quadratic time for brackets.
@@ -16,8 +18,13 @@ MOST_KEYS = 1_000_000
 # The texts that the aliases of a file add, which are not in proportion to its bytes, so many small files would take as
 # much as a large one each. A list of 1,000 hosts, each with an alias of 50 values, adds as many.
 MOST_ALIASED = 50_000
-# The values of a file that are decrypted or encrypted. A run of ansible-vault derives a key for each, in some 15 ms.
-MOST_VALUES = 400
+# The values of a file that are decrypted or encrypted, each in a run of ansible-vault, which derives a key. A rotation
+# takes two runs for each.
+MOST_VALUES = 300
+# What a run counts for, of the seconds below. It takes 12 to 15 ms, but a file is not refused since a machine is slow.
+# With a wrong password, it takes less than half of that.
+RUN_SECONDS = 0.014
+WRONG = 0.5
 # The bytes of a key, as many as libyaml allows for one that does not follow a question mark. A message names a key for
 # each value below it.
 LONGEST_KEY = 1_024
@@ -64,10 +71,10 @@ DIRECTIVES_TOO_LONG = f"it has directives `%TAG` of over {LONGEST_DIRECTIVES:,} 
 TOO_MANY = f"it has over {MOST_KEYS:,} keys and texts, with those above each"
 TOO_MANY_ALIASED = f"its aliases stand for over {MOST_ALIASED:,} texts"
 TOO_MANY_VALUES = f"it has over {MOST_VALUES} values"
-TOO_MANY_DIFFER = f"its versions have over {MOST_VALUES} values that differ"
+TOO_MANY_RUNS = f"its values take over {SECONDS} s of processor time; divide it, or name fewer passwords"
 TOO_LONG = f"it has over {LONGEST_PLAINTEXT:,} bytes"
 TOO_SLOW = "it takes over {} s of processor time"
-TOO_SLOW_TO_EDIT = f"it takes over a third of {SECONDS} s of processor time before it is even edited"
+TOO_SLOW_TO_EDIT = f"it takes too much of {SECONDS} s of processor time before it is even edited"
 TOO_SLOW_PROGRAM = "it takes too much processor time"
 TOO_SLOW_PATTERNS = "the patterns in .gitattributes take too much processor time"
 TOO_MUCH = "it takes over {} MB of memory"
@@ -78,10 +85,10 @@ class TooMuch(Refused):
     """A file exceeds a limit."""
 
 
-def require_few_values(count: int, text: str = TOO_MANY_VALUES) -> None:
+def require_few_values(count: int) -> None:
     """Refuses a file with too many values to decrypt or encrypt. One of them by its path needs a single run."""
     if count > MOST_VALUES:
-        raise TooMuch(text)
+        raise TooMuch(TOO_MANY_VALUES)
 
 
 class Effort:
@@ -89,15 +96,39 @@ class Effort:
     versions is."""
 
     def __init__(self) -> None:
-        # Keys and texts of the version that is read, with all sides of a conflict; and processor time, in all.
+        # Keys and texts of the version that is read, with all sides of a conflict.
         self.number = 0
+        # Processor time, in all, and the runs of ansible-vault, which threads count.
         self.seconds = 0.0
+        self.runs = 0.0
+        self.lock = _thread.allocate_lock()
+
+    @property
+    def left(self) -> float:
+        """The seconds that are left."""
+        return SECONDS - self.seconds - self.runs * RUN_SECONDS
 
     def begin_version(self) -> None:
         """Counts keys and texts from the beginning. The time goes on. Refuses a version for which there is none."""
-        if self.seconds >= SECONDS:
+        if self.left <= 0:
             raise TooMuch(TOO_SLOW.format(SECONDS))
         self.number = 0
+
+    def add_values(self, number: int) -> None:
+        """Counts, for each value, the run that encrypts it, whether it comes to that or not: what is checked can be
+        rotated, and what is opened can be saved."""
+        require_few_values(number)
+        self.add_runs(number)
+
+    def add_runs(self, number: float = 1) -> None:
+        with self.lock:
+            self.runs += number
+        self.require_time()
+
+    def require_time(self) -> None:
+        """Refuses a file if no time is left, even one of whose values each was refused for that."""
+        if self.left < 0:
+            raise TooMuch(TOO_MANY_RUNS)
 
     def add(self, number: int) -> None:
         self.number += number
@@ -105,7 +136,7 @@ class Effort:
             raise TooMuch(TOO_MANY)
 
     def require_third(self) -> None:
-        """Refuses a file that has taken over a third of the time that it may take, since it is to be read twice more:
-        what is saved is, or the file with a new tag, and what is written."""
-        if self.seconds > SECONDS / 3:
+        """Refuses a file that has taken over a third of the time that it may be read, since it is to be read twice
+        more: what is saved is, or the file with a new tag, and what is written."""
+        if self.left < 2 * self.seconds:
             raise TooMuch(TOO_SLOW_TO_EDIT)

@@ -8,9 +8,10 @@ import pytest
 
 from ansible_vault_companions.envelopes.node import Node
 from ansible_vault_companions.envelopes.parsed_text import parse_nodes
-from companion_cases import CHECK, CONFLICT, EDIT, HOOK, MERGE, NOT_ENCRYPTED, ROTATE, TEXTCONV, WITH, Done, Place
-from companion_cases import block, ended, run_changed, to_new
+from companion_cases import CHECK, CONFLICT, EDIT, HOOK, MERGE, NOT_ENCRYPTED, PASSWORDS, ROTATE, TEXTCONV, WITH
+from companion_cases import Done, Place, block, ended, run_changed, to_new
 from lib.needs import needs
+from model.vaults import serialized, yaml_block
 
 # Of processor time, where the loop of MEASURE takes LOOP_SECONDS. A machine that does more takes longer for both.
 SECONDS = 8
@@ -84,7 +85,7 @@ def test_long_keys(place: Place, depth: int) -> None:
     """Long keys above many values take little memory in reports, even with a character that makes each string four
     times as long. An edit reads such a file, too."""
     keys = b"{? %s : " % ("😀".encode() + b"k" * 1_000) * depth
-    content = keys + b"[%s]" % (b"!vault $ANSIBLE_VAULT;," * 400) + b"}" * depth + b"\n"
+    content = keys + b"[%s]" % (b"!vault $ANSIBLE_VAULT;," * 300) + b"}" * depth + b"\n"
     for number in range(5):
         place.put(f"{number}.yml", content)
     assert used(place, CHECK, "--json", *place.by_file("old"), ".") in (0, 1)
@@ -160,7 +161,7 @@ def test_time_of_readings(place: Place, interval: float, left: str) -> None:
     # No block can be where this is typed, which takes one more reading.
     editor = place.script('echo "a: [!vault b]" >> "$1"', "editor")
     done = run_changed(place, EDIT, CLOCK.format(interval), [*place.by_file("old"), "a.yml"], EDITOR=editor)
-    assert place.get("../limits").decode().split() == left.split(), done
+    assert [f"{float(each):.1f}" for each in place.get("../limits").decode().split()] == left.split(), done
     is_refused = interval == 1
     assert (b"a: [!vault" in place.get("a.yml"), done.returncode) == (not is_refused, int(is_refused)), done
     assert "saved" not in done.stderr and ("before it is even edited" in done.stderr) == is_refused, done
@@ -295,7 +296,10 @@ STAND_IN = """
 echo "$1" >> {path}/runs
 case $1 in
 --version) echo ansible-vault 0 ;;
-view) cat > /dev/null; echo text ;;
+view)
+    cat > /dev/null
+    read -r password < "${{2##*@}}"
+    case $password in *"$RIGHT") echo text ;; *) echo "ERROR! no secret decrypts this vault" >&2; exit 1 ;; esac ;;
 encrypt) exec {program} "$@" ;;
 esac
 """
@@ -308,7 +312,8 @@ VALUES = {
     "headers": b"# $ANSIBLE_VAULT;1.1;AES256 61616161616161616161 %d\n",
     "sides": b"<<<<<<< a\nk: !vault $ANSIBLE_VAULT;%d\n=======\nk: !vault $ANSIBLE_VAULT;\n>>>>>>> b\n",
 }
-TOO_MANY = "it has over 400 values"
+TOO_MANY = "it has over 300 values"
+TOO_MANY_RUNS = "its values take over 10 s of processor time; divide it, or name fewer passwords"
 BY_OLD = "--vault-password-file ../secrets/old"
 # A command line of each companion, and which of these it opens or encrypts.
 OPENED = ["values", "other values", "comments", "headers"]
@@ -323,16 +328,25 @@ OPENING = {
 
 def runs(place: Place, line: str, content: bytes) -> tuple[str, int]:
     """Return what a companion prints, and how often it runs the program on a file, or on its versions."""
+    put_files(place, content, is_merged=MERGE in line)
+    done = place.shell(line)
+    return done.stdout + done.stderr, count_runs(place)
+
+
+def put_files(place: Place, content: bytes, is_merged: bool) -> None:
+    """Put a file or, if it is to be merged, what one side adds; and what notes the runs of the program."""
     place.script(STAND_IN.format(path=place.path, program=place.program), "program")
     (place.tools / "ansible-vault").unlink(missing_ok=True)
     (place.tools / "ansible-vault").symlink_to(place.path / "program")
     (place.path / "runs").write_text("")
     place.put("../base", b"x: 1\n")
     place.put("../theirs", content)
-    place.put("a.yml", content if MERGE not in line else b"y: 1\n")
-    done = place.shell(line)
+    place.put("a.yml", b"y: 1\n" if is_merged else content)
+
+
+def count_runs(place: Place) -> int:
     noted = (place.path / "runs").read_text().split()
-    return done.stdout + done.stderr, len(noted) - noted.count("--version")
+    return len(noted) - noted.count("--version")
 
 
 def repeated(name: str, count: int) -> bytes:
@@ -344,33 +358,74 @@ def repeated(name: str, count: int) -> bytes:
 def test_most_values(place: Place, line: str, opened: list[str]) -> None:
     """So many values are each opened once, and of more none is, whatever they are."""
     place.environment["EDITOR"] = place.script('echo "# x" >> "$1"', "editor")
-    output, count = runs(place, line, repeated("other values", 400))
-    assert count == 400 and TOO_MANY not in output, output
+    output, count = runs(place, line, repeated("other values", 300))
+    assert count == 300 and "it has over" not in output and TOO_MANY_RUNS not in output, output
     for name in VALUES:
-        size = 401 if name == "values" else Random(name).randint(401, 3_000)
+        size = 301 if name == "values" else Random(name).randint(301, 3_000)
         output, count = runs(place, line, repeated(name, size))
         assert count == 0 and (TOO_MANY in output or name not in opened), (name, output)
 
 
-def test_most_differing_values(place: Place) -> None:
-    """In a merge, those count that differ between the versions, of which a rotation makes two of each."""
-    for count, why in ((200, ""), (201, "its versions have over 400 values that differ")):
-        runs(place, OPENING[MERGE][0], b"")
-        old = repeated("other values", count)
-        place.put("../base", old)
-        place.put("../theirs", old.replace(b"  0", b"  1"))
-        place.put("a.yml", old + b"y: 1\n")
-        done = place.shell(OPENING[MERGE][0])
-        ended("the merge", done, CONFLICT if why else 0, why)
+# Ten times as much for each run, so that there are fewer.
+SLOW_RUNS = "from ansible_vault_companions import limits; limits.RUN_SECONDS = 0.14"
+MOST_RUNS = 71
+CONFLICT_OF_SIDES = f"{MERGE}: a.yml: 1 conflict; resolve with {EDIT}\n"
+
+
+def openable(count: int, salt: bytes = b"") -> bytes:
+    """Return values that the stand-in opens."""
+    return b"".join(yaml_block(serialized(b"%d%b" % (n, salt), bytes(32), bytes(16)), b"k%d" % n) for n in range(count))
+
+
+@pytest.mark.parametrize("companion", OPENING)
+def test_most_runs(place: Place, companion: str) -> None:
+    """So many runs are counted for a file: for each value, one to encrypt it, one to decrypt it, and half of one for each
+    wrong password. What takes more is refused as a whole. Anything else is opened, and the same is run."""
+    place.environment["EDITOR"] = place.script('echo "# x" >> "$1"', "editor")
+    _, *words = OPENING[companion][0].replace(BY_OLD, "").split()
+    random, names = Random(companion), [*PASSWORDS]
+    # None is so near to the limit that the time of reading matters.
+    few, many = random.randint(2, 13), random.randint(22, 40)
+    for values, tries in [(20, 3), (30, 1), (30, 2), (15, 5), (29, 4), (few, 6), (many, 6)]:
+        put_files(place, openable(values), is_merged=companion == MERGE)
+        passwords = [word for name in names[:tries] for word in place.by_file(name)]
+        done = run_changed(place, companion, SLOW_RUNS, [*passwords, *words], RIGHT=names[tries - 1])
+        counted = values * ((tries + 1) / 2 + (companion not in (TEXTCONV, MERGE)))
+        is_refused = counted > MOST_RUNS
+        assert (TOO_MANY_RUNS in done.stderr) == is_refused, (values, tries, done)
+        count = count_runs(place)
+        assert count <= 2 * MOST_RUNS if is_refused else count == values * tries, (values, tries, count)
+        assert is_refused or done.stderr == ("" if companion != MERGE else CONFLICT_OF_SIDES), done
+
+
+def test_runs_of_files(place: Place) -> None:
+    """Each file has its own limit, and the next one is taken."""
+    put_files(place, openable(30), is_merged=False)
+    for number in range(3):
+        place.put(f"b{number}.yml", openable(20 + number, b"of b"))
+    words = [*place.by_file("new"), *place.by_file("old"), "."]
+    done = run_changed(place, CHECK, SLOW_RUNS, words, RIGHT="old")
+    ended("the check", done, 1, f"{CHECK}: ./a.yml: {TOO_MANY_RUNS}\n", "63 decrypted, 1 failed\n")
+
+
+def test_rotated_versions(place: Place) -> None:
+    """A merge opens what differs between the versions, so a rotation counts twice."""
+    for count, why in ((30, ""), (35, TOO_MANY_RUNS)):
+        put_files(place, b"", is_merged=True)
+        place.put("../base", openable(count))
+        place.put("../theirs", openable(count, b"of theirs"))
+        place.put("a.yml", openable(count) + b"y: 1\n")
+        _, *words = OPENING[MERGE][0].split()
+        ended("the merge", run_changed(place, MERGE, SLOW_RUNS, words), CONFLICT if why else 0, why)
 
 
 def test_most_typed_values(place: Place) -> None:
     """So many texts are encrypted at once. With one more, only what was saved is."""
-    for count in (400, 401):
+    for count in (300, 301):
         place.environment["EDITOR"] = place.script(f"echo k{count}: !vault v >> $1", "editor")
         output, encrypted = runs(place, OPENING[EDIT][0], repeated("text", count - 1))
-        assert encrypted == (400 if count == 400 else 1), output
-        assert (f"a.yml: {TOO_MANY}; what you saved is encrypted in " in output) == (count > 400), output
+        assert encrypted == (300 if count == 300 else 1), output
+        assert (f"a.yml: {TOO_MANY}; what you saved is encrypted in " in output) == (count > 300), output
 
 
 # Counts how often PyYAML reads a text.

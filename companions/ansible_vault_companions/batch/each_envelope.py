@@ -2,14 +2,15 @@
 
 from __future__ import annotations
 
-from dataclasses import dataclass
+import copy
+from dataclasses import dataclass, field
 
 from ansible_vault_companions.batch.places import Place, find_place
 from ansible_vault_companions.batch.report import FAILED, KEPT, ROTATED, TO_BE_ROTATED, Report
 from ansible_vault_companions.envelopes.node import Node
 from ansible_vault_companions.envelopes.parsed_text import ParsedText
 from ansible_vault_companions.files.searching import FoundFile
-from ansible_vault_companions.limits import require_few_values
+from ansible_vault_companions.limits import Effort
 from ansible_vault_companions.passwords.labels import Policy
 from ansible_vault_companions.passwords.password import Password
 from ansible_vault_companions.refusals import Refused
@@ -25,8 +26,16 @@ class Work:
     workers: Workers
     # What labels mean to the passwords.
     policy: Policy
+    # What the file has taken.
+    effort: Effort = field(default_factory=Effort, init=False)
     # Whether messages name values and labels.
     names_values = False
+
+    def begin_file(self, effort: Effort) -> Work:
+        """The same for a file that has taken this."""
+        work = copy.copy(self)
+        work.effort = effort
+        return work
 
     def process_file(self, found: FoundFile, parsed: ParsedText, report: Report) -> bytes | None:
         """Works on a file, in a thread. Returns its new content; None if it stays."""
@@ -47,7 +56,7 @@ class Work:
     def decrypt(self, value: Node, passwords: list[Password], may_fail: bool) -> Decryption | None:
         """An envelope in plaintext. If that may fail, None for one that is damaged or that nothing decrypts."""
         try:
-            return self.tool.decrypt(value.require_readable(), passwords, self.policy)
+            return self.tool.decrypt(value.require_readable(), passwords, self.policy, self.effort)
         except Refused as fault:
             if may_fail and (isinstance(fault, NotDecrypted) or not value.is_whole):
                 return None
@@ -66,9 +75,11 @@ class Work:
             return self._report_on(value, find_place(value, path, outer), is_prose)
 
         envelopes = parsed.number_envelopes()
-        require_few_values(len(envelopes))
+        self.effort.add_values(len(envelopes))
+        results = self.workers.share(process, [*envelopes.values()])
+        self.effort.require_time()
         new: dict[int, bytes] = {}
-        for number, (text, own) in zip(envelopes, self.workers.share(process, [*envelopes.values()])):
+        for number, (text, own) in zip(envelopes, results):
             report.add(own)
             if text is not None:
                 new[number] = text

@@ -15,6 +15,7 @@ from ansible_vault_companions.envelopes.parsed_text import ParsedText, parse_env
 from ansible_vault_companions.envelopes.pointers import Pointer
 from ansible_vault_companions.files import replacing
 from ansible_vault_companions.files.searching import FoundFile, Search
+from ansible_vault_companions.limits import Effort
 from ansible_vault_companions.output import write_error, write_line
 from ansible_vault_companions.quoting import escape
 from ansible_vault_companions.refusals import Refused
@@ -77,13 +78,14 @@ class Runner:
 
     def _begin(self, found: FoundFile) -> Begun:
         """Reads a file and begins the work on it. A failure is in its report, so other files are still processed."""
+        effort = Effort()
         try:
-            parsed = parse_envelopes(detection.read_envelope_file(found.target))
+            parsed = parse_envelopes(detection.read_envelope_file(found.target), effort)
         except (Refused, OSError) as fault:
             return Begun(Task(Outcome, found, self._report_unread(found, fault)))
         if found.refusal:
             return Begun(Task(Outcome, found, self._report_refused(found, parsed)))
-        return Begun(self.work.workers.begin(_do_work, found, parsed, self.work), len(parsed.data))
+        return Begun(self.work.workers.begin(_do_work, found, parsed, self.work.begin_file(effort)), len(parsed.data))
 
     def _report_unread(self, found: FoundFile, fault: Exception) -> Report:
         """The report on a file that cannot be read."""

@@ -85,14 +85,17 @@ class YamlDraft:
         found = find_matches([*self.opened.values()], [*typed.values()], self.choice)
         matches = dict(zip(typed, found))
         require_few_values(len(typed))
-        envelopes = dict(zip(typed, work_at_once(lambda number: _seal(tool, typed[number], matches[number]), typed)))
+        # The others were counted when they were opened.
+        effort.add_runs(max(0, len(typed) - len(self.tagged)))
+        sealed = work_at_once(lambda number: _seal(tool, typed[number], matches[number]), typed, effort)
+        envelopes = dict(zip(typed, sealed))
         blocks = {number: self._block(text, typed[number], envelopes[number], matches[number]) for number in typed}
         blocks = {number: block for number, block in blocks.items() if block}
         return write_values(after, envelopes, blocks, effort).data
 
     def _open(self, decrypt: Decrypt) -> None:
-        require_few_values(len(self.tagged))
-        results = work_at_once(lambda value: _try_to_open(value, decrypt), self.tagged.values())
+        self.effort.add_values(len(self.tagged))
+        results = work_at_once(lambda value: _try_to_open(value, decrypt), self.tagged.values(), self.effort)
         for (number, value), result in zip(self.tagged.items(), results):
             if isinstance(result, DecryptedValue):
                 self.opened[number] = result

@@ -8,7 +8,7 @@ from __future__ import annotations
 from typing import Hashable, NamedTuple, Union
 
 from ansible_vault_companions.envelopes.node import Node
-from ansible_vault_companions.limits import TOO_MANY_DIFFER, require_few_values
+from ansible_vault_companions.limits import Effort
 from ansible_vault_companions.merging.line_merge import SIDES
 from ansible_vault_companions.merging.result_key import choose_value_key
 from ansible_vault_companions.parallel import work_at_once
@@ -35,9 +35,9 @@ def identify_value(meaning: Meaning, head: bytes, value: Node) -> Hashable:
 class Meanings:
     """What the values of each side mean."""
 
-    def __init__(self, decrypt: Decrypt, values: dict[str, list[Node]], chosen: Key | None) -> None:
+    def __init__(self, decrypt: Decrypt, values: dict[str, list[Node]], chosen: Key | None, effort: Effort) -> None:
         self.values = values
-        self.decryptions = self._decrypt_all(decrypt)
+        self.decryptions = self._decrypt_all(decrypt, effort)
         # The key of the result for the values with each label, unless each keeps its own.
         labels = {decryption.key.label for decryption in self.decryptions.values()}
         self.keys = {label: self._choose_key(label, chosen) for label in labels}
@@ -48,12 +48,11 @@ class Meanings:
             return envelope
         return KeyAndText(self.keys[decryption.key.label] or decryption.key, decryption.text)
 
-    def _decrypt_all(self, decrypt: Decrypt) -> dict[bytes, Decryption]:
+    def _decrypt_all(self, decrypt: Decrypt, effort: Effort) -> dict[bytes, Decryption]:
         """Those that not all versions have, if a password decrypts them that their labels allow."""
         texts = [{value.text for value in self.values[side]} for side in SIDES]
         differing = sorted(set[bytes]().union(*texts).difference(set.intersection(*texts)))
-        require_few_values(len(differing), TOO_MANY_DIFFER)
-        decryptions = work_at_once(lambda text: _try_to_decrypt(decrypt, text), differing)
+        decryptions = work_at_once(lambda text: _try_to_decrypt(decrypt, text), differing, effort)
         return {each.envelope: each for each in decryptions if each}
 
     def _choose_key(self, label: str, chosen: Key | None) -> Key | None:

@@ -5,6 +5,7 @@ from __future__ import annotations
 from collections import Counter
 
 from ansible_vault_companions.envelopes import conflicts
+from ansible_vault_companions.limits import Effort
 from ansible_vault_companions.merging.equality import KeyAndText, Meaning
 from ansible_vault_companions.merging.line_merge import BASE, OURS, SIDES, THEIRS
 from ansible_vault_companions.merging.tokens import Tokens
@@ -16,10 +17,11 @@ SIDE_BY_MARKER = {conflicts.OURS_MARKER: OURS, conflicts.BASE_MARKER: BASE, conf
 class Restoration:
     """Puts envelopes in place of the tokens of a merged text."""
 
-    def __init__(self, tokens: Tokens, decryptions: dict[bytes, Decryption], tool: Tool) -> None:
+    def __init__(self, tokens: Tokens, decryptions: dict[bytes, Decryption], tool: Tool, effort: Effort) -> None:
         self.tokens = tokens
         self.decryptions = decryptions
         self.tool = tool
+        self.effort = effort
         # How many envelopes of each side and meaning are used, and all that are, in order.
         self.uses: Counter[tuple[str, Meaning]] = Counter()
         # What _list_choices finds.
@@ -58,7 +60,10 @@ class Restoration:
             self.uses[each, meaning] += 1
         envelopes, has_key = self._find_choices(meaning, side)
         envelope = envelopes[min(number, len(envelopes) - 1)]
-        return envelope if has_key else self.tool.encrypt_again(envelope, meaning.text, meaning.key)
+        if has_key:
+            return envelope
+        self.effort.add_runs()
+        return self.tool.encrypt_again(envelope, meaning.text, meaning.key)
 
     def _find_choices(self, meaning: KeyAndText, side: str) -> tuple[list[bytes], bool]:
         """The envelopes to choose from, which are computed once for all that mean the same."""

@@ -29,10 +29,9 @@ class ValueMerge:
         self.effort = effort
         self.parsed_versions = {side: _parse_version(data, effort) for side, data in zip(SIDES, versions)}
         self.values = {side: [*filter(_has_token, self.parsed_versions[side].values)] for side in SIDES}
-        # A merged value may be encrypted again.
         for values in self.values.values():
             require_few_values(len(values))
-        self.meanings = Meanings(decrypt, self.values, chosen)
+        self.meanings = Meanings(decrypt, self.values, chosen, effort)
 
     def merge(self, tool: Tool) -> MergedLines:
         """The merged file."""
@@ -42,7 +41,7 @@ class ValueMerge:
             text, count = merge_lines(shadows)
         if count and any(conflicts.count_markers(self.parsed_versions[side].data) for side in SIDES):
             raise Refused(HAS_MARKERS)
-        restoration = Restoration(tokens, self.meanings.decryptions, tool)
+        restoration = Restoration(tokens, self.meanings.decryptions, tool, self.effort)
         content = restoration.restore(text, has_conflict=count > 0)
         self._check(content, restoration.envelopes, has_conflict=count > 0)
         return MergedLines(content, count)

@@ -9,7 +9,7 @@ from ansible_vault_companions.envelopes.header import MAGIC
 from ansible_vault_companions.envelopes.layout import Replacement, apply_replacements, put_plaintext
 from ansible_vault_companions.envelopes.node import Node
 from ansible_vault_companions.envelopes.parsed_text import ParsedText, parse_envelopes
-from ansible_vault_companions.limits import require_few_values
+from ansible_vault_companions.limits import Effort, require_few_values
 from ansible_vault_companions.merging.unmerged_file import find_versions
 from ansible_vault_companions.merging.vault_merge import VaultMerge
 from ansible_vault_companions.output import write_error
@@ -24,9 +24,9 @@ NO_ENVELOPE = "it is not a vault and has no encrypted value"
 MAY_LACK = "some of its values may be shown as they are: {}"
 
 
-def read_envelopes(target: str) -> ParsedText:
+def read_envelopes(target: str, effort: Effort) -> ParsedText:
     """A file and its envelopes. Refuses one without any."""
-    parsed = parse_envelopes(detection.read_envelope_file(target))
+    parsed = parse_envelopes(detection.read_envelope_file(target), effort)
     if not parsed.values:
         if parsed.is_too_much:
             raise Refused(parsed.fault)
@@ -34,7 +34,9 @@ def read_envelopes(target: str) -> ParsedText:
     return parsed
 
 
-def show_envelopes(companion: str, parsed: ParsedText, path: str, target: str, decrypt: Decrypt) -> bytes:
+def show_envelopes(
+    companion: str, parsed: ParsedText, path: str, target: str, decrypt: Decrypt, effort: Effort
+) -> bytes:
     """The file's data with plaintext in place of its envelopes, as far as they can be decrypted and shown; for a
     conflict of two vaults, the merged text."""
     with suppress(Refused):
@@ -43,7 +45,7 @@ def show_envelopes(companion: str, parsed: ParsedText, path: str, target: str, d
             vaults = VaultMerge(decrypt, sides)
             labels = dict.fromkeys((vaults.ours.key.label, vaults.theirs.key.label))
             return first_line.describe_vault(" and ".join(labels)) + vaults.merged_lines.text
-    return _choose_first_line(parsed) + _show_values(companion, parsed, path, decrypt)
+    return _choose_first_line(parsed) + _show_values(companion, parsed, path, decrypt, effort)
 
 
 def _choose_first_line(parsed: ParsedText) -> bytes:
@@ -54,13 +56,14 @@ def _choose_first_line(parsed: ParsedText) -> bytes:
     return first_line.describe_values(count) if count else first_line.NOTHING
 
 
-def _show_values(companion: str, parsed: ParsedText, path: str, decrypt: Decrypt) -> bytes:
+def _show_values(companion: str, parsed: ParsedText, path: str, decrypt: Decrypt, effort: Effort) -> bytes:
     if parsed.is_too_much:
         write_error(f"{companion}: {escape(path)}: {MAY_LACK.format(parsed.fault)}")
     values = [*parsed.number_envelopes().values()]
     require_few_values(len(values))
+    results = work_at_once(lambda value: _try_to_show(parsed.data, value, decrypt), values, effort)
     changes: list[Replacement] = []
-    for result, value in zip(work_at_once(lambda value: _try_to_show(parsed.data, value, decrypt), values), values):
+    for result, value in zip(results, values):
         if isinstance(result, Refused):
             write_error(f"{companion}: {value.describe_place(path)}: shown as it is: {result}")
         else:
