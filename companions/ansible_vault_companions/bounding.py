@@ -14,6 +14,7 @@ from typing import TYPE_CHECKING, Callable, Iterator, NamedTuple
 from ansible_vault_companions.limits import (
     MEGABYTES,
     NO_MEMORY,
+    RESERVE,
     SECONDS,
     TOO_MUCH,
     TOO_SLOW,
@@ -83,18 +84,21 @@ def count_programs(effort: Effort) -> Iterator[None]:
 @contextmanager
 def limit_review(size: int) -> Iterator[None]:
     """A context for the review of a repository with so many MB, which may take as much time and memory again for each
-    of them, so the work is in proportion to it. Each program that is started in it may take as much memory."""
-    with _limit_memory(MEGABYTES * (1 + size)), limit_run(SECONDS * (1 + size)):
+    of them, so the work is in proportion to it. The time is that of the whole process, with its start and its end. Each
+    program that is started in it may take as much memory."""
+    with _limit_memory(MEGABYTES * (1 + size)), limit_run(SECONDS * (1 + size), _measure_run_time() + RESERVE):
         yield
 
 
 @contextmanager
-def limit_run(seconds: int) -> Iterator[None]:
-    """A context that raises TooMuch after so much processor time of this process and its programs together."""
+def limit_run(seconds: int, taken: float = 0.0) -> Iterator[None]:
+    """A context that raises TooMuch after so much processor time of this process and its programs together, of which
+    some may be taken already."""
     global _run
-    _run = Run(_measure_run_time() + seconds, TOO_SLOW.format(seconds))
+    left = seconds - taken
+    _run = Run(_measure_run_time() + left, TOO_SLOW.format(seconds))
     try:
-        with _limit_time(_measure_run_time, seconds, _run.text):
+        with _limit_time(_measure_run_time, left, _run.text):
             yield
     finally:
         _run = None

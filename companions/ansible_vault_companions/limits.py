@@ -63,6 +63,8 @@ SECONDS = 10
 MEGABYTES = 256
 # Of that time, what the attributes of all files take together in a check, before the first file is read.
 ATTRIBUTE_SECONDS = 4
+# And what the start and the end of a program take, with the time between two looks at what is limited.
+RESERVE = 0.5
 
 TOO_DEEP = f"it is nested over {DEEPEST} levels"
 KEY_TOO_LONG = f"it has a key of over {LONGEST_KEY:,} bytes"
@@ -106,7 +108,7 @@ class Effort:
     @property
     def left(self) -> float:
         """The seconds that are left."""
-        return SECONDS - self.seconds - self.runs * RUN_SECONDS
+        return SECONDS - RESERVE - self.seconds - self.runs * RUN_SECONDS
 
     def begin_version(self) -> None:
         """Counts keys and texts from the beginning. The time goes on. Refuses a version for which there is none."""

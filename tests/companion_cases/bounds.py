@@ -153,7 +153,7 @@ bounding._limit_time = note_and_limit
 """
 
 
-@pytest.mark.parametrize("interval, left", [(0.5, "10.0 9.0 8.0 7.0 6.0"), (1, "10.0 8.0")])
+@pytest.mark.parametrize("interval, left", [(0.5, "9.5 8.5 7.5 6.5 5.5"), (1, "9.5 7.5")])
 def test_time_of_readings(place: Place, interval: float, left: str) -> None:
     """All readings of an edit together have the time that one may take. If the first two take over a third of it, no
     editor runs."""
@@ -271,6 +271,35 @@ def test_run_of_files(place: Place, work: tuple[str, str]) -> None:
     ended("the run", done, 0, "it takes over 1 s of processor time\n")
 
 
+# Work that does not end, after a slow start. Prints what the process has taken in the end.
+WHOLE = """
+import os, time
+
+while time.process_time() < {}:
+    pass
+
+from ansible_vault_companions import bounding, limits
+
+bounding.SECONDS = limits.SECONDS = 2
+try:
+    with bounding.{}:
+        while True:
+            pass
+except limits.TooMuch as fault:
+    print(sum(os.times()[:4]), fault)
+"""
+
+
+@pytest.mark.parametrize(
+    "start, limit", [(1, "limit_review(0)"), (0.3, "limit_work(limits.Effort())")], ids=["a review", "a file"]
+)
+def test_time_of_process(place: Place, start: float, limit: str) -> None:
+    """The limit holds for all that the process takes, from its start to its end."""
+    done = place.run(sys.executable, "-c", WHOLE.format(start, limit), PYTHONPATH=str(place.companions))
+    seconds, _, why = done.stdout.partition(" ")
+    assert why.startswith("it takes over ") and 1.3 < float(seconds) < 2, done
+
+
 @pytest.mark.parametrize("names, why", [(99, ""), (103, "link.yml: Too many levels of symbolic links\n")])
 def test_names_of_links(place: Place, names: int, why: str) -> None:
     """Thousands of links may have one long text, so each leads through no more than some names."""
@@ -368,7 +397,7 @@ def test_most_values(place: Place, line: str, opened: list[str]) -> None:
 
 # Ten times as much for each run, so that there are fewer.
 SLOW_RUNS = "from ansible_vault_companions import limits; limits.RUN_SECONDS = 0.14"
-MOST_RUNS = 71
+MOST_RUNS = 67
 CONFLICT_OF_SIDES = f"{MERGE}: a.yml: 1 conflict; resolve with {EDIT}\n"
 
 

@@ -206,8 +206,8 @@ def test_time_of_running_git(place: Place) -> None:
     place.shell("git add -A")
     done, count = run_slowed(place, "--batch", 2, "bounding.SECONDS = 9", HOOK)
     assert (done.returncode, count) == (0, 1), done
-    done, count = run_slowed(place, "--batch", 2, "bounding.SECONDS = 3; bounding.LEAST = 2", HOOK)
-    ended("the hook", done, 1, f"{TOO_SLOW.format(3)}; the last file that it read is 0.yml\n")
+    done, count = run_slowed(place, "--batch", 2, "bounding.SECONDS = 4; bounding.LEAST = 2", HOOK)
+    ended("the hook", done, 1, f"{TOO_SLOW.format(4)}; the last file that it read is 0.yml\n")
 
 
 def test_small_objects(place: Place) -> None:
@@ -266,7 +266,8 @@ def test_whole_review(place: Place) -> None:
         place.put("random", os.urandom(size << 20))
         add_and_commit(place)
         for change, why in (
-            ("bounding.SECONDS = 1", TOO_SLOW.format(1 + size)),
+            # Without what the start takes.
+            ("bounding.SECONDS = 1; bounding.RESERVE = -0.5", TOO_SLOW.format(1 + size)),
             (f"{UNLIMITED}; bounding.MEGABYTES = 8", f"it takes over {8 + 8 * size} MB of memory"),
         ):
             change = f"from ansible_vault_companions import bounding\n{change}"
