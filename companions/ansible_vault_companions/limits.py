@@ -30,6 +30,8 @@ WRONG = 0.5
 LONGEST_KEY = 1_024
 # The characters of all keys above a value. A report and a typed path name each of them, for each value below.
 LONGEST_PATH = 2_048
+# The columns by which the lines of a value are indented. Its new text or envelope may have many more lines.
+LONGEST_MARGIN = 512
 # The bytes of all directives `%TAG` of a file. libyaml compares each with those before it and with each tag, of which
 # it may become the beginning.
 LONGEST_DIRECTIVES = 1_024
@@ -69,6 +71,7 @@ RESERVE = 0.5
 TOO_DEEP = f"it is nested over {DEEPEST} levels"
 KEY_TOO_LONG = f"it has a key of over {LONGEST_KEY:,} bytes"
 PATH_TOO_LONG = f"it has keys within each other of over {LONGEST_PATH:,} characters"
+MARGIN_TOO_LONG = f"it has a value that is indented by over {LONGEST_MARGIN} columns"
 DIRECTIVES_TOO_LONG = f"it has directives `%TAG` of over {LONGEST_DIRECTIVES:,} bytes"
 TOO_MANY = f"it has over {MOST_KEYS:,} keys and texts, with those above each"
 TOO_MANY_ALIASED = f"its aliases stand for over {MOST_ALIASED:,} texts"

@@ -9,7 +9,7 @@ import pytest
 from ansible_vault_companions.envelopes.node import Node
 from ansible_vault_companions.envelopes.parsed_text import parse_nodes
 from companion_cases import CHECK, CONFLICT, EDIT, HOOK, MERGE, NOT_ENCRYPTED, PASSWORDS, ROTATE, TEXTCONV, WITH
-from companion_cases import Done, Place, block, ended, run_changed, to_new
+from companion_cases import Done, Place, block, ended, run_changed, sealed, to_new
 from lib.needs import needs
 from model.vaults import serialized, yaml_block
 
@@ -93,6 +93,31 @@ def test_long_keys(place: Place, depth: int) -> None:
     place.put("a.yml", BLOCK + b"x: " + content)
     place.environment["EDITOR"] = place.script('echo "# x" >> "$1"', "editor")
     assert used(place, EDIT, *place.by_file("old"), "a.yml") in (0, 1)
+
+
+@pytest.mark.parametrize(
+    "margin, why", [(512, ""), (513, "indented by over 512 columns"), (200_000, "indented by over")]
+)
+def test_margins(place: Place, margin: int, why: str) -> None:
+    """A value may have a single line with digits, and what takes its place hundreds of lines, each with its margin."""
+    header, *digits = sealed("old", b"x\n" * 2_000).splitlines()
+    lines = header, b"".join(digits)
+    value = b"k: !vault |\n" + b"".join(b" " * margin + line + b"\n" for line in lines)
+    # Elsewhere, more blanks between a header and digits are none of an envelope.
+    comment = b"".join(b"#" + b" " * (min(margin, 1_500) - 1) + line + b"\n" for line in lines)
+    for content in (value, comment):
+        place.put("a.yml", content)
+        assert used(place, ROTATE, *to_new(place), "a.yml") == int(bool(why))
+        assert (place.get("a.yml") == content) == bool(why)
+        place.put("a.yml", content)
+        assert used(place, TEXTCONV, *place.by_file("old"), "a.yml") == 0
+        done = place.run(TEXTCONV, *place.by_file("old"), "a.yml")
+        # A literal is shown below its key.
+        is_shown = not why or content == value
+        assert (done.stdout.count("x\n") == 2_000, why in done.stderr) == (
+            is_shown,
+            not (why and is_shown),
+        ), done.stderr
 
 
 @pytest.mark.parametrize("size, why", [(1_024, ""), (1_025, "it has directives `%TAG` of over 1,024 bytes")])

@@ -6,13 +6,13 @@ The result is read again, and is refused unless all other values are as before.
 from __future__ import annotations
 
 from ansible_vault_companions.envelopes import conflicts
-from ansible_vault_companions.envelopes.header import LINE_END
 from ansible_vault_companions.envelopes.key_paths import KeyPath
 from ansible_vault_companions.envelopes.layout import (
     BLOCK_HEADER,
     Replacement,
     apply_replacements,
     find_column,
+    find_line_end,
     indent_lines,
     put_in_quotes,
     put_plaintext,
@@ -94,6 +94,5 @@ def make_sealed_block(data: bytes, value: Node, envelope: bytes, old: Node | Non
     header = BLOCK_HEADER.match(data, value.begin)
     # Empty lines above a typed text go with it: Ansible reads no envelope below one.
     end = header.end() if header else value.end
-    following = LINE_END.search(data, end)
-    place = following.start() if following else len(data)
+    place = find_line_end(data, end)
     return [Replacement(value.begin, end, b"|"), Replacement(place, max(place, value.end), value.ending + lines)]

@@ -7,6 +7,7 @@ import re
 from typing import Iterable, NamedTuple
 
 from ansible_vault_companions.envelopes.node import LITERAL, STRAY, WHOLE, Node
+from ansible_vault_companions.limits import LONGEST_MARGIN, MARGIN_TOO_LONG, TooMuch
 from ansible_vault_companions.refusals import Refused
 
 # What YAML does not allow, or takes for the end of a line. Python compiles a set of all others ten times as slowly.
@@ -36,6 +37,8 @@ def apply_replacements(data: bytes, changes: Iterable[Replacement]) -> bytes:
 
 def indent_lines(text: bytes, margin: bytes, end: bytes) -> bytes:
     """The text with this line ending, and with a margin before each line that is not empty."""
+    if len(margin) > LONGEST_MARGIN:
+        raise TooMuch(MARGIN_TOO_LONG)
     return end.join(margin + line if line else b"" for line in text.split(b"\n"))
 
 
@@ -89,6 +92,14 @@ def _find_chomping(text: bytes) -> bytes:
     if text == b"\n" or text.endswith(b"\n\n"):
         return b"+"
     return b""
+
+
+def find_line_end(data: bytes, place: int) -> int:
+    """Where the line ends. A pattern would take much longer for a long line, which many values may share."""
+    end = data.find(b"\n", place)
+    end = len(data) if end < 0 else end
+    other = data.find(b"\r", place, end)
+    return end if other < 0 else other
 
 
 def find_column(data: bytes, place: int) -> int:
