@@ -36,14 +36,22 @@ OUT_OF_MEMORY = (MemoryError, SystemError)
 
 # The programs whose time is limited, of which those that have not ended count for the run.
 _programs: set[Popen[bytes]] = set()
-# The limit of a whole run, if there is one.
+# The limit of a whole run, if there is one; and the lowest one of memory.
 _run: Run | None = None
+_memory: Memory | None = None
 
 
 class Run(NamedTuple):
     """When the time of a run is over, as `_measure_run_time` measures it, and what is said then."""
 
     end: float
+    text: str
+
+
+class Memory(NamedTuple):
+    """How many bytes of data this process may have, and what is said if it needs more."""
+
+    most: int
     text: str
 
 
@@ -54,16 +62,17 @@ class TimeOver(Exception):
 @contextmanager
 def limit_work(effort: Effort) -> Iterator[None]:
     """A context for work on what a file contains, in which nothing is written. The limits of time and memory end it,
-    even within a search: they raise TooMuch. The time is that of all work with this effort. Python handles signals only
-    in the main thread, so in others there is no limit: they read what a password has opened and, once it is changed, a
-    file that was within the limits. Nor is there one of memory while others run, since it would be theirs as well."""
+    even within a search: they raise TooMuch. The time is that of all work with this effort, and the memory includes the
+    file. Python handles signals only in the main thread, so in others there is no limit: they read what a password has
+    opened and, once it is changed, a file that was within the limits. Nor is there one of memory while others run,
+    since it would be theirs as well."""
     if threading.get_ident() != threading.main_thread().ident:
         yield
         return
     begin = time.thread_time()
     megabytes = MEGABYTES if _thread._count() == 0 else 0
     try:
-        with _limit_memory(megabytes):
+        with _limit_memory(megabytes, effort.size):
             with _limit_time(time.thread_time, effort.left, TOO_SLOW.format(SECONDS)):
                 yield
     finally:
@@ -123,6 +132,21 @@ def limit_program(program: Popen[bytes], seconds: float) -> None:
         resource.prlimit(program.pid, resource.RLIMIT_CPU, (most, hard))
 
 
+def limit_memory_of(program: Popen[bytes]) -> None:
+    """Limits the memory of a program that takes whole contents, unless it has the limit of this process anyway."""
+    if not _memory:
+        soft, hard = resource.getrlimit(resource.RLIMIT_DATA)
+        with suppress(ProcessLookupError):
+            resource.prlimit(program.pid, resource.RLIMIT_DATA, (_lower(soft, MEGABYTES << 20), hard))
+
+
+def describe_memory(takes_contents: bool) -> str:
+    """What is said if a program gets no more memory, which may be one that takes whole contents."""
+    if _memory:
+        return _memory.text
+    return _describe_limit(MEGABYTES << 20, MEGABYTES) if takes_contents else NO_MEMORY
+
+
 def _measure_run_time() -> float:
     """The processor time of this process and its programs, even of those that have not ended."""
     running = [program.pid for program in _programs if program.returncode is None]
@@ -137,19 +161,31 @@ def _measure_program_time(number: int) -> float:
 
 
 @contextmanager
-def _limit_memory(megabytes: int) -> Iterator[None]:
-    """A context in which this process may take so much more memory; for 0, without a limit of ours. Raises TooMuch if
-    it gets no more. The system's limits may be lower, and do not say which one was met."""
+def _limit_memory(megabytes: int, size: int = 0) -> Iterator[None]:
+    """A context in which this process may take so much more memory, with what it already has of this size; for 0 MB,
+    without a limit of its own. It may be in another one. Raises TooMuch if there is no more."""
+    global _memory
     if not megabytes:
-        with _name_limit(OUT_OF_MEMORY, NO_MEMORY):
+        with _name_limit(OUT_OF_MEMORY, _memory.text if _memory else NO_MEMORY):
             yield
         return
-    most = _measure_memory() + (megabytes << 20)
+    outer = _memory
+    most = _measure_memory() + (megabytes << 20) - size
+    own = Memory(most, _describe_limit(most, megabytes))
+    lowest = _memory = outer if outer and outer.most <= most else own
+    try:
+        with _name_limit(OUT_OF_MEMORY, lowest.text):
+            with _lower_limit(resource.RLIMIT_DATA, lowest.most):
+                yield
+    finally:
+        _memory = outer
+
+
+def _describe_limit(most: int, megabytes: int) -> str:
+    """What is said if there is no more memory. The system's limits may be lower, and do not say which one was met."""
     is_ours = most == _lower(resource.getrlimit(resource.RLIMIT_DATA)[0], most)
     is_ours &= resource.getrlimit(resource.RLIMIT_AS)[0] == resource.RLIM_INFINITY
-    with _name_limit(OUT_OF_MEMORY, TOO_MUCH.format(megabytes) if is_ours else NO_MEMORY):
-        with _lower_limit(resource.RLIMIT_DATA, most):
-            yield
+    return TOO_MUCH.format(megabytes) if is_ours else NO_MEMORY
 
 
 @contextmanager

@@ -100,7 +100,9 @@ class Effort:
     """What the work on a file has taken so far. In an edit, a file is read several times, and in a merge each of its
     versions is."""
 
-    def __init__(self) -> None:
+    def __init__(self, size: int = 0) -> None:
+        # The bytes of the file or of its versions, which count as memory that the work takes.
+        self.size = size
         # Keys and texts of the version that is read, with all sides of a conflict.
         self.number = 0
         # Processor time, in all, and the runs of ansible-vault, which threads count.

@@ -10,6 +10,7 @@ from ansible_vault_companions.envelopes.node import Node
 from ansible_vault_companions.envelopes.parsed_text import parse_nodes
 from companion_cases import CHECK, CONFLICT, EDIT, HOOK, MERGE, NOT_ENCRYPTED, PASSWORDS, ROTATE, TEXTCONV, WITH
 from companion_cases import Done, Place, block, ended, run_changed, sealed, to_new
+from companion_cases.repository import AUTHOR
 from lib.needs import needs
 from model.vaults import serialized, yaml_block
 
@@ -530,3 +531,29 @@ def test_sparse_gigabyte(place: Place) -> None:
     ended("decrypt", place.run(WITH, "decrypt", *place.by_file("old"), "image"), 1, too_long)
     done = place.shell(f"{TEXTCONV} --vault-id {place.secret('old')} image | wc -c")
     assert done.stdout == f"{(1 << 30) + len(NOT_ENCRYPTED)}\n"
+
+
+def put_packed(place: Place, size: int) -> None:
+    """Stage a file that git reads whole, of zeros, and commit it in a pack."""
+    place.environment |= AUTHOR
+    place.put("a.yml", BLOCK)
+    (place.tree / "a.bin").touch()
+    os.truncate(place.tree / "a.bin", size)
+    done = place.shell("git init -q && git add . && git commit -qm one && git repack -adq")
+    assert done.returncode == 0, done
+
+
+# A lower limit of memory for a run.
+LOWER = "from ansible_vault_companions import bounding\nbounding.MEGABYTES = 40"
+
+
+def test_memory_of_git(place: Place, git: None) -> None:
+    """Where git gets no more memory, the limit is named, and whose it is, and not how git says so."""
+    needs("prlimit")
+    put_packed(place, 60_000_000)
+    by_hook = f"{HOOK}: git cat-file failed: {{}}; the last file that it read is a.bin\n"
+    for words in (["--all"], ["a.bin"]):
+        ended("our limit", run_changed(place, HOOK, LOWER, words), 1, by_hook.format("it takes over 40 MB of memory"))
+        done = place.run("prlimit", "--data=50000000", HOOK, *words)
+        ended("the system's limit", done, 1, by_hook.format("it takes more memory than this program may have"))
+        ended("no lower limit", place.run(HOOK, *words), 0)

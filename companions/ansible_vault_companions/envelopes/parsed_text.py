@@ -97,7 +97,7 @@ def parse_envelopes(data: bytes, effort: Effort | None = None) -> ParsedText:
         return ParsedText(data, [_make_vault(data)])
     parsed = ParsedText(data)
     if may_have_envelope(data):
-        effort = effort or Effort()
+        effort = effort or Effort(len(data))
         _read_yaml(parsed, read_envelopes, effort)
         with bounding.limit_work(effort):
             _add_strays(parsed)
@@ -109,7 +109,7 @@ def parse_nodes(data: bytes, effort: Effort | None = None) -> ParsedText:
     if data.startswith(MAGIC):
         return ParsedText(data, [_make_vault(data)])
     parsed = ParsedText(data)
-    _read_yaml(parsed, read_nodes, effort or Effort())
+    _read_yaml(parsed, read_nodes, effort or Effort(len(data)))
     return parsed
 
 

@@ -4,9 +4,10 @@ from __future__ import annotations
 
 import _signal  # type: ignore
 import os
+import re
 
 from ansible_vault_companions import bounding, processes
-from ansible_vault_companions.limits import TOO_SLOW_PATTERNS, TOO_SLOW_PROGRAM
+from ansible_vault_companions.limits import TOO_SLOW_PATTERNS, TOO_SLOW_PROGRAM, TooMuch
 from ansible_vault_companions.refusals import Refused
 
 # The module `typing` takes long to import.
@@ -24,11 +25,15 @@ OFF = ("core.fsmonitor=false", "submodule.recurse=false", "core.sparseCheckout=f
 NO_HOOKS = f"core.hooksPath={os.devnull}"
 # These commands run no hook, and need the real setting to say where the hooks are.
 OF_HOOKS = ("rev-parse", "config")
+# These commands take whole contents.
+OF_CONTENTS = ("cat-file", "merge-file")
 # Otherwise, git may take one of several objects of a name without a word.
 WARNS = "core.warnAmbiguousRefs=true"
 CUT = "git {} failed: its output is cut"
 # The bytes of git's messages that are quoted.
 LONGEST_MESSAGE = 1_000
+# How git, and zlib in it, say that there is no more memory. A path in a message does not count.
+OUT_OF_MEMORY = re.compile(rb"^(?:fatal|error): (?:\w+: )?out of memory|: Cannot allocate memory$", re.I | re.M)
 # The status of git if it cannot do its work at all.
 FATAL = 128
 
@@ -56,11 +61,13 @@ def build_environment(index: str | None = None, folder: str | None = None) -> di
 def start_git(
     words: tuple[str, ...], index: str | None = None, folder: str | None = None, **options: Any
 ) -> Popen[bytes]:
-    """Starts a git command, with a limit of processor time. None is started if no time is left."""
+    """Starts a git command, with limits of processor time and memory. None is started if no time is left."""
     environment = build_environment(index, folder)
     seconds = bounding.measure_time_left()
     git = processes.start_program(build_command(words), env=environment, cwd=folder, **options)
     bounding.limit_program(git, seconds)
+    if words[0] in OF_CONTENTS:
+        bounding.limit_memory_of(git)
     return git
 
 
@@ -94,17 +101,24 @@ def run_git(
 def require_success(command: str, done: CompletedProcess[bytes]) -> None:
     """Raises Refused with git's own message if a command has failed."""
     if done.returncode != 0:
-        raise Refused(describe_failure(command, done.returncode, done.stderr))
+        raise make_refusal(command, done.returncode, done.stderr)
 
 
-def describe_failure(command: str, status: int, errors: bytes) -> str:
-    """Why a git command failed, if possible in git's own words."""
-    return f"git {command} failed: {_describe_end(command, status, errors)}"
+def make_refusal(command: str, status: int, errors: bytes) -> Refused:
+    """Says why a git command failed: which limit it met, or else, if possible, what git says."""
+    limit = _find_limit(command, status, errors)
+    kind, why = (TooMuch, limit) if limit else (Refused, _describe_end(status, errors))
+    return kind(f"git {command} failed: {why}")
 
 
-def _describe_end(command: str, status: int, errors: bytes) -> str:
+def _find_limit(command: str, status: int, errors: bytes) -> str:
+    """The limit that a command met; empty if it met none."""
     if status == -_signal.SIGXCPU:
         return TOO_SLOW_PATTERNS if command == "check-attr" else TOO_SLOW_PROGRAM
+    return bounding.describe_memory(command in OF_CONTENTS) if OUT_OF_MEMORY.search(errors) else ""
+
+
+def _describe_end(status: int, errors: bytes) -> str:
     end = f"signal {-status} ended it" if status < 0 else f"it ended with status {status}"
     return _read_messages(errors) or end
 

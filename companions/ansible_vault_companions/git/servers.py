@@ -8,7 +8,7 @@ from contextlib import suppress
 from typing import NoReturn, TypeVar
 
 from ansible_vault_companions import bounding
-from ansible_vault_companions.git.commands import CUT, LONGEST_MESSAGE, describe_failure, start_git
+from ansible_vault_companions.git.commands import CUT, LONGEST_MESSAGE, make_refusal, start_git
 from ansible_vault_companions.refusals import Refused
 
 # How much is read at once, unless more is there.
@@ -80,14 +80,14 @@ class Server:
         """Raises Refused if git has warned of anything."""
         errors = self._read_errors()
         if errors:
-            raise Refused(describe_failure(self.command, 0, errors))
+            raise make_refusal(self.command, 0, errors)
 
     def _fail(self) -> NoReturn:
         """Raises Refused, with what git says of its end."""
         self.git.communicate()
         if self.git.returncode == 0:
             raise Refused(CUT.format(self.command))
-        raise Refused(describe_failure(self.command, self.git.returncode, self._read_errors()))
+        raise make_refusal(self.command, self.git.returncode, self._read_errors())
 
     def _read_errors(self) -> bytes:
         """What git has said of errors so far, no more than is quoted and one byte."""

@@ -67,7 +67,7 @@ class Facts(NamedTuple):
 def find_facts(data: bytes, needs_plain: bool = False) -> Facts:
     """Reads a content that may have an envelope, or the plaintexts of any."""
     try:
-        with bounding.limit_work(Effort()):
+        with bounding.limit_work(Effort(len(data))):
             return _read_facts(data, needs_plain)
     except TooMuch as fault:
         return Facts(fault=str(fault), is_too_much=True, envelopes=data.count(HEADER))
