@@ -2,6 +2,9 @@
 
 import os
 import sys
+import time
+from collections.abc import Callable
+from contextlib import suppress
 from random import Random
 
 import pytest
@@ -326,7 +329,7 @@ def test_time_of_process(place: Place, start: float, limit: str) -> None:
     assert why.startswith("it takes over ") and 1.3 < float(seconds) < 2, done
 
 
-@pytest.mark.parametrize("names, why", [(99, ""), (103, "link.yml: Too many levels of symbolic links\n")])
+@pytest.mark.parametrize("names, why", [(99, ""), (103, "link.yml: a link leads through over 100 directories\n")])
 def test_names_of_links(place: Place, names: int, why: str) -> None:
     """Thousands of links may have one long text, so each leads through no more than some names."""
     place.put("d/a.yml", BLOCK)
@@ -518,6 +521,66 @@ def test_deep_folders(place: Place) -> None:
     done, calls = place.traced("-e trace=%file -e status=successful", CHECK, *place.by_file("old"), ".")
     assert done.returncode == 0 and len(calls) > files, done
     assert len(calls) < 20 * (levels + files), len(calls)
+
+
+# What each of many links leads to, in a deep directory, by its number.
+DEEP_LINKS: dict[str, Callable[[int], str]] = {
+    "a file": lambda number: "a.yml",
+    "a file that is missing": lambda number: "b.yml",
+    "a link": lambda number: f"l{number - 1}.yml" if number % 39 else "a.yml",
+    "itself": lambda number: f"l{number}.yml",
+    "a file beside it, in a long way": lambda number: "../d/" * 49 + "a.yml",
+    "a file above, in a long way": lambda number: "../" * 99 + "a.yml",
+    "a directory": lambda number: "..",
+    "a text that is no path": lambda number: "x" * 300,
+    "out of the repository": lambda number: f"{'../' * 99}{'x' * number}/../../../../a.yml",
+}
+
+
+def link_deep(place: Place, levels: int, count: int, make: Callable[[int], str]) -> None:
+    """Make so many links in the last of so many directories, each in the one before."""
+    deep = place.tree
+    for level in range(levels):
+        deep /= "d"
+        deep.mkdir()
+        if level % 10 == 0:
+            (deep / "a.yml").touch()
+    (deep / "a.yml").touch()
+    for number in range(count):
+        (deep / f"l{number}.yml").symlink_to(make(number))
+
+
+@pytest.mark.parametrize("make", DEEP_LINKS.values(), ids=DEEP_LINKS)
+def test_deep_links(place: Place, make: Callable[[int], str]) -> None:
+    """The time for a link does not grow with the number of directories above it, beyond that of the system's own."""
+    place.shell("git init -q")
+    link_deep(place, 1_100, 500, make)
+    for words in ([CHECK, *place.by_file("old")], [ROTATE, *to_new(place), "--dry-run"]):
+        assert used(place, *words, ".") in (0, 1)
+    place.shell("rm -r d")
+
+
+# Files of settings, each of some 200,000 characters, that are not in proportion to them for Python's parser.
+SETTINGS = {
+    "blanks": "[defaults]\n" + f"x{' ' * 100_000}y\n" * 2,
+    "blanks in lines": "[defaults]\n" + f"x{' ' * 2_000}y\n" * 100,
+    "lines that are no settings": "[defaults]\n\N{PILE OF POO}\n" + "x\n" * 100_000,
+    "a value of many lines": "[defaults]\nx = 1\n" + " y\n" * 60_000,
+    "sections": "".join(f"[{number}]\n" for number in range(25_000)),
+    "keys": "[defaults]\n" + "".join(f"{number}=\n" for number in range(25_000)) + "x\n",
+    "comments": "[defaults]\n" + "x" + " ;" * 100_000 + "\n" + ";" * 30_000,
+}
+
+
+@pytest.mark.parametrize("text", SETTINGS.values(), ids=SETTINGS)
+def test_settings(place: Place, text: str) -> None:
+    """They are read in proportion to their length."""
+    place.put("ansible.cfg", text.encode())
+    assert used(place, CHECK, ".") in (0, 1)
+    begin = time.process_time()
+    with suppress(Refused):
+        parse_section(text, "defaults")
+    assert time.process_time() - begin < 2, "the time of the parser"
 
 
 def test_sparse_gigabyte(place: Place) -> None:

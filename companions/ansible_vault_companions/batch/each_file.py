@@ -39,7 +39,7 @@ class Outcome:
     def fail(self, fault: Exception) -> None:
         """Reports a failure. Nothing is written, so no envelope is changed."""
         self.report.remove(ROTATED, TO_BE_ROTATED)
-        self.report.add_file(FAILED, self.file.paths[0], refusals.describe_fault(fault, self.file.paths[0]))
+        self.report.add_file(FAILED, self.file.paths[0], refusals.describe_fault(fault, self.file.target))
 
 
 class Begun(NamedTuple):
@@ -92,7 +92,7 @@ class Runner:
         report = Report()
         if self._is_failure(found, fault):
             path = found.paths[0]
-            report.add_file(FAILED, path, found.refusal or refusals.describe_fault(fault, path))
+            report.add_file(FAILED, path, found.refusal or refusals.describe_fault(fault, found.target))
         elif found.refusal or isinstance(fault, Pointer):
             report.add_file(SKIPPED, found.paths[0], found.refusal or str(fault))
         return report

@@ -9,16 +9,26 @@ from __future__ import annotations
 import errno
 import os
 import re
+from collections.abc import Callable
+from functools import lru_cache
 
-from ansible_vault_companions.limits import MOST_STEPS
+from ansible_vault_companions.limits import MOST_STEPS, TooMuch
 from ansible_vault_companions.quoting import escape, quote_word
 from ansible_vault_companions.refusals import Refused
+
+# The module `typing` takes long to import.
+TYPE_CHECKING = False
+if TYPE_CHECKING:
+    from typing import NoReturn
 
 # How many links are followed on the way to one file, as by Linux.
 MOST_LINKS = 40
 # Directories of names for open files and devices, such as /dev/stdin. Only the system can follow the links there.
 OF_OPEN_FILES = re.compile("/dev|/proc/[0-9]+/fd")
 GIT = ".git"
+TOO_MANY_STEPS = f"a link leads through over {MOST_STEPS} directories"
+# The links, and what is none, that a search remembers: many found links may lead through the same ones.
+MOST_REMEMBERED = 10_000
 
 
 class LeadsOut(Refused):
@@ -59,7 +69,7 @@ def resolve_file(path: str) -> str:
     directory. A name of an open file or of a device stays as it is."""
     folder, name = os.path.split(path)
     named = _BoundedWalk(path).start(folder)
-    return path if OF_OPEN_FILES.fullmatch(named) else _BoundedWalk(path, named).follow(named, name)
+    return path if OF_OPEN_FILES.fullmatch(named) else _BoundedWalk(path, bound=named).follow(named, name)
 
 
 def require_folder(target: str) -> None:
@@ -69,25 +79,41 @@ def require_folder(target: str) -> None:
         raise Refused(f"there is no directory {escape(folder)}; make it first")
 
 
-def resolve_link(path: str, named: str) -> str:
-    """The real path of a link that was found below a directory with this real path. Refuses one that leads out of its
-    repository or, outside of git, out of this directory."""
-    return _BoundedWalk(path, named).follow(named, path)
+def resolve_link(name: str, folder: str, top: str) -> str:
+    """The real path to which a link leads that has this name in a directory with this real path, which was found below
+    another one. Refuses a link that leads out of its repository or, outside of git, out of that one."""
+    return _BoundedWalk(name, folder, top, _read_link_once).start(name)
+
+
+def _read_link(path: str) -> str:
+    """The text of a link; empty if this is none."""
+    try:
+        return os.readlink(path)
+    except OSError:
+        return ""
+
+
+_read_link_once = lru_cache(MOST_REMEMBERED)(_read_link)
 
 
 class _Walk:
     """The way of a path to its file, link by link."""
 
-    def __init__(self, path: str) -> None:
+    def __init__(self, path: str, folder: str = "", read: Callable[[str], str] = _read_link) -> None:
         self.path = path
+        # The real directory where it begins, if that is not the current one.
+        self.folder = folder
+        self.read = read
         # How many links were followed, and how many names their texts have.
         self.links = 0
         self.steps = 0
+        # The links that lead here, one within another.
+        self.within: set[str] = set()
 
     def start(self, text: str) -> str:
-        """The real path to which a typed path leads. The current directory may be gone, which does not matter to an
-        absolute path."""
-        return self.follow(os.sep if os.path.isabs(text) else find_current_folder(), text)
+        """The real path to which a path leads. The current directory may be gone, which does not matter to an absolute
+        path."""
+        return self.follow(os.sep if os.path.isabs(text) else self.folder or find_current_folder(), text)
 
     def follow(self, folder: str, text: str) -> str:
         """The real path to which a path, or the text of a link, leads from a directory."""
@@ -102,16 +128,24 @@ class _Walk:
     def _enter(self, folder: str, name: str) -> str:
         """The real path of what has this name in a directory."""
         path = os.path.join(folder, name)
-        if not os.path.islink(path):
+        text = self.read(path)
+        if not text:
             return path
-        text = os.readlink(path)
-        self.links += 1
-        self.steps += text.count(os.sep)
-        if self.links > MOST_LINKS or self.steps > MOST_STEPS:
-            raise OSError(errno.ELOOP, os.strerror(errno.ELOOP), self.path)
+        self._count_link(path, text)
+        self.within.add(path)
         target = self.follow(folder, text)
+        self.within.remove(path)
         self._check_link(folder, target)
         return target
+
+    def _count_link(self, path: str, text: str) -> None:
+        """Refuses a link that leads to itself, and one link or name too many."""
+        self.links += 1
+        if path in self.within or self.links > MOST_LINKS:
+            raise OSError(errno.ELOOP, os.strerror(errno.ELOOP), self.path)
+        self.steps += text.count(os.sep)
+        if self.steps > MOST_STEPS:
+            raise TooMuch(TOO_MANY_STEPS)
 
     def _check_link(self, folder: str, target: str) -> None:
         """Refuses a link in this directory if it must not be followed to this real path."""
@@ -120,10 +154,10 @@ class _Walk:
 class _BoundedWalk(_Walk):
     """The way of a path that no link may lead out."""
 
-    def __init__(self, path: str, named: str | None = None) -> None:
-        super().__init__(path)
-        # The directory that bounds links outside of git.
-        self.named = named
+    def __init__(self, path: str, folder: str = "", bound: str = "", read: Callable[[str], str] = _read_link) -> None:
+        super().__init__(path, folder, read)
+        # The directory that was named, which bounds links outside of git.
+        self.bound = bound
 
     def _check_link(self, folder: str, target: str) -> None:
         # Most paths have no links.
@@ -132,16 +166,15 @@ class _BoundedWalk(_Walk):
         repository = find_repository(folder)
         # One of another user, perhaps above all of this, does not widen the bound.
         if not (repository and is_own_repository(repository)):
-            self._require_within(self._bound_outside(folder), target)
-        self._require_within(repository, target)
+            self._require_within(self.bound if is_within(folder, self.bound) else "", target)
+        self._require_within(repository or "", target)
         # Below a repository, there may be another one, such as a submodule.
         if repository and find_repository(target) != repository:
-            raise LeadsOut(repository, find_target(self.path))
+            self._refuse(repository)
 
-    def _require_within(self, bound: str | None, target: str) -> None:
+    def _require_within(self, bound: str, target: str) -> None:
         if bound and not is_within(target, bound):
-            raise LeadsOut(bound, find_target(self.path))
+            self._refuse(bound)
 
-    def _bound_outside(self, folder: str) -> str | None:
-        """What bounds a link outside of git: the directory that was named, if the link is in it or below it."""
-        return self.named if self.named and is_within(folder, self.named) else None
+    def _refuse(self, bound: str) -> NoReturn:
+        raise LeadsOut(bound, _Walk(self.path, self.folder, self.read).start(self.path))

@@ -11,19 +11,37 @@ from typing import Callable, Collection, NamedTuple
 
 from ansible_vault_companions.files import link_bounds
 from ansible_vault_companions.files.leftovers import is_leftover
+from ansible_vault_companions.limits import TooMuch
 from ansible_vault_companions.quoting import quote_word
 from ansible_vault_companions.refusals import describe_fault
 
 NOT_SEARCHED = "it is a link to a directory, which is not searched; name {} as well"
 
 
+class Way(NamedTuple):
+    """A path that leads to a file."""
+
+    path: str
+    # Where the path is: a real one, but its last name may be that of a link. Empty if it leads nowhere.
+    place: str
+    # Why the file must not be read or replaced through it; empty if it may.
+    refusal: str
+
+
 class FoundFile(NamedTuple):
-    """A file, and the paths that lead to it."""
+    """A file, and the ways that lead to it."""
 
     target: str
-    paths: list[str]
-    # Why it must not be read or replaced through them; empty if it may.
-    refusal: str
+    ways: list[Way]
+
+    @property
+    def paths(self) -> list[str]:
+        return [way.path for way in self.ways]
+
+    @property
+    def refusal(self) -> str:
+        """Why it must not be read or replaced; empty if it may be in one of the ways."""
+        return "" if any(not way.refusal for way in self.ways) else self.ways[0].refusal
 
 
 def add_paths(parser: argparse.ArgumentParser) -> None:
@@ -31,6 +49,18 @@ def add_paths(parser: argparse.ArgumentParser) -> None:
     about = "skip files whose name or path matches PATTERN; may be repeated"
     parser.add_argument("--exclude", action="append", default=[], metavar="PATTERN", help=about)
     parser.add_argument("paths", metavar="PATH", nargs="+", help="a file or directory to search")
+
+
+class _Folder(NamedTuple):
+    """A directory that is searched: its typed path, that from the searched one, and the real one."""
+
+    path: str
+    below: str
+    place: str
+
+    def join(self, name: str) -> _Folder:
+        """The same of what has this name in it."""
+        return _Folder(*(os.path.join(path, name) for path in self))
 
 
 class Search:
@@ -41,20 +71,16 @@ class Search:
         self.excluded = [os.path.normpath(pattern) for pattern in excluded]
         # The real paths of the directories that are searched.
         self.tops: list[str] = []
-        # The paths that lead to each file, each with the reason to refuse it.
-        self.found: dict[str, list[tuple[str, str]]] = {}
+        # The ways that lead to each file.
+        self.found: dict[str, list[Way]] = {}
         # Links to directories, and where they lead.
         self.folders: dict[str, str] = {}
         for path in paths:
             self._search(path)
 
     def list_files(self) -> list[FoundFile]:
-        """Each file. It is refused only if each of its paths is."""
-        files = []
-        for target, found in self.found.items():
-            refusals = [refusal for _, refusal in found]
-            files.append(FoundFile(target, [path for path, _ in found], "" if "" in refusals else refusals[0]))
-        return files
+        """Each file, once."""
+        return [FoundFile(target, ways) for target, ways in self.found.items()]
 
     def list_unsearched(self) -> dict[str, str]:
         """The links to directories outside of those that are searched, each with a message."""
@@ -67,48 +93,54 @@ class Search:
     def _search(self, path: str) -> None:
         """Finds what a path of the command line leads to."""
         is_folder = os.path.isdir(path)
-        target, refusal = _resolve(path, link_bounds.resolve_folder if is_folder else link_bounds.resolve_file)
+        target, refusal = _resolve(path, link_bounds.resolve_folder if is_folder else link_bounds.resolve_file, path)
         if is_folder and not refusal:
             self.tops.append(target)
             self._search_folder(path, target)
         elif not self._is_excluded(os.path.normpath(path)):
-            self._add(path, target, refusal)
+            self._add(path, _find_place(path), target, refusal)
 
     def _search_folder(self, path: str, top: str) -> None:
         """Finds the files below a directory with this typed and this real path."""
         # Those that are left, the next one last.
-        folders = [top]
+        folders = [_Folder(path, "", top)]
         while folders:
             folder = folders.pop()
-            below = os.path.relpath(folder, top)
             try:
-                entries = _list_folder(folder)
+                entries = _list_folder(folder.place)
             except OSError:
-                self._add(_join(path, below), folder, "")
+                self._add(folder.path, folder.place, folder.place, "")
                 continue
-            left = [entry for entry in entries if not self._is_left_out(entry, below)]
+            left = [entry for entry in entries if not self._is_left_out(entry, folder.below)]
             for entry in left:
-                self._add_found(os.path.join(_join(path, below), entry.name), entry.path, top)
-            folders += [entry.path for entry in reversed(left) if entry.is_dir(follow_symlinks=False)]
+                self._add_found(entry, folder, top)
+            folders += [folder.join(entry.name) for entry in reversed(left) if entry.is_dir(follow_symlinks=False)]
 
-    def _add_found(self, path: str, own: str, top: str) -> None:
+    def _add_found(self, entry: os.DirEntry[str], folder: _Folder, top: str) -> None:
         """Adds what is in a directory, if it is a file or a link to one or to a directory."""
-        is_link = os.path.islink(own)
-        if is_link and os.path.isdir(own):
-            self.folders[path], _ = _resolve(own, link_bounds.find_target)
-        elif is_link and _is_file(own):
-            self._add(path, *_resolve(own, lambda link: link_bounds.resolve_link(link, top)))
-        elif _is_file(own):
-            self._add(path, own, "")
+        path = os.path.join(folder.path, entry.name)
+        if entry.is_symlink():
+            self._add_link(path, entry, folder.place, top)
+        elif stat.S_ISREG(_find_kind(entry.path)):
+            self._add(path, entry.path, entry.path, "")
+
+    def _add_link(self, path: str, entry: os.DirEntry[str], folder: str, top: str) -> None:
+        """Adds a link. It is followed here first, since the system has no limit of names."""
+        target, refusal = _resolve(entry.path, link_bounds.resolve_link, entry.name, folder, top)
+        kind = stat.S_IFREG if refusal == link_bounds.TOO_MANY_STEPS else _find_kind(entry.path)
+        if stat.S_ISDIR(kind):
+            self.folders[path] = target
+        elif stat.S_ISREG(kind):
+            self._add(path, entry.path, target, refusal)
 
     def _is_left_out(self, entry: os.DirEntry[str], below: str) -> bool:
         """Whether to skip what is in a directory. A temporary file belongs to another companion, or to a crash."""
         if entry.name == link_bounds.GIT or is_leftover(entry.name) and entry.is_file(follow_symlinks=False):
             return True
-        return self._is_excluded(os.path.normpath(os.path.join(below, entry.name)))
+        return self._is_excluded(os.path.join(below, entry.name))
 
-    def _add(self, path: str, target: str, refusal: str) -> None:
-        self.found.setdefault(target, []).append((path, refusal))
+    def _add(self, path: str, place: str, target: str, refusal: str) -> None:
+        self.found.setdefault(target, []).append(Way(path, place, refusal))
 
     def _is_excluded(self, path: str) -> bool:
         """Whether a pattern matches a path below a searched directory, or just its name if the pattern has no slash."""
@@ -122,24 +154,30 @@ def _list_folder(folder: str) -> list[os.DirEntry[str]]:
         return sorted(entries, key=lambda entry: entry.name)
 
 
-def _join(path: str, below: str) -> str:
-    return path if below == os.curdir else os.path.join(path, below)
+def _find_place(path: str) -> str:
+    """Where a typed path is; empty if it leads nowhere."""
+    folder, name = os.path.split(path)
+    try:
+        return os.path.normpath(os.path.join(link_bounds.find_target(folder), name))
+    except (TooMuch, OSError):
+        return ""
 
 
-def _resolve(path: str, resolve: Callable[[str], str]) -> tuple[str, str]:
+def _resolve(path: str, resolve: Callable[..., str], *words: str) -> tuple[str, str]:
     """The real path of a typed path or of a link, and the reason to refuse it, if there is one. A path that leads
     nowhere stays as it is."""
     try:
-        return resolve(path), ""
+        return resolve(*words), ""
     except link_bounds.LeadsOut as fault:
         return fault.target, str(fault)
-    except OSError as fault:
-        return path, describe_fault(fault, path)
+    except (TooMuch, OSError) as fault:
+        return path, describe_fault(fault, words[0])
 
 
-def _is_file(path: str) -> bool:
-    """Whether to read this, which a directory contains: a file, or what cannot be looked at, but no link to nothing."""
+def _find_kind(path: str) -> int:
+    """The mode of what a directory contains, or of that to which it leads; 0 if it leads nowhere. What cannot be looked
+    at counts as a file, so that reading it says why."""
     try:
-        return stat.S_ISREG(os.stat(path).st_mode)
+        return os.stat(path).st_mode
     except OSError as fault:
-        return fault.errno not in (errno.ENOENT, errno.ELOOP)
+        return 0 if fault.errno in (errno.ENOENT, errno.ELOOP) else stat.S_IFREG

@@ -4,11 +4,10 @@ from __future__ import annotations
 
 import os
 import re
-from functools import cache
-from typing import Collection, Container, Iterable, Iterator, Mapping, NamedTuple
+from typing import Collection, Container, Iterable, Iterator, NamedTuple
 
 from ansible_vault_companions import bounding
-from ansible_vault_companions.files import link_bounds, reading
+from ansible_vault_companions.files import reading
 from ansible_vault_companions.git.commands import CUT
 from ansible_vault_companions.git.repository import find_repository
 from ansible_vault_companions.git.servers import Server
@@ -85,13 +84,13 @@ def _make_attributes(diff: bytes, vault: bytes, plain: bytes) -> Attributes:
     return Attributes(is_marked, is_exempt, frozenset(os.fsdecode(plain).split(",") if has_values else ()))
 
 
-def find_marked(targets: Mapping[str, str]) -> set[str]:
-    """Of these paths, each with the real path of its file, those that are marked in the repository that they are in, if
-    any. A link counts by its own name, too."""
+def find_marked(paths: Iterable[tuple[str, Collection[str]]]) -> set[str]:
+    """Of these paths, each with its real path and that of its file, those that are marked in the repository that they
+    are in, if any. A link counts by its own name, too."""
     marked = set[str]()
     try:
         with bounding.limit_run(ATTRIBUTE_SECONDS):
-            for folder, names in _group_by_repository(targets).items():
+            for folder, names in _group_by_repository(paths).items():
                 _require_readable(folder, names)
                 with AttributeReader(folder=folder) as reader:
                     marked.update(names[name] for name, given in reader.read(names).items() if given.is_marked)
@@ -113,22 +112,15 @@ def _require_readable(repository: str, names: Iterable[bytes]) -> None:
             raise Refused(describe_refusal(path, fault)) from None
 
 
-def _group_by_repository(targets: Mapping[str, str]) -> dict[str, dict[bytes, str]]:
+def _group_by_repository(paths: Iterable[tuple[str, Collection[str]]]) -> dict[str, dict[bytes, str]]:
     """The paths in each repository, by their names there, and by those of their files. What is outside of repositories
-    is left out, and so is what leads nowhere."""
+    is left out."""
     repositories: dict[str, dict[bytes, str]] = {}
-    # Many files may be in one directory, and deep.
-    find_folder = cache(link_bounds.find_target)
-    for path, target in targets.items():
-        folder, name = os.path.split(path)
-        try:
-            own = os.path.join(find_folder(folder), name)
-        except OSError:
-            continue
-        for place in {own, target}:
+    for path, places in paths:
+        for place in places:
             repository = find_repository(os.path.dirname(place))
             if repository:
-                below = os.fsencode(os.path.relpath(place, repository))
+                below = os.fsencode(place[len(os.path.join(repository, "")) :])
                 repositories.setdefault(repository, {})[below] = path
     return repositories
 

@@ -6,15 +6,25 @@ import os
 from functools import lru_cache
 
 
-@lru_cache(maxsize=None)
+# The repository of each directory that was looked at, so that each is looked at once, however many are below it.
+_repositories: dict[str, str | None] = {}
+
+
 def find_repository(folder: str) -> str | None:
     """The top directory of the repository that contains this directory, if any."""
-    while not os.path.lexists(os.path.join(folder, ".git")):
+    passed = []
+    while folder not in _repositories:
         above = os.path.dirname(folder)
-        if above == folder:
-            return None
-        folder = above
-    return folder
+        if os.path.lexists(os.path.join(folder, ".git")):
+            _repositories[folder] = folder
+        elif above == folder:
+            _repositories[folder] = None
+        else:
+            passed.append(folder)
+            folder = above
+    repository = _repositories[folder]
+    _repositories.update(dict.fromkeys(passed, repository))
+    return repository
 
 
 @lru_cache(maxsize=None)
