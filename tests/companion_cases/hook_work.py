@@ -249,6 +249,38 @@ def test_parents(place: Place, count: int, why: str) -> None:
     ended("a merge", place.run(HOOK), int(bool(why)), *([f"{HOOK}: the next commit{why}"] if why else []))
 
 
+# Each has a word or a byte that git never writes there, or more lines than a merge has parents.
+NO_MERGE_HEADS = {
+    "an option": b"--output=../victim\n",
+    "an option behind an ID": b"%s\n--output=../victim\n",
+    "the name of a branch": b"HEAD\n",
+    "a blank": b"%s --output=../victim\n",
+    "no UTF-8": b"\xff\xfe\n",
+    "no end": b"%s",
+    "a short ID": b"%.10s\n",
+    "too many lines": b"%s\n" * 101,
+    "a huge line": b"a" * 1_000_000 + b"\n",
+}
+
+
+@pytest.mark.parametrize("content", NO_MERGE_HEADS.values(), ids=NO_MERGE_HEADS)
+def test_merge_head(place: Place, content: bytes) -> None:
+    """Whoever made a repository has written the file that names the commits being merged. git is given none of its
+    words but whole IDs."""
+    under_git(place, "")
+    committed(place, "a.yml", sealed("old"))
+    place.put("../victim", b"precious")
+    place.put("a.yml", b"")
+    place.shell("git add -A")
+    head = place.shell("git rev-parse HEAD").stdout.strip().encode()
+    place.put("../tree/.git/MERGE_HEAD", b"%s\n" % head)
+    silent("a merge", place.run(HOOK))
+    place.put("../tree/.git/MERGE_HEAD", content.replace(b"%s", head).replace(b"%.10s", head[:10]))
+    why = "MERGE_HEAD: it is not a list of at most 100 commits"
+    ended("no merge", place.run(HOOK), 1, f"{HOOK}: {why}\n")
+    assert place.get("../victim") == b"precious"
+
+
 # Without the limits of each file, which would be met first.
 UNLIMITED = "import contextlib; bounding.limit_work = contextlib.nullcontext"
 

@@ -3,9 +3,11 @@
 from __future__ import annotations
 
 import os
+import re
 from functools import cached_property
 from typing import Collection
 
+from ansible_vault_companions.files import reading
 from ansible_vault_companions.git.attributes import AttributeReader, Attributes
 from ansible_vault_companions.git.commands import find_object, list_records, read_line, run_git
 from ansible_vault_companions.git.differences import (
@@ -20,11 +22,16 @@ from ansible_vault_companions.git.differences import (
 )
 from ansible_vault_companions.git.history import require_few_parents
 from ansible_vault_companions.git.index_files import find_empty_tree, open_index_file
+from ansible_vault_companions.limits import MOST_PARENTS
 from ansible_vault_companions.quoting import escape
 from ansible_vault_companions.refusals import Refused
 
 # git gives a hook the commits being merged in environment variables with this prefix.
 MERGED = "GITHEAD_"
+# The file that names them.
+MERGE_HEAD = "MERGE_HEAD"
+OBJECT_ID = re.compile("[0-9a-f]{40}(?:[0-9a-f]{24})?")
+LONGEST_MERGE_HEAD = MOST_PARENTS * 65
 
 
 class Index:
@@ -64,13 +71,23 @@ class Index:
 
 def read_staged() -> Index:
     """What is staged. The next commit will have HEAD as a parent, and what is being merged."""
-    names = {name.removeprefix(MERGED) for name in os.environ if name.startswith(MERGED)}
+    merged = {name.removeprefix(MERGED) for name in os.environ if name.startswith(MERGED)}
+    merged.update(_read_merged(read_line("rev-parse", "--git-path", MERGE_HEAD)))
+    return Index(["HEAD", *sorted(merged)] if _has_commit() else [])
+
+
+def _read_merged(path: str) -> list[str]:
+    """The IDs of the commits that are being merged, as git has written them. Anything else that the file has could be
+    an option for git, such as one that names a file to write."""
     try:
-        with open(read_line("rev-parse", "--git-path", "MERGE_HEAD"), encoding="ascii") as file:
-            names.update(file.read().split())
+        with reading.open_regular(path) as file:
+            lines = file.read(LONGEST_MERGE_HEAD + 1).decode("latin-1").split("\n")
     except FileNotFoundError:
-        pass
-    return Index(["HEAD", *sorted(names)] if _has_commit() else [])
+        return []
+    ids, rest = lines[:-1], lines[-1]
+    if len(ids) > MOST_PARENTS or rest or not all(map(OBJECT_ID.fullmatch, ids)):
+        raise Refused(f"{MERGE_HEAD}: it is not a list of at most {MOST_PARENTS} commits")
+    return ids
 
 
 def _has_commit() -> bool:
