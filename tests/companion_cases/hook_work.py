@@ -210,9 +210,8 @@ def test_time_of_running_git(place: Place) -> None:
     ended("the hook", done, 1, f"{TOO_SLOW.format(4)}; the last file that it read is 0.yml\n")
 
 
-def test_small_objects(place: Place) -> None:
-    """What is stored in many small files counts by its bytes, whatever they take on the disk."""
-    note = """
+# Notes how many MB of objects the hook counts.
+NOTE_SIZES = """
 from ansible_vault_companions import bounding
 limit = bounding.limit_review
 
@@ -223,13 +222,35 @@ def note_and_limit(size):
 
 bounding.limit_review = note_and_limit
 """
+
+
+def test_small_objects(place: Place) -> None:
+    """What is stored in many small files counts by its bytes, whatever they take on the disk."""
     under_git(place, "")
     for number in range(600):
         place.put(f"{number}", b"%d" % number)
     for command in ("true", "head -c 3000000 /dev/urandom > random; git add random", "git gc -q"):
         place.shell(f"git add -A; git commit -qm change; {command}")
-        silent("the hook", run_changed(place, HOOK, note, []))
+        silent("the hook", run_changed(place, HOOK, NOTE_SIZES, []))
     assert place.get("../sizes").decode().split() == ["0", "2", "2"]
+
+
+def test_no_objects(place: Place) -> None:
+    """A repository does not get more time by files that are no objects, by holes, by further names, or by links."""
+    under_git(place, "")
+    committed(place, "a.yml", sealed("old"))
+    place.shell("head -c 3000000 /dev/urandom > random; git add random; git commit -qm change; git gc -q")
+    objects = place.tree / ".git/objects"
+    (objects / "junk").write_bytes(b"x" * 3_000_000)
+    (objects / "/".join(["deep"] * 500)).mkdir(parents=True)
+    pack = next((objects / "pack").glob("*.pack"))
+    for number in range(9):
+        os.link(pack, objects / "pack" / f"other-{number}")
+        os.symlink(pack, objects / "pack" / f"link-{number}")
+        with open(objects / "pack" / f"sparse-{number}", "wb") as file:
+            file.truncate(1 << 40)
+    silent("the hook", run_changed(place, HOOK, NOTE_SIZES, []))
+    assert place.get("../sizes").decode().split() == ["2"]
 
 
 @pytest.mark.parametrize("count, why", [(100, ""), (101, " has over 100 parents\n")])
