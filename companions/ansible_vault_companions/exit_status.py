@@ -7,7 +7,6 @@ import sys
 from collections.abc import Callable
 
 from ansible_vault_companions.output import LOST, flush_streams, open_streams, write_data, write_error
-from ansible_vault_companions.quoting import escape
 from ansible_vault_companions.refusals import Refused, describe_fault, describe_refusal
 
 
@@ -43,5 +42,5 @@ def _attempt_all(name: str, main: Callable[[list[str]], int]) -> int:
         write_data(b"")
         return status
     except (Refused, OSError) as fault:
-        write_error(f"{name}: {escape(describe_fault(fault))}")
+        write_error(f"{name}: {describe_fault(fault)}")
         return fault.status if isinstance(fault, Refused) else 1

@@ -58,9 +58,10 @@ def write_error(text: str) -> None:
 def write_when_possible(descriptor: int, data: bytes) -> None:
     """Writes to what may not take it at once, in pieces that do not wait for its reader, since a write cannot be ended
     by a signal that is postponed. Raises Stopped if there is one."""
-    while data:
+    place = 0
+    while place < len(data):
         signals.wait_for_output(descriptor)
-        data = data[os.write(descriptor, data[:PIPE_BUF]) :]
+        place += os.write(descriptor, data[place : place + PIPE_BUF])
 
 
 def flush_streams() -> bool:

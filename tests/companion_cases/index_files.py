@@ -118,3 +118,21 @@ def test_temporary_files(place: Place, subtests: SubTests) -> None:
             silent("a run", place.run(*words, **variables))
     place.put("vault.yml", sealed("old"))
     ended("a rotation", place.run(ROTATE, *to_new(place), ".", **variables), 0, "1 rotated")
+
+
+@pytest.mark.parametrize("name", ("x", "\n", "ä"))
+def test_long_name_twice(place: Place, monkeypatch: pytest.MonkeyPatch, name: str) -> None:
+    """A message has only the beginning of a name that no file system can have."""
+    monkeypatch.chdir(place.tree)
+    under_git(place, "")
+    add_and_commit(place)
+    blob = run_git("hash-object", "-w", "--stdin", data=TEXT)[:-2].decode()
+    names = [("100644", name * 1_000_000, blob)] * 2
+    tree = make_tree(names)
+    for variable, value in AUTHOR.items():
+        monkeypatch.setenv(variable, value)
+    commit = run_git("commit-tree", "-m", "twice", tree)[:-2].decode()
+    run_git("update-ref", "--no-deref", "HEAD", commit)
+    done = place.run(HOOK, "--all")
+    ended("a tree", done, 1, "[...] twice, so it cannot be checked")
+    assert len(done.stderr) < 100_000
