@@ -9,6 +9,7 @@ import pytest
 
 from ansible_vault_companions.editing.typed_tags import check_tags
 from ansible_vault_companions.envelopes import conflicts, header
+from ansible_vault_companions.envelopes.detection import may_have_envelope
 from ansible_vault_companions.envelopes.parsed_text import ParsedText, parse_envelopes, parse_nodes
 from ansible_vault_companions.refusals import Refused
 from lib.needs import needs_pyyaml
@@ -34,6 +35,7 @@ PIECES = [
     b"$ANSIBLE_VAULT;1.1;AES256 # # # " + b"61" * 20 + b"\n",
     b"$ANSIBLE_VAULT;1 6161616161616161 ",
     *[b"!vault | ", b"!vault &a ", b"!vault", b"# \\n", b" ", b"\t", b"\n", b"- ", b"61", b"<<<<<<< ", b"<<<<<<< a\n"],
+    *[b"!", b"!%", b"%7", b"!a", b"\\u00"],
     *[b"[", b"{a: ", b"? ", b"&a ", b",&", b", &a", b"%TAG ! !", b"  - ", b"\r", b"'"],
 ]
 SMALL, TIMES = 1 << 15, 8
@@ -43,6 +45,7 @@ WORKS: dict[str, Callable[[bytes], object]] = {
     "every node": lambda data: parse_nodes(START + data),
     "a file that is no YAML": lambda data: parse_envelopes(b"[$ANSIBLE_VAULT;1.1;AES256" + data),
     "a line with a margin": lambda data: parse_envelopes(b"#" * len(data) + data),
+    "a file without an envelope": may_have_envelope,
     "a whole vault": lambda data: header.is_whole_envelope(b"$ANSIBLE_VAULT;1.1;AES256\n" + data),
     "typed tags": lambda data: check_tags(ParsedText(data), ParsedText(data)),
     "tags in new lines": lambda data: check_new_tags(data),

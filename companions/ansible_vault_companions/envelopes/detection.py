@@ -10,7 +10,7 @@ from ansible_vault_companions.files.reading import open_regular, read_parts, rea
 
 # A file with an envelope has one of these words, or spells it with escapes, which take no more than OVERLAP bytes.
 WORDS = (b"ANSIBLE_VAULT", b"!vault", b"__ansible_vault", b"%TAG")
-ESCAPES = re.compile(rb"![^\s%]{0,64}%[0-9a-fA-F]{2}|\\(?:x|u00|U000000)(?:24|[4-7][0-9a-fA-F])")
+ESCAPES = re.compile(rb"![^\s!%]{0,64}%[0-9a-fA-F]{2}|\\(?:x|u00|U000000)(?:24|[4-7][0-9a-fA-F])")
 OVERLAP = 80
 
 
