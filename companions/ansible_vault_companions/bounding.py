@@ -11,6 +11,7 @@ import time
 from contextlib import contextmanager, suppress
 from typing import TYPE_CHECKING, Callable, Iterator, NamedTuple
 
+from ansible_vault_companions import signals
 from ansible_vault_companions.limits import (
     MEGABYTES,
     NO_MEMORY,
@@ -190,12 +191,14 @@ def _describe_limit(most: int, megabytes: int) -> str:
 
 @contextmanager
 def _limit_time(measure: Callable[[], float], seconds: float, text: str) -> Iterator[None]:
-    """A context that raises TooMuch with this text after so much time by this measure. It may be in another one. The
-    timer counts all threads of this process, so each of its signals only asks for the time."""
+    """A context that raises TooMuch with this text after so much time by this measure, and Stopped if a signal has been
+    postponed. It may be in another one. The timer counts all threads of this process, so each of its signals only asks
+    for the time."""
     end = measure() + seconds
     over, outer = TimeOver(), _signal.getsignal(_signal.SIGPROF)
 
     def check_time(number: int, frame: object) -> None:
+        signals.check_for_signal()
         if measure() >= end:
             raise over
         if callable(outer):

@@ -390,6 +390,31 @@ def test_later_edits(place: Place) -> None:
     assert (place.left(), os.listdir(place.temporary)) == ([], []), "nothing is left"
 
 
+def test_long_encryption(place: Place) -> None:
+    """A signal ends the work on what was saved, though signals are postponed. What was saved is kept."""
+    place.put("vars.yml", block("old"))
+    # What is saved is read for as long as it takes: until the limit of time, unless the signal ends it.
+    change = """
+from ansible_vault_companions.editing import yaml_draft
+require_nodes = yaml_draft.require_nodes
+
+def require_later(text, effort):
+    if os.path.exists("../saved"):
+        os.kill(os.getpid(), signal.SIGTERM)
+        with bounding.limit_work(effort):
+            while True:
+                pass
+    return require_nodes(text, effort)
+
+from ansible_vault_companions import bounding
+yaml_draft.require_nodes = require_later
+"""
+    editor = place.script('echo "a: !vault more" >> "$1"; : > ../saved', "editor")
+    done = run_changed(place, EDIT, change, [*place.by_file("old"), "vars.yml"], EDITOR=editor)
+    assert done.returncode == -signal.SIGTERM and "signal 15 ended the edit; what you saved is " in done.stderr, done
+    assert "processor time" not in done.stderr and len(place.kept()) == 1
+
+
 @pytest.mark.parametrize("number", (1, 2))
 def test_time_of_an_edit(place: Place, number: int) -> None:
     """What was saved is parsed for a limited time, though signals are postponed, and so is what is to be written."""
