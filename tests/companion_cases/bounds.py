@@ -152,6 +152,17 @@ def test_most_keys(place: Place, items: int, why: str) -> None:
     ended("the check", done, int(bool(why)), *([f"a.yml: {why}\n"] if why else []))
 
 
+@pytest.mark.parametrize("items, status", [(250, 0), (1_000, 1)])
+def test_keys_of_each_reading(place: Place, items: int, status: int) -> None:
+    """A file is read more than once to set a value in it. Each reading counts by itself."""
+    place.put("a.yml", b"w: 1\nx: [%s]\n" % (b"~," * items))
+    place.put("../input", b"text")
+    change = "from ansible_vault_companions import limits; limits.MOST_KEYS = 1_000; "
+    change += 'os.dup2(os.open("../input", os.O_RDONLY), 0)'
+    words = [*place.by_file("old"), "--encrypt-vault-id", "default", "--value", "w", "a.yml"]
+    ended("the edit", run_changed(place, EDIT, change, words), status, *([TOO_MANY_KEYS] if status else []))
+
+
 def test_keys_of_sides(place: Place) -> None:
     """What is between git's conflict markers and around them counts for each side."""
     place.environment["EDITOR"] = place.script('echo "# x" >> "$1"', "editor")

@@ -89,6 +89,7 @@ def _tag(data: bytes, path: str, is_chosen: bool, effort: Effort) -> ParsedText:
         if not is_chosen:
             raise Refused(VALUE_NOT_ENCRYPTED.format(escape(path)) + HOW_TO_ENCRYPT)
         tag = _add_tag(value, path)
+    effort.begin_version()
     after = parse_nodes(apply_replacements(data, [tag]), effort)
     if after.is_too_much:
         raise TooMuch(after.fault)
