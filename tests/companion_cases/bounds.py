@@ -448,8 +448,8 @@ def openable(count: int, salt: bytes = b"") -> bytes:
 
 @pytest.mark.parametrize("companion", OPENING)
 def test_most_runs(place: Place, companion: str) -> None:
-    """So many runs are counted for a file: for each value, one to encrypt it, one to decrypt it, and half of one for each
-    wrong password. What takes more is refused as a whole. Anything else is opened, and the same is run."""
+    """So many runs are counted for a file: for each value, one to encrypt it, one to decrypt it, and half of one for
+    each wrong password. What takes more is refused as a whole. Anything else is opened."""
     place.environment["EDITOR"] = place.script('echo "# x" >> "$1"', "editor")
     _, *words = OPENING[companion][0].replace(BY_OLD, "").split()
     random, names = Random(companion), [*PASSWORDS]
