@@ -53,11 +53,8 @@ LONGEST_LINK = 4_096
 MOST_STEPS = 100
 # The parents of a commit, each of which the hook compares with it. The largest merge of Linux has 66.
 MOST_PARENTS = 100
-# The characters of an ansible.cfg, and of a line in it: Python's parser takes quadratic time for the blanks of a line.
+# The characters of an ansible.cfg.
 LONGEST_SETTINGS = 262_144
-LONGEST_SETTING = 2_048
-# The characters of a value in it, which may have several lines. A variable in it is expanded by itself.
-LONGEST_VALUE = 16_384
 # Processor time, and memory beyond what the companion has already. A review by the hook has no more for all its work on
 # a repository of less than 1 MB, and as much again for each whole MB. The time is that of its git processes, too. By
 # the limits above, the slowest content takes 5 s.

@@ -230,8 +230,6 @@ def test_no_home(place: Place, monkeypatch: pytest.MonkeyPatch) -> None:
     assert Settings(False, print).find_password_file() == "", "none is found"
 
 
-# What Python's parser would look at for minutes.
-BLANKS = b"x%sy\n" % (b" " * 100_000)
 # In each file, a text that is not to be shown.
 HIDDEN = b"s3cret"
 MALFORMED = {
@@ -241,9 +239,18 @@ MALFORMED = {
     "a key twice": (b"[defaults]\n%s = 1\n%s = 2\n" % (HIDDEN, HIDDEN), "line 3: the key is there already"),
     "Latin-1": (b"# \xff", "it is not UTF-8"),
     "a NUL byte": (b"#\0", "it has a NUL byte"),
-    "a long line": (b"[defaults]\n" + BLANKS, "it has a line of over 2,048 characters"),
     "many lines": (b"#\n" * 200_000, "it has over 262,144 characters"),
 }
+# A path that no file can have, with as many variables as fit.
+VARIABLES = {"the directory": "{{CWD}}" * 2_000, "a brace": "${" * 5_000, "a name": "$HOME" * 1_000}
+
+
+@pytest.mark.parametrize("setting", ("vault_password_file", "vault_identity_list"))
+@pytest.mark.parametrize("path", VARIABLES.values(), ids=VARIABLES)
+def test_long_paths(place: Place, setting: str, path: str) -> None:
+    """No variables are looked for in a path that is too long for any file."""
+    place.put("ansible.cfg", f"[defaults]\n{setting} = {path}\n".encode())
+    ended("it is refused", place.run(CHECK, "."), 1, "it has over 4,096 characters")
 
 
 @pytest.mark.parametrize("content, why", MALFORMED.values(), ids=MALFORMED)

@@ -13,7 +13,7 @@ import stat
 from collections.abc import Callable
 
 from ansible_vault_companions.files import link_bounds
-from ansible_vault_companions.limits import LONGEST_SETTING, LONGEST_SETTINGS, LONGEST_VALUE, TooMuch
+from ansible_vault_companions.limits import LONGEST_SETTINGS, Effort, TooMuch
 from ansible_vault_companions.passwords.path_expansion import CURRENT, expand_path, is_absolute
 from ansible_vault_companions.quoting import escape
 from ansible_vault_companions.refusals import Refused, describe_refusal
@@ -142,23 +142,23 @@ def _read_section(path: str) -> dict[str, str]:
     # Imported here, since most runs of ansible-vault-with need no file.
     import configparser
 
+    from ansible_vault_companions import bounding
+
     parser = configparser.RawConfigParser(inline_comment_prefixes=(";",))
     try:
         with open(path, encoding="utf-8") as file:
             text = file.read(LONGEST_SETTINGS + 1)
         _require_short(text)
-        parser.read_string(text)
+        # Python's parser takes quadratic time for blanks, and for lines that are no settings.
+        with bounding.limit_work(Effort(len(text))):
+            parser.read_string(text)
     except UnicodeError:
         raise Refused(f"{escape(path)}: it is not UTF-8") from None
     except configparser.Error as fault:
         raise Refused(f"{escape(path)}: {_describe_syntax(fault)}") from None
     except (Refused, OSError) as fault:
         raise Refused(describe_refusal(path, fault)) from None
-    keys = dict(parser[SECTION]) if SECTION in parser else {}
-    for key, value in keys.items():
-        if len(value) > LONGEST_VALUE:
-            raise Refused(f"{escape(path)}: {escape(key)} has over {LONGEST_VALUE:,} characters")
-    return keys
+    return dict(parser[SECTION]) if SECTION in parser else {}
 
 
 def _describe_syntax(fault: Exception) -> str:
@@ -168,13 +168,11 @@ def _describe_syntax(fault: Exception) -> str:
 
 
 def _require_short(text: str) -> None:
-    """Refuses a text for which Python's parser would take long, or which no program writes."""
+    """Refuses a text that no program writes."""
     if "\0" in text:
         raise Refused("it has a NUL byte")
     if len(text) > LONGEST_SETTINGS:
         raise TooMuch(f"it has over {LONGEST_SETTINGS:,} characters")
-    if any(len(line) > LONGEST_SETTING for line in text.splitlines()):
-        raise TooMuch(f"it has a line of over {LONGEST_SETTING:,} characters")
 
 
 def _unquote(text: str) -> str:
