@@ -46,6 +46,8 @@ LONGEST_LABEL = 128
 # The bytes of an answer to a question, which a terminal limits to 4,096. Of standard input, even endless, no more is
 # read.
 LONGEST_ANSWER = 65_536
+# The characters of a file's path in settings and options, as many as Linux allows.
+LONGEST_FILE_PATH = 4_096
 # The bytes of a link that git has, as many as Linux allows.
 LONGEST_LINK = 4_096
 # The directories and links through which a link leads. A text of that length has 2,000 of them, and may name others.

@@ -4,11 +4,10 @@ from __future__ import annotations
 
 import os
 
+from ansible_vault_companions.limits import LONGEST_FILE_PATH
 from ansible_vault_companions.refusals import Refused
 
 HOME = "~"
-# The characters of a path, as many as Linux allows.
-LONGEST_PATH = 4_096
 # In a path of the settings, this means the current directory.
 CURRENT = "{{CWD}}"
 NO_HOME = "~ leads to no home directory; to mean a file of this name, begin with ./"
@@ -25,8 +24,8 @@ def expand_path(path: str, folder: str = "") -> str:
     """A path as Ansible reads it. A relative one starts from this directory, or else from the current one. Refuses a
     home directory that there is not: as a relative path, it could be one of a stranger's repository. Refuses a path
     that no file can have, too, since Python takes quadratic time to look for variables."""
-    if len(path) > LONGEST_PATH:
-        raise Refused(f"it has over {LONGEST_PATH:,} characters")
+    if len(path) > LONGEST_FILE_PATH:
+        raise Refused(f"it has over {LONGEST_FILE_PATH:,} characters")
     expanded = os.path.expanduser(os.path.expandvars(path))
     if expanded.startswith(HOME):
         raise Refused(NO_HOME)
