@@ -52,8 +52,8 @@ class PrivateDirectory:
 
     def release(self, outcome: str) -> None:
         """Lets the directory go: what was saved is elsewhere, or nothing was. The outcome is what a message says."""
-        self.is_needed = False
         self.outcome = outcome
+        self.is_needed = False
 
     def __enter__(self) -> PrivateDirectory:
         return self
@@ -61,12 +61,13 @@ class PrivateDirectory:
     def __exit__(self, _kind: object, fault: BaseException | None, _trace: object) -> None:
         """Whatever ended the edit, a message says where the text is, or what became of it."""
         why = describe_failure(fault, self.edited) if fault else self.outcome
-        if not self.is_needed:
-            _remove(self.path, filter(self._may_go, _list_files(self.path)), why)
-            return
-        if self.saved is not None and not os.path.lexists(self.file):
-            self.path = _make(self.name, self.saved)
-        raise Refused(IN_PLAINTEXT.format(why, self.path)) from None
+        if self.is_needed:
+            if self.saved is not None and not os.path.lexists(self.file):
+                self.path = _make(self.name, self.saved)
+            raise Refused(IN_PLAINTEXT.format(why, self.path)) from None
+        _remove(self.path, filter(self._may_go, _list_files(self.path)), why)
+        if fault and self.outcome not in why:
+            raise Refused(f"{why}; {self.outcome}") from None
 
     def _may_go(self, path: str) -> bool:
         """Whether nobody has typed what is here: a file with one of the texts, or what has none, such as a link. What

@@ -70,8 +70,8 @@ class Edit:
             raise self._rescue(text, describe_failure(failed, self.path)) from None
         try:
             self._replace(content)
-        except replacing.NotSynced:
-            self.folder.release(WRITTEN)
+        except replacing.NotSynced as fault:
+            self.folder.release(str(fault))
             raise
         except Exception as failed:
             raise self._rescue(text, describe_failure(failed, self.path)) from None
@@ -97,8 +97,9 @@ class Edit:
             copy = self._save_copy(text)
         except Exception as failed:
             return Refused(f"{why}; {NO_COPY}: {describe_failure(failed, self.path)}")
-        self.folder.release(UNCHANGED)
-        return Refused(RESCUED.format(why, escape(copy)))
+        rescued = RESCUED.format(why, escape(copy))
+        self.folder.release(rescued)
+        return Refused(rescued)
 
     def _save_copy(self, text: bytes) -> str:
         keys = self.draft.keys
