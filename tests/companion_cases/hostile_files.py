@@ -175,6 +175,8 @@ def find_fault(place: Place, forks: Forks, command: str) -> str:
     used = f"{run.seconds:.1f} s, {run.kilobytes // 1000} MB"
     if run.seconds > SECONDS or run.kilobytes > KILOBYTES:
         return f"it takes {used}"
+    if any(word.startswith("-") and os.path.lexists(place.tree / word) for word in line.split()):
+        return "" if run.status == 2 and "a file has this name" in run.errors else "it takes a file for an option"
     if run.status not in statuses:
         return f"it has the status {run.status}: {run.errors[:500]}"
     # A line of advice follows one of the hook, or of an edit that leaves an encrypted copy.
