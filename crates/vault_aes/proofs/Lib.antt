@@ -2,7 +2,6 @@ pub mod FieldLemmas
 pub mod TableLemmas
 pub mod WordLemmas
 pub mod ColumnsLemmas
-pub mod StandardVectors
 pub mod KeyExpansionLemmas
 pub mod PaddingLemmas
 pub mod CounterModeLemmas

@@ -1,5 +1,4 @@
 pub mod HmacLemmas
 pub mod KeysLemmas
 pub mod Pbkdf2Lemmas
-pub mod Vectors
 pub mod XorLemmas

@@ -2,4 +2,3 @@ pub mod LargerLimits
 pub mod WrittenBody
 pub mod WrittenHeader
 pub mod WrittenReadsBack
-pub mod WrittenVectors
