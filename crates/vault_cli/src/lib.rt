@@ -20,13 +20,13 @@
 //! ```
 #![tactic(auto)]
 
-mod access;
 mod escaping;
 mod explaining;
 mod in_memory;
 pub mod laws;
 mod limits;
 mod loading;
+mod output_access;
 mod program;
 mod reserving;
 mod runs;

@@ -13,9 +13,9 @@ ghost use Rattle.vault_cli.specs.Drive.{Ends, to_path};
 ghost use Rattle.vault_cli.specs.runs.Answer.{input_needed, run_answer};
 ghost use Rattle.vault_cli.specs.runs.Run.{RunEnds, RunsRequest};
 
-use crate::access::output_access;
 use crate::explaining::explain;
 use crate::loading::load;
+use crate::output_access::output_access;
 use crate::reserving::{RunMemory, reserve};
 use crate::runs::{Status, report, run_in};
 use std::alloc::Global;
