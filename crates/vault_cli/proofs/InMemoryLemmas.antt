@@ -59,10 +59,16 @@ module _ (entries : List Entry) (log : Option LogState) (path : List ℕ) where
   uncreated = record { entries = entries; created = None; log = log }
 
   -- the files once this was written to it
-  abbrev written_at : List ℕ → Bool → Bool → StoreState
-  written_at held synced cut = record {
+  abbrev written_at : List ℕ → ℕ → Bool → Bool → StoreState
+  written_at held room synced cut = record {
     entries = entries;
-    created = Some (record { path = path; bytes = held; synced = synced; cut = cut });
+    created = Some (record {
+      path = path;
+      bytes = held;
+      room = room;
+      synced = synced;
+      cut = cut;
+    });
     log = log;
   }
 
@@ -70,9 +76,10 @@ module _ (entries : List Entry) (log : Option LogState) (path : List ℕ) where
   -- failed, or if it was cut before
   record Left (was_cut : Bool) (t : OutputState) (bytes : List ℕ) (failed : ℕ) (u : StoreState)
       : Type 0 where
+    pub room : ℕ
     pub synced : Bool
     pub cut : Bool
-    pub is : u ≡ written_at bytes synced cut
+    pub is : u ≡ written_at bytes room synced cut
     pub whole : t ≡ Finished → synced ≡ true
     pub cut_if_failed : (failed ≡ 0) ⊎ (cut ≡ true)
     pub stays_cut : was_cut ≡ true → cut ≡ true
@@ -89,10 +96,11 @@ module _ (entries : List Entry) (log : Option LogState) (path : List ℕ) where
   synced-whole Begun synced b is = absurd cc
   synced-whole Finished synced b is = b
 
-  holds : (s t : OutputState) (calls : List SystemCall) (bytes held : List ℕ) (n : ℕ)
+  holds : (s t : OutputState) (calls : List SystemCall) (bytes held : List ℕ) (n room : ℕ)
       (synced cut : Bool) (u : StoreState) → OutputCalls s calls bytes n t → IsWritten s synced
-      → StoreExecutes (written_at held synced cut) calls u → Left cut t (held ++ bytes) n u
-  holds s _ _ _ held _ synced cut u (no_steps _) b e = record {
+      → StoreExecutes (written_at held room synced cut) calls u → Left cut t (held ++ bytes) n u
+  holds s _ _ _ held _ room synced cut u (no_steps _) b e = record {
+    room = room;
     synced = synced;
     cut = cut;
     is = rw (append-nil held) e;
@@ -100,14 +108,19 @@ module _ (entries : List Entry) (log : Option LogState) (path : List ℕ) where
     cut_if_failed = inl refl;
     stays_cut = λ was. was;
   }
-  holds _ t _ _ held _ synced cut u (steps _ _ _ _ more _ ys _ n (writes some) p) b e =
+  holds _ t _ _ held _ room synced cut u (steps _ _ _ _ more _ ys _ n (writes some) p) b (
+    next,
+    e,
+  ) =
       rw (zero-add n, ← append_assoc held some ys)
-      (holds Begun t more ys (held ++ some) n false cut u p tt e)
-  holds _ t _ _ held _ synced cut u (steps _ _ _ _ more _ ys _ n finishes p) b e =
-      rw (zero-add n) (holds Finished t more ys held n true cut u p refl e)
-  holds _ t _ _ held _ synced cut u (steps _ _ _ _ more _ ys _ n fails_to_write p) b e =
-      let left = holds Begun t more ys held n synced true u p tt e in
+      (holds Begun t more ys (held ++ some) n next false cut u p tt e)
+  holds _ t _ _ held _ room synced cut u (steps _ _ _ _ more _ ys _ n finishes p) b e =
+      rw (zero-add n) (holds Finished t more ys held n room true cut u p refl e)
+  holds _ t _ _ held _ room synced cut u (steps _ _ _ _ more _ ys _ n (fails_to_write some) p)
+      b (lacks, (next, e)) =
+      let left = holds Begun t more ys held n next synced true u p tt e in
       record {
+        room = left.room;
         synced = left.synced;
         cut = left.cut;
         is = left.is;
@@ -115,16 +128,17 @@ module _ (entries : List Entry) (log : Option LogState) (path : List ℕ) where
         cut_if_failed = inr (left.stays_cut refl);
         stays_cut = λ was. left.stays_cut refl;
       }
-  holds _ t _ _ held _ synced cut u (steps _ _ _ _ more _ ys _ n fails_to_finish p) b e = absurd e
-  holds _ t _ _ held _ synced cut u (steps _ _ _ _ more _ ys _ n (begins at access) p) b e =
+  holds _ t _ _ held _ room synced cut u (steps _ _ _ _ more _ ys _ n fails_to_finish p) b e =
+      absurd e
+  holds _ t _ _ held _ room synced cut u (steps _ _ _ _ more _ ys _ n (begins at access) p) b e =
       absurd b
-  holds _ t _ _ held _ synced cut u (steps _ _ _ _ more _ ys _ n (fails_to_begin at access calls
-      fails) p) b e = absurd b
+  holds _ t _ _ held _ room synced cut u (steps _ _ _ _ more _ ys _ n (fails_to_begin at access
+      calls fails) p) b e = absurd b
 
   -- an output that has begun is empty, and its path is short enough
   started : (access : Access) (more : List SystemCall) (u : StoreState)
       → StoreExecutes uncreated (beginning path access ++ more) u
-      → (length path ≤ PATH_LIMIT) × StoreExecutes (written_at [] false false) more u
+      → (length path ≤ PATH_LIMIT) × StoreExecutes (written_at [] 0 false false) more u
   started Kept more u e = e
   started OwnerOnly more u e = e
 
@@ -152,7 +166,7 @@ module _ (entries : List Entry) (log : Option LogState) (path : List ℕ) where
       inr (record { is = e; unfinished = λ never. cc; long_if_failed = inl refl })
   outcome access t _ _ _ u (steps _ _ _ _ more _ ys _ n (begins _ _) p) e =
       let (fits, executed) = started access more u e in
-      inl (fits, rw (zero-add n) (holds Begun t more ys [] n false false u p tt executed))
+      inl (fits, rw (zero-add n) (holds Begun t more ys [] n 0 false false u p tt executed))
   outcome access t _ _ _ u (steps _ _ _ _ more _ ys _ n (fails_to_begin _ _ calls fails) p) e =
       let (long, rest) = failed access calls fails more u e in
       elim (outcome access t more ys n u p rest) [

@@ -1,5 +1,5 @@
 -- Files in memory.
-use Rattle.std.specs.Prelude.{◌≡◌, ℕ, ◌<◌, ◌≤◌, Bool, if◌then◌else◌}
+use Rattle.std.specs.Prelude.{◌≡◌, ℕ, ◌+◌, ◌<◌, ◌≤◌, Bool, if◌then◌else◌}
 use Rattle.std.specs.Prelude.{true, false, IsTrue, List, [], ◌∷◌, ◌++◌, length}
 use Rattle.std.specs.Prelude.{Option, Some, None}
 use Rattle.std.specs.Option.{option_map}
@@ -58,11 +58,12 @@ pub record Reads (old : ReaderState) (given : List ℕ) (new : ReaderState) : Ty
   pub break_is_real : old.failures < new.failures → IsAtBreak new
   pub failures_monotone : old.failures ≤ new.failures
 
--- a file that was created, whether it was synced since it was last written, and whether a write to
--- it failed
+-- a file that was created, how many bytes its memory can hold, whether it was synced since it was
+-- last written, and whether a write to it failed
 pub record Created : Type 0 where
   pub path : List ℕ
   pub bytes : List ℕ
+  pub room : ℕ
   pub synced : Bool
   pub cut : Bool
 
@@ -83,28 +84,43 @@ with_opened path s = record s { log = logged s.log (path ∷ []) }
 
 -- the files after an empty file was created
 abbrev pub with_created : List ℕ → StoreState → StoreState
-with_created path s =
-    record s { created = Some (record { path = path; bytes = []; synced = false; cut = false }) }
+with_created path s = record s {
+  created = Some (record {
+    path = path;
+    bytes = [];
+    room = 0;
+    synced = false;
+    cut = false;
+  });
+}
 
 -- the files after a call on the file that was created
 abbrev pub with_file : (Created → Created) → StoreState → StoreState
 with_file change s = record s { created = option_map change s.created }
 
--- that file after it was truncated to zero bytes, took bytes, could not take bytes, or was synced
+-- that file after it was truncated to zero bytes, took bytes, could not take bytes, or was synced.
+-- It has this room after a write.
 abbrev pub emptied : Created → Created
 emptied file = record file { bytes = []; synced = false }
 
-abbrev pub with_bytes : List ℕ → Created → Created
-with_bytes bytes file = record file { bytes = file.bytes ++ bytes; synced = false }
+abbrev pub with_bytes : List ℕ → ℕ → Created → Created
+with_bytes bytes room file =
+    record file { bytes = file.bytes ++ bytes; room = room; synced = false }
 
-abbrev pub with_cut : Created → Created
-with_cut file = record file { cut = true }
+abbrev pub with_cut : ℕ → Created → Created
+with_cut room file = record file { room = room; cut = true }
 
 abbrev pub with_sync : Created → Created
 with_sync file = record file { synced = true }
 
+-- the memory of the file that was created has no room for these bytes; if there is none, neither
+abbrev pub LacksRoom : Option Created → List ℕ → Type 0
+LacksRoom None bytes = Unit {0}
+LacksRoom (Some file) bytes = file.room < length file.bytes + length bytes
+
 -- Between two states these calls were made on the files, in this order. Only three kinds of calls
--- fail: an open, the creation of a file whose path is too long, and a write, for want of memory.
+-- fail: an open, the creation of a file whose path is too long, and a write for which the file's
+-- memory has no room, and cannot grow. Each write may change its room.
 abbrev pub StoreExecutes : StoreState → List SystemCall → StoreState → Type 0
 StoreExecutes s [] t = t ≡ s
 StoreExecutes s (Open path ∷ calls) t = StoreExecutes (with_opened path s) calls t
@@ -112,12 +128,15 @@ StoreExecutes s (Create path ∷ calls) t =
     (length path ≤ PATH_LIMIT) × StoreExecutes (with_created path s) calls t
 StoreExecutes s (ChmodOwnerOnly ∷ calls) t = StoreExecutes s calls t
 StoreExecutes s (Truncate ∷ calls) t = StoreExecutes (with_file emptied s) calls t
-StoreExecutes s (Write bytes ∷ calls) t = StoreExecutes (with_file (with_bytes bytes) s) calls t
+StoreExecutes s (Write bytes ∷ calls) t =
+    (room : ℕ) × StoreExecutes (with_file (with_bytes bytes room) s) calls t
 StoreExecutes s (Sync ∷ calls) t = StoreExecutes (with_file with_sync s) calls t
 StoreExecutes s (Failed (Open path) ∷ calls) t = StoreExecutes (with_opened path s) calls t
 StoreExecutes s (Failed (Create path) ∷ calls) t =
     (PATH_LIMIT < length path) × StoreExecutes s calls t
-StoreExecutes s (Failed (Write []) ∷ calls) t = StoreExecutes (with_file with_cut s) calls t
+StoreExecutes s (Failed (Write bytes) ∷ calls) t =
+    LacksRoom s.created bytes
+    × ((room : ℕ) × StoreExecutes (with_file (with_cut room) s) calls t)
 StoreExecutes s (Failed call ∷ calls) t = ⊥
 
 -- what is at a path: the file that was created there, or else the one that was there before

@@ -116,16 +116,15 @@ executes-append (Create path ∷ xs) ys t u s (fits, p) q =
     (fits, executes-append xs ys t u (with_created path s) p q)
 executes-append (ChmodOwnerOnly ∷ xs) ys t u s p q = executes-append xs ys t u s p q
 executes-append (Truncate ∷ xs) ys t u s p q = executes-append xs ys t u (with_file emptied s) p q
-executes-append (Write bytes ∷ xs) ys t u s p q =
-    executes-append xs ys t u (with_file (with_bytes bytes) s) p q
+executes-append (Write bytes ∷ xs) ys t u s (room, p) q =
+    (room, executes-append xs ys t u (with_file (with_bytes bytes room) s) p q)
 executes-append (Sync ∷ xs) ys t u s p q = executes-append xs ys t u (with_file with_sync s) p q
 executes-append (Failed (Open path) ∷ xs) ys t u s p q =
     executes-append xs ys t u (with_opened path s) p q
 executes-append (Failed (Create path) ∷ xs) ys t u s (long, p) q =
     (long, executes-append xs ys t u s p q)
-executes-append (Failed (Write []) ∷ xs) ys t u s p q =
-    executes-append xs ys t u (with_file with_cut s) p q
-executes-append (Failed (Write (byte ∷ bytes)) ∷ xs) ys t u s p q = absurd p
+executes-append (Failed (Write bytes) ∷ xs) ys t u s (lacks, (room, p)) q =
+    (lacks, (room, executes-append xs ys t u (with_file (with_cut room) s) p q))
 executes-append (Failed ChmodOwnerOnly ∷ xs) ys t u s p q = absurd p
 executes-append (Failed Truncate ∷ xs) ys t u s p q = absurd p
 executes-append (Failed Sync ∷ xs) ys t u s p q = absurd p

@@ -63,7 +63,7 @@ pub data OutputStep : OutputState → List SystemCall → List ℕ → ℕ → O
   fails_to_begin : (path : List ℕ) (access : Access) (calls : List SystemCall)
       → FailsToBegin path access calls
       → OutputStep (Chosen path access) calls [] 1 (Chosen path access)
-  fails_to_write : OutputStep Begun (Failed (Write []) ∷ []) [] 1 Begun
+  fails_to_write : (some : List ℕ) → OutputStep Begun (Failed (Write some) ∷ []) [] 1 Begun
   fails_to_finish : OutputStep Begun (Failed Sync ∷ []) [] 1 Begun
 
 -- the same for any number of uses, one after the other, and how many of them failed

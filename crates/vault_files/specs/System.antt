@@ -1,5 +1,5 @@
 -- The system calls that files make.
-use Rattle.std.specs.Prelude.{ℕ, List, [], ◌∷◌, Result, Ok, Err}
+use Rattle.std.specs.Prelude.{ℕ, List, [], ◌∷◌, take, Result, Ok, Err}
 
 pub data SystemCall : Type 0 where
   -- the file at this path is opened for reading
@@ -21,6 +21,11 @@ pub data SystemCall : Type 0 where
 abbrev pub called : {T E : Type 0} → SystemCall → Result T E → SystemCall
 called call (Ok value) = call
 called call (Err error) = Failed call
+
+-- a write of these bytes with this result: it takes the first of them, or fails
+abbrev pub wrote : {E : Type 0} → List ℕ → Result ℕ E → SystemCall
+wrote bytes (Ok count) = Write (take count bytes)
+wrote bytes (Err error) = Failed (Write bytes)
 
 -- the calls that open these paths, in this order, each of which may fail
 pub data OpenCalls : List (List ℕ) → List SystemCall → Type 0 where

@@ -2,12 +2,11 @@
 ghost use Rattle.std.specs.Prelude.{◌≡◌, ℕ, ◌<◌, ◌≤◌, ◌⊎◌, List, [], ◌∷◌, ◌++◌, length, take};
 ghost use Rattle.std.specs.Prelude.{IsTrue, Ok, Err, IfOk, IfErr, false};
 ghost use Rattle.vault_text.specs.Failures.{HasRisen};
-ghost use Rattle.vault_text.specs.Sink.{taken};
 ghost use Rattle.vault_files.specs.File.{Answers, FileState};
 ghost use Rattle.vault_files.specs.File.FileState.{Missing};
-ghost use Rattle.vault_files.specs.System.{OpenCalls, Opens, SystemCall, called};
+ghost use Rattle.vault_files.specs.System.{OpenCalls, Opens, SystemCall, called, wrote};
 ghost use Rattle.vault_files.specs.System.SystemCall.{Open, Create, ChmodOwnerOnly, Truncate};
-ghost use Rattle.vault_files.specs.System.SystemCall.{Write, Sync};
+ghost use Rattle.vault_files.specs.System.SystemCall.{Sync};
 ghost use Rattle.vault_files.specs.declared.fault.FileFault.TheVariants.{CannotOpen, CannotRead};
 
 mod runtime;
@@ -56,8 +55,7 @@ pub trait System {
     /// Writes a prefix of the bytes and returns its length, which is not 0 if there are any bytes.
     /// A failed call writes none.
     fn write(&mut self, file: &mut Self::Writer, bytes: &[u8]) -> io::Result<usize>
-        ensures executes { executes self.old
-            (called (Write (taken result bytes.now)) result ∷ []) self.new }
+        ensures executes { executes self.old (wrote bytes.now result ∷ []) self.new }
         ensures progress { 0 < length bytes.now → IfOk result (λ n. 1 ≤ n) }
         ensures bound { IfOk result (λ n. n ≤ length bytes.now) };
 

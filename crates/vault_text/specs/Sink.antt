@@ -28,9 +28,11 @@ has_begun Unbegun = false
 has_begun Begun = true
 has_begun Finished = true
 
--- a sink over memory: its bytes, its stage, its failures, and the most bytes that it takes per call
+-- a sink over memory: its bytes, how many its memory can hold, its stage, its failures, and the
+-- most bytes that it takes per call
 pub record MemSinkState : Type 0 where
   pub held : List ℕ
+  pub room : ℕ
   pub stage : Stage
   pub failures : ℕ
   pub step : ℕ

@@ -26,6 +26,7 @@ struct Created {
 }
 
 impl Model for Created {
+    ghost use Rattle.std.specs.Prelude.{vec_capacity};
     ghost use Rattle.vault_files.specs.Memory.{Created};
 
     ghost Value = { Created };
@@ -33,6 +34,7 @@ impl Model for Created {
     ghost view = { λ f. record {
       path = f.path.bytes;
       bytes = f.bytes.items;
+      room = vec_capacity f.bytes;
       synced = f.synced;
       cut = f.cut;
     } };

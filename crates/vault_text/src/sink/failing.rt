@@ -1,5 +1,5 @@
 //! A sink for tests that fails after some calls.
-ghost use Rattle.std.specs.Prelude.{◌≡◌, ◌-◌, ◌<◌, ◌≤◌, ◌⊎◌, ◌↔◌, [], IsErr, IfOk, OnOk};
+ghost use Rattle.std.specs.Prelude.{◌≡◌, ◌+◌, ◌-◌, ◌<◌, ◌≤◌, ◌⊎◌, ◌↔◌, [], IsErr, IfOk, OnOk};
 ghost use Rattle.std.specs.Prelude.{OnErr, length, min};
 ghost use Rattle.vault_text.specs.Failures.{CountsFailure, IsSaturated};
 ghost use Rattle.vault_text.specs.Sink.{Takes, failing_state_of, has_begun, taken};
@@ -36,7 +36,13 @@ impl FailingSink {
     pub fn new(alloc: Global, step: usize, calls: usize) -> Self
         requires { 1 ≤ step }
         ensures { result ≡ record {
-          memory = record { held = []; stage = Stage.Unbegun; failures = 0; step = step };
+          memory = record {
+            held = [];
+            room = 0;
+            stage = Stage.Unbegun;
+            failures = 0;
+            step = step;
+          };
           calls = calls;
           failures = 0;
         } }
@@ -123,6 +129,10 @@ impl Sink for FailingSink {
         ensures out_of_calls { self.old.calls ≡ 0 → IsErr result }
         ensures failed { CountsFailure self.old.failures self.new.failures result }
         ensures full { IsSaturated self.old.failures → IsErr result }
+        ensures only_full { OnErr result
+            (((self.old.calls ≡ 0) ⊎ IsSaturated self.old.failures)
+            ⊎ (self.old.memory.room
+            < length self.old.memory.held + min (length bytes.now) self.old.memory.step)) }
     {
         self.use_call()?;
         match self.memory.put(bytes) {

@@ -1,5 +1,5 @@
 //! A sink in memory.
-ghost use Rattle.std.specs.Prelude.{◌≡◌, ◌<◌, ◌≤◌, [], IsErr, IfOk, OnOk, OnErr};
+ghost use Rattle.std.specs.Prelude.{◌≡◌, ◌+◌, ◌<◌, ◌≤◌, ◌⊎◌, [], IsErr, IfOk, OnOk, OnErr};
 ghost use Rattle.std.specs.Prelude.{length, min};
 ghost use Rattle.vault_text.specs.Failures.{CountsFailure, IsSaturated};
 ghost use Rattle.vault_text.specs.Sink.{taken, has_begun};
@@ -20,13 +20,14 @@ pub struct MemSink {
 }
 
 impl Model for MemSink {
-    ghost use Rattle.std.specs.Prelude.{◌≤◌};
+    ghost use Rattle.std.specs.Prelude.{◌≤◌, vec_capacity};
     ghost use Rattle.vault_text.specs.Sink.{MemSinkState};
 
     ghost Value = { MemSinkState };
 
     ghost view = { λ s. record {
       held = s.bytes.items;
+      room = vec_capacity s.bytes;
       stage = s.stage;
       failures = s.failures;
       step = s.step;
@@ -39,7 +40,13 @@ impl MemSink {
     /// Takes at most `step` bytes per call.
     pub fn new(alloc: Global, step: usize) -> Self
         requires { 1 ≤ step }
-        ensures { result ≡ record { held = []; stage = Stage.Unbegun; failures = 0; step = step } }
+        ensures { result ≡ record {
+          held = [];
+          room = 0;
+          stage = Stage.Unbegun;
+          failures = 0;
+          step = step;
+        } }
     {
         MemSink {
             bytes: Vec::new(alloc),
@@ -106,6 +113,8 @@ impl Sink for MemSink {
         ensures stage { self.new.stage ≡ self.old.stage }
         ensures failed { CountsFailure self.old.failures self.new.failures result }
         ensures full { IsSaturated self.old.failures → IsErr result }
+        ensures only_full { OnErr result (IsSaturated self.old.failures
+            ⊎ (self.old.room < length self.old.held + min (length bytes.now) self.old.step)) }
     {
         if self.failures.is_saturated() {
             return Err(SinkFailed);

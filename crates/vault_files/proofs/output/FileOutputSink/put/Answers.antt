@@ -17,4 +17,4 @@ pub returns-in-Err-clause-takes : goal.returns-in-Err-clause-takes
 returns-in-Err-clause-takes g c =
     let risen = rises _ _ c.if-is_saturated.ensures.saturated c.fail.ensures.risen in
     rw (← c.self.view_is, c.in-Open.is, c.fail.ensures.error)
-    (takes_by g.D.System.executes _ _ fails_to_write c.in-Err.ensures.executes risen refl)
+    (takes_by g.D.System.executes _ _ (fails_to_write _) c.in-Err.ensures.executes risen refl)
