@@ -65,9 +65,9 @@ fn fill_from<D: System>(sys: &mut D, role: Role, path: &str, buf: &mut Vec<u8>) 
         PrefixFound (D.finds sys.old path.now) role (vec_len buf.old) (Err fault)) }
     ensures memory_suffices { IfErr result (λ fault. fault ≢ Memory) }
 {
-    let answer = read_prefix(sys, path, buf.as_mut_slice());
-    let prefix = answer.map_err(|fault| file_fault(role, fault))?;
-    buf.truncate(prefix.length);
+    let answer = read_prefix(sys, path, buf.as_mut_slice()).and_then(|prefix| prefix.length);
+    let length = answer.map_err(|fault| file_fault(role, fault))?;
+    buf.truncate(length);
     Ok(())
 }
 

@@ -25,8 +25,8 @@ pub fn assert_reads<D: System>(
 )
     ensures { Opens D.executes files.old (path.now ∷ []) files.new }
 {
-    match read_prefix(files, path, buffer) {
-        Ok(prefix) => assert_found(rt, path, Ok(&buffer[..prefix.length]), expected),
+    match read_prefix(files, path, buffer).and_then(|prefix| prefix.length) {
+        Ok(length) => assert_found(rt, path, Ok(&buffer[..length]), expected),
         Err(fault) => assert_found(rt, path, Err(fault), expected),
     }
 }

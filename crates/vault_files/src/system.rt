@@ -1,7 +1,8 @@
 //! The system calls that files make.
 ghost use Rattle.std.specs.Prelude.{◌≡◌, ℕ, ◌<◌, ◌≤◌, ◌⊎◌, List, [], ◌∷◌, ◌++◌, length, take};
 ghost use Rattle.std.specs.Prelude.{IsTrue, Ok, Err, IfOk, IfErr, false};
-ghost use Rattle.vault_text.specs.Failures.{HasRisen};
+ghost use Rattle.std.specs.Result.{result_map_both};
+ghost use Rattle.vault_text.specs.Failures.{CountsFailure, HasRisen};
 ghost use Rattle.vault_files.specs.File.{Answers, FileState};
 ghost use Rattle.vault_files.specs.File.FileState.{Missing};
 ghost use Rattle.vault_files.specs.System.{OpenCalls, Opens, SystemCall, called, wrote};
@@ -31,7 +32,7 @@ pub trait System {
     // Opening the path gives this reader.
     ghost reader_at: { Self → List ℕ → Self.Reader → Type 0 };
 
-    /// Opens a file for reading. It has neither ended nor failed yet.
+    /// Opens a file for reading. Its reader has met neither the end nor a failure.
     fn open(&mut self, path: &str) -> io::Result<Self::Reader>
         ensures executes { executes self.old (called (Open path.now) result ∷ []) self.new }
         ensures reader { IfOk result (λ reader. reader_at self.old path.now reader) }
@@ -105,34 +106,38 @@ pub fn open<D: System>(system: &mut D, path: &str) -> Result<D::Reader, FileFaul
     system.open(path).map_err(|_| FileFault::CannotOpen)
 }
 
-/// A prefix of a file, in the buffer that it was read into. Nobody can read on, since the reader is
-/// private.
+/// What an open file gave of its prefix, in the buffer that it was read into. Nobody can read on,
+/// since the reader is private.
 #[derive(Drop)]
 pub struct Prefix<R> {
-    /// The number of bytes, from the start of the buffer.
-    pub length: usize,
+    /// The number of bytes, from the start of the buffer, or `CannotRead`.
+    pub length: Result<usize, FileFault>,
     reader: R,
 }
 
-/// Reads a prefix of a file into the start of `buf`. It is shorter than `buf` only if the file has
-/// no more bytes. After an error the contents of `buf` are unspecified.
+/// Opens a file, and reads a prefix of it into the start of `buf`. It is shorter than `buf` only if
+/// the file has no more bytes. After a failure nothing more is read, and the contents of `buf` are
+/// unspecified.
 pub fn read_prefix<D: System>(
     system: &mut D,
     path: &str,
     buf: &mut [u8],
 ) -> Result<Prefix<D::Reader>, FileFault>
     ensures opens { Opens D.executes system.old (path.now ∷ []) system.new }
-    ensures bound { IfOk result (λ prefix. prefix.length ≤ length buf.new) }
+    ensures bound { IfOk result (λ prefix. IfOk prefix.length (λ n. n ≤ length buf.new)) }
     ensures prefix { IfOk result (λ prefix.
         Answers (D.finds system.old path.now) (length buf.new)
-        (Ok (take prefix.length buf.new))) }
+        (result_map_both (λ n. take n buf.new) (λ fault. fault) prefix.length)) }
     ensures gives { IfOk result (λ prefix.
         (opened : D.Reader) × D.reader_at system.old path.now opened
-        × D.Reader.gives opened (take prefix.length buf.new) prefix.reader) }
+        × (bytes : List ℕ) × D.Reader.gives opened bytes prefix.reader
+        × IfOk prefix.length (λ n. bytes ≡ take n buf.new)
+        × CountsFailure (D.Reader.failures opened) (D.Reader.failures prefix.reader)
+        prefix.length) }
     ensures refused { IfErr result (λ fault.
         Answers (D.finds system.old path.now) (length buf.new) (Err fault)) }
 {
     let mut reader = open(system, path)?;
-    let length = fill_up(&mut reader, buf).map_err(|_| FileFault::CannotRead)?;
+    let length = fill_up(&mut reader, buf).map_err(|_| FileFault::CannotRead);
     Ok(Prefix { length, reader })
 }
