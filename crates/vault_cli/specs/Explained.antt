@@ -1,5 +1,5 @@
 -- How the program ends before it loads a file: one record for each way.
-use Rattle.std.specs.Prelude.{◌≡◌, ◌≢◌, ◌⊎◌, ◌++◌, ℕ, false, List, All}
+use Rattle.std.specs.Prelude.{◌≡◌, ◌≢◌, ◌<◌, ◌⊎◌, ◌++◌, ℕ, false, List, All, length}
 use Rattle.std.specs.Prelude.{Option, Some, Result, Err}
 use Rattle.clap.specs.Words.{IsAmong, Kinds}
 use Rattle.clap.specs.declared.error.kind.ErrorKind.{ErrorKind}
@@ -20,6 +20,10 @@ use Rattle.vault_cli.specs.declared.runs.status.Status.TheVariants.{ParseFault, 
 -- LF, or not a control byte
 abbrev pub IsShown : ℕ → Type 0
 IsShown byte = (byte ≡ 10) ⊎ (is_control byte ≡ false)
+
+-- a text of at least one byte, all of them such bytes
+abbrev pub IsShownText : List ℕ → Type 0
+IsShownText text = (0 < length text) × All IsShown text
 
 -- the user asked for help or for the version
 abbrev pub IsHelp : ErrorKind → Type 0
@@ -60,13 +64,13 @@ module _ {K E : Type 0} (out : SinkCall K) (err : SinkCall E) (result : Status)
     pub message : Reports err (line_of Write)
 
   -- The arguments are wrong. A text on standard error says so, without control bytes except LF, and
-  -- then a line names the companions.
+  -- is not empty; then a line names the companions.
   pub record Rejects : Type 0 where
     pub kind : ErrorKind
     pub is_among : IsAmong kind kinds
     pub mistake : IsMistake kind
     pub text : List ℕ
-    pub is_shown : All IsShown text
+    pub is_shown : IsShownText text
     pub status : result ≡ ParseFault
     pub output : out.new ≡ out.old
     pub message : Reports err (text ++ companions_line)

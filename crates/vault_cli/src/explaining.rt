@@ -1,5 +1,5 @@
 //! What the program prints if its arguments do not parse.
-ghost use Rattle.std.specs.Prelude.{◌≡◌, ◌≢◌, ◌⊎◌, ◌++◌, ℕ, [], List, All, IfOk, MatchOption};
+ghost use Rattle.std.specs.Prelude.{◌≡◌, ◌≢◌, ◌⊎◌, ◌++◌, ℕ, [], List, IfOk, MatchOption};
 ghost use Rattle.std.specs.Prelude.{map, true};
 ghost use Rattle.std.specs.IoError.{error_kind};
 ghost use Rattle.std.specs.String.{string_bytes};
@@ -10,7 +10,7 @@ ghost use Rattle.vault_request.specs.CommandLine.{vault_app};
 ghost use Rattle.vault_fault.specs.declared.fault.Fault.TheVariants.{Memory};
 ghost use Rattle.vault_cli.specs.Call.{sink};
 ghost use Rattle.vault_cli.specs.Escaped.{escaped_text};
-ghost use Rattle.vault_cli.specs.Explained.{Explains, IsShown};
+ghost use Rattle.vault_cli.specs.Explained.{Explains, IsShownText};
 ghost use Rattle.vault_cli.specs.runs.Reports.{Reports, companions_line, line_of};
 ghost use Rattle.vault_cli.specs.runs.Reports.{not_text_line};
 
@@ -90,7 +90,7 @@ fn help_text(alloc: Global, error: &Error) -> Result<String, AllocError> {
 fn reject<E: Sink>(alloc: Global, words: &[String], err: &mut E) -> Status
     requires { E.stage err.old ≡ Stage.Unbegun }
     ensures { ((result ≡ Status.ParseFault)
-        × ((shown : List ℕ) × All IsShown shown
+        × ((shown : List ℕ) × IsShownText shown
         × Reports (sink E.Sink err.old err.new) (shown ++ companions_line)))
         ⊎ ((result ≡ Status.OutOfMemory)
         × Reports (sink E.Sink err.old err.new) (line_of Memory)) }
@@ -104,7 +104,7 @@ fn reject<E: Sink>(alloc: Global, words: &[String], err: &mut E) -> Status
 
 /// The text about a mistake in the arguments, which then names the companions.
 fn mistake_text(alloc: Global, words: &[String]) -> Result<String, AllocError>
-    ensures { IfOk result (λ text. (shown : List ℕ) × All IsShown shown
+    ensures { IfOk result (λ text. (shown : List ℕ) × IsShownText shown
         × (string_bytes text ≡ shown ++ companions_line)) }
 {
     let mut text = shown_mistake(alloc, words)?;
@@ -115,7 +115,7 @@ fn mistake_text(alloc: Global, words: &[String]) -> Result<String, AllocError>
 /// The parser's text of the mistake, with the arguments escaped. No contract says what such a text
 /// contains, so it is shown only if it passes `is_shown`.
 fn shown_mistake(alloc: Global, words: &[String]) -> Result<String, AllocError>
-    ensures { IfOk result (λ text. All IsShown (string_bytes text)) }
+    ensures { IfOk result (λ text. IsShownText (string_bytes text)) }
 {
     if let Some(error) = escaped_mistake(alloc, words)? {
         let text = error.to_string(alloc)?;
@@ -155,10 +155,12 @@ fn escaped_mistake(alloc: Global, words: &[String]) -> Result<Option<Error>, All
     Ok(Some(error))
 }
 
-/// Whether a text has no control bytes other than line ends.
+/// Whether a text is not empty, and has no control bytes other than line ends.
 fn is_shown(text: &str) -> bool
-    ensures { result ≡ true → All IsShown text.now }
+    ensures { result ≡ true → IsShownText text.now }
 {
-    text.bytes()
-        .all(|byte| byte == b'\n' || !byte.is_ascii_control())
+    !text.is_empty()
+        && text
+            .bytes()
+            .all(|byte| byte == b'\n' || !byte.is_ascii_control())
 }
