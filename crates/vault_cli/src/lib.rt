@@ -1,5 +1,8 @@
 //! The whole run of a request, and of a command line of `ansible-vault`.
 //!
+//! The crate `vault_request` reads the command line: its options are in `command_line.rt`. Its
+//! calls are offered here as well.
+//!
 //! ```rust
 //! let mut words = Vec::new(alloc);
 //! for word in ["ansible-vault", "encrypt_string", "--vault-id=one", "--salt=abc", "text"] {
