@@ -5,7 +5,7 @@ from __future__ import annotations
 import re
 from bisect import bisect_left
 from collections import Counter
-from collections.abc import Callable, Hashable
+from collections.abc import Callable, Hashable, Iterator
 
 from ansible_vault_companions.envelopes.node import Node
 from ansible_vault_companions.envelopes.parsed_text import ParsedText, parse_envelopes, parse_nodes
@@ -18,11 +18,10 @@ THEIRS_MARKER = b"=" * 7
 END_MARKER = b">" * 7
 # A line that is a marker; and one that is a marker or, by the attribute `conflict-marker-size`, a longer one. A longer
 # line of equal signs is a title.
-MARKER = re.compile(rb"^(<{7}|\|{7}|={7}|>{7})(?:[ \t][^\r\n]*)?\r?$", re.MULTILINE)
+MARKER = re.compile(rb"^(<{7}|\|{7}|={7}|>{7})(?:[ \t][^\r\n]*)?\r?(?:\n|\Z)", re.MULTILINE)
 LONGER = re.compile(rb"^(?:<{7,}|\|{7,}|>{7,})(?:[ \t][^\r\n]*)?\r?$", re.MULTILINE)
-LINES = re.compile(rb"[^\n]*\n|[^\n]+\Z")
 
-# What a line has in place of its side if it is itself a marker, or if it is outside of conflicts.
+# What stands in place of a side for a line that is itself a marker, and for lines outside of conflicts.
 IS_MARKER, NO_SIDE = b"marker", b""
 
 UNMERGED = "has git's conflict markers"
@@ -40,19 +39,20 @@ def count_markers(text: bytes) -> Counter[bytes]:
     return Counter(match[0].rstrip() for match in MARKER.finditer(text))
 
 
-def mark_lines(text: bytes, is_unmerged: bool = True) -> list[tuple[bytes, bytes]]:
-    """Each line, with the marker of its side before it, or else IS_MARKER or NO_SIDE. A text that git has merged may
-    still have lines that look like markers."""
-    side = NO_SIDE
-    lines: list[tuple[bytes, bytes]] = []
-    for line in LINES.findall(text):
-        match = MARKER.match(line)
-        if match and is_unmerged and (side or match[1] == OURS_MARKER):
-            side = NO_SIDE if match[1] == END_MARKER else match[1]
-            lines.append((IS_MARKER, line))
-        else:
-            lines.append((side, line))
-    return lines
+def split_parts(text: bytes, is_unmerged: bool = True) -> Iterator[tuple[bytes, bytes]]:
+    """The lines between two markers, with the marker of their side before them, or NO_SIDE; and each line that is a
+    marker, with IS_MARKER. A text that git has merged may still have lines that look like markers."""
+    side, place = NO_SIDE, 0
+    for match in MARKER.finditer(text) if is_unmerged else ():
+        if not (side or match[1] == OURS_MARKER):
+            continue
+        if place < match.start():
+            yield side, text[place : match.start()]
+        yield IS_MARKER, match[0]
+        side = NO_SIDE if match[1] == END_MARKER else match[1]
+        place = match.end()
+    if place < len(text):
+        yield side, text[place:]
 
 
 def split_sides(text: bytes, is_masked: bool = False) -> dict[bytes, bytes]:
@@ -60,22 +60,25 @@ def split_sides(text: bytes, is_masked: bool = False) -> dict[bytes, bytes]:
     lines become newlines, so that all places stay."""
     if OURS_MARKER not in text:
         return {}
-    lines = mark_lines(text)
-    markers = [line[: len(END_MARKER)] for side, line in lines if side == IS_MARKER]
-    if not {OURS_MARKER, THEIRS_MARKER, END_MARKER} <= {*markers} or markers[-1] != END_MARKER:
+    markers: dict[bytes, None] = {}
+    last = b""
+    for kind, part in split_parts(text):
+        if kind == IS_MARKER:
+            last = part[: len(END_MARKER)]
+            markers[last] = None
+    if not markers.keys() >= {OURS_MARKER, THEIRS_MARKER, END_MARKER} or last != END_MARKER:
         return {}
-    sides = [side for side in dict.fromkeys(markers) if side != END_MARKER]
-    return {side: _join_lines(lines, side, is_masked) for side in sides}
+    return {side: _join_parts(text, side, is_masked) for side in markers if side != END_MARKER}
 
 
-def _join_lines(lines: list[tuple[bytes, bytes]], side: bytes, is_masked: bool) -> bytes:
+def _join_parts(text: bytes, side: bytes, is_masked: bool) -> bytes:
     """The lines of a side and those outside of conflicts."""
     pieces = []
-    for own, line in lines:
+    for own, part in split_parts(text):
         if own in (NO_SIDE, side):
-            pieces.append(line)
+            pieces.append(part)
         elif is_masked:
-            pieces.append(b"\n" * len(line))
+            pieces.append(b"\n" * len(part))
     return b"".join(pieces)
 
 

@@ -30,18 +30,12 @@ class Restoration:
 
     def restore(self, text: bytes, has_conflict: bool) -> bytes:
         """The text with envelopes in place of its tokens."""
-        lines: list[bytes] = []
-        for side, line in conflicts.mark_lines(text, has_conflict):
-            if not line.startswith(self.tokens.separator):
-                lines.append(self._restore_line(line, SIDE_BY_MARKER.get(side, "")))
-            elif not line.endswith(b"\n"):
-                # The last line of the file has no end.
-                lines.append(lines.pop().removesuffix(b"\n").removesuffix(b"\r"))
-        return b"".join(lines)
+        parts = conflicts.split_parts(self.tokens.drop_separators(text), has_conflict)
+        return b"".join(self._restore_part(part, SIDE_BY_MARKER.get(side, "")) for side, part in parts)
 
-    def _restore_line(self, line: bytes, side: str) -> bytes:
-        """A line of a side of a conflict, or of the merged text if no side is given."""
-        pieces = self.tokens.pattern.split(line)
+    def _restore_part(self, part: bytes, side: str) -> bytes:
+        """The lines of a side of a conflict, or of the merged text if no side is given."""
+        pieces = self.tokens.pattern.split(part)
         # Every other piece is the number of a token.
         for place in range(1, len(pieces), 2):
             number = int(pieces[place])

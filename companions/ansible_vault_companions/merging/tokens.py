@@ -32,6 +32,9 @@ class Tokens:
         self.pattern = re.compile(rb"%s-(\d+)" % self.mark)
         # A line with this below a token keeps the lines of two values apart.
         self.separator = b"%s/" % self.mark
+        line = rb"%s[^\n]*" % self.separator
+        # Such lines; at the end of a file without a last line end, with the line end above them.
+        self.separators = re.compile(rb"^%s\n|\r?\n(?:%s\n)*%s\Z" % (line, line, line), re.MULTILINE)
         self.numbers: dict[Hashable, int] = {}
         self.tokens: list[Token] = []
         # The envelopes of each side with a meaning, in order.
@@ -50,6 +53,10 @@ class Tokens:
         if value.style in (LITERAL, STRAY):
             text += b"%s%s%s" % (value.ending, self.separator, value.name.encode().hex().encode())
         return Replacement(begin, value.end, text)
+
+    def drop_separators(self, text: bytes) -> bytes:
+        """The text without the lines that keep values apart."""
+        return self.separators.sub(b"", text)
 
     def write(self, number: int, envelope: bytes) -> bytes:
         """An envelope in the layout of a token: as a version has it, if one does."""
