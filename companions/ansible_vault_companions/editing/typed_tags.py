@@ -141,4 +141,4 @@ def _list_known_tags() -> set[str]:
 
 
 def _find_line(data: bytes, place: int) -> int:
-    return len(LINE_END.findall(data, 0, place)) + 1
+    return sum(1 for _ in LINE_END.finditer(data, 0, place)) + 1
