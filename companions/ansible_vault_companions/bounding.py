@@ -125,27 +125,21 @@ def measure_time_left() -> float:
 
 
 def limit_program(program: Popen[bytes], seconds: float) -> None:
-    """Limits the processor time of a program to so much more than it has taken."""
+    """Limits a program to so much more processor time than it has taken, and its memory, unless it has the limit of
+    this process anyway."""
     _programs.add(program)
-    soft, hard = resource.getrlimit(resource.RLIMIT_CPU)
-    most = _lower(soft, round(_measure_program_time(program.pid) + seconds))
-    with suppress(ProcessLookupError):
-        resource.prlimit(program.pid, resource.RLIMIT_CPU, (most, hard))
-
-
-def limit_memory_of(program: Popen[bytes]) -> None:
-    """Limits the memory of a program that takes whole contents, unless it has the limit of this process anyway."""
+    limits = {resource.RLIMIT_CPU: round(_measure_program_time(program.pid) + seconds)}
     if not _memory:
-        soft, hard = resource.getrlimit(resource.RLIMIT_DATA)
+        limits[resource.RLIMIT_DATA] = MEGABYTES << 20
+    for kind, most in limits.items():
+        soft, hard = resource.getrlimit(kind)
         with suppress(ProcessLookupError):
-            resource.prlimit(program.pid, resource.RLIMIT_DATA, (_lower(soft, MEGABYTES << 20), hard))
+            resource.prlimit(program.pid, kind, (_lower(soft, most), hard))
 
 
-def describe_memory(takes_contents: bool) -> str:
-    """What is said if a program gets no more memory, which may be one that takes whole contents."""
-    if _memory:
-        return _memory.text
-    return _describe_limit(MEGABYTES << 20, MEGABYTES) if takes_contents else NO_MEMORY
+def describe_memory() -> str:
+    """What is said if a program gets no more memory."""
+    return _memory.text if _memory else _describe_limit(MEGABYTES << 20, MEGABYTES)
 
 
 def _measure_run_time() -> float:

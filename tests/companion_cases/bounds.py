@@ -634,3 +634,14 @@ def test_memory_of_git(place: Place, git: None) -> None:
         done = place.run("prlimit", "--data=50000000", HOOK, *words)
         ended("the system's limit", done, 1, by_hook.format("it takes more memory than this program may have"))
         ended("no lower limit", place.run(HOOK, *words), 0)
+
+
+def test_memory_of_patterns(place: Place, git: None) -> None:
+    """A git process that reads attributes has the same limit."""
+    place.put("a.yml", BLOCK)
+    place.put(".gitattributes", b"".join(b"%d -text\n" % number for number in range(900_000)))
+    place.shell("git init -q && git add .")
+    done = run_changed(place, CHECK, LOWER, [*place.by_file("old"), "."])
+    why = f"{CHECK}: .gitattributes: git check-attr failed: it takes over 40 MB of memory\n"
+    ended("our limit", done, 1, why)
+    ended("no lower limit", place.run(CHECK, *place.by_file("old"), "."), 0)

@@ -25,8 +25,6 @@ OFF = ("core.fsmonitor=false", "submodule.recurse=false", "core.sparseCheckout=f
 NO_HOOKS = f"core.hooksPath={os.devnull}"
 # These commands run no hook, and need the real setting to say where the hooks are.
 OF_HOOKS = ("rev-parse", "config")
-# These commands take whole contents.
-OF_CONTENTS = ("cat-file", "merge-file")
 # Otherwise, git may take one of several objects of a name without a word.
 WARNS = "core.warnAmbiguousRefs=true"
 CUT = "git {} failed: its output is cut"
@@ -66,8 +64,6 @@ def start_git(
     seconds = bounding.measure_time_left()
     git = processes.start_program(build_command(words), env=environment, cwd=folder, **options)
     bounding.limit_program(git, seconds)
-    if words[0] in OF_CONTENTS:
-        bounding.limit_memory_of(git)
     return git
 
 
@@ -115,7 +111,7 @@ def _find_limit(command: str, status: int, errors: bytes) -> str:
     """The limit that a command met; empty if it met none."""
     if status == -_signal.SIGXCPU:
         return TOO_SLOW_PATTERNS if command == "check-attr" else TOO_SLOW_PROGRAM
-    return bounding.describe_memory(command in OF_CONTENTS) if OUT_OF_MEMORY.search(errors) else ""
+    return bounding.describe_memory() if OUT_OF_MEMORY.search(errors) else ""
 
 
 def _describe_end(status: int, errors: bytes) -> str:
