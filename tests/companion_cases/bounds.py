@@ -645,3 +645,31 @@ def test_memory_of_patterns(place: Place, git: None) -> None:
     why = f"{CHECK}: .gitattributes: git check-attr failed: it takes over 40 MB of memory\n"
     ended("our limit", done, 1, why)
     ended("no lower limit", place.run(CHECK, *place.by_file("old"), "."), 0)
+
+
+CONFLICTING = b"".join([b"<<<<<<< ours\n", BLOCK, b"=======\n", block("old"), b">>>>>>> theirs\n"])
+
+
+@pytest.mark.parametrize("stage", [1, 2, 3])
+def test_sizes_of_versions(place: Place, git: None, stage: int) -> None:
+    """A version in the index may be any size, whatever the size of the file with the conflict."""
+    place.put("a.yml", CONFLICTING)
+    place.put("huge", b"")
+    os.truncate(place.tree / "huge", 40_000_000)
+    place.shell(
+        f"""git init -q
+        small=$(git hash-object -w a.yml) huge=$(git hash-object -w huge)
+        for stage in 1 2 3; do
+            [ $stage = {stage} ] && blob=$huge || blob=$small
+            printf '100644 %s %s\ta.yml\n' $blob $stage
+        done | git update-index --index-info"""
+    )
+    place.environment["EDITOR"] = "true"
+    ended(
+        "the edit",
+        place.run(EDIT, *place.by_file("old"), "a.yml"),
+        1,
+        "git has a version of it with over 16,777,216 bytes",
+    )
+    assert used(place, EDIT, *place.by_file("old"), "a.yml") == 1
+    assert used(place, TEXTCONV, *place.by_file("old"), "a.yml") == 0

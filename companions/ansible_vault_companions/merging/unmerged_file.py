@@ -8,7 +8,7 @@ import string
 
 from ansible_vault_companions.envelopes import conflicts
 from ansible_vault_companions.git import commands, repository
-from ansible_vault_companions.limits import LONGEST_VAULT, TooMuch
+from ansible_vault_companions.limits import LONGEST_PLAINTEXT, TooMuch
 from ansible_vault_companions.merging.line_merge import Versions
 from ansible_vault_companions.refusals import Refused
 
@@ -22,14 +22,15 @@ def find_versions(target: str, data: bytes) -> Versions | None:
     if not sides:
         return None
     ours, theirs = sides[conflicts.OURS_MARKER], sides[conflicts.THEIRS_MARKER]
-    base, *stages = _read_stages(target)
+    base, *stages = _read_stages(target, len(data))
     # Ends of lines may differ from those in the file.
     is_same = [_strip_blanks(stage) for stage in stages] == [_strip_blanks(ours), _strip_blanks(theirs)]
     return Versions(ours, base if is_same else b"", theirs)
 
 
-def _read_stages(target: str) -> list[bytes]:
-    """Base, ours and theirs of a file in the index, each empty if the index has none."""
+def _read_stages(target: str, size: int) -> list[bytes]:
+    """Base, ours and theirs of a file of a size in the index, each empty if the index has none. Refuses a long one that
+    is also out of proportion to the file."""
     folder = repository.find_repository(os.path.dirname(target))
     if not folder:
         return [b"", b"", b""]
@@ -39,8 +40,10 @@ def _read_stages(target: str) -> list[bytes]:
     options, end = (["-z"], b"\0") if b"\n" in name else ([], b"\n")
     data = b"".join(question + end for question in questions)
     sizes = SIZE.findall(commands.run_git("cat-file", "--batch-check", *options, data=data, folder=folder))
-    if any(int(size) > LONGEST_VAULT for size in sizes):
-        raise TooMuch(f"git has a version of it with over {LONGEST_VAULT:,} bytes")
+    # A version is at most twice as long, even if only its line ends differ.
+    most = max(2 * size, LONGEST_PLAINTEXT)
+    if any(int(each) > most for each in sizes):
+        raise TooMuch(f"git has a version of it with over {most:,} bytes")
     output = commands.run_git("cat-file", "--batch", *options, data=data, folder=folder)
     return _split_answers(output, questions)
 
