@@ -117,6 +117,7 @@ bin/processor: FORCE
 # processors, each with one job: every further job of a proof would load the libraries again.
 check: export RT_JOBS ?= $(shell nproc)
 check: packages bin/processor
+	@tools/releases --recorded
 	@echo "Proving every crate and its tests, and trying their must-fail edits"
 	@touch bin/gate-begun
 	@tools/progress.py bin/ci.log rt ci

@@ -2,6 +2,7 @@
 with stand-ins for the sources and for the prover."""
 
 import re
+import runpy
 import shutil
 import subprocess
 from pathlib import Path
@@ -34,7 +35,8 @@ def folder(tmp_path: Path) -> Path:
     for name in ("Makefile", "CHANGELOG.md"):
         shutil.copy(ROOT / name, tmp_path)
     write_script(tmp_path / "stand-ins" / "rt", "exit 1")
-    write_script(tmp_path / "tools" / "missing_packages", "")
+    for name in ("missing_packages", "releases"):
+        write_script(tmp_path / "tools" / name, "")
     write_script(tmp_path / "tools" / "progress.py", ASKING)
     for name in CRATES:
         write_script(tmp_path / f"crates/{name}/out/{name}", f"echo {name}")
@@ -96,3 +98,33 @@ def test_goals(folder: Path) -> None:
         is_used = OURS in built and goal not in ("all", "mutants")
         assert ("/another" in make(folder, "-n", goal, "PARTIAL=yes", "PROGRAM=/another").stdout) == is_used, goal
     assert re.search("pytest .* -m '' .*--floors", make(folder, "-n", "test").stdout)
+
+
+def test_recorded_releases(tmp_path: Path) -> None:
+    """A version needs the record of a run of `make releases` on the same companions, tests and testkit."""
+    (tmp_path / "tools").mkdir()
+    tool = shutil.copy(ROOT / "tools" / "releases", tmp_path / "tools")
+    files = [tmp_path / name for name in ("companions/a", "tests/b/c", "testkit/d")]
+    for file in files:
+        file.parent.mkdir(parents=True)
+        file.write_text("as tested\n")
+    record = tmp_path / "tools" / "releases.txt"
+    refusal = "CHANGELOG.md has version 2.0, but releases.txt is of other tests: run make releases\n"
+
+    def check(what: str, heading: str, refused: str) -> None:
+        (tmp_path / "CHANGELOG.md").write_text(f"# Changes\n\n{heading}\n\n## 1.0, 2026-01-01\n")
+        done = subprocess.run([tool, "--recorded"], capture_output=True, text=True)
+        assert (done.returncode, done.stderr) == (int(bool(refused)), refused), what
+
+    check("a version without a record", "## 2.0, 2026-02-02", refusal)
+    check("changes since a version", "## Since 1.0", "")
+    record.write_text(runpy.run_path(tool)["checksum"]() + "\nbullseye: 50 passed, 0 failed, 0 skipped\n")
+    check("a version with its record", "## 2.0, 2026-02-02", "")
+    for file in files:
+        file.write_text("changed\n")
+        check(f"a change of {file}", "## 2.0, 2026-02-02", refusal)
+        file.write_text("as tested\n")
+        moved = file.rename(file.with_name("moved"))
+        check(f"another name of {file}", "## 2.0, 2026-02-02", refusal)
+        moved.rename(file)
+    check("all as it was", "## 2.0, 2026-02-02", "")
