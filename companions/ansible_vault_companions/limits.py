@@ -69,7 +69,7 @@ RESERVE = 0.5
 
 TOO_DEEP = f"it is nested over {DEEPEST} levels"
 KEY_TOO_LONG = f"it has a key of over {LONGEST_KEY:,} bytes"
-PATH_TOO_LONG = f"it has keys within each other of over {LONGEST_PATH:,} characters"
+PATH_TOO_LONG = f"it has nested keys of over {LONGEST_PATH:,} characters in total"
 MARGIN_TOO_LONG = f"it has a value that is indented by over {LONGEST_MARGIN} columns"
 DIRECTIVES_TOO_LONG = f"it has directives `%TAG` of over {LONGEST_DIRECTIVES:,} bytes"
 TOO_MANY = f"it has over {MOST_KEYS:,} keys and texts, with those above each"

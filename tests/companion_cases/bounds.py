@@ -73,7 +73,7 @@ def test_files(place: Place, content: bytes) -> None:
     assert len(place.get("a.yml")) == len(content) and place.get("a.yml") != content, "it is rotated"
 
 
-PATH_TOO_LONG = "it has keys within each other of over 2,048 characters"
+PATH_TOO_LONG = "it has nested keys of over 2,048 characters in total"
 
 
 @pytest.mark.parametrize("size, why", [(2_048, ""), (2_049, PATH_TOO_LONG)])
