@@ -16,7 +16,7 @@ ATTRIBUTES = "*.vault.yml diff=ansible-vault merge=ansible-vault\n"
 NAMES = ["pre-commit", "pre-merge-commit"]
 OR_ELSE = '|| { [ "$?" -eq 128 ] || git merge-file -q %A %O %B; exit 1; }'
 DIFF, DRIVER = SETTINGS = ["diff.ansible-vault.textconv", "merge.ansible-vault.driver"]
-NOT_IN_GIT = "git diff in this clone lacks the new password: name it to ansible-vault-hook --install, too\n"
+NOT_IN_GIT = "git diff in this clone lacks the new password: give it to ansible-vault-hook --install, too\n"
 
 
 @pytest.mark.parametrize("file", ["", ".git/config", "../settings"])

@@ -24,7 +24,7 @@ from ansible_vault_companions.quoting import escape
 from ansible_vault_companions.refusals import Refused
 from ansible_vault_companions.tool import DAMAGED, Decryption, Key, NotDecrypted
 
-NOT_IN_GIT = "git diff in this clone lacks the new password: name it to ansible-vault-hook --install, too"
+NOT_IN_GIT = "git diff in this clone lacks the new password: give it to ansible-vault-hook --install, too"
 # A placeholder for the new envelope in a dry run.
 DRY = b"$ANSIBLE_VAULT;1.1;AES256\n%s\n" % (b"61" * 16)
 
