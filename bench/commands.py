@@ -134,7 +134,7 @@ class Rows:
         accepts = lambda output: output == text
         tasks = {
             OURS: Task([self.program, "view", *self.alone, path], b"", accepts),
-            ALIAS: Task([PYTHON, "-ISB", str(companion), "view", *self.alone, path], b"", accepts),
+            ALIAS: Task([PYTHON, "-ISBXutf8", str(companion), "view", *self.alone, path], b"", accepts),
         }
         if self.ansible is not None:
             tasks[THEIRS] = Task([self.ansible, "decrypt", *self.alone, "--output", "-", path], b"", accepts)

@@ -81,7 +81,7 @@ def test_python(tmp_path: Path, make: Make, place: Path) -> None:
         done = make("install", *([f"PYTHON={python}"] if said else []))
         assert done.returncode == 0 and done.stderr.startswith(said) and bool(done.stderr) == bool(said), done.stderr
         starts = {path.read_text().split("\n")[0] for path in (place / "lib/ansible-vault").glob("ansible-vault-*")}
-        assert starts == {f"#!{python} -IB", f"#!{python} -ISB"}
+        assert starts == {f"#!{python} -IBXutf8", f"#!{python} -ISBXutf8"}
     for name in ("python3", "/two words/python3", f"{tmp_path}/none"):
         done = make("install", f"PYTHON={name}", f"PREFIX={tmp_path}/other")
         assert done.returncode != 0 and "PYTHON" in done.stderr, f"{name} is refused"

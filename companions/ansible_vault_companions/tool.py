@@ -41,8 +41,8 @@ MARGIN = b" " * 10
 FROM_ENVELOPE = ("view", "decrypt", "rekey")
 TO_ENVELOPE = ("encrypt", "rekey", TO_VALUE)
 NOT_WHOLE = f"{NAME} failed: it ended with status 0, but its output is not whole; run this again"
-# Limits the total size, in bytes, of remembered envelopes and texts, since there may be any number of files.
-MOST_REMEMBERED = 1 << 26
+# The bytes of all remembered envelopes and texts, since there may be any number of files.
+REMEMBERED_BYTES = 1 << 26
 
 
 class Key:
@@ -130,7 +130,7 @@ class Tool:
             self._require_own()
         self.lock = threading.Lock()
         self.results: dict[Hashable, Result] = {}
-        self.room = MOST_REMEMBERED
+        self.room = REMEMBERED_BYTES
 
     def _require_own(self) -> None:
         """Refuses another program of this name, such as that of Ansible."""

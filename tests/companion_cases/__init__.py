@@ -191,7 +191,7 @@ from ansible_vault_companions.files import reading, replacing
 {change}
 runpy.run_path(sys.argv[0], run_name="__main__")
 """
-    script = place.script(text, "changed", "/usr/bin/env -S python3 -IB")
+    script = place.script(text, "changed", "/usr/bin/env -S python3 -IBXutf8")
     return place.run(script, str(place.tools / companion), *words, **variables)
 
 

@@ -24,7 +24,7 @@ from ansible_vault_companions.merging.line_merge import Versions
 from ansible_vault_companions.passwords.labels import Policy
 from ansible_vault_companions.passwords.password import Password
 from ansible_vault_companions.passwords.sources import parse_vault_id
-from ansible_vault_companions.tool import MOST_REMEMBERED, Decryption, Key, NotDecrypted, Tool
+from ansible_vault_companions.tool import REMEMBERED_BYTES, Decryption, Key, NotDecrypted, Tool
 from companion_cases import PASSWORDS, decrypted
 from companion_cases.repository import SALTS, by_git, repository
 from lib.needs import needs, needs_pyyaml
@@ -145,7 +145,7 @@ class Model(Tool):
         self.made: dict[bytes, Value] = {}
         self.counts: Counter[tuple[bytes, Key]] = Counter()
         # As in the program's own.
-        self.lock, self.results, self.room = threading.Lock(), {}, MOST_REMEMBERED
+        self.lock, self.results, self.room = threading.Lock(), {}, REMEMBERED_BYTES
 
     def view(self, envelope: bytes, secret: Password) -> bytes:
         text = decrypted(secret.source.place, envelope)

@@ -66,15 +66,11 @@ class Loader:
 
     def __init__(self, tool: Tool, passwords: list[Password], policy: Policy, label: str | None) -> None:
         self.tool = tool
-        self._decrypt = partial(tool.decrypt, passwords=passwords, policy=policy)
+        self.decrypt = partial(tool.decrypt, passwords=passwords, policy=policy)
         # The label that the user has chosen is also for the text of a conflict and for a single value; the usual one is
         # for new vaults and values alone.
         self.chosen = Choice(passwords, label)
         self.choice = Choice(passwords, label or policy.usual_label)
-
-    def decrypt(self, envelope: bytes) -> Decryption:
-        """A text that is the only one of its file, or one of a few."""
-        return self._decrypt(envelope)
 
     def load(self, path: str, value: str | None) -> Union[Draft, SingleValue]:
         """The draft for the file at a path, or for a single value in it."""
@@ -110,14 +106,14 @@ class Loader:
         # Before the merge, which takes long.
         refuse_directive(content)
         # Where git has merged the digits of values, only whole ones are between the markers of the merged text.
-        merged = merge_file(self.tool, partial(self._decrypt, effort=effort), sides, key, effort)
+        merged = merge_file(self.tool, partial(self.decrypt, effort=effort), sides, key, effort)
         effort.require_third()
         return self._load_values(target, content, merged.content, effort)
 
     def _load_values(self, target: str, content: bytes, edited: bytes, effort: Effort) -> YamlDraft:
         if not detection.may_have_envelope(edited):
             raise Refused(NOTHING_TO_EDIT)
-        draft = YamlDraft(target, content, edited, partial(self._decrypt, effort=effort), self.choice, effort)
+        draft = YamlDraft(target, content, edited, partial(self.decrypt, effort=effort), self.choice, effort)
         if not draft.tagged:
             raise Refused(NOTHING_TO_EDIT)
         for old in draft.opened.values():

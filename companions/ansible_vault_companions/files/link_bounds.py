@@ -28,7 +28,7 @@ OF_OPEN_FILES = re.compile("/dev|/proc/[0-9]+/fd")
 GIT = ".git"
 TOO_MANY_STEPS = f"a link leads through over {MOST_STEPS} directories"
 # The links, and what is none, that a search remembers: many found links may lead through the same ones.
-MOST_REMEMBERED = 10_000
+MOST_REMEMBERED_LINKS = 10_000
 
 
 class LeadsOut(Refused):
@@ -93,7 +93,7 @@ def _read_link(path: str) -> str:
         return ""
 
 
-_read_link_once = lru_cache(MOST_REMEMBERED)(_read_link)
+_read_link_once = lru_cache(MOST_REMEMBERED_LINKS)(_read_link)
 
 
 class _Walk:
