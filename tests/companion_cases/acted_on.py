@@ -68,15 +68,23 @@ class Case(NamedTuple):
         self.place.environment["EDITOR"] = self.place.script(editor, "editor")
 
 
-class Row(NamedTuple):
-    """What sets a fault up; the command that reports it, and what the message says; what acts on that, and returns
-    another command to run then, if it is another; and the plaintexts then."""
+SetUp = Callable[[Case], object]
+# Acts on what a message has advised. It returns the command to run then, or None for the one that gave the message.
+Act = Callable[[Case, re.Match[str]], str | None]
 
-    fault: Callable[[Case], object]
+
+class Row(NamedTuple):
+    """A message, and what acts on it."""
+
+    # What sets up the fault, and the command that reports it.
+    fault: SetUp
     command: str
-    told: str
-    act: "Callable[[Case, re.Match[str]], str | None]"
+    # A pattern for the part of the message that is acted on.
+    advice: str
+    act: Act
+    # Those in the file after the last command.
     plaintexts: list[bytes] = [TEXT]
+    # The content of .gitattributes, and the first editor.
     attributes: str = ""
     editor: str = "true"
 
@@ -88,7 +96,9 @@ def check_row(place: Place, row: Row, stand: Stand) -> None:
     needs("git", "bash")
     needs_pyyaml()
     under_git(place, row.attributes)
-    case, neighbour = Case(place, stand.folder, stand.name), stand.name.replace("*", "x")
+    case = Case(place, stand.folder, stand.name)
+    # The name of the file, as a pattern, fits this one.
+    neighbour = stand.name.replace("*", "x")
     place.put("inner/a.txt", b"")
     place.put("../.vault/dev.pass", PASSWORDS["dev"])
     place.put(neighbour, COMMITTED)
@@ -98,11 +108,11 @@ def check_row(place: Place, row: Row, stand: Stand) -> None:
     case.stage(STAGED, neighbour)
     place.put(neighbour, WRITTEN)
     printed = case.run(row.command)
-    told = re.search(row.told, printed)
-    assert told, f"the message of {row.command}: {printed}"
-    done = case.run(row.act(case, told) or row.command)
-    assert done.startswith("0\n"), f"what it says, {told[0]}, does not help: {done}"
-    assert not re.search(row.told, done), f"it is said again: {done}"
+    advice = re.search(row.advice, printed)
+    assert advice, f"the message of {row.command}: {printed}"
+    done = case.run(row.act(case, advice) or row.command)
+    assert done.startswith("0\n"), f"what it says, {advice[0]}, does not help: {done}"
+    assert not re.search(row.advice, done), f"it is said again: {done}"
     check_plaintexts(case, row)
     assert place.run_on(b"", "git", "show", f":{neighbour}").stdout == STAGED, "the neighbour's index is as before"
     assert place.get(neighbour) == WRITTEN, "the neighbour is as before"
@@ -117,11 +127,14 @@ def check_plaintexts(case: Case, row: Row) -> None:
     assert found == row.plaintexts, "the plaintexts of the file then"
 
 
-def written(content: bytes) -> Callable[[Case], object]:
+# What sets up a fault.
+
+
+def written(content: bytes) -> SetUp:
     return lambda case: case.put(content)
 
 
-def staged(before: bytes, after: bytes) -> Callable[[Case], object]:
+def staged(before: bytes, after: bytes) -> SetUp:
     """Return what commits one content and stages another."""
 
     def stage(case: Case) -> None:
@@ -132,11 +145,11 @@ def staged(before: bytes, after: bytes) -> Callable[[Case], object]:
     return stage
 
 
-def merged(*versions: bytes, is_added: bool = False) -> Callable[[Case], object]:
+def merged(base: bytes, ours: bytes, theirs: bytes, *, is_added: bool = False) -> SetUp:
     """Return what merges two branches without a driver, which is set up later."""
 
     def merge(case: Case) -> None:
-        fork(case.place, *({case.name: content} for content in versions))
+        fork(case.place, {case.name: base}, {case.name: ours}, {case.name: theirs})
         assert "Merge conflict" in case.place.shell("git merge theirs").stdout
         set_driver(case.place, *case.place.by_file("old"))
         if is_added:
@@ -145,15 +158,19 @@ def merged(*versions: bytes, is_added: bool = False) -> Callable[[Case], object]
     return merge
 
 
-def in_shell(case: Case, told: "re.Match[str]") -> None:
-    case.shell(told[1])
+# What acts on an advice.
 
 
-def again(command: str) -> "Callable[[Case, re.Match[str]], str]":
-    """Return what gives another command to run, in which \\\\1 is what the message says."""
-    return lambda _case, told: told.expand(command)
+def type_advice(case: Case, advice: re.Match[str]) -> None:
+    """Type what the message says into a shell."""
+    case.shell(advice[1])
 
 
-def write(text: str) -> "Callable[[Case, re.Match[str]], None]":
-    """Return what writes a file, in which {} is what the message says."""
-    return lambda case, told: case.put(text.format(told[1]).encode())
+def run_with_advice(command: str) -> Act:
+    """Return what has this command run, in which \\1 is what the message says."""
+    return lambda _case, advice: advice.expand(command)
+
+
+def write_advice(text: str) -> Act:
+    """Return what writes this text into the file, with what the message says in place of {}."""
+    return lambda case, advice: case.put(text.format(advice[1]).encode())

@@ -3,8 +3,8 @@
 import pytest
 
 from companion_cases import CHECK, PASSWORDS, ROTATE, TEXT, Place, lines_of, sealed
-from companion_cases.acted_on import OLD, OLD_VAULT, Case, Row, Stand, again, check_row, each_stand
-from companion_cases.acted_on import in_shell, merged, write, written
+from companion_cases.acted_on import OLD, OLD_VAULT, Case, Row, Stand, check_row, each_stand, merged
+from companion_cases.acted_on import run_with_advice, type_advice, write_advice, written
 from companion_cases.repository import BASE, BOTH, OURS, THEIRS
 
 VAULTS = [sealed("old", text) for text in (BASE, OURS, THEIRS)]
@@ -22,41 +22,41 @@ ROWS = {
     "no driver": Row(
         fault=merged(*VAULTS),
         command=f"{CHECK} {OLD}",
-        told="and run `(.*)`",
-        act=in_shell,
+        advice="and run `(.*)`",
+        act=type_advice,
         plaintexts=[BOTH],
         attributes="*.yml merge=ansible-vault\n",
     ),
     "no password": Row(
         fault=written(OLD_VAULT),
         command=CHECK,
-        told="name one with (.*?) or",
-        act=again(rf"{CHECK} \1 ~/secrets/old"),
+        advice="name one with (.*?) or",
+        act=run_with_advice(rf"{CHECK} \1 ~/secrets/old"),
     ),
     "another password": Row(
         fault=written(sealed("dev", TEXT, "a")),
         command=f"{CHECK} {OLD}",
-        told="with (--.*) LABEL@",
-        act=again(rf"{CHECK} {OLD} \1 a@~/secrets/dev"),
+        advice="with (--.*) LABEL@",
+        act=run_with_advice(rf"{CHECK} {OLD} \1 a@~/secrets/dev"),
     ),
     "joined lines": Row(
         fault=written(JOINED),
         command=f"{CHECK} {OLD}",
-        told=r"as a block \(`NAME(.*?)`\)",
-        act=write(f"a{{}}\n{LINES}\n"),
+        advice=r"as a block \(`NAME(.*?)`\)",
+        act=write_advice(f"a{{}}\n{LINES}\n"),
     ),
     "no script": Row(
         fault=put_script,
         command=f"{CHECK} --vault-password-file=A_FILE a.yml",
-        told="run `(.*)`",
-        act=in_shell,
+        advice="run `(.*)`",
+        act=type_advice,
         plaintexts=[],
     ),
     "no new password": Row(
         fault=written(OLD_VAULT),
         command=f"{ROTATE} {OLD}",
-        told="one with (.*?) or",
-        act=again(rf"{ROTATE} {OLD} \1 ~/secrets/new"),
+        advice="one with (.*?) or",
+        act=run_with_advice(rf"{ROTATE} {OLD} \1 ~/secrets/new"),
     ),
 }
 

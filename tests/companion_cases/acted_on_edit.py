@@ -5,123 +5,140 @@ import re
 import pytest
 
 from companion_cases import CHANGE, CHANGED, EDIT, TEXT, WITH, Place, block, sealed
-from companion_cases.acted_on import DEV, OLD, OLD_VAULT, PROD, TAKE_THEIRS, Case, Row, Stand, again, check_row
-from companion_cases.acted_on import each_stand, in_shell, merged, write, written
+from companion_cases.acted_on import DEV, OLD, OLD_VAULT, PROD, TAKE_THEIRS, Case, Row, Stand, check_row
+from companion_cases.acted_on import each_stand, merged, run_with_advice, type_advice, write_advice, written
 from companion_cases.repository import BASE, OURS, THEIRS
 
-BY_OLD, BY_BOTH = f"{EDIT} {OLD}", f"{EDIT} {DEV} {PROD}"
-VAULTS = [sealed("old", text) for text in (BASE, OURS)]
-LABELLED = [sealed("old", BASE), sealed("dev", OURS, "dev"), sealed("prod", THEIRS, "prod")]
-OF_PROD = sealed("dev", label="prod")
+EDIT_BY_OLD = f"{EDIT} {OLD}"
+EDIT_BY_BOTH = f"{EDIT} {DEV} {PROD}"
+# It has the label of another password.
+MISLABELLED = sealed("dev", label="prod")
 # Editors: one that saves a change and fails, and one that types a value.
-FAIL = f"{CHANGE}; exit 3"
-TYPE = "echo 'b: !vault {}' >> \"$1\""
+SAVE_AND_FAIL = f"{CHANGE}; exit 3"
+TYPE_VALUE = "echo 'b: !vault {}' >> \"$1\""
+
+
+def no_file(_case: Case) -> None:
+    pass
 
 
 def leave_copy(case: Case) -> None:
-    case.edit_by(FAIL)
+    """What a failed edit has saved is kept in a copy."""
     case.put(OLD_VAULT)
-    case.run(BY_OLD)
+    case.edit_by(SAVE_AND_FAIL)
+    case.run(EDIT_BY_OLD)
     case.edit_by("true")
 
 
 def leave_copy_of_another(case: Case) -> None:
+    """The vault has another text by now than when the copy was made."""
     leave_copy(case)
     case.put(sealed("old", b"x"))
 
 
-def type_it(case: Case, told: "re.Match[str]") -> None:
-    case.edit_by(TYPE.format(told[1]))
+def type_value(case: Case, advice: re.Match[str]) -> None:
+    """Type what the message says as a value, when the same command runs again."""
+    case.edit_by(TYPE_VALUE.format(advice[1]))
 
 
-def leave_out_option(_case: Case, _told: "re.Match[str]") -> str:
-    return BY_OLD
+def leave_out_option(_case: Case, _advice: re.Match[str]) -> str:
+    return EDIT_BY_OLD
 
 
 ROWS = {
     "one side": Row(
-        fault=merged(*VAULTS, THEIRS),
-        command=BY_OLD,
-        told="take one with `(.*?)` or",
-        act=in_shell,
+        fault=merged(base=sealed("old", BASE), ours=sealed("old", OURS), theirs=THEIRS),
+        command=EDIT_BY_OLD,
+        advice="take one with `(.*?)` or",
+        act=type_advice,
         plaintexts=[OURS],
     ),
     "labels": Row(
-        fault=merged(*LABELLED),
-        command=BY_BOTH,
-        told="one with (.*)",
-        act=again(rf"{BY_BOTH} \1 prod"),
+        fault=merged(base=sealed("old", BASE), ours=sealed("dev", OURS, "dev"), theirs=sealed("prod", THEIRS, "prod")),
+        command=EDIT_BY_BOTH,
+        advice="one with (.*)",
+        act=run_with_advice(rf"{EDIT_BY_BOTH} \1 prod"),
         plaintexts=[THEIRS],
         editor=TAKE_THEIRS,
     ),
     "any label": Row(
-        fault=written(OF_PROD), command=BY_BOTH, told=r"accept it with (--\S+)", act=again(rf"{BY_BOTH} \1")
+        fault=written(MISLABELLED),
+        command=EDIT_BY_BOTH,
+        advice=r"accept it with (--\S+)",
+        act=run_with_advice(rf"{EDIT_BY_BOTH} \1"),
     ),
     "another label": Row(
-        fault=written(OF_PROD),
-        command=BY_BOTH,
-        told="give it the label dev with `(.*?)`",
-        act=again(rf"\1 {DEV} --new-vault-id=dev@~/secrets/dev"),
+        fault=written(MISLABELLED),
+        command=EDIT_BY_BOTH,
+        advice="give it the label dev with `(.*?)`",
+        act=run_with_advice(rf"\1 {DEV} --new-vault-id=dev@~/secrets/dev"),
     ),
     "it exists": Row(
-        fault=written(OLD_VAULT), command=f"{WITH} create {OLD}", told="; use `(.*)`", act=again(rf"{WITH} \1 {OLD}")
+        fault=written(OLD_VAULT),
+        command=f"{WITH} create {OLD}",
+        advice="; use `(.*)`",
+        act=run_with_advice(rf"{WITH} \1 {OLD}"),
     ),
-    "no vault": Row(fault=written(TEXT), command=BY_OLD, told="encrypt it with `(.*?)`", act=again(rf"\1 {OLD}")),
+    "no vault": Row(
+        fault=written(TEXT), command=EDIT_BY_OLD, advice="encrypt it with `(.*?)`", act=run_with_advice(rf"\1 {OLD}")
+    ),
     "no value": Row(
         fault=written(TEXT),
-        command=BY_OLD,
-        told="or write `NAME(.*) TEXT`",
-        act=write("b{} x\n"),
+        command=EDIT_BY_OLD,
+        advice="or write `NAME(.*) TEXT`",
+        # The message says `: !vault`.
+        act=write_advice("b{} x\n"),
         plaintexts=[b"x"],
     ),
     "no text": Row(
         fault=written(block("old")),
-        command=BY_OLD,
-        told="!vault`; write `(.*)` for",
-        act=type_it,
+        command=EDIT_BY_OLD,
+        advice="!vault`; write `(.*)` for",
+        act=type_value,
+        # The message says `""`, which is an empty text.
         plaintexts=[TEXT, b""],
-        editor=TYPE.format(""),
+        editor=TYPE_VALUE.format(""),
     ),
     "a new vault": Row(
-        fault=lambda case: None,
-        command=BY_BOTH,
-        told="is new; .* with (.*)",
-        act=again(rf"{BY_BOTH} \1 dev"),
+        fault=no_file,
+        command=EDIT_BY_BOTH,
+        advice="is new; .* with (.*)",
+        act=run_with_advice(rf"{EDIT_BY_BOTH} \1 dev"),
         plaintexts=[b"x\n"],
         editor='echo x > "$1"',
     ),
     "a whole vault": Row(
         fault=written(OLD_VAULT),
-        command=f"{BY_OLD} --value=x",
-        told="edit it without (--value)",
+        command=f"{EDIT_BY_OLD} --value=x",
+        advice="edit it without (--value)",
         act=leave_out_option,
     ),
     "no copy": Row(
         fault=written(OLD_VAULT),
-        command=f"{BY_OLD} --resume",
-        told="edit it without (--resume)",
+        command=f"{EDIT_BY_OLD} --resume",
+        advice="edit it without (--resume)",
         act=leave_out_option,
     ),
     "a failure": Row(
         fault=written(OLD_VAULT),
-        command=BY_OLD,
-        told=r"\n(--\w+) reopens",
-        act=again(rf"env EDITOR=true {BY_OLD} \1"),
+        command=EDIT_BY_OLD,
+        advice=r"\n(--\w+) reopens",
+        act=run_with_advice(rf"env EDITOR=true {EDIT_BY_OLD} \1"),
         plaintexts=[CHANGED],
-        editor=FAIL,
+        editor=SAVE_AND_FAIL,
     ),
     "a copy": Row(
         fault=leave_copy,
-        command=BY_OLD,
-        told="; (.*) reopens it",
-        act=again(rf"{BY_OLD} \1"),
+        command=EDIT_BY_OLD,
+        advice="; (.*) reopens it",
+        act=run_with_advice(rf"{EDIT_BY_OLD} \1"),
         plaintexts=[CHANGED],
     ),
     "a change": Row(
         fault=leave_copy_of_another,
-        command=f"{BY_OLD} --resume",
-        told="that left (.*); .* `(.*)` shows",
-        act=again(rf"\2 {OLD} \1"),
+        command=f"{EDIT_BY_OLD} --resume",
+        advice="that left (.*); .* `(.*)` shows",
+        act=run_with_advice(rf"\2 {OLD} \1"),
         plaintexts=[b"x"],
     ),
 }

@@ -5,8 +5,8 @@ import re
 import pytest
 
 from companion_cases import HOOK, TEXT, Place, block, sealed
-from companion_cases.acted_on import OLD, OLD_VAULT, TAKE_THEIRS, Case, Row, Stand, again, check_row, each_stand
-from companion_cases.acted_on import in_shell, merged, staged
+from companion_cases.acted_on import OLD, OLD_VAULT, TAKE_THEIRS, Case, Row, Stand, check_row, each_stand
+from companion_cases.acted_on import merged, run_with_advice, staged, type_advice, written
 from companion_cases.repository import BASE, OURS, THEIRS
 
 VAULTS = [sealed("old", text) for text in (BASE, OURS, THEIRS)]
@@ -40,45 +40,52 @@ def put_another_hook(case: Case) -> None:
     case.place.tools.rename(case.place.tree / case.name)
 
 
-def paste(case: Case, told: "re.Match[str]") -> None:
+def paste(case: Case, advice: re.Match[str]) -> None:
     """Add a line to a file, which is named before it."""
-    path, _, line = told[1].partition(": ")
+    path, _, line = advice[1].partition(": ")
     case.stage(case.place.get(path) + f"{line}\n".encode(), path)
 
 
-def paste_into_hook(case: Case, told: "re.Match[str]") -> None:
+def paste_into_hook(case: Case, advice: re.Match[str]) -> None:
     """Add the line to the hook, which refuses plaintext then. Only a further installation needs that it is gone."""
-    case.place.put(".git/hooks/pre-commit", f"#!/usr/bin/env bash\n{told[1]}\n".encode(), 0o755)
+    case.place.put(".git/hooks/pre-commit", f"#!/usr/bin/env bash\n{advice[1]}\n".encode(), 0o755)
     case.stage(MARKED.encode(), ".gitattributes")
     case.stage(TEXT, "a.yml")
     assert "a.yml is not encrypted\n" in case.place.shell("git commit -qm plaintext").stderr
     case.shell("rm .git/hooks/pre-commit", ".")
 
 
-def resolve(case: Case, told: "re.Match[str]") -> None:
-    case.run(f"{told[1]} {OLD}")
+def resolve(case: Case, advice: re.Match[str]) -> None:
+    case.run(f"{advice[1]} {OLD}")
     case.stage(case.place.get(case.name))
 
 
-def restore_and_add(case: Case, told: "re.Match[str]") -> None:
+def restore_and_add(case: Case, advice: re.Match[str]) -> None:
     case.put(OLD_VAULT)
-    case.shell(told[1])
+    case.shell(advice[1])
 
 
 ROWS = {
     "damage": Row(
-        fault=staged(OLD_VAULT, OLD_VAULT[:-99]), command=HOOK, told="`(git .*)` if it is whole", act=in_shell
+        fault=staged(OLD_VAULT, OLD_VAULT[:-99]), command=HOOK, advice="`(git .*)` if it is whole", act=type_advice
     ),
     "a damaged value": Row(
-        fault=staged(block("old"), block("old")[:-99]), command=HOOK, told="`(git .*)` if it is whole", act=in_shell
+        fault=staged(block("old"), block("old")[:-99]),
+        command=HOOK,
+        advice="`(git .*)` if it is whole",
+        act=type_advice,
     ),
-    "a leftover": Row(fault=stage_leftover, command=HOOK, told="remove it with `(.*)`", act=in_shell),
-    "plaintext": Row(fault=staged(OLD_VAULT, TEXT), command=HOOK, told="at the end of (.*)", act=paste, plaintexts=[]),
-    "plain values": Row(fault=staged(VALUES, PLAIN), command=HOOK, told="at the end of (.*)", act=paste, plaintexts=[]),
+    "a leftover": Row(fault=stage_leftover, command=HOOK, advice="remove it with `(.*)`", act=type_advice),
+    "plaintext": Row(
+        fault=staged(OLD_VAULT, TEXT), command=HOOK, advice="at the end of (.*)", act=paste, plaintexts=[]
+    ),
+    "plain values": Row(
+        fault=staged(VALUES, PLAIN), command=HOOK, advice="at the end of (.*)", act=paste, plaintexts=[]
+    ),
     "a tag": Row(
         fault=staged(block("old"), TAGGED),
         command=HOOK,
-        told="change with (.*?) does",
+        advice="change with (.*?) does",
         act=resolve,
         plaintexts=[TEXT, b"x"],
         editor="sed -i 's/y: 1/y: 2/' \"$1\"",
@@ -86,7 +93,7 @@ ROWS = {
     "marked": Row(
         fault=staged(b"", TEXT),
         command=HOOK,
-        told="at the end of (.*)",
+        advice="at the end of (.*)",
         act=paste,
         plaintexts=[],
         attributes=MARKED,
@@ -94,26 +101,26 @@ ROWS = {
     "markers": Row(
         fault=merged(*VAULTS, is_added=True),
         command=HOOK,
-        told="conflict with (.*)",
+        advice="conflict with (.*)",
         act=resolve,
         plaintexts=[THEIRS],
         editor=TAKE_THEIRS,
     ),
-    "unmerged": Row(fault=merged(*VAULTS), command=HOOK, told="and run `(.*)`", act=restore_and_add),
+    "unmerged": Row(fault=merged(*VAULTS), command=HOOK, advice="and run `(.*)`", act=restore_and_add),
     "no settings": Row(
-        fault=lambda case: case.put(OLD_VAULT),
+        fault=written(OLD_VAULT),
         command=f"{HOOK} --install",
-        told="only with passwords: (.*)",
-        act=again(rf"{HOOK} \1"),
+        advice="only with passwords: (.*)",
+        act=run_with_advice(rf"{HOOK} \1"),
     ),
     "another hook": Row(
         fault=put_another_hook,
         command=f"./A_FILE/{HOOK} --install",
-        told="add this line to it: (.*)",
+        advice="add this line to it: (.*)",
         act=paste_into_hook,
     ),
-    "no commit": Row(fault=add_origin, command=f"{HOOK} --since origin/more", told="run `(.*)`", act=in_shell),
-    "a shallow clone": Row(fault=use_shallow_clone, command=f"{HOOK} --all", told="run `(.*?)`, or", act=in_shell),
+    "no commit": Row(fault=add_origin, command=f"{HOOK} --since origin/more", advice="run `(.*)`", act=type_advice),
+    "a shallow clone": Row(fault=use_shallow_clone, command=f"{HOOK} --all", advice="run `(.*?)`, or", act=type_advice),
 }
 
 
