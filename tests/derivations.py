@@ -10,7 +10,7 @@ from lib.counts import PARTS, count_calls
 from lib.needs import needs
 from lib.samples import SALT_TEXT, SALT_WORDS
 from model.faults import Fault
-from model.vaults import parts, seal, serialized
+from model.vaults import seal, seal_padded
 
 pytestmark = pytest.mark.valgrind
 
@@ -58,7 +58,7 @@ def run_of(cases: Cases, name: str) -> Run:
             words = ["view", "--require-id-match", *other * 15]
             return Run(words, vault, Fault.NO_SECRET_FITS.status, b"", blocks=0)
         case "a wrong padding":
-            unpadded = serialized(*parts(b"right", bytes(16)))
+            unpadded = seal_padded(b"right", bytes(16))
             return Run(["view", *fits, *other * 15], unpadded, Fault.BAD_PADDING.status, b"", blocks=KEYS)
         case "a choice of all":
             words = ["encrypt", *other * 15, *by_id(right, "dev"), "--encrypt-vault-id", "dev", *SALT_WORDS]

@@ -8,8 +8,7 @@ import string
 from typing import NamedTuple
 
 from model.faults import Fault, Refused, refuse_if
-from model.vaults import CIPHERTEXT_LIMIT, ENVELOPE_LIMIT, MAGIC
-from model.vaults import apply_keystream, padded, parts, serialized, tag_of
+from model.vaults import CIPHERTEXT_LIMIT, ENVELOPE_LIMIT, MAGIC, apply_keystream, padded, seal, tag_of
 
 # Limits
 
@@ -34,11 +33,11 @@ class Secret(NamedTuple):
 # Ciphers and keys
 
 
-def remove_padding(whole: bytes) -> bytes:
+def remove_padding(padded_text: bytes) -> bytes:
     """Return the one plaintext that has this padded text."""
     for count in range(1, 17):
-        plaintext = whole[:-count]
-        if padded(plaintext) == whole:
+        plaintext = padded_text[:-count]
+        if padded(plaintext) == padded_text:
             return plaintext
     raise Refused(Fault.BAD_PADDING)
 
@@ -49,7 +48,7 @@ def remove_padding(whole: bytes) -> bytes:
 def seal_plaintext(secret: Secret, salt: bytes, plaintext: bytes) -> bytes:
     refuse_if(plaintext.startswith(MAGIC), Fault.ALREADY_VAULT)
     label = "" if secret.label == DEFAULT_LABEL else secret.label
-    return serialized(*parts(secret.password, padded(plaintext), salt), label.encode())
+    return seal(secret.password, plaintext, label.encode(), salt)
 
 
 # Reading
@@ -84,21 +83,23 @@ def read_envelope(data: bytes) -> Envelope:
     refuse_if(not header.isascii(), Fault.BAD_HEADER)
     fields = [field.strip(WHITESPACE).decode() for field in header.split(b";")]
     refuse_if(len(fields) < 3, Fault.BAD_HEADER)
-    has_label = len(fields) > 3 and fields[3] != ""
-    label = fields[3] if has_label else DEFAULT_LABEL
+    # Of the first field, only the first bytes count. Any after the label are ignored.
+    _, version, cipher, label, *_ = [*fields, ""]
+    label = label or DEFAULT_LABEL
     refuse_if(not is_label(label), Fault.BAD_HEADER)
     # 5. The version.
-    refuse_if(fields[1] not in ("1.1", "1.2"), Fault.BAD_VERSION)
+    refuse_if(version not in ("1.1", "1.2"), Fault.BAD_VERSION)
     # 6. The cipher.
-    refuse_if(fields[2] != "AES256", Fault.BAD_CIPHER)
+    refuse_if(cipher != "AES256", Fault.BAD_CIPHER)
     # 7. The digits below.
     inner = decode_digits(data[len(header) :].translate(None, b"\r\n"))
     if inner is None:
         raise Refused(Fault.BAD_HEX)
     # 8. The inner text.
-    lines = inner.split(b"\n", 2)
+    # The ciphertext is all that follows the second line.
+    lines = inner.split(b"\n", maxsplit=2)
     refuse_if(len(lines) < 3, Fault.BAD_PAYLOAD)
-    salt, tag, ciphertext = map(decode_digits, lines)
+    salt, tag, ciphertext = (decode_digits(digits) for digits in lines)
     if salt is None or tag is None or ciphertext is None:
         raise Refused(Fault.BAD_PAYLOAD)
     refuse_if(len(salt) > SALT_READ_LIMIT, Fault.BAD_PAYLOAD)

@@ -6,7 +6,7 @@ limit of lengths, and `with_strace.py` above it.
 
 from random import Random
 
-from model.vaults import ENVELOPE, HEADER, MAGIC, parts, seal, serialized
+from model.vaults import ENVELOPE, HEADER, MAGIC, seal, seal_padded
 
 SIZES = [0, 1, 2, 14, 15, 16, 17, 31, 32, 33, 47, 48, 49, 63, 64, 65, 255, 256, 257, 1_000]
 LARGE_SIZES = [4_079, 4_080, 4_095, 4_096, 4_097, 65_519, 65_520, 65_535, 65_536, 65_537]
@@ -39,17 +39,24 @@ def respelled(random: Random, envelope: bytes) -> bytes:
     header, _, body = envelope.partition(b"\n")
     if header == HEADER and random.random() < 0.5:
         header = random.choice(HEADERS) % MAGIC
-    digits, width = body.replace(b"\n", b""), random.choice(WIDTHS)
+    digits = body.replace(b"\n", b"")
+    width = random.choice(WIDTHS)
     if random.random() < 0.4:
-        digits = bytes(random.choice((digit, digit ^ 32)) if digit > 64 else digit for digit in digits)
-    lines = [digits[index : index + width] for index in range(0, len(digits), width)]
+        digits = in_either_case(random, digits)
+    lines = [digits[start : start + width] for start in range(0, len(digits), width)]
     return header + b"".join(random.choice(LINE_ENDS) + line for line in lines) + random.choice([b"", *LINE_ENDS])
 
 
+def in_either_case(random: Random, digits: bytes) -> bytes:
+    """Return hexadecimal digits in which any letter may be a capital."""
+    return bytes(random.choice((digit, digit ^ 0x20)) if digit >= ord("A") else digit for digit in digits)
+
+
 def damaged(random: Random, envelope: bytes) -> bytes:
-    """Change, remove, insert or repeat bytes at one place."""
+    """Change, remove, insert or repeat bytes at one place, mostly one byte somewhere within the envelope."""
     start = random.choice([0, *[random.randrange(len(envelope))] * 8, len(envelope)])
     end = random.choice([start, *[start + 1] * 4, random.randrange(len(envelope)), len(envelope)])
+    # The first of these bytes with another bit, if there is one.
     flipped = bytes(byte ^ 1 << random.randrange(8) for byte in envelope[start : start + 1])
     other = bytes([random.choice(b"0123456789abcdefAFgG \n\r;$\x00\x7f\x80\xff")])
     return envelope[:start] + random.choice([b"", flipped, other]) + envelope[end:]
@@ -63,7 +70,8 @@ def envelope(random: Random, password: bytes, label: bytes) -> bytes:
     if kind < 0.02:
         return random.choice(OTHERS)
     if kind < 0.12:
-        return serialized(*parts(password, repeated(random, size) + random.choice(BAD_ENDS), salt), label)
+        badly_padded = repeated(random, size) + random.choice(BAD_ENDS)
+        return seal_padded(password, badly_padded, label, salt)
     if kind < 0.45:
         return damaged(random, respelled(random, seal(password, repeated(random, size), label, salt)))
     intact = seal(password, plaintext(random), label, salt)

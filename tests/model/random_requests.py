@@ -4,9 +4,11 @@ from collections.abc import Iterator
 from dataclasses import dataclass
 from pathlib import Path
 from random import Random
+from typing import NamedTuple
 
 from model import random_envelopes
-from model.options import COMMON, FLAGS, OPTIONS
+from model.formats import Secret
+from model.options import COMMON, FLAGS, OPTIONS, is_option
 from model.vaults import ENVELOPE
 
 # By the names of their files, some of which need care in a shell or on a terminal.
@@ -29,7 +31,8 @@ BAD_PASSWORDS = {
     "long and blank": b"pw".ljust(4_097, b"\n"),
     "long script": b"#!".ljust(5_000, b"k"),
 }
-SALTS, SHORT_SALTS = {"salt of 32": b"0123456789abcdef" * 2, "salt of 40": bytes(range(40))}, {"salt of 31": bytes(31)}
+SALTS = {"salt of 32": b"0123456789abcdef" * 2, "salt of 40": bytes(range(40))}
+SHORT_SALTS = {"salt of 31": bytes(31)}
 FOLDER, OLD = "folder", "old"
 FILES = PASSWORDS | BAD_PASSWORDS | SALTS | SHORT_SALTS | {OLD: b"what stood there before\n" * 40}
 NO_FILES = ["missing", "", "right/below", "missing/x", FOLDER]
@@ -39,9 +42,12 @@ OUTPUTS = ["-", "new", "new", OLD, f"{FOLDER}/new", "input"]
 BAD_OUTPUTS = [FOLDER, "missing/new", "", "/dev/full", f"{OLD}/new"]
 LABELS = ["default", "dev", "prod", "Prod", "a b", "~!#$%&'\"\\", "a" * 128]
 BAD_LABELS = ["a;b", " a", "a ", "a\tb", "dév", "a" * 129, " ", "a\x7f"]
-NAMES, BAD_NAMES = ["k", "", "my secret", "näme", "x" * 300, "-n", "a: b"], ["tab\there", "\n", "del\x7f", "\x1f"]
+NAMES = ["k", "", "my secret", "näme", "x" * 300, "-n", "a: b"]
+BAD_NAMES = ["tab\there", "\n", "del\x7f", "\x1f"]
 STRINGS = ["secret", "", "-", "ünï→\n", "$ANSIBLE_VAULT", "$ANSIBLE_VAUL", "a" * 16, "-x", "s" * 5_000, "line\n" * 30]
-SALT_TEXTS, BAD_SALT_TEXTS = ["abc", "a", "a" * 64, "é" * 32, " ", "-x"], ["", "a" * 65, "é" * 33]
+SALT_TEXTS = ["abc", "a", "a" * 64, "é" * 32, " ", "-x"]
+BAD_SALT_TEXTS = ["", "a" * 65, "é" * 33]
+# How many secrets a command line has: the more often a number is here, the likelier it is.
 SECRET_COUNTS = [0] * 3 + [1] * 12 + [2] * 4 + [3, 4] + [16, 17]
 # Words that most command lines may not contain.
 WRONG = [["--loud"], ["x", "y"], ["--vault-id"], ["--vault-id", "--salt"], ["-x"]]
@@ -64,14 +70,18 @@ class Case:
                 (folder / path).write_bytes(content)
 
 
+class Option(NamedTuple):
+    name: str
+    value: str
+
+
 class Maker:
     """Makes one request; every choice comes from `random`."""
 
     def __init__(self, random: Random) -> None:
         self.random = random
         self.command = random.choice([*OPTIONS])
-        # The labels and passwords of the secrets.
-        self.held: list[tuple[str, bytes]] = []
+        self.held: list[Secret] = []
 
     def likely(self, chance: float) -> bool:
         return self.random.random() < chance
@@ -79,40 +89,46 @@ class Maker:
     def mostly(self, good: list[str], bad: list[str], chance: float = 0.9) -> str:
         return self.random.choice(good if self.likely(chance) else bad)
 
-    def secret(self, kind: str = "") -> tuple[str, str]:
-        """Return an option with its value, and note its label and password, provided that it is valid."""
-        path, label = self.mostly([*PASSWORDS], NO_PASSWORDS, 0.93), "default"
-        option, value = f"--{kind}vault-password-file", path
+    def secret(self, kind: str = "") -> Option:
+        """Return an option, and note its label and password, as if it were valid."""
+        path = self.mostly([*PASSWORDS], NO_PASSWORDS, 0.93)
+        label = "default"
+        option = Option(f"--{kind}vault-password-file", path)
         if self.likely(0.7):
             label = self.mostly(LABELS, BAD_LABELS, 0.98)
-            option, value = f"--{kind}vault-id", f"{label}@{path}"
+            value = f"{label}@{path}"
             if self.likely(0.1) and "@" not in path:
-                label, value = "default", self.random.choice([path, f"@{path}"])
-        self.held.append((label, PASSWORDS.get(path, b"right").strip()))
-        return option, value
+                label = "default"
+                value = self.random.choice([path, f"@{path}"])
+            option = Option(f"--{kind}vault-id", value)
+        self.held.append(Secret(label, PASSWORDS.get(path, b"right").strip()))
+        return option
 
-    def others(self, has_input: bool) -> Iterator[tuple[str, str]]:
-        """Yield options with their values, some of which the command does not have."""
+    def others(self, has_input: bool) -> Iterator[Option]:
+        """Yield options, some of which the command does not have."""
         if self.likely(0.2 if len(self.held) == 1 else 0.85):
-            yield "--encrypt-vault-id", self.mostly([label for label, _ in self.held] * 3 + LABELS, BAD_LABELS, 0.98)
+            held_labels = [secret.label for secret in self.held]
+            yield Option("--encrypt-vault-id", self.mostly(held_labels * 3 + LABELS, BAD_LABELS, 0.98))
         if self.likely(0.3):
-            yield "--require-id-match", ""
+            yield Option("--require-id-match", "")
         for option in ("--name", "--stdin-name"):
             if self.likely(0.35):
-                yield option, self.mostly(NAMES, BAD_NAMES)
+                yield Option(option, self.mostly(NAMES, BAD_NAMES))
         for _ in range(self.random.choice([1] * 30 + [0, 2])):
             yield self.secret("new-")
-        if has_text := self.likely(0.45):
-            yield "--salt", self.mostly(SALT_TEXTS, BAD_SALT_TEXTS)
-        if self.likely(0.06 if has_text else 0.5):
-            yield "--salt-file", self.mostly([*SALTS, "/dev/zero"], [*SHORT_SALTS, *NO_FILES], 0.75)
+        has_salt_text = self.likely(0.45)
+        if has_salt_text:
+            yield Option("--salt", self.mostly(SALT_TEXTS, BAD_SALT_TEXTS))
+        if self.likely(0.06 if has_salt_text else 0.5):
+            yield Option("--salt-file", self.mostly([*SALTS, "/dev/zero"], [*SHORT_SALTS, *NO_FILES], 0.75))
         if self.likely(0.95 if has_input else 0.3):
-            yield "--output", self.mostly(OUTPUTS, BAD_OUTPUTS)
+            yield Option("--output", self.mostly(OUTPUTS, BAD_OUTPUTS))
 
     def content(self) -> bytes:
+        """Return what to encrypt, or an envelope that a secret of this request mostly decrypts."""
         if self.command.startswith("encrypt"):
             return random_envelopes.plaintext(self.random)
-        label, password = self.random.choice(self.held or [("default", b"right")])
+        label, password = self.random.choice(self.held or [Secret("default", b"right")])
         if self.likely(0.15):
             password = self.random.choice([*PASSWORDS.values()]).strip()
         if self.likely(0.3):
@@ -120,33 +136,42 @@ class Maker:
         spelled_label = "" if label == "default" or label in BAD_LABELS else label
         return random_envelopes.envelope(self.random, password, spelled_label.encode())
 
-    def spelled(self, option: str, value: str) -> list[str]:
-        if option in FLAGS:
-            return [option]
-        is_joined = self.likely(0.3) or value.startswith("-") and value != "-"
-        if option == "--name" and self.likely(0.5):
+    def spelled(self, option: Option) -> list[str]:
+        """Return the words of an option: one or two."""
+        name, value = option
+        if name in FLAGS:
+            return [name]
+        is_joined = self.likely(0.3) or is_option(value)
+        if name == "--name" and self.likely(0.5):
             return [f"-n{value}"] if is_joined and value else ["-n", value]
-        return [f"{option}={value}"] if is_joined else [option, value]
+        return [f"{name}={value}"] if is_joined else [name, value]
 
-    def case(self) -> Case:
-        options = [self.secret() for _ in range(self.random.choice(SECRET_COUNTS))]
-        content, is_string = self.content(), self.command == "encrypt_string"
-        positional = self.random.choice(STRINGS if is_string else INPUTS) if self.likely(0.6) else None
-        is_read = positional in (None, "-")
-        options += self.others(not is_read and not is_string)
+    def words(self, options: list[Option], positional: str | None) -> list[str]:
+        """Return a command line with those of the options that the command has, in any order."""
         known = COMMON | OPTIONS[self.command]
-        groups, last = [self.spelled(*each) for each in options if each[0] in known], list[str]()
+        groups = [self.spelled(option) for option in options if option.name in known]
         if self.likely(0.03):
             groups.append(self.random.choice([*groups, *WRONG]))
-        if positional is not None and (self.likely(0.2) or positional.startswith("-") and positional != "-"):
+        last: list[str] = []
+        if positional is not None and (self.likely(0.2) or is_option(positional)):
             last = ["--", positional]
         elif positional is not None:
             groups.append([positional])
         self.random.shuffle(groups)
-        words = [self.command, *sum(groups, []), *last]
+        return [self.command, *(word for group in groups for word in group), *last]
+
+    def case(self) -> Case:
+        options = [self.secret() for _ in range(self.random.choice(SECRET_COUNTS))]
+        content = self.content()
+        is_string = self.command == "encrypt_string"
+        positional = self.random.choice(STRINGS if is_string else INPUTS) if self.likely(0.6) else None
+        is_stdin_read = positional in (None, "-")
+        options += self.others(has_input=not is_stdin_read and not is_string)
+        words = self.words(options, positional)
         # Only files that a word may name, since more take longer.
-        files = {name: text for name, text in {**FILES, "input": content}.items() if name in " ".join(words)}
-        return Case(words, {**files, FOLDER: None}, content if is_read else b"not asked")
+        line = " ".join(words)
+        files = {name: text for name, text in {**FILES, "input": content}.items() if name in line}
+        return Case(words, {**files, FOLDER: None}, content if is_stdin_read else b"not asked")
 
 
 def make(seed: str) -> Case:

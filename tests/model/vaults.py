@@ -5,12 +5,13 @@ import functools
 import hashlib
 import hmac
 import subprocess
+from typing import NamedTuple
 
 MAGIC = b"$ANSIBLE_VAULT"
 HEADER = MAGIC + b";1.1;AES256"
 
-# An envelope in format 1.1 with no salt, a tag of 32 zero bytes and no ciphertext. The inner text is LF, 64 digits 0,
-# LF.
+# The digits of an empty salt, a tag of 32 zero bytes and an empty ciphertext, and the envelope of these in format 1.1.
+# The inner text is LF, 64 digits 0, LF.
 BODY = b"0a" + b"30" * 39 + b"\n" + b"30" * 25 + b"0a" + b"\n"
 ENVELOPE = HEADER + b"\n" + BODY
 
@@ -28,7 +29,7 @@ def serialized(salt: bytes, tag: bytes, ciphertext: bytes, label: bytes = b"") -
     header = MAGIC + b";1.2;AES256;" + label if label else HEADER
     inner = b"\n".join(part.hex().encode() for part in (salt, tag, ciphertext))
     digits = inner.hex().encode()
-    lines = [digits[i : i + 80] + b"\n" for i in range(0, len(digits), 80)]
+    lines = [digits[start : start + 80] + b"\n" for start in range(0, len(digits), 80)]
     return header + b"\n" + b"".join(lines)
 
 
@@ -42,10 +43,17 @@ def padded(plaintext: bytes) -> bytes:
     return plaintext + bytes([count]) * count
 
 
+class Keys(NamedTuple):
+    cipher_key: bytes
+    tag_key: bytes
+    counter: bytes
+
+
 @functools.lru_cache(maxsize=4096)
-def keys(password: bytes, salt: bytes) -> bytes:
-    """Return the cipher's key of 32 bytes, the tag's of 32, and the first counter block."""
-    return hashlib.pbkdf2_hmac("sha256", password, salt, 10_000, 80)
+def keys(password: bytes, salt: bytes) -> Keys:
+    """Derive the keys of 32 bytes each, and the first counter block."""
+    derived = hashlib.pbkdf2_hmac("sha256", password, salt, 10_000, 80)
+    return Keys(derived[:32], derived[32:64], derived[64:])
 
 
 def aes_ctr(key: bytes, counter: bytes, data: bytes) -> bytes:
@@ -66,20 +74,21 @@ def counter_mode(key: bytes, counter: bytes, data: bytes) -> bytes:
 
 
 def tag_of(password: bytes, salt: bytes, ciphertext: bytes) -> bytes:
-    return hmac.digest(keys(password, salt)[32:64], ciphertext, "sha256")
+    return hmac.digest(keys(password, salt).tag_key, ciphertext, "sha256")
 
 
 def apply_keystream(password: bytes, salt: bytes, data: bytes) -> bytes:
     """Encrypt or decrypt: in counter mode, both are the same."""
     derived = keys(password, salt)
-    return counter_mode(derived[:32], derived[64:], data)
+    return counter_mode(derived.cipher_key, derived.counter, data)
 
 
-def parts(password: bytes, padded_plaintext: bytes, salt: bytes = SALT) -> tuple[bytes, bytes, bytes]:
-    """Return the salt, the tag and the ciphertext. The padding need not be valid."""
+def seal_padded(password: bytes, padded_plaintext: bytes, label: bytes = b"", salt: bytes = SALT) -> bytes:
+    """Return an envelope, in format 1.1 if there is no label. The padding need not be valid."""
     ciphertext = apply_keystream(password, salt, padded_plaintext)
-    return salt, tag_of(password, salt, ciphertext), ciphertext
+    tag = tag_of(password, salt, ciphertext)
+    return serialized(salt, tag, ciphertext, label)
 
 
 def seal(password: bytes, plaintext: bytes, label: bytes = b"", salt: bytes = SALT) -> bytes:
-    return serialized(*parts(password, padded(plaintext), salt), label)
+    return seal_padded(password, padded(plaintext), label, salt)
