@@ -21,7 +21,7 @@ from lib.cases import OLD, TEXT, Cases, by_file
 from lib.needs import needs
 from lib.preloaded import build_library, run_with
 from lib.processes import SECONDS, started
-from lib.system_calls import Call, own_calls, tracing
+from lib.system_calls import Call, split_calls, tracing
 from model.faults import Fault
 
 pytestmark = pytest.mark.faults
@@ -52,7 +52,7 @@ def refusals(program: str, scenario: Scenario) -> Iterator[Refusal]:
     """Make a run without a failure, and yield each of its calls with each error."""
     with tempfile.NamedTemporaryFile() as log:
         left = scenario.run([*tracing(Path(log.name)), program])
-        loading, own = own_calls(Path(log.name))
+        loading, own = split_calls(Path(log.name))
     assert left == scenario.fault_free()
     counts = Counter(call.name for call in loading)
     for call in own:

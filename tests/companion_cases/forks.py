@@ -41,4 +41,4 @@ class Forks:
         assert self.server.stdin and self.server.stdout
         self.server.stdin.write(f"{json.dumps(request)}\n")
         self.server.stdin.flush()
-        return Run(*json.loads(self.server.stdout.readline()))
+        return Run(**json.loads(self.server.stdout.readline()))

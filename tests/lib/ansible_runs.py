@@ -12,7 +12,18 @@ import sys
 import tempfile
 from pathlib import Path
 from subprocess import PIPE, Popen
-from typing import Any
+from typing import Any, NamedTuple
+
+# The status of a run that an exception has ended.
+FAILED = 250
+
+
+class AnsibleRun(NamedTuple):
+    """What is left of a run."""
+
+    status: int
+    output: bytes
+    errors: str
 
 
 class AnsibleRuns:
@@ -20,7 +31,8 @@ class AnsibleRuns:
 
     def __init__(self, ansible: str, home: Path) -> None:
         """Start the process. `home` is an empty directory, so Ansible finds no settings there."""
-        interpreter = Path(ansible).resolve().read_bytes().partition(b"\n")[0].decode().removeprefix("#!").split()
+        first_line, _, _ = Path(ansible).resolve().read_bytes().partition(b"\n")
+        interpreter = first_line.decode().removeprefix("#!").split()
         environment = {"HOME": str(home), "PATH": os.environ["PATH"], "LC_ALL": "C.UTF-8"}
         words = [*interpreter, "-B", __file__, ansible]
         self.process = Popen(words, env=environment, cwd=home, text=True, stdin=PIPE, stdout=PIPE)
@@ -34,12 +46,12 @@ class AnsibleRuns:
         self.requests.close()
         self.process.wait()
 
-    def run(self, words: list[str], folder: Path, environment: dict[str, str]) -> tuple[int, bytes, str]:
-        """Return the status, standard output and standard error of a run."""
-        self.requests.write(json.dumps([words, str(folder), environment]) + "\n")
+    def run(self, words: list[str], folder: Path, environment: dict[str, str]) -> AnsibleRun:
+        request = {"words": words, "folder": str(folder), "environment": environment}
+        self.requests.write(f"{json.dumps(request)}\n")
         self.requests.flush()
-        status, output, errors = json.loads(self.answers.readline())
-        return status, output.encode("latin-1"), errors
+        left = json.loads(self.answers.readline())
+        return AnsibleRun(left["status"], left["output"].encode("latin-1"), left["errors"])
 
 
 def use_settings(environment: dict[str, str]) -> None:
@@ -58,13 +70,14 @@ def use_settings(environment: dict[str, str]) -> None:
         constants.set_constant(name, config.get_config_value(name, variables=vars(constants)))
 
 
-def run_in_child(words: list[str], folder: str, environment: dict[str, str], *streams: int) -> None:
-    status = 250
+def run_in_child(output: int, errors: int, words: list[str], folder: str, environment: dict[str, str]) -> None:
+    """Become the tool, with these descriptors for its streams, and end as it does."""
+    status = FAILED
     try:
         os.setsid()
         os.chdir(folder)
-        for target, source in enumerate((os.open(os.devnull, os.O_RDONLY), *streams)):
-            os.dup2(source, target)
+        for number, stream in enumerate((os.open(os.devnull, os.O_RDONLY), output, errors)):
+            os.dup2(stream, number)
         sys.stdin, sys.stdout = open(0), open(1, "w")
         use_settings(environment)
         sys.argv[1:] = words
@@ -78,15 +91,20 @@ def run_in_child(words: list[str], folder: str, environment: dict[str, str], *st
         os._exit(status)
 
 
-def forked(request: list[Any]) -> list[Any]:
+def answer(request: dict[str, Any]) -> dict[str, Any]:
+    """Run the tool in a child. Its output may have any bytes, which JSON has as characters."""
     with tempfile.TemporaryFile() as output, tempfile.TemporaryFile() as errors:
         child = os.fork()
         if not child:
-            run_in_child(*request, output.fileno(), errors.fileno())
+            run_in_child(output.fileno(), errors.fileno(), **request)
         status = os.waitstatus_to_exitcode(os.waitpid(child, 0)[1])
         output.seek(0)
         errors.seek(0)
-        return [status, output.read().decode("latin-1"), errors.read().decode(errors="replace")]
+        return {
+            "status": status,
+            "output": output.read().decode("latin-1"),
+            "errors": errors.read().decode(errors="replace"),
+        }
 
 
 def main() -> None:
@@ -97,7 +115,7 @@ def main() -> None:
     sys.argv.pop(0)
     importlib.import_module("ansible.cli.vault")
     for line in sys.stdin:
-        replies.write(json.dumps(forked(json.loads(line))) + "\n")
+        replies.write(f"{json.dumps(answer(json.loads(line)))}\n")
         replies.flush()
 
 

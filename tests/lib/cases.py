@@ -44,12 +44,12 @@ class Cases:
     def __init__(self, program: str, folder: Path) -> None:
         self.program = os.path.abspath(program)
         self.folder = folder
-        self.files = 0
+        self.path_count = 0
 
     def path(self) -> str:
         """Return a new path, where no file exists yet."""
-        self.files += 1
-        return str(self.folder / f"file{self.files}")
+        self.path_count += 1
+        return str(self.folder / f"file{self.path_count}")
 
     def file(self, content: bytes, mode: int = 0o644) -> str:
         """Create a file, and return its path."""

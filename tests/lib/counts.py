@@ -25,7 +25,7 @@ PARTS: dict[str, str | tuple[str, ...]] = {
 }
 REST, TOTAL = "the rest", "total"
 # What the compiler and the kit write into a program, and the processor it is built for.
-BUILT_BY = re.compile(rb"Linker: (LLD [\d.]+)|(rattle logic=[0-9a-f]{16})|(x86-64-v\d)(?=, which)")
+BUILT_BY = re.compile(rb"Linker: LLD [\d.]+|rattle logic=[0-9a-f]{16}|x86-64-v\d(?=, which)")
 
 
 class Done(NamedTuple):
@@ -38,7 +38,7 @@ class Done(NamedTuple):
 
 def built_by(program: str) -> str:
     """Return the compiler and the kit that built a program, and the processor it is built for."""
-    found = {b"".join(each).decode() for each in BUILT_BY.findall(Path(program).read_bytes())}
+    found = {match[0].removeprefix(b"Linker: ").decode() for match in BUILT_BY.finditer(Path(program).read_bytes())}
     return ", ".join(sorted(found))
 
 
@@ -55,8 +55,12 @@ def functions_of(profile: str) -> Counter[str]:
     """Count the instructions of each function itself, from a callgrind file without compressed names. The line after
     `calls=` is the cost of the call, which is counted in the called function."""
     counts: Counter[str] = Counter()
-    for part in re.sub(r"^calls=.*\n.*\n", "", profile, flags=re.MULTILINE).split("\nfn=")[1:]:
-        counts[part.partition("\n")[0].strip()] += sum(map(int, re.findall(r"^\d+ (\d+)$", part, re.MULTILINE)))
+    without_calls = re.sub(r"^calls=.*\n.*\n", "", profile, flags=re.MULTILINE)
+    _, *functions = without_calls.split("\nfn=")
+    for function in functions:
+        name, _, lines = function.partition("\n")
+        costs = re.findall(r"^\d+ (\d+)$", lines, re.MULTILINE)
+        counts[name.strip()] += sum(int(cost) for cost in costs)
     return counts
 
 
@@ -80,9 +84,17 @@ count_instructions = partial(counted, functions_of)
 count_calls = partial(counted, calls_of)
 
 
+def part_of(name: str) -> str:
+    """Return the part that has the function with this name."""
+    for part, prefix in PARTS.items():
+        if name.startswith(prefix):
+            return part
+    return REST
+
+
 def parts_of(functions: Counter[str]) -> dict[str, int]:
     """Return the instructions of each part, and the total."""
     parts = dict.fromkeys([*PARTS, REST], 0)
     for name, count in functions.items():
-        parts[next((part for part, start in PARTS.items() if name.startswith(start)), REST)] += count
+        parts[part_of(name)] += count
     return {**parts, TOTAL: functions.total()}

@@ -30,6 +30,7 @@ def start(main: dict[str, Any], words: list[str], folder: str, environment: dict
 
 
 def answer(companions: dict[str, dict[str, Any]], words: list[str], folder: str, environment: dict[str, str]) -> object:
+    """Run a companion, and return the parts of a `Run`."""
     streams = [os.open(os.devnull, os.O_RDONLY), os.memfd_create("output"), os.memfd_create("errors")]
     child = os.fork()
     if child == 0:
@@ -37,10 +38,21 @@ def answer(companions: dict[str, dict[str, Any]], words: list[str], folder: str,
             os.dup2(stream, number)
         start(companions[words[0]], words, folder, environment)
     _, status, used = os.wait4(child, 0)
-    texts = [os.pread(stream, os.fstat(stream).st_size, 0).decode(errors="surrogateescape") for stream in streams[1:]]
+    _, output, errors = streams
+    left = {
+        "status": os.waitstatus_to_exitcode(status),
+        "output": read_all(output),
+        "errors": read_all(errors),
+        "seconds": used.ru_utime + used.ru_stime,
+        "kilobytes": used.ru_maxrss,
+    }
     for stream in streams:
         os.close(stream)
-    return [os.waitstatus_to_exitcode(status), *texts, used.ru_utime + used.ru_stime, used.ru_maxrss]
+    return left
+
+
+def read_all(stream: int) -> str:
+    return os.pread(stream, os.fstat(stream).st_size, 0).decode(errors="surrogateescape")
 
 
 def serve(folder: Path) -> None:

@@ -62,7 +62,9 @@ def check_starts(library: str, *start: str) -> None:
         done = run_text([*start, "/usr/bin/python3", "-IBv", f"{library}/{name}", "--help"])
         read = re.findall(rf"^# code object from '?{re.escape(library)}/([^'\n]+)", done.stderr, re.MULTILINE)
         sources = [path for path in read if not path.endswith(".pyc")]
-        assert (done.returncode, bool(read), sources) == (0, True, []), name
+        assert done.returncode == 0, f"{name} prints its help: {done.stderr}"
+        assert read != [], f"{name} reads modules"
+        assert sources == [], f"the modules that {name} has to compile"
 
 
 def check_program(program: pathlib.Path, where: str) -> None:

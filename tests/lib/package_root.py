@@ -60,7 +60,7 @@ class Root:
             (self.path / folder).symlink_to(f"usr/{folder}")
         for file, text in {"status": "", "available": "", "info/format": "1\n"}.items():
             (self.path / "var/lib/dpkg" / file).write_text(text)
-        self._copy({*TOOLS, *(each for tool in [*TOOLS, program] for each in libraries(tool))})
+        self._copy({*TOOLS, *libraries(*TOOLS, program)})
 
     def dpkg(self, *words: str) -> subprocess.CompletedProcess[str]:
         return run_text(["dpkg", f"--root={self.path}", *words], env=os.environ | {"LC_ALL": "C"})
@@ -74,7 +74,7 @@ class Root:
             shutil.copytree(folder, f"{self.path}{folder}", ignore=ignored)
         programs = [python, "/usr/bin/dpkg", "/usr/bin/dpkg-query"]
         extensions = [str(path) for path in Path(library, "lib-dynload").iterdir()]
-        self._copy({each for file in [*programs, *extensions] for each in libraries(file)})
+        self._copy(libraries(*programs, *extensions))
         self._copy({*programs, "/usr/bin/python3", "/usr/bin/py3compile"})
         # For /dev/null, to which postinst writes.
         (self.path / "dev").mkdir()
@@ -103,5 +103,9 @@ class Root:
         return self.run("/usr/bin/dpkg-divert", "--list")
 
 
-def libraries(program: str) -> list[str]:
-    return re.findall(r"(/\S+) \(0x", run_text(["ldd", program], check=True).stdout)
+def libraries(*files: str) -> set[str]:
+    """Return the libraries that these programs and libraries load."""
+    found: set[str] = set()
+    for file in files:
+        found.update(re.findall(r"(/\S+) \(0x", run_text(["ldd", file], check=True).stdout))
+    return found

@@ -11,6 +11,7 @@ COMPANIONS = {path.name: path for path in sorted((ROOT / "companions").glob("ans
 
 def sections(page: Path) -> dict[str, str]:
     """Return the sections of a manual page, by title."""
+    # Titles and sections take turns.
     _, *parts = re.split(r"^\.Sh (.+)$", page.read_text(), flags=re.MULTILINE)
     return dict(zip(parts[::2], parts[1::2]))
 

@@ -26,6 +26,7 @@ def steps(document: str) -> list[Step]:
 
 
 def steps_of(block: str) -> list[Step]:
+    # Commands and outputs take turns.
     _, *parts = re.split(r"^\$ ((?:.*\\\n)*.*)$", block, flags=re.MULTILINE)
     return [Step(command, printed.strip("\n")) for command, printed in zip(parts[::2], parts[1::2])]
 

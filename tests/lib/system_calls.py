@@ -1,6 +1,7 @@
 """The system calls of a run, as strace logs them."""
 
 import re
+from itertools import takewhile
 from pathlib import Path
 from typing import NamedTuple
 
@@ -36,8 +37,15 @@ class Call(NamedTuple):
         return int(self.args.split(",")[0])
 
 
+class Calls(NamedTuple):
+    """The calls of the loader, including `execve`, and those of the program."""
+
+    loading: list[Call]
+    own: list[Call]
+
+
 class Traced(NamedTuple):
-    """A finished run; `loading` are the loader's calls, and `own` the program's."""
+    """A finished run."""
 
     status: int
     output: bytes | None
@@ -60,15 +68,19 @@ def calls_in(log: str) -> list[Call]:
     return calls
 
 
-def own_calls(log: Path, programs: int = 1) -> tuple[list[Call], list[Call]]:
-    """Return the loader's calls, including `execve`, and the program's own. If a run executes several programs, one
-    after the other, return the calls of the last."""
+def split_calls(log: Path, programs: int = 1) -> Calls:
+    """Return the calls in a log. If a run executes several programs, one after the other, return those of the last."""
     calls = calls_in(log.read_text())
     started = [number for number, call in enumerate(calls) if call.name == "execve" and not call.error]
     execve, *calls = calls[started[programs - 1] :]
-    near = [abs(call.address - calls[0].address) < LOADER_LENGTH or call.name in OF_THE_LOADER for call in calls]
-    first = [*near, False].index(False)
-    return [execve, *calls[:first]], calls[first:]
+    # The first call is the loader's.
+    loading = [*takewhile(lambda call: is_near(call, calls[0]) or call.name in OF_THE_LOADER, calls)]
+    return Calls([execve, *loading], calls[len(loading) :])
+
+
+def is_near(call: Call, of_loader: Call) -> bool:
+    """Return whether a call comes from the same code as one of the loader's."""
+    return abs(call.address - of_loader.address) < LOADER_LENGTH
 
 
 def tracing(log: Path) -> list[str]:
@@ -78,4 +90,5 @@ def tracing(log: Path) -> list[str]:
 
 def trace(words: list[str], log: Path, programs: int = 1, stdin: bytes = b"") -> Traced:
     done = run([*tracing(log), *words], stdin)
-    return Traced(done.returncode, done.stdout, done.stderr, *own_calls(log, programs))
+    calls = split_calls(log, programs)
+    return Traced(done.returncode, done.stdout, done.stderr, calls.loading, calls.own)

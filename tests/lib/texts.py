@@ -30,8 +30,9 @@ def mistakes_path(name: str) -> Path:
 
 def stored_mistakes(name: str) -> dict[str, str]:
     """Return the stored texts, by command line."""
-    parts = re.split(rf"^{re.escape(PROMPT)} ?(.*)\n", mistakes_path(name).read_text(), flags=re.MULTILINE)
-    return {line: text[:-1] for line, text in zip(parts[1::2], parts[2::2])}
+    # Lines and their texts take turns, each with an empty line at its end.
+    _, *parts = re.split(rf"^{re.escape(PROMPT)} ?(.*)\n", mistakes_path(name).read_text(), flags=re.MULTILINE)
+    return {line: text.removesuffix("\n") for line, text in zip(parts[::2], parts[1::2])}
 
 
 def printed(program: str, words: list[str]) -> str:
@@ -42,7 +43,8 @@ def printed(program: str, words: list[str]) -> str:
 def write(program: str) -> None:
     """Store what the program prints."""
     for name in NAMES:
-        help_path(name).write_text(printed(program, [*([] if name == PROGRAM else [name]), "--help"]))
+        command = [] if name == PROGRAM else [name]
+        help_path(name).write_text(printed(program, [*command, "--help"]))
         lines = [*stored_mistakes(name)] if mistakes_path(name).exists() else [f"{name} --loud"]
         texts = [f"{PROMPT} {line}".rstrip() + f"\n{printed(program, line.split())}\n" for line in lines]
         mistakes_path(name).write_text("".join(texts))
