@@ -1,5 +1,7 @@
 """What teams do with vaults and values, which the hook lets through, and how secrets leak, which it refuses."""
 
+from typing import NamedTuple
+
 import pytest
 
 from companion_cases import HOOK, TEXT, Place, block, ended, sealed, silent
@@ -11,25 +13,47 @@ pytestmark = pytest.mark.usefixtures("git")
 Content = bytes | dict[str, bytes]
 
 
+class Change(NamedTuple):
+    """What a commit has, what the next one has in its place, and why that is refused, if it is, with the name of the
+    file if that is not a.yml."""
+
+    before: Content
+    after: Content
+    why: str = ""
+
+
+def indented(lines: bytes) -> bytes:
+    return b"".join(b"  " + line for line in lines.splitlines(keepends=True))
+
+
 def below(key: bytes, value: bytes) -> bytes:
     """Return the lines of YAML as the value of a key."""
-    return key + b":\n" + b"".join(b"  " + line for line in value.splitlines(keepends=True))
+    return key + b":\n" + indented(value)
+
+
+def item(value: bytes) -> bytes:
+    """Return the lines of YAML as an item of a list."""
+    return b"-" + indented(value)
 
 
 def users(*items: bytes) -> bytes:
-    return b"users:\n" + b"".join(b"-" + below(b"", item)[2:] for item in items)
+    return b"users:\n" + b"".join(item(each) for each in items)
 
 
+# Two vaults, and two envelopes of one value.
 VAULT, OTHER = sealed("old"), sealed("new")
+PW, PW2 = block("old", name="pw"), block("new", name="pw")
 # Vaults that the tool does not read.
 CUT = VAULT[:-100]
 AES = b"$ANSIBLE_VAULT;1.0;AES\n" + b"61" * 40 + b"\n"
-PW, PW2 = block("old", name="pw"), block("new", name="pw")
 IN_JSON = b'{"db": {"__ansible_vault": "%s"}}\n' % VAULT.replace(b"\n", b"\\n")
+# The value under another name, in plaintext, and as an expression that refers to the other name.
 HIDDEN = PW.replace(b"pw:", b"vault_pw:")
 PLAIN = b"pw: plain\n"
 JINJA = b'pw: "{{ vault_pw }}"\n'
+# A line that makes no difference.
 X = b"x: 1\n"
+# The value below a key, and in plaintext there; and an anchor of the former.
 DB, DB_PLAIN = below(b"db", PW), below(b"db", PLAIN)
 ANCHOR = below(b"x", DB).replace(b"x:", b"x: &x")
 CONFLICT = b"<<<<<<< HEAD\n%b=======\n%b>>>>>>> branch\n"
@@ -44,71 +68,74 @@ IN_ADVANCE = {".gitattributes": PLANTED}
 POINTER = b"version https://git-lfs.github.com/spec/v1\noid sha256:61\nsize 5\n"
 TAB = b"\tx: 1\n"
 
-# What a commit has in place of what was there before.
-PASSING: dict[str, tuple[Content, Content]] = {
-    "braces and strings in an expression": (PW, b"pw: \"{{ {'a': {'b': x, 'c': '}}'}} }}{{ '{{' ~ y }}\"\n"),
-    "an expression on several lines": (PW, b"pw: >-\n  {{ lookup('env',\n  'PW') }}\n"),
-    "nothing": (PW + HIDDEN + DB, b"pw: ~\nvault_pw: Null\ndb: {pw: ''}\n"),
-    "an empty file": ({"a.yml": VAULT, "b.yml": PW}, {"a.yml": b"\n", "b.yml": b""}),
-    "a removed item": (users(PW, PW2, PLAIN), users(PW2, PLAIN)),
-    "another item, and another order": (users(PW, PW2), users(PW2, PLAIN, PW)),
-    "a removed list in a playbook": (b"-" + below(b"", below(b"vars", PW))[2:], {"b.yml": b"- name: x\n- plain\n"}),
-    "Jinja, and the value in another file": (PW + X, {"a.yml": JINJA + X, "vault.yml": HIDDEN}),
-    "a value that moves, and a plain one": (PW + X, {"a.yml": X, "b.yml": PW, "c.yml": PLAIN}),
-    "values encrypted again, and defaults": (PW, {"a.yml": PW2, "defaults/main.yml": PLAIN}),
-    "a plaintext that was there": ({"a.yml": PW + X, "b.yml": PLAIN}, {"a.yml": X, "b.yml": PLAIN + X}),
-    "a host in place of another": ({"10.0.0.1.yml": VAULT}, {"10.0.0.2.yml": X, "a.b.yml": X, "a.c.yml": X}),
-    "a renamed plain file near a vault": ({"a/x.yml": VAULT, "b/x.yml": LINES}, {"c/x.yml": LINES + X}),
-    "a role in place of another": ({"a/vars/main.yml": VAULT}, {"b/vars/main.yml": TEXT + X}),
-    "a template": ({"a.j2": PW}, {"a.j2": b"{% if x %}\n" + PW2 + b"{% endif %}\n"}),
-    "a test of the header": (X, {"a.py": b'HEADER = "$ANSIBLE_VAULT;1.1;AES256"\n'}),
-    "a document with a cut example": (X, {"a.md": b"```\n" + PW[:200] + b"\n```\n"}),
-    "a vault split in two": ({"b/all.yml": VAULT}, {"b/all/vars.yml": JINJA, "b/all/vault.yml": OTHER}),
-    "one vault of a name for another": ({"a/x.yml": VAULT, "y": X}, {"b/x.yml": OTHER, "c/x.yml": X, "y": X}),
-    "expressions in a file of its name": ({"a/x.yml": VAULT, "y": X}, {"b/x.yml": JINJA}),
-    "tasks and a play of its name": (
+PASSING = {
+    "braces and strings in an expression": Change(PW, b"pw: \"{{ {'a': {'b': x, 'c': '}}'}} }}{{ '{{' ~ y }}\"\n"),
+    "an expression on several lines": Change(PW, b"pw: >-\n  {{ lookup('env',\n  'PW') }}\n"),
+    "nothing": Change(PW + HIDDEN + DB, b"pw: ~\nvault_pw: Null\ndb: {pw: ''}\n"),
+    "an empty file": Change({"a.yml": VAULT, "b.yml": PW}, {"a.yml": b"\n", "b.yml": b""}),
+    "a removed item": Change(users(PW, PW2, PLAIN), users(PW2, PLAIN)),
+    "another item, and another order": Change(users(PW, PW2), users(PW2, PLAIN, PW)),
+    "a removed list in a playbook": Change(item(below(b"vars", PW)), {"b.yml": b"- name: x\n- plain\n"}),
+    "Jinja, and the value in another file": Change(PW + X, {"a.yml": JINJA + X, "vault.yml": HIDDEN}),
+    "a value that moves, and a plain one": Change(PW + X, {"a.yml": X, "b.yml": PW, "c.yml": PLAIN}),
+    "values encrypted again, and defaults": Change(PW, {"a.yml": PW2, "defaults/main.yml": PLAIN}),
+    "a plaintext that was there": Change({"a.yml": PW + X, "b.yml": PLAIN}, {"a.yml": X, "b.yml": PLAIN + X}),
+    "a host in place of another": Change({"10.0.0.1.yml": VAULT}, {"10.0.0.2.yml": X, "a.b.yml": X, "a.c.yml": X}),
+    "a renamed plain file near a vault": Change({"a/x.yml": VAULT, "b/x.yml": LINES}, {"c/x.yml": LINES + X}),
+    "a role in place of another": Change({"a/vars/main.yml": VAULT}, {"b/vars/main.yml": TEXT + X}),
+    "a template": Change({"a.j2": PW}, {"a.j2": b"{% if x %}\n" + PW2 + b"{% endif %}\n"}),
+    "a test of the header": Change(X, {"a.py": b'HEADER = "$ANSIBLE_VAULT;1.1;AES256"\n'}),
+    "a document with a cut example": Change(X, {"a.md": b"```\n" + PW[:200] + b"\n```\n"}),
+    "a vault split in two": Change({"b/all.yml": VAULT}, {"b/all/vars.yml": JINJA, "b/all/vault.yml": OTHER}),
+    "one vault of a name for another": Change({"a/x.yml": VAULT, "y": X}, {"b/x.yml": OTHER, "c/x.yml": X, "y": X}),
+    "expressions in a file of its name": Change({"a/x.yml": VAULT, "y": X}, {"b/x.yml": JINJA}),
+    "tasks and a play of its name": Change(
         {"a/x.yml": VAULT, "y": X},
         {"t/x.yml": b'- debug: "{{ x }}"\n', "x.yml": b"- hosts: x\n"},
     ),
-    "a locked account beside a rotation": (users(PW), users(PW2, b"pw: '!'\n", b"pw: '*'\n")),
-    "a value encrypted again elsewhere, and another default": (
+    "a locked account beside a rotation": Change(users(PW), users(PW2, b"pw: '!'\n", b"pw: '*'\n")),
+    "a value encrypted again elsewhere, and another default": Change(
         {"a.yml": PW + X, "c.yml": PLAIN},
         {"a.yml": X, "b.yml": PW2, "c.yml": b"pw: default\n"},
     ),
-    "users by name": (users(PW), below(b"users", below(b"a", PW) + below(b"b", PLAIN))),
-    "fixtures": (FIXTURES, FIXTURES | {"t/a.yml": VAULT, "t/b.yml": CUT, "t/c.yml": b"pw: !vault x\n" + PW2}),
-    "encrypted again": ({"a.yml": PLAIN, **EXEMPT}, {"a.yml": PW, **EXEMPT}),
-    "a repaired file with as many values": (TAB + PW, PW2 + X),
-    "a broken file beside a value that stays": ({"a.yml": PW + X, "b.yml": X}, {"a.yml": PW + X, "b.yml": TAB}),
-    "a broken file beside a value encrypted again": ({"a.yml": PW, "b.yml": X}, {"a.yml": PW2, "b.yml": TAB + PLAIN}),
-    "a broken file beside a value that moves": (
+    "users by name": Change(users(PW), below(b"users", below(b"a", PW) + below(b"b", PLAIN))),
+    "fixtures": Change(FIXTURES, FIXTURES | {"t/a.yml": VAULT, "t/b.yml": CUT, "t/c.yml": b"pw: !vault x\n" + PW2}),
+    "encrypted again": Change({"a.yml": PLAIN, **EXEMPT}, {"a.yml": PW, **EXEMPT}),
+    "a repaired file with as many values": Change(TAB + PW, PW2 + X),
+    "a broken file beside a value that stays": Change({"a.yml": PW + X, "b.yml": X}, {"a.yml": PW + X, "b.yml": TAB}),
+    "a broken file beside a value encrypted again": Change(
+        {"a.yml": PW, "b.yml": X}, {"a.yml": PW2, "b.yml": TAB + PLAIN}
+    ),
+    "a broken file beside a value that moves": Change(
         {"a.yml": PW + X, "b.yml": X},
         {"a.yml": X, "b.yml": TAB, "c.yml": PW},
     ),
-    "a template beside a removed value": ({"a.yml": PW + X}, {"a.yml": X, "b.yml.j2": b"{% if x %}\n" + PLAIN}),
-    "a page and binary data beside a removed value": (
+    "a template beside a removed value": Change({"a.yml": PW + X}, {"a.yml": X, "b.yml.j2": b"{% if x %}\n" + PLAIN}),
+    "a page and binary data beside a removed value": Change(
         {"a.yml": PW + X},
         {"a.yml": X, "b.md": TAB + PLAIN, "c.bin": b"\0" + PLAIN},
     ),
-    "fixtures that change": (FIXTURES | {"t/c.yml": PW}, FIXTURES | {"t/c.yml": PW2 + b"x: !vault x\n"}),
-    "two vaults of a name for two": (
+    "fixtures that change": Change(FIXTURES | {"t/c.yml": PW}, FIXTURES | {"t/c.yml": PW2 + b"x: !vault x\n"}),
+    "two vaults of a name for two": Change(
         {"a/x.yml": VAULT, "b/x.yml": OTHER},
         {"c/x.yml": sealed("dev"), "d/x.yml": sealed("prod"), "e/x.yml": X},
     ),
-    "a text and a list without keys, and others": (
+    "a text and a list without keys, and others": Change(
         {"a.yml": b"- " + PW[4:], "b.yml": PW[4:]},
         {"c.yml": PLAIN, "d.yml": b"- name: x\n", "e.txt": b"text\n"},
     ),
-    "a value, and a play": (
+    "a value, and a play": Change(
         {"a.yml": PW + DB + X, "p.yml": b"- hosts: x\n"},
         {"a.yml": X, "p.yml": b"- hosts: y\n  pw: z\n"},
     ),
-    "a value, and a list of another name": (
+    "a value, and a list of another name": Change(
         {"a.yml": DB, "y": X},
         {"b.yml": b"db: [{name: x}]\nx: {pw: x}\n", "y": X},
     ),
-    "a byte order mark": (PW, b"\xef\xbb\xbf" + PW2),
-    "meant damage": (X, {"a.txt": CONFLICT % (PW, CUT), ".gitattributes": b"*.txt -ansible-vault diff=ansible-vault"}),
+    "a byte order mark": Change(PW, b"\xef\xbb\xbf" + PW2),
+    "meant damage": Change(
+        X, {"a.txt": CONFLICT % (PW, CUT), ".gitattributes": b"*.txt -ansible-vault diff=ansible-vault"}
+    ),
 }
 pw, db, elsewhere = (IN_PART.format(key) for key in ("pw", "db.pw", "db.pw of a.yml"))
 DAMAGED = "is a damaged vault"
@@ -123,166 +150,171 @@ FEWER = "has fewer envelopes than in HEAD, and cannot be compared with what it w
 GONE_ROLE = f"b/vars/main.yml {GONE.format('a/vars/main.yml')}"
 LFS = "is a pointer of git-lfs, so its content cannot be checked"
 TOKEN = "found character that cannot start any token"
-# The same of commits that are to be refused, with the reason, and with the file if that is not a.yml.
-REFUSED: dict[str, tuple[Content, Content, str]] = {
-    "a vault of another format": (AES, TEXT, WHOLE),
-    "a vault, now values": (VAULT, PW, WHOLE),
-    "a vault, now binary": (VAULT, b"\0\1\2", WHOLE),
-    "a vault that git calls renamed": (VAULT, {"b.txt": b"text:\n" + VAULT}, f"b.txt {WHOLE}"),
-    "another folder": ({"one/a.yml": VAULT}, {"two/a.yml": TEXT}, f"two/a.yml {GONE.format('one/a.yml')}"),
-    "fewer folders": ({"x/y/a.yml": VAULT}, {"y/a.yml": TEXT}, f"y/a.yml {GONE.format('x/y/a.yml')}"),
-    "another suffix of main": ({"main.yml": VAULT}, {"main.json": TEXT}, f"main.json {GONE.format('main.yml')}"),
-    "another directory, deeper": ({"a/x.yml": VAULT}, {"b/c/x.yml": TEXT}, f"b/c/x.yml {GONE.format('a/x.yml')}"),
-    "another name's pointer": ({"a/x.yml": VAULT}, {"b/x.yml": POINTER}, f"b/x.yml {LFS}"),
-    "a renamed role": ({"a/vars/main.yml": VAULT}, {"b/vars/main.yml": TEXT}, GONE_ROLE),
-    "a list by another name": ({"a.yml": VAULT}, {"a.txt": b"- " + TEXT}, f"a.txt {GONE.format('a.yml')}"),
-    "a list and a mapping": (
+REFUSED = {
+    "a vault of another format": Change(AES, TEXT, WHOLE),
+    "a vault, now values": Change(VAULT, PW, WHOLE),
+    "a vault, now binary": Change(VAULT, b"\0\1\2", WHOLE),
+    "a vault that git calls renamed": Change(VAULT, {"b.txt": b"text:\n" + VAULT}, f"b.txt {WHOLE}"),
+    "another folder": Change({"one/a.yml": VAULT}, {"two/a.yml": TEXT}, f"two/a.yml {GONE.format('one/a.yml')}"),
+    "fewer folders": Change({"x/y/a.yml": VAULT}, {"y/a.yml": TEXT}, f"y/a.yml {GONE.format('x/y/a.yml')}"),
+    "another suffix of main": Change({"main.yml": VAULT}, {"main.json": TEXT}, f"main.json {GONE.format('main.yml')}"),
+    "another directory, deeper": Change({"a/x.yml": VAULT}, {"b/c/x.yml": TEXT}, f"b/c/x.yml {GONE.format('a/x.yml')}"),
+    "another name's pointer": Change({"a/x.yml": VAULT}, {"b/x.yml": POINTER}, f"b/x.yml {LFS}"),
+    "a renamed role": Change({"a/vars/main.yml": VAULT}, {"b/vars/main.yml": TEXT}, GONE_ROLE),
+    "a list by another name": Change({"a.yml": VAULT}, {"a.txt": b"- " + TEXT}, f"a.txt {GONE.format('a.yml')}"),
+    "a list and a mapping": Change(
         {"a/x.yml": VAULT},
         {"b/x.yml": b"- plain\n---\nx: 1\n"},
         f"b/x.yml {GONE.format('a/x.yml')}",
     ),
-    "another case": ({"A/x.yml": VAULT}, {"a/X.yml": TEXT}, f"a/X.yml {GONE.format('A/x.yml')}"),
-    "a directory for a file": ({"b/x.yml": VAULT}, {"b/x/main.yml": TEXT}, f"b/x/main.yml {GONE.format('b/x.yml')}"),
-    "a file for a directory": ({"b/x/y.yml": VAULT}, {"b/x.yml": TEXT}, f"b/x.yml {GONE.format('b/x/y.yml')}"),
-    "one of two of a name": (
+    "another case": Change({"A/x.yml": VAULT}, {"a/X.yml": TEXT}, f"a/X.yml {GONE.format('A/x.yml')}"),
+    "a directory for a file": Change(
+        {"b/x.yml": VAULT}, {"b/x/main.yml": TEXT}, f"b/x/main.yml {GONE.format('b/x.yml')}"
+    ),
+    "a file for a directory": Change({"b/x/y.yml": VAULT}, {"b/x.yml": TEXT}, f"b/x.yml {GONE.format('b/x/y.yml')}"),
+    "one of two of a name": Change(
         {"a/x.yml": VAULT, "b/x.yml": OTHER},
         {"c/x.yml": sealed("dev"), "d/x.yml": TEXT},
         f"d/x.yml {GONE.format('b/x.yml')}",
     ),
-    "the other of two of a name": (
+    "the other of two of a name": Change(
         {"a/x.yml": VAULT, "b/x.yml": OTHER},
         {"c/x.yml": sealed("dev"), "a/x.json": TEXT},
         f"a/x.json {GONE.format('a/x.yml')}",
     ),
-    "a directory for a file without suffix": (
+    "a directory for a file without suffix": Change(
         {"g/all": VAULT},
         {"g/all/x.yml": TEXT},
         f"g/all/x.yml {GONE.format('g/all')}",
     ),
-    "a file without suffix for a directory": (
+    "a file without suffix for a directory": Change(
         {"g/all/x.yml": VAULT},
         {"g/all": TEXT},
         f"g/all {GONE.format('g/all/x.yml')}",
     ),
-    "a key that is spelled like an item": (
+    "a key that is spelled like an item": Change(
         below(b"x", b'"[]": 1\n' + PW),
         below(b"x", b'"[]": 1\n' + PLAIN) + below(b"y", PW),
         IN_PART.format("x.pw"),
     ),
-    "a mapping with such a key, by the name of a vault": (
+    "a mapping with such a key, by the name of a vault": Change(
         {"a/x.yml": VAULT},
         {"b/x.yml": b'"[]": plain text\n'},
         f"b/x.yml {GONE.format('a/x.yml')}",
     ),
-    "a vault, now in git-lfs": (VAULT, POINTER, LFS),
-    "values, now in git-lfs": (PW, POINTER, LFS),
-    "an exempt fixture": (FIXTURES | {"t/a.yml": VAULT}, FIXTURES | {"t/a.yml": TEXT}, f"t/a.yml {WHOLE}"),
-    "a value exempt in advance": ({"a.yml": PW, **EXEMPT}, {"a.yml": PLAIN, **EXEMPT}, f"a.yml {pw}"),
-    "another place exempt in advance": (
+    "a vault, now in git-lfs": Change(VAULT, POINTER, LFS),
+    "values, now in git-lfs": Change(PW, POINTER, LFS),
+    "an exempt fixture": Change(FIXTURES | {"t/a.yml": VAULT}, FIXTURES | {"t/a.yml": TEXT}, f"t/a.yml {WHOLE}"),
+    "a value exempt in advance": Change({"a.yml": PW, **EXEMPT}, {"a.yml": PLAIN, **EXEMPT}, f"a.yml {pw}"),
+    "another place exempt in advance": Change(
         {"a/x.yml": VAULT, **IN_ADVANCE},
         {"b/x.yml": TEXT, **IN_ADVANCE},
         f"b/x.yml {GONE.format('a/x.yml')}",
     ),
-    "a list exempt in advance": (
+    "a list exempt in advance": Change(
         {"a.yml": users(PW, PLAIN), **IN_ADVANCE},
         {"a.yml": users(PLAIN, b"pw: x\n"), **IN_ADVANCE},
         f"a.yml {IN_PART.format('users[].pw')}",
     ),
-    "a default exempt in advance": (
+    "a default exempt in advance": Change(
         {"c.yml": PW, "a.yml": users(PLAIN) + PLAIN, **IN_ADVANCE},
         {"a.yml": users(PLAIN) + b"pw: x\n", **IN_ADVANCE},
         f"a.yml {IN_PART.format('pw of c.yml')}",
     ),
-    "a list, now by name": (users(PW), below(b"users", below(b"a", PLAIN)), IN_PART.format("users[].pw")),
-    "by name, now a list": (below(b"users", below(b"a", PW)), users(PLAIN), IN_PART.format("users.a.pw")),
-    "a list, now texts by name": (users(PW), b"users: {a: plain}\n", IN_PART.format("users[].pw")),
-    "lists within each other, now by name": (
-        users(below(b"tokens", b"-" + below(b"", PW)[2:])),
+    "a list, now by name": Change(users(PW), below(b"users", below(b"a", PLAIN)), IN_PART.format("users[].pw")),
+    "by name, now a list": Change(below(b"users", below(b"a", PW)), users(PLAIN), IN_PART.format("users.a.pw")),
+    "a list, now texts by name": Change(users(PW), b"users: {a: plain}\n", IN_PART.format("users[].pw")),
+    "lists within each other, now by name": Change(
+        users(below(b"tokens", item(PW))),
         below(b"users", below(b"a", below(b"tokens", below(b"b", PLAIN)))),
         IN_PART.format("users[].tokens[].pw"),
     ),
-    "a list in a mapping, now the reverse": (
-        below(b"users", below(b"a", below(b"tokens", b"-" + below(b"", PW)[2:]))),
+    "a list in a mapping, now the reverse": Change(
+        below(b"users", below(b"a", below(b"tokens", item(PW)))),
         users(below(b"tokens", below(b"b", PLAIN))),
         IN_PART.format("users.a.tokens[].pw"),
     ),
-    "a list, by name in another file": (
+    "a list, by name in another file": Change(
         users(PW),
         {"b.yml": below(b"users", below(b"a", PLAIN))},
         f"b.yml {IN_PART.format('users[].pw of a.yml')}",
     ),
-    "one of two values that were one": (PW, {"b.yml": PW2, "c.yml": PLAIN}, f"c.yml {IN_PART.format('pw of a.yml')}"),
-    "a default for a value": (
+    "one of two values that were one": Change(
+        PW, {"b.yml": PW2, "c.yml": PLAIN}, f"c.yml {IN_PART.format('pw of a.yml')}"
+    ),
+    "a default for a value": Change(
         {"a.yml": PW, "c.yml": PLAIN},
         {"c.yml": b"pw: s3cret\n"},
         f"c.yml {IN_PART.format('pw of a.yml')}",
     ),
-    "plaintext with the tag": (PW, PW + b"x: !vault plain\n", "has plaintext with the tag `!vault` in line 8"),
-    "a repaired file": (TAB + PW, PLAIN, f"{FEWER}line 1: it cannot be read as YAML: {TOKEN}"),
-    "a file that is still to be repaired": (
+    "plaintext with the tag": Change(PW, PW + b"x: !vault plain\n", "has plaintext with the tag `!vault` in line 8"),
+    "a repaired file": Change(TAB + PW, PLAIN, f"{FEWER}line 1: it cannot be read as YAML: {TOKEN}"),
+    "a file that is still to be repaired": Change(
         TAB + PW,
         TAB + PLAIN + b"# !vault\n",
         f"{FEWER}line 1: it cannot be read as YAML: {TOKEN}",
     ),
-    "a value, and a new file that cannot be read": (
+    "a value, and a new file that cannot be read": Change(
         {"a.yml": PW + X, "y": X},
         {"a.yml": X, "b.yml": TAB + PLAIN, "y": X},
         f"b.yml {NOT_COMPARED}line 1: it cannot be read as YAML: {TOKEN}",
     ),
-    "a value, and a changed file that cannot be read": (
+    "a value, and a changed file that cannot be read": Change(
         {"a.yml": PW + X, "b.yml": TAB},
         {"a.yml": X, "b.yml": TAB + PLAIN},
         f"b.yml {NOT_COMPARED}line 1: it cannot be read as YAML: {TOKEN}",
     ),
-    "a value, and a deep file": (
+    "a value, and a deep file": Change(
         {"a.yml": PW + X, "y": X},
         {"a.yml": X, "b.json": b"[" * 65 + b'{"pw": "plain"}' + b"]" * 65, "y": X},
         f"b.json {NOT_COMPARED}it is nested over 64 levels",
     ),
-    "a null character": (b"\0" + PW, PLAIN, f"{FEWER}it cannot be read as YAML: it has a null character"),
-    "a text that begins like a value": (PW, b"pw: $ANSIBLE_VAULT_KEY\n", pw),
-    "text between expressions": (PW, b'pw: "{{ x }}:{{ y }}"\n', pw),
-    "a statement of Jinja": (PW, b'pw: "{% set x = 1 %}"\n', pw),
-    "a key twice": (PW, PW + PLAIN, pw),
-    "a list for its mapping": (DB, b"db: [app, plain]\n", db),
-    "while a plain one goes": (DB + PLAIN, DB_PLAIN, db),
-    "two values": (DB + PW, DB_PLAIN + PLAIN, IN_PART.format("db.pw, pw").replace("was", "were")),
-    "an item of several": (users(PW, PW2), users(PLAIN, PW2), IN_PART.format("users[].pw")),
-    "an alias of a mapping": (DB, b"x: &x {pw: plain}\ndb: *x\n", db),
-    "a key beside merged mappings": (
+    "a null character": Change(b"\0" + PW, PLAIN, f"{FEWER}it cannot be read as YAML: it has a null character"),
+    "a text that begins like a value": Change(PW, b"pw: $ANSIBLE_VAULT_KEY\n", pw),
+    "text between expressions": Change(PW, b'pw: "{{ x }}:{{ y }}"\n', pw),
+    "a statement of Jinja": Change(PW, b'pw: "{% set x = 1 %}"\n', pw),
+    "a key twice": Change(PW, PW + PLAIN, pw),
+    "a list for its mapping": Change(DB, b"db: [app, plain]\n", db),
+    "while a plain one goes": Change(DB + PLAIN, DB_PLAIN, db),
+    "two values": Change(DB + PW, DB_PLAIN + PLAIN, IN_PART.format("db.pw, pw").replace("was", "were")),
+    "an item of several": Change(users(PW, PW2), users(PLAIN, PW2), IN_PART.format("users[].pw")),
+    "an alias of a mapping": Change(DB, b"x: &x {pw: plain}\ndb: *x\n", db),
+    "a key beside merged mappings": Change(
         ANCHOR + b"y: {<<: [*x]}\n",
         ANCHOR + b"y: {<<: [*x], db: plain}\n",
         IN_PART.format("y.db.pw"),
     ),
-    "in JSON": (IN_JSON, b'{"db": "plain"}\n', IN_PART.format("db")),
-    "in a renamed file": (LINES + PW, {"b.yml": LINES + PLAIN}, f"b.yml {pw}"),
-    "below the keys of another file": (DB + X, {"a.yml": X, "b.yml": b"db: {pw: {y: x}}\n"}, f"b.yml {elsewhere}"),
-    "markers and CR LF": (PW, (CONFLICT % (PW, PW2)).replace(b"\n", b"\r\n"), UNMERGED),
-    "a torn vault": (VAULT, VAULT[:27] + CONFLICT % (VAULT[27:], OTHER[27:]), UNMERGED),
-    "a torn value": (PW, PW[:60] + CONFLICT % (PW[60:], PW2[60:]), UNMERGED),
-    "a cut vault again": (CUT, CUT[:-1], DAMAGED),
-    "a cut value": (X, X + PW[:-100] + b"\n", CUT_VALUE.format(3)),
-    "a cut comment": (X, {"a.sh": b"\n# " + CUT.replace(b"\n", b"\n# ")}, f"a.sh {CUT_VALUE.format(2)}"),
-    "a line that ends at U+2028": (PW, "n: 1\n\u2028pw: plain\n".encode(), UNREAD.format(2, HIDDEN_BREAK)),
-    "a line that ends at U+2029": (PW, "n: 1\n# x\u2029pw: plain\n".encode(), UNREAD.format(2, HIDDEN_BREAK)),
-    "a line that ends at U+0085": (
+    "in JSON": Change(IN_JSON, b'{"db": "plain"}\n', IN_PART.format("db")),
+    "in a renamed file": Change(LINES + PW, {"b.yml": LINES + PLAIN}, f"b.yml {pw}"),
+    "below the keys of another file": Change(
+        DB + X, {"a.yml": X, "b.yml": b"db: {pw: {y: x}}\n"}, f"b.yml {elsewhere}"
+    ),
+    "markers and CR LF": Change(PW, (CONFLICT % (PW, PW2)).replace(b"\n", b"\r\n"), UNMERGED),
+    "a torn vault": Change(VAULT, VAULT[:27] + CONFLICT % (VAULT[27:], OTHER[27:]), UNMERGED),
+    "a torn value": Change(PW, PW[:60] + CONFLICT % (PW[60:], PW2[60:]), UNMERGED),
+    "a cut vault again": Change(CUT, CUT[:-1], DAMAGED),
+    "a cut value": Change(X, X + PW[:-100] + b"\n", CUT_VALUE.format(3)),
+    "a cut comment": Change(X, {"a.sh": b"\n# " + CUT.replace(b"\n", b"\n# ")}, f"a.sh {CUT_VALUE.format(2)}"),
+    "a line that ends at U+2028": Change(PW, "n: 1\n\u2028pw: plain\n".encode(), UNREAD.format(2, HIDDEN_BREAK)),
+    "a line that ends at U+2029": Change(PW, "n: 1\n# x\u2029pw: plain\n".encode(), UNREAD.format(2, HIDDEN_BREAK)),
+    "a line that ends at U+0085": Change(
         {"all": PW},
         {"all": "n: 1\n\x85pw: plain\n".encode()},
         f"all {UNREAD.format(2, HIDDEN_BREAK)}",
     ),
-    "a second byte order mark": (
+    "a second byte order mark": Change(
         PW,
         "\ufeff---\n\ufeffpw: plain\n".encode(),
         UNREAD.format(2, HIDDEN_BREAK),
     ),
-    "an alias as a key": (PW, b"n: &k pw\n*k : plain\n", UNREAD.format(2, UNCLEAR_KEY)),
-    "an alias as a merging key": (PW, b"n: &k <<\n*k : {pw: plain}\n", UNREAD.format(2, UNCLEAR_KEY)),
-    "a merging list": (PW, b"? !!merge [x]\n: {pw: plain}\n", UNREAD.format(1, UNCLEAR_KEY)),
-    "a merging key of another name": (PW, b"!!merge x: {pw: plain}\n", pw),
-    "an alias deep in a key": (PW, b"n: &k pw\nx:\n- ? [*k]\n  : plain\n", UNREAD.format(3, UNCLEAR_KEY)),
-    "no YAML any more": (PW, b"\t" + PLAIN, f"{NOT_YAML}found character that cannot start any token"),
+    "an alias as a key": Change(PW, b"n: &k pw\n*k : plain\n", UNREAD.format(2, UNCLEAR_KEY)),
+    "an alias as a merging key": Change(PW, b"n: &k <<\n*k : {pw: plain}\n", UNREAD.format(2, UNCLEAR_KEY)),
+    "a merging list": Change(PW, b"? !!merge [x]\n: {pw: plain}\n", UNREAD.format(1, UNCLEAR_KEY)),
+    "a merging key of another name": Change(PW, b"!!merge x: {pw: plain}\n", pw),
+    "an alias deep in a key": Change(PW, b"n: &k pw\nx:\n- ? [*k]\n  : plain\n", UNREAD.format(3, UNCLEAR_KEY)),
+    "no YAML any more": Change(PW, b"\t" + PLAIN, f"{NOT_YAML}found character that cannot start any token"),
 }
-CHANGES = {what: (*change, "") for what, change in PASSING.items()} | REFUSED
+CHANGES = PASSING | REFUSED
 
 
 def stage(place: Place, content: Content) -> None:
@@ -293,14 +325,14 @@ def stage(place: Place, content: Content) -> None:
     place.shell("git add -A")
 
 
-@pytest.mark.parametrize("before, after, why", CHANGES.values(), ids=CHANGES)
-def test_changes(place: Place, before: Content, after: Content, why: str) -> None:
+@pytest.mark.parametrize("change", CHANGES.values(), ids=CHANGES)
+def test_changes(place: Place, change: Change) -> None:
     under_git(place, "")
-    stage(place, before)
+    stage(place, change.before)
     place.shell("git commit -qm before")
-    stage(place, after)
-    line = why if isinstance(after, dict) else f"a.yml {why}"
-    assert told(place.run(HOOK)) == ([line] if why else [])
+    stage(place, change.after)
+    line = change.why if isinstance(change.after, dict) else f"a.yml {change.why}"
+    assert told(place.run(HOOK)) == ([line] if change.why else [])
 
 
 # What two branches do before one merges the other. The file a.yml is a vault, and b.yml has a value.
