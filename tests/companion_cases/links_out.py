@@ -13,6 +13,7 @@ import pytest
 from companion_cases import CHECK, EDIT, HOOK, NOBODY, ROTATE, TEXT, TEXTCONV, WITH, Place, block, ended, first_line
 from companion_cases import check_answer, sealed, to_new
 from companion_cases.repository import committed, under_git
+from lib.cases import Answer, answer_of
 from lib.needs import needs, needs_root
 from lib.subtests import SubTests
 
@@ -64,7 +65,8 @@ FILES = ("project/a.yml", "project/vars/b.yml", "outside/a.yml")
 
 
 class Command(NamedTuple):
-    """A companion's words before the path, the content of each file, whether it writes, and its status if it may."""
+    """A companion's words before the path, the content of each file, whether it writes, and its status if the path may
+    be followed."""
 
     words: list[str]
     content: bytes
@@ -74,19 +76,19 @@ class Command(NamedTuple):
 
 VAULT = sealed("old")
 COMMANDS = {
-    "edit": Command([EDIT, "{old}"], VAULT, True),
-    "edit a value": Command([EDIT, "{old}", "--value", "secret"], block("old"), True),
-    "view": Command([WITH, "view", "{old}"], VAULT, False),
-    "several views": Command([WITH, "view", "{old}", "../good.yml"], VAULT, False),
-    "decrypt": Command([WITH, "decrypt", "{old}"], VAULT, True),
-    "decrypt to a stream": Command([WITH, "decrypt", "{old}", "--output=-"], VAULT, False),
-    "encrypt": Command([WITH, "encrypt", "{old}"], TEXT, True),
-    "rekey": Command([WITH, "rekey", "{old}", "{new}"], VAULT, True),
-    "textconv": Command([TEXTCONV, "{old}"], VAULT, False),
-    "textconv of a value": Command([TEXTCONV, "{old}", "--value", "secret"], block("old"), False),
-    "check": Command([CHECK, "{old}"], VAULT, False),
-    "rotate": Command([ROTATE, "{old}", "{new}"], VAULT, True),
-    "a dry run": Command([ROTATE, "{old}", "{new}", "--dry-run"], VAULT, False, 1),
+    "edit": Command([EDIT, "{old}"], VAULT, writes=True),
+    "edit a value": Command([EDIT, "{old}", "--value", "secret"], block("old"), writes=True),
+    "view": Command([WITH, "view", "{old}"], VAULT, writes=False),
+    "several views": Command([WITH, "view", "{old}", "../good.yml"], VAULT, writes=False),
+    "decrypt": Command([WITH, "decrypt", "{old}"], VAULT, writes=True),
+    "decrypt to a stream": Command([WITH, "decrypt", "{old}", "--output=-"], VAULT, writes=False),
+    "encrypt": Command([WITH, "encrypt", "{old}"], TEXT, writes=True),
+    "rekey": Command([WITH, "rekey", "{old}", "{new}"], VAULT, writes=True),
+    "textconv": Command([TEXTCONV, "{old}"], VAULT, writes=False),
+    "textconv of a value": Command([TEXTCONV, "{old}", "--value", "secret"], block("old"), writes=False),
+    "check": Command([CHECK, "{old}"], VAULT, writes=False),
+    "rotate": Command([ROTATE, "{old}", "{new}"], VAULT, writes=True),
+    "a dry run": Command([ROTATE, "{old}", "{new}", "--dry-run"], VAULT, writes=False, status=1),
 }
 # Those whose file the program itself opens.
 BY_PROGRAM = ("view", "decrypt to a stream")
@@ -138,7 +140,8 @@ def list_contents(place: Place) -> dict[str, bytes]:
 
 
 class Outcome(NamedTuple):
-    """The status and the messages of a run, the files that it changes, and whether it shows what is in the file."""
+    """The status and the messages of a run, the files that it changes, makes or removes, and whether it shows what is
+    in the file."""
 
     status: int
     message: str
@@ -149,7 +152,8 @@ class Outcome(NamedTuple):
 def try_command(place: Place, command: str, path: str) -> Outcome:
     before = list_contents(place)
     status, shown, message = run_command(place, COMMANDS[command].words, path)
-    changed = [name for name, content in list_contents(place).items() if before.get(name) != content]
+    after = list_contents(place)
+    changed = [name for name in before | after if before.get(name) != after.get(name)]
     return Outcome(status, message, changed, is_shown=SHOWN.get(command, "correct horse") in shown)
 
 
@@ -161,8 +165,10 @@ def check_refused(command: str, outcome: Outcome, why: str, status: int) -> None
 
 
 def check_followed(command: str, outcome: Outcome, file: str) -> None:
-    _, _, writes, status = COMMANDS[command]
-    assert outcome == Outcome(status, "", [file] if writes else [], is_shown=not writes), "it is followed"
+    writes = COMMANDS[command].writes
+    changed = [file] if writes else []
+    wanted = Outcome(COMMANDS[command].status, message="", changed=changed, is_shown=not writes)
+    assert outcome == wanted, "it is followed"
 
 
 @pytest.mark.usefixtures("git")
@@ -195,18 +201,18 @@ def test_repository_above(place: Place, name: str, owner: int, subtests: SubTest
     place.shell("mkdir project .git")
     os.chown(place.tree / ".git", owner, 0)
     why = expected(kind, False, place.tree) if owner or not kind.file else ""
-    for command, (words, content, *_) in COMMANDS.items():
+    for command in COMMANDS:
         # git itself refuses this repository.
         if command == "check":
             continue
-        prepare(place, kind, content)
-        before = list_contents(place)
-        _, _, message = run_command(place, words, kind.path)
+        prepare(place, kind, COMMANDS[command].content)
+        outcome = try_command(place, command, kind.path)
         with subtests.test(command):
             if why:
-                assert f": {kind.path}: {why}" in message and list_contents(place) == before
+                assert f": {kind.path}: {why}" in outcome.message, "it is refused"
+                assert outcome.changed == [], "no file changes"
             elif name not in ("a descriptor", "git's own files"):
-                assert "a link leads out" not in message
+                assert "a link leads out" not in outcome.message
 
 
 @pytest.mark.usefixtures("git")
@@ -215,16 +221,19 @@ def test_hook(place: Place, name: str) -> None:
     """What is outside of the repository makes no difference to the hook."""
     kind = KINDS[name]
     place.shell("git init -q project")
-    results = []
-    for content in (TEXT, sealed("old")):
-        prepare(place, kind, TEXT)
-        place.put("outside/a.yml", content)
-        place.put("project/.gitattributes", b"*.yml ansible-vault\n")
-        place.shell("git add -A", folder="project")
-        done = place.run(HOOK, kind.path, folder="project")
-        results.append((done.returncode, done.stderr))
-    assert results[0] == results[1]
-    assert results[0][0] == 1, "the files of the project are plaintext"
+    with_plaintext = run_hook(place, kind, outside=TEXT)
+    with_vault = run_hook(place, kind, outside=VAULT)
+    assert with_plaintext == with_vault, "the two answers"
+    assert with_plaintext.status == 1, "the files of the project are plaintext"
+
+
+def run_hook(place: Place, kind: Kind, outside: bytes) -> Answer:
+    """Run it on plaintext, while the file outside has this content."""
+    prepare(place, kind, TEXT)
+    place.put("outside/a.yml", outside)
+    place.put("project/.gitattributes", b"*.yml ansible-vault\n")
+    place.shell("git add -A", folder="project")
+    return answer_of(place.run(HOOK, kind.path, folder="project"))
 
 
 @pytest.mark.usefixtures("git")
@@ -235,51 +244,58 @@ def test_nested_repository(place: Place, target: str) -> None:
     (place.tree / "project/l").symlink_to(target)
     (place.tree / "project/clone/l").symlink_to("../a.yml")
     path = "l/a.yml" if target == "clone" else "l"
-    for command, (words, content, _, status) in COMMANDS.items():
+    for command, (_, content, _, status) in COMMANDS.items():
         place.put("project/a.yml", content)
         place.put("project/clone/a.yml", content)
-        before = list_contents(place)
         for link, bound, file in ((path, "project", "clone/a.yml"), ("clone/l", "project/clone", "a.yml")):
-            result, _, message = run_command(place, words, link)
+            outcome = try_command(place, command, link)
             why = f": {link}: a link leads out of {place.tree}/{bound}; name {place.tree}/project/{file} instead\n"
-            assert result == (status or 1) and why in message, (command, message)
-            assert list_contents(place) == before, command
+            assert why in outcome.message, f"{command} of {link} is refused"
+            assert outcome.status == (status or 1), f"{command} of {link}: the status of a refusal"
+            assert outcome.changed == [], f"{command} of {link}: no file changes"
     place.put("project/clone/a.yml", VAULT)
     done = place.run(TEXTCONV, *place.by_file("old"), "clone/own.yml", folder="project")
     check_answer("a repository within it", done, output=first_line() + TEXT.decode())
 
 
-# The content of a file outside of the repository, and whether a link to it makes a search fail.
+class Linked(NamedTuple):
+    """The content of a file outside of the repository, and whether a link to it makes a search fail."""
+
+    content: bytes
+    fails: bool
+
+
 LINKED = {
-    "plaintext": (TEXT, False),
-    "a value": (block("old"), True),
-    "a comment": (b"# $ANSIBLE_VAULT is a variable\n", False),
-    "a comment in broken YAML": (b"# $ANSIBLE_VAULT is a variable\n[\n", False),
-    "a value in what is no text": (block("old") + b"\0", True),
+    "plaintext": Linked(TEXT, fails=False),
+    "a value": Linked(block("old"), fails=True),
+    "a comment": Linked(b"# $ANSIBLE_VAULT is a variable\n", fails=False),
+    "a comment in broken YAML": Linked(b"# $ANSIBLE_VAULT is a variable\n[\n", fails=False),
+    "a value in what is no text": Linked(block("old") + b"\0", fails=True),
 }
 
 
 @pytest.mark.usefixtures("git")
-@pytest.mark.parametrize("content, fails", LINKED.values(), ids=LINKED)
-def test_found_link(place: Place, content: bytes, fails: bool) -> None:
+@pytest.mark.parametrize("linked", LINKED.values(), ids=LINKED)
+def test_found_link(place: Place, linked: Linked) -> None:
     """A search fails at a link out only if there may be something to do in its file, or if the link is marked."""
     place.shell("git init -q project")
     place.put("project/a.yml", sealed("old"))
-    place.put("outside.yml", content)
+    place.put("outside.yml", linked.content)
     (place.tree / "project/l.yml").symlink_to("../outside.yml")
-    check, rotate = [CHECK, *place.by_file("old"), "."], [ROTATE, *to_new(place), "."]
+    check = [CHECK, *place.by_file("old"), "."]
+    rotate = [ROTATE, *to_new(place), "."]
     told = f"./l.yml: a link leads out of {place.tree}/project; name {place.tree}/outside.yml instead\n"
     for words in (check, rotate):
         done = place.run(*words, folder="project")
-        assert done.returncode == (1 if fails else 0), done
+        assert done.returncode == (1 if linked.fails else 0), done
         assert done.stderr == f"{words[0]}: {told}", "the link is named"
     place.put("project/.gitattributes", b"l.yml ansible-vault\n")
-    ended(
-        "a marked one", place.run(CHECK, *place.by_file("new"), ".", folder="project"), 1, told, "1 decrypted, 1 failed"
-    )
-    assert place.get("outside.yml") == content
+    done = place.run(CHECK, *place.by_file("new"), ".", folder="project")
+    ended("a marked one", done, 1, told, "1 decrypted, 1 failed")
+    assert place.get("outside.yml") == linked.content, "the file outside stays"
     os.truncate(place.tree / "outside.yml", 1 << 27)
-    status = int(b"vault" in content.lower())
+    # Of such a file, any mention of a vault counts.
+    status = 1 if b"vault" in linked.content.lower() else 0
     ended("one too long to be read whole", place.run(*rotate, folder="project"), status, told)
 
 
@@ -407,10 +423,12 @@ def test_under_git(place: Place) -> None:
     place.put("a.yml", sealed("old", b"third\n"))
     (place.path / "way").symlink_to("tree")
     (place.path / "t").symlink_to("temporary")
+    changes = {
+        "diff": ["-second", "+third", "-../other.yml", "+/proc/self/fd/3"],
+        "log -p -1": ["-first", "+second", "-../outside.yml", "+../other.yml"],
+    }
     for folder in (".", "../way"):
-        for command, texts in (("diff", ["second", "third"]), ("log -p -1", ["first", "second"])):
+        for command, wanted in changes.items():
             done = place.shell(f"git {command} | grep '^[-+][a-z./]'", folder=folder, TMPDIR=f"{place.path}/t")
-            links = {"diff": ["../other.yml", "/proc/self/fd/3"], "log -p -1": ["../outside.yml", "../other.yml"]}
-            wanted = [f"{sign}{text}" for pair in (texts, links[command]) for sign, text in zip("-+", pair)]
             assert done.stdout.splitlines() == wanted, f"git {command} in {folder}"
             assert done.stderr == "", f"git {command} in {folder}"
