@@ -12,7 +12,8 @@ from companion_cases import CHANGE, CHANGED, EDIT, HEAD, TEXT, Companions, Done,
 from companion_cases import run_changed, sealed
 from lib.subtests import SubTests
 
-STAYS, CHANGED_MEANWHILE = {"all.yml": sealed("old")}, "another program changed it in the meantime"
+STAYS = {"all.yml": sealed("old")}
+CHANGED_MEANWHILE = "another program changed it in the meantime"
 # Changes of the companion: an unexpected exception, a tool that cannot encrypt, and a tree on a full disk.
 BROKEN = """
 from ansible_vault_companions.editing.vault_draft import VaultDraft
@@ -119,38 +120,47 @@ STOPS = {
 @pytest.mark.parametrize("what", STOPS)
 def test_stops(place: Place, what: str) -> None:
     """A text that cannot be put back is kept encrypted. If that fails, too, the private directory stays."""
-    editor, change, why, how, stays = STOPS[what]
+    stop = STOPS[what]
     place.put("all.yml", sealed("old"), 0o600)
     if what == "no directory for copies":
         place.tree.chmod(0o777)
         place.environment["XDG_STATE_HOME"] = str(place.tree)
     words = [*place.by_file("old"), "all.yml"]
-    done = run_changed(place, EDIT, change, words, EDITOR=place.script(editor, "editor"))
-    ended("the edit", done, 1, f"all.yml: {why}", f"; what you saved is {how} in ")
+    done = run_changed(place, EDIT, stop.change, words, EDITOR=place.script(stop.editor, "editor"))
+    ended("the edit", done, 1, f"all.yml: {stop.why}", f"; what you saved is {stop.how} in ")
     [name] = re.findall(r"; what you saved is (?:encrypted|left in plaintext) in (.+)\n", done.stderr)
-    private = Path(name) if how == SEALED else Path(name, "all.yml")
-    text = HEAD.sub(b"", decrypted("old", private.read_bytes()) or b"") if how == SEALED else private.read_bytes()
+    if stop.how == SEALED:
+        # The path of a copy.
+        private = Path(name)
+        text = HEAD.sub(b"", decrypted("old", private.read_bytes()) or b"")
+        left: list[str] = []
+        copies = [name]
+    else:
+        # The path of the private directory.
+        private = Path(name, "all.yml")
+        text = private.read_bytes()
+        left = [name, str(private)]
+        copies = []
     assert text == CHANGED, "all of it is there"
-    assert (private.stat().st_mode | private.parent.stat().st_mode) & 0o077 == 0, "only its owner can open it"
-    assert place.left() == ([name, str(private)] if how == PLAIN else []), "no other plaintext is left"
-    assert [str(path) for path in place.copies()] == ([name] if how == SEALED else []), "no other copy is left"
-    assert place.files() == stays, "the files stay"
+    for path in (private, private.parent):
+        assert path.stat().st_mode & 0o077 == 0, f"only its owner can open {path}"
+    assert place.left() == left, "no other plaintext is left"
+    assert [str(path) for path in place.copies()] == copies, "no other copy is left"
+    assert place.files() == stop.stays, "the files stay"
 
 
 def test_what_cannot_be_removed(place: Place) -> None:
     place.put("all.yml", sealed("old"))
     words = [*place.by_file("old"), "all.yml"]
     done = run_changed(place, EDIT, STUCK, words, EDITOR=place.script(CHANGE, "editor"))
-    ended(
-        "the edit",
-        done,
-        1,
-        f"all.yml: what you saved is in the file; {place.left()[0]} is left, with all.yml in it; save what you need, ",
-    )
-    assert decrypted("old", place.get("all.yml")) == CHANGED
+    folder, *_ = place.left()
+    why = f"all.yml: what you saved is in the file; {folder} is left, with all.yml in it; save what you need, "
+    ended("the edit", done, 1, why)
+    assert decrypted("old", place.get("all.yml")) == CHANGED, "what was saved"
 
 
-# Raises an exception at a line of the companion, of those that run once something is saved, and counts them.
+# Raises an exception at a line of the companion, of those that run once something is saved, and counts them. The first
+# line has the number 1, so with 0, none raises it.
 PLANT = """
 from ansible_vault_companions import refusals
 
@@ -180,26 +190,36 @@ def test_planted_exceptions(cases: Companions, subtests: SubTests, is_kept: bool
     """Whichever line raises an exception after the editor's end, what was saved is in the file, or a message says where
     it is."""
 
-    def edit_and_raise(line: int, kind: str) -> tuple[Place, Done, int]:
+    def edit_and_raise(line: int, kind: str) -> tuple[Place, Done]:
         place = cases.place()
         place.put("all.yml", sealed("old"))
         editor = place.script(f"{CHANGE}; touch ../saved{'; exit 3' if is_kept else ''}", "editor")
         change = PLANT.format(line, kind)
         done = run_changed(place, EDIT, change, [*place.by_file("old"), "all.yml"], EDITOR=editor)
-        return place, done, int(place.get("../count"))
+        return place, done
 
-    most = edit_and_raise(0, "")[2]
+    place, _ = edit_and_raise(0, "")
+    most = count_lines(place)
     random = Random(most + is_kept)
     for line in random.sample(range(1, most), 25):
         kind = random.choice(KINDS)
-        place, done, count = edit_and_raise(line, kind)
+        place, done = edit_and_raise(line, kind)
         with subtests.test(f"{kind} at line {line}"):
-            assert count >= line
-            private = [path for path in place.left() if Path(path).is_file() and Path(path).read_bytes() == CHANGED]
-            kept = [str(path) for path in place.copies() if CHANGED in place.kept()]
+            assert count_lines(place) >= line, "the line is run"
             if decrypted("old", place.get("all.yml")) != CHANGED:
-                named = [path for path in [*(os.path.dirname(path) for path in private), *kept] if path in done.stderr]
-                assert named, (private, kept, done.stderr)
+                where = places_of_text(place)
+                assert any(path in done.stderr for path in where), f"one of {where} is named: {done.stderr}"
+
+
+def count_lines(place: Place) -> int:
+    return int(place.get("../count"))
+
+
+def places_of_text(place: Place) -> list[str]:
+    """Return the directories with the plaintext that was saved, and the copies, if one of them has it."""
+    private = [path for path in place.left() if Path(path).is_file() and Path(path).read_bytes() == CHANGED]
+    copies = [str(path) for path in place.copies()] if CHANGED in place.kept() else []
+    return [*(os.path.dirname(path) for path in private), *copies]
 
 
 KILLED = "kill -KILL $$"
@@ -242,18 +262,22 @@ def test_leftovers(place: Place, what: str) -> None:
     text = CHANGED if CHANGE in editor and "mv" not in editor else TEXT
     assert decrypted("old", place.get("all.yml")) == text, "it is written all the same"
     if names:
-        ended(what, done, 1, f"{place.left()[0]} is left, with {names} in it; save what you need, ")
-        assert not [path for path in place.left() if os.path.isfile(path) and Path(path).read_bytes() in (TEXT, text)]
+        folder, *paths = place.left()
+        ended(what, done, 1, f"{folder} is left, with {names} in it; save what you need, ")
+        old_texts = [path for path in paths if Path(path).is_file() and Path(path).read_bytes() in (TEXT, text)]
+        assert old_texts == [], "the files with a text that the file had"
     else:
-        assert place.left() == []
+        assert place.left() == [], "nothing is left"
 
 
 OF_DEV = block("dev", b"one", "dev", "a")
-NO_YAML = "printf '%s\\n' 'c: !vault \"more' >> \"$1\""
+NO_YAML = 'c: !vault "more'
+TYPE_NO_YAML = f"echo '{NO_YAML}' >> \"$1\""
 
 
 class Secrets(NamedTuple):
-    """A file, a second secret, more options, and how it is kept: of several passwords, none may read all of it."""
+    """A file, the label and the password of a second secret, more options, and how the file is kept: of several
+    passwords, none may read all of it."""
 
     content: bytes
     second: tuple[str, str]
@@ -274,11 +298,13 @@ SECRETS = {
 
 @pytest.mark.parametrize("what", SECRETS)
 def test_several_secrets(place: Place, what: str) -> None:
-    content, second, words, how = SECRETS[what]
-    place.put("vars.yml", content)
-    both = [*place.by_id("dev", "dev"), *place.by_id(*second)]
-    ended(what, edit(place, NO_YAML, *both, *words, "vars.yml"), 1, f"; what you saved is {how} in ")
-    left = [Path(path).read_text()[-17:] for path in place.left() if path.endswith("/vars.yml")]
-    assert left == (['\nc: !vault "more\n'] if how == PLAIN else []), "the plaintexts that are left"
-    assert len(place.kept("dev")) == (0 if how == PLAIN else 1), "the copies under the first password"
-    assert place.files() == {"vars.yml": content}, "the file stays"
+    row = SECRETS[what]
+    place.put("vars.yml", row.content)
+    words = [*place.by_id("dev", "dev"), *place.by_id(*row.second), *row.words, "vars.yml"]
+    ended(what, edit(place, TYPE_NO_YAML, *words), 1, f"; what you saved is {row.how} in ")
+    is_plain = row.how == PLAIN
+    plaintexts = [Path(path).read_text() for path in place.left() if path.endswith("/vars.yml")]
+    assert len(plaintexts) == (1 if is_plain else 0), "the plaintexts that are left"
+    assert all(text.endswith(f"\n{NO_YAML}\n") for text in plaintexts), "what was typed"
+    assert len(place.kept("dev")) == (0 if is_plain else 1), "the copies under the first password"
+    assert place.files() == {"vars.yml": row.content}, "the file stays"

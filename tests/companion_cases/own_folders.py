@@ -37,6 +37,13 @@ class Folder(NamedTuple):
     mode: int
 
 
+class Used(NamedTuple):
+    """Whether a directory has the plaintext of an edit, and its copy."""
+
+    has_plaintext: bool
+    has_copy: bool
+
+
 def find_user_with_group() -> User:
     """Return a user with a group of the same name, which has no other member."""
     groups = {group.gr_name: group for group in grp.getgrall()}
@@ -125,7 +132,7 @@ def test_nobody_else(tmp_path: Path, request: pytest.FixtureRequest) -> None:
         is_open = succeeds(other, lambda: attack(paths))
         shutil.rmtree(top)
         counts[is_own] += 1
-        assert not (is_own and is_open)
+        assert not (is_own and is_open), "nobody else may touch the user's own"
 
     check()
     assert min(counts[True], counts[False]) > 15, counts
@@ -191,34 +198,35 @@ NO_COPY = "set XDG_STATE_HOME to a directory that only you can open; what you sa
 AS_NOBODY = ["setpriv", f"--reuid={NOBODY}", f"--regid={NOBODY}", "--clear-groups"]
 
 
-def are_used(place: Place, where: str, runner: list[str]) -> tuple[bool, bool]:
-    """Return whether an edit that fails has its plaintext and its copy in this directory. What is not there is in a
-    usual one, and only the user can open it."""
+def fail_in(place: Place, where: str, runner: list[str]) -> Used:
+    """Run an edit that fails, with this directory for its plaintext and its copy. What is not there is in a usual one,
+    and only the user can open it."""
     place.environment |= {"XDG_RUNTIME_DIR": where, "XDG_STATE_HOME": where}
     words = [*runner, EDIT, *place.by_file("old"), "all.yml"]
     done = place.run(*words, EDITOR=place.script(FAIL, "editor"))
     ended("the edit", done, 1, "all.yml: the editor failed")
-    [(how, path)] = re.findall(r"; what you saved is (encrypted|left in plaintext) in (.+)\n", done.stderr)
-    kept, seen = Path(path), (place.path / "seen").read_text().strip()
-    file = kept if how == "encrypted" else kept / "all.yml"
-    text = file.read_bytes()
+    [(how, kept)] = re.findall(r"; what you saved is (encrypted|left in plaintext) in (.+)\n", done.stderr)
+    is_encrypted = how == "encrypted"
+    file = Path(kept) if is_encrypted else Path(kept, "all.yml")
+    content = file.read_bytes()
     assert oct(file.stat().st_mode & 0o777) == "0o600", "only the user reads the file"
     assert oct(file.parent.stat().st_mode & 0o777) == "0o700", "only the user opens its folder"
-    if how == "encrypted":
-        text = decrypted("old", text) or b""
-    else:
-        assert NO_COPY in done.stderr
+    text = decrypted("old", content) if is_encrypted else content
+    assert text is not None and text.endswith(CHANGED), "what was saved"
+    if not is_encrypted:
+        assert NO_COPY in done.stderr, "why there is no copy"
         shutil.rmtree(kept)
-    assert text.endswith(CHANGED)
     real = os.path.realpath(where)
-    assert seen in (real, "/dev/shm")
-    return seen == real, str(kept).startswith(f"{real}/ansible-vault/")
+    seen = (place.path / "seen").read_text().strip()
+    assert seen in (real, "/dev/shm"), "where the editor sees the plaintext"
+    return Used(has_plaintext=seen == real, has_copy=kept.startswith(f"{real}/ansible-vault/"))
 
 
 @pytest.mark.parametrize("position", ("itself", "above", "link", "repository"))
-@pytest.mark.parametrize("owner, mode, is_used, is_used_below", KINDS.values(), ids=KINDS)
-def test_kinds(of_nobody: Place, owner: int, mode: int, is_used: bool, is_used_below: bool, position: str) -> None:
-    real, link = of_nobody.path / "real", of_nobody.path / "link"
+@pytest.mark.parametrize("kind", KINDS.values(), ids=KINDS)
+def test_kinds(of_nobody: Place, kind: Kind, position: str) -> None:
+    real = of_nobody.path / "real"
+    link = of_nobody.path / "link"
     own = real / "own"
     own.mkdir(parents=True)
     own.chmod(0o700)
@@ -226,19 +234,26 @@ def test_kinds(of_nobody: Place, owner: int, mode: int, is_used: bool, is_used_b
     if position == "repository":
         (real / ".git").mkdir()
     link.symlink_to(real)
-    os.chown(real, owner, SHARED)
-    real.chmod(mode)
-    where, is_wanted = {"above": (own, is_used_below), "link": (link, is_used)}.get(position, (real, is_used))
-    assert are_used(of_nobody, str(where), AS_NOBODY) == (is_wanted, is_wanted)
+    os.chown(real, kind.owner, SHARED)
+    real.chmod(kind.mode)
+    where = {"above": own, "link": link}.get(position, real)
+    is_used = kind.is_used_below if position == "above" else kind.is_used
+    assert fail_in(of_nobody, str(where), AS_NOBODY) == Used(has_plaintext=is_used, has_copy=is_used)
     assert [*real.rglob(f"{FOLDER_PREFIX}*")] == [], "nothing else is left"
 
 
-# What is no directory for them, or is missing, so that one is made for a copy; the umask; and which of them are there.
+class Other(NamedTuple):
+    """A umask, and whether there is a copy in what is no directory, or is missing, so that one is made for the copy."""
+
+    umask: str
+    has_copy: bool
+
+
 OTHERS = {
-    "missing": ("022", (False, True)),
-    "missing/too": ("000", (False, True)),
-    "all.yml": ("022", (False, False)),
-    "../runtime": ("022", (False, False)),
+    "missing": Other("022", has_copy=True),
+    "missing/too": Other("000", has_copy=True),
+    "all.yml": Other("022", has_copy=False),
+    "../runtime": Other("022", has_copy=False),
 }
 
 
@@ -246,9 +261,10 @@ OTHERS = {
 def test_others(place: Place, name: str) -> None:
     """The directories that are made are closed to others, even with a umask of 000."""
     place.put("all.yml", sealed("old"))
-    umask, wanted = OTHERS[name]
+    umask, has_copy = OTHERS[name]
     where = name if name.startswith(".") else str(place.tree / name)
-    assert are_used(place, where, ["sh", "-c", f'umask {umask}; exec "$@"', "sh"]) == wanted
+    used = fail_in(place, where, ["sh", "-c", f'umask {umask}; exec "$@"', "sh"])
+    assert used == Used(has_plaintext=False, has_copy=has_copy)
     assert len(place.copies()) == (name == "../runtime"), "the usual directory has the copy"
 
 
@@ -268,8 +284,8 @@ def test_mounts(place: Place, options: str, fill: str) -> None:
     place.put("all.yml", sealed("old"))
     lines = f'mount -t tmpfs -o mode=700,{options} tmpfs ../runtime && ! {fill} 2> ../why; "$@"; status=$?'
     runner = ["unshare", "--mount", "sh", "-c", f"{lines}; ls ../runtime > ../left; exit $status", "sh"]
-    assert are_used(place, str(place.runtime), runner) == (False, False)
-    assert {*place.get("../left").split()} <= {b"full", b"ansible-vault"}
+    assert fail_in(place, str(place.runtime), runner) == Used(has_plaintext=False, has_copy=False)
+    assert {*place.get("../left").split()} <= {b"full", b"ansible-vault"}, "what is left there"
 
 
 NO_PLACE = """
@@ -286,4 +302,5 @@ def test_no_place(place: Place) -> None:
     done = run_changed(place, EDIT, NO_PLACE, words, EDITOR=place.script("touch ../started", "editor"))
     why = rf"\(/proc: .+; {place.path}: others can write to {place.path}\); set TMPDIR to a directory that only you can"
     assert re.fullmatch(rf"{EDIT}: all.yml: no private directory .+ {why} open\n", done.stderr), done.stderr
-    assert not (place.path / "started").exists() and [*place.path.glob(f"{FOLDER_PREFIX}*")] == []
+    assert not (place.path / "started").exists(), "no editor is started"
+    assert [*place.path.glob(f"{FOLDER_PREFIX}*")] == [], "no directory is left"
