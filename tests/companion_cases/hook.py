@@ -1,6 +1,7 @@
 """ansible-vault-hook: what it refuses of what is staged, of named files and of commits, also with pre-commit."""
 
 import re
+from typing import NamedTuple
 
 import pytest
 
@@ -21,9 +22,9 @@ def test_help_names_each_rule() -> None:
     files = (ROOT / "companions" / "ansible_vault_companions" / "guard").glob("*_rule.py")
     names = {file.stem.removesuffix("_rule").replace("_", " ") for file in files}
     lines = re.findall("^  - (.* must .*)[;.]$", run_text([str(COMPANIONS[HOOK]), "--help"]).stdout, re.MULTILINE)
-    lines_of_names = {name: [line for line in lines if re.search(rf"\b{name}", line)] for name in names}
-    assert [name for name, found in lines_of_names.items() if not found] == []
-    assert len(lines) == len(names)
+    unnamed = [name for name in names if not any(re.search(rf"\b{name}", line) for line in lines)]
+    assert unnamed == [], "the rules without a line"
+    assert len(lines) == len(names), "a line for each rule"
 
 
 def test_what_is_staged(place: Place) -> None:
@@ -52,14 +53,18 @@ def test_leftovers(place: Place) -> None:
     # It is killed when the new file would replace the old one.
     killed = "os.replace = lambda *_: os.kill(os.getpid(), 9)"
     run_changed(place, WITH, killed, ["decrypt", *place.by_file("old"), "a.yml"])
-    [name] = place.files().keys() - {"a.yml", ".gitattributes"}
-    assert place.get(name) == TEXT
-    others = dict.fromkeys((".ansible-vault-abcdefgh-new", "-ansible-vault-abcdefgh.new"), TEXT)
-    like_it = {name, ".ansible-vault-x1y2z3.new", ".ansible-vault-.new", "inner/.ansible-vault-a b.new"}
-    others |= dict.fromkeys(like_it - {name}, TEXT)
-    why = [f"{name} was left behind by a companion, and may be plaintext" for name in sorted(like_it)]
-    assert staged(place, others) == why
+    [leftover] = place.files().keys() - {"a.yml", ".gitattributes"}
+    assert place.get(leftover) == TEXT, "what it left behind"
+    like_it = [".ansible-vault-x1y2z3.new", ".ansible-vault-.new", "inner/.ansible-vault-a b.new"]
+    unlike_it = [".ansible-vault-abcdefgh-new", "-ansible-vault-abcdefgh.new"]
+    refused = sorted([leftover, *like_it])
+    why = [f"{name} was left behind by a companion, and may be plaintext" for name in refused]
+    assert staged(place, dict.fromkeys([*like_it, *unlike_it], TEXT)) == why
     assert staged(place, {".gitattributes": b"* -ansible-vault\n"}) == why, "no line exempts it"
+
+
+TOO_LONG = "it has over 16,777,216 bytes"
+FEWER = "has fewer envelopes than in HEAD, and cannot be compared with what it was there: "
 
 
 def test_length(place: Place) -> None:
@@ -75,31 +80,38 @@ def test_length(place: Place) -> None:
     assert staged(place, {"b.yml": TEXT}) == [f"b.yml {FEWER}{TOO_LONG}"]
 
 
-TOO_LONG = "it has over 16,777,216 bytes"
-FEWER = "has fewer envelopes than in HEAD, and cannot be compared with what it was there: "
 LINES = block("old").splitlines(keepends=True)
 NO_YAML = "cannot be checked: line 2: it cannot be read as YAML: found a tab character that violates indentation"
-# What a marked file has, and why it may not. `spellings.py` has other headers.
-CONTENTS = {
-    "a vault": (sealed("old").replace(b"\n", b"\r\n"), ""),
-    "blank": (b"\n", ""),
-    "comment": (b"# " + sealed("old").replace(b"\n", b"\n# "), "is not encrypted"),
-    "literal": (b"b: !vault |\n  text\n" + block("old"), "has plaintext with the tag `!vault` in line 2"),
-    "markers": (b"<<<<<<<<< a\n%b=======\n>>>>>>>>> b\n" % block("old"), "has git's conflict markers"),
-    "plain": (TEXT, "is not encrypted"),
-    "tab": (b"a: 1\n\tb: 2\n" + block("old"), NO_YAML),
-    "text below a block": (block("old") + b" " * 10 + TEXT, "has a damaged value in line 2"),
-    "text below": (sealed("old") + TEXT, "is a damaged vault"),
-    "text in a block": (b"".join([*LINES[:3], b" " * 10 + TEXT, *LINES[3:]]), "has a damaged value in line 2"),
-    "values": (block("old") + b"x: 1\n\n" + block("old", name="b") + b"\n", ""),
+
+
+class Marked(NamedTuple):
+    """What a marked file has, and why it may not, if it may not."""
+
+    content: bytes
+    why: str = ""
+
+
+# In the order of their paths, which is that of the messages. `spellings.py` has other headers.
+MARKED = {
+    "a vault": Marked(sealed("old").replace(b"\n", b"\r\n")),
+    "blank": Marked(b"\n"),
+    "comment": Marked(b"# " + sealed("old").replace(b"\n", b"\n# "), "is not encrypted"),
+    "literal": Marked(b"b: !vault |\n  text\n" + block("old"), "has plaintext with the tag `!vault` in line 2"),
+    "markers": Marked(b"<<<<<<<<< a\n%b=======\n>>>>>>>>> b\n" % block("old"), "has git's conflict markers"),
+    "plain": Marked(TEXT, "is not encrypted"),
+    "tab": Marked(b"a: 1\n\tb: 2\n" + block("old"), NO_YAML),
+    "text below a block": Marked(block("old") + b" " * 10 + TEXT, "has a damaged value in line 2"),
+    "text below": Marked(sealed("old") + TEXT, "is a damaged vault"),
+    "text in a block": Marked(b"".join([*LINES[:3], b" " * 10 + TEXT, *LINES[3:]]), "has a damaged value in line 2"),
+    "values": Marked(block("old") + b"x: 1\n\n" + block("old", name="b") + b"\n"),
 }
 
 
 def test_marked_content(place: Place) -> None:
     """A marked file needs whole envelopes, without conflict markers or plaintext between them."""
     under_git(place, ATTRIBUTES)
-    files = {f"{what}/a.vault.yml": content for what, (content, _) in CONTENTS.items()}
-    assert staged(place, files) == [f"{what}/a.vault.yml {why}" for what, (_, why) in CONTENTS.items() if why]
+    files = {f"{what}/a.vault.yml": marked.content for what, marked in MARKED.items()}
+    assert staged(place, files) == [f"{what}/a.vault.yml {marked.why}" for what, marked in MARKED.items() if marked.why]
 
 
 def test_git_that_fails(place: Place) -> None:
@@ -200,18 +212,23 @@ def test_history(place: Place) -> None:
         place.put(name, sealed("old"))
     place.shell("git add -A")
     in_first = WHOLE.replace("HEAD", first)
-    taken_back = [f"a.txt {GONE.format('a.yml').replace('HEAD', first)}", f"vars.yml {in_first}"]
     in_last = f"{last}: deep/a.vault.yml is not encrypted"
-    wanted = [*(f"{leak}: {line}" for line in taken_back), in_last, f"{last}: b.yml {in_first}"]
-    assert told(place.run(HOOK, "--since", first, folder="deep")) == wanted
+    since_first = [
+        f"{leak}: a.txt {GONE.format('a.yml').replace('HEAD', first)}",
+        f"{leak}: vars.yml {in_first}",
+        in_last,
+        f"{last}: b.yml {in_first}",
+    ]
+    assert told(place.run(HOOK, "--since", first, folder="deep")) == since_first
     assert told(place.run(HOOK, "--since", leak)) == [in_last], "nor what came before"
     silent("nothing since", place.run(HOOK, "--since", "HEAD"))
-    wanted = [f"b.yml {WHOLE.replace('HEAD', 'an earlier commit')}", "deep/a.vault.yml is not encrypted"]
+    of_all = [f"b.yml {WHOLE.replace('HEAD', 'an earlier commit')}", "deep/a.vault.yml is not encrypted"]
     done = place.run(HOOK, "--all", folder="deep")
-    assert told(done) == wanted and "deep/.gitattributes: /a.vault.yml !diff" in done.stderr, "the nearest one"
+    assert told(done) == of_all
+    assert "deep/.gitattributes: /a.vault.yml !diff" in done.stderr, "the nearest file of attributes is named"
     place.shell("git reset -q --hard && git sparse-checkout set other")
-    assert told(place.run(HOOK, "--all")) == wanted
-    assert "deep" not in place.names()
+    assert told(place.run(HOOK, "--all")) == of_all, "whatever is checked out"
+    assert "deep" not in place.names(), "it is not checked out"
 
 
 # Names that git takes for commits, options or patterns where it may.
@@ -240,7 +257,9 @@ def test_versions(place: Place) -> None:
     committed(place, "a.yml", TEXT)
     for option in ("--all", "--since=HEAD~1"):
         done = run_below(place, option)
-        assert len(told(done)) == 1 and "rewrite the commit" in done.stderr and "--no-verify" not in done.stderr
+        assert len(told(done)) == 1, done
+        assert "rewrite the commit" in done.stderr, "the advice"
+        assert "--no-verify" not in done.stderr, "the advice for what is to be committed"
     committed(place, "b.yml", TEXT)
     done = run_below(place, "--all")
     assert told(done) == [f"a.yml {WHOLE.replace('HEAD', 'an earlier commit')}"]
@@ -277,7 +296,8 @@ def test_byte_order_marks(place: Place) -> None:
         last = committed(place, source, marks)
         assert staged(place, {f"{folder}er/b.yml": TEXT}) == wanted, "it was there before"
         done = place.run(HOOK, "--all")
-        assert told(done) == wanted and "  save it without this mark, and commit it\n" in done.stderr
+        assert told(done) == wanted
+        assert "  save it without this mark, and commit it\n" in done.stderr, "the advice"
         assert told(place.run(HOOK, "--since", first)) == [f"{last}: {source} {why}"]
         place.shell("git commit -qm next --no-verify")
         concerned = [] if folder else wanted
@@ -322,9 +342,10 @@ def test_no_commit(place: Place, zeros: str) -> None:
     done = place.run(HOOK, "--since", zeros)
     ended("no commit", done, 1, f"--since has {zeros or 'nothing'} in place of a commit", "a new branch")
     [words] = re.findall("`(.*)`", done.stderr)
-    lines = told(place.run(HOOK, *words.split()))
-    assert len(lines) == 1 and lines[0].startswith(f"{last}: a.yml is not a vault")
-    assert "or use --all" in done.stderr and len(told(place.run(HOOK, "--all"))) == 1
+    [line] = told(place.run(HOOK, *words.split()))
+    assert line.startswith(f"{last}: a.yml is not a vault")
+    assert "or use --all" in done.stderr, "the other advice"
+    assert len(told(place.run(HOOK, "--all"))) == 1
 
 
 def test_amend(place: Place) -> None:
@@ -358,9 +379,11 @@ def test_octopus(place: Place) -> None:
     committed(place, "three.yml", TEXT)
     merge = "git merge --no-edit one two > ../merged"
     silent("vaults", place.shell(f"{merge} && {HOOK} --since HEAD^ && git reset -q --hard HEAD^"))
-    ids = [place.shell(f"git rev-parse {name}").stdout[:10] for name in ("one", "two")]
     place.shell(merge.replace("--no-edit", "--no-commit"))
-    wanted = [f"{name}.yml {WHOLE.replace('HEAD', each)}" for name, each in zip(("one", "two"), ids)]
+    wanted = []
+    for name in ("one", "two"):
+        commit = place.shell(f"git rev-parse {name}").stdout[:10]
+        wanted.append(f"{name}.yml {WHOLE.replace('HEAD', commit)}")
     files = {"one.yml": TEXT, "two.yml": TEXT}
     assert sorted(staged(place, files)) == wanted
     place.shell("git commit -qm merge --no-verify")
@@ -375,6 +398,7 @@ EXAMPLES = re.findall(r"\.Bd .*\n(before (?:.*\n)+?)(after (?:.*\n)+?)hook ((?:.
 
 
 def put_example(place: Place, lines: str) -> None:
+    """Write the file of each line, whose first eight characters only say when. Dots stand for an envelope."""
     envelope = sealed("old").replace(b"\n", b"\\n")
     for line in lines.splitlines():
         name, content = re.split("  +", line[8:], maxsplit=1)
@@ -400,12 +424,13 @@ def test_merge(place: Place) -> None:
     fork(place, {"x.txt": b"1\n"}, {"one.yml": sealed("old")}, {"two.yml": sealed("old")})
     ours, theirs = (place.shell(f"git rev-parse {name}").stdout[:10] for name in ("HEAD", "theirs"))
     place.shell("git merge -q --no-commit theirs")
-    files = {"one.yml": TEXT, "two.yml": TEXT}
-    wanted = [f"{name} {WHOLE}" for name in files]
-    assert [line.replace(theirs, "HEAD") for line in staged(place, files)] == wanted
+    in_ours = WHOLE.replace("HEAD", ours)
+    in_theirs = WHOLE.replace("HEAD", theirs)
+    lines = staged(place, {"one.yml": TEXT, "two.yml": TEXT})
+    assert lines == [f"one.yml {WHOLE}", f"two.yml {in_theirs}"], "before the commit"
     merge = committed(place, "x.txt", b"2\n")
     lines = told(place.run(HOOK, "--since", ours))
-    assert [line.replace(theirs, "HEAD").replace(ours, "HEAD") for line in lines] == [f"{merge}: {x}" for x in wanted]
+    assert lines == [f"{merge}: one.yml {in_ours}", f"{merge}: two.yml {in_theirs}"], "after the commit"
 
 
 def test_replaced_objects(place: Place) -> None:
