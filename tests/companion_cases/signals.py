@@ -35,23 +35,28 @@ from lib.subtests import SubTests
 RUNS = (EDIT, ROTATE, MERGE)
 
 
-def tree(place: Place) -> dict[str, list[str]]:
+def prepare_runs(place: Place) -> dict[str, list[str]]:
     """Write a vault, and return each run over it. A merge puts ours under the new password."""
     vaults = versions(place, "a.yml", sealed("old", CHANGED), sealed("old"), sealed("new", CHANGED))
     (place.tree / "a.yml").chmod(0o640)
     place.environment["EDITOR"] = place.script(f"{CHANGE}; touch ../saved; sleep 0.1", "editor")
-    old, both = place.by_file("old"), [*place.by_file("old"), *place.by_file("new")]
-    lines = [[EDIT, *old, "a.yml"], [ROTATE, *to_new(place), "."], [MERGE, *both, *vaults]]
-    return {line[0]: line for line in lines}
+    old, new = place.by_file("old"), place.by_file("new")
+    return {
+        EDIT: [EDIT, *old, "a.yml"],
+        ROTATE: [ROTATE, *to_new(place), "."],
+        MERGE: [MERGE, *old, *new, *vaults],
+    }
 
 
 def check_whole(place: Place) -> None:
     """Check that the vault is the old or the new one, or a conflict of two whole ones, and that no file is left."""
     vault = place.get("a.yml")
-    pairs = [*zip(texts(vault, "old"), texts(vault, "new"))]
-    assert len(pairs) == (2 if b"<<<<<<<" in vault else 1), ("the vault is whole", vault)
-    assert all({TEXT, CHANGED}.intersection(pair) for pair in pairs), ("the vault is whole", vault)
-    assert (place.names(), place.left() + os.listdir(place.temporary)) == (["a.yml"], []), "nothing is left"
+    by_old, by_new = texts(vault, "old"), texts(vault, "new")
+    assert len(by_old) == (2 if b"<<<<<<<" in vault else 1), ("how many envelopes there are", vault)
+    for pair in zip(by_old, by_new):
+        assert {TEXT, CHANGED}.intersection(pair), ("an envelope is whole", vault)
+    assert place.names() == ["a.yml"], "nothing is left in the tree"
+    assert place.left() + os.listdir(place.temporary) == [], "nothing is left elsewhere"
     assert place.mode("a.yml") == "0o640", "the mode stays"
 
 
@@ -97,7 +102,7 @@ subprocess.Popen.communicate = stepping(subprocess.Popen.communicate)
 def test_at_each_step(cases: Companions, subtests: SubTests, name: str) -> None:
     for number in range(100):
         place = cases.place()
-        companion, *words = tree(place)[name]
+        companion, *words = prepare_runs(place)[name]
         # Calls have two steps, so each of the two receivers gets signals before calls, and after them.
         receiver = "os.getpid()" if number % 3 else "0"
         done = run_changed(place, companion, AT_STEP.format(number=number, receiver=receiver), words)
@@ -145,7 +150,7 @@ def test_postponed_signals(place: Place) -> None:
     # Some cannot be blocked, a crash of Python itself would raise others again, and Python ignores the last two.
     others = "CHLD CONT URG WINCH TSTP TTIN TTOU KILL STOP SEGV BUS FPE ILL PIPE XFSZ"
     wanted = signal.valid_signals() - {getattr(signal, f"SIG{name}") for name in others.split()}
-    tree(place)
+    prepare_runs(place)
     # The companion starts a program with all signals blocked, and then waits in poll.
     waits = "until grep -q '^7 ' /proc/$PPID/syscall; do :; done"
     place.wrap_tool(f'[ "$1" != encrypt ] || {{ {waits}; cat /proc/$PPID/status > ../encrypting; }}')
@@ -164,7 +169,7 @@ IGNORED = ("HUP", "INT", "QUIT", "TERM", "USR1")
 @pytest.mark.parametrize("name", IGNORED)
 def test_ignored_signals(place: Place, name: str) -> None:
     """What is ignored when an edit begins does not end it, while the editor runs or the text is encrypted."""
-    tree(place)
+    prepare_runs(place)
     place.wrap_tool(f"kill -{name} $PPID")
     line = " ".join([EDIT, *place.by_file("old"), "a.yml"])
     editor = place.script(f"kill -{name} $PPID; {CHANGE}", "editor")
@@ -185,7 +190,7 @@ while :; do sleep 0.05; done
 
 def test_last_words(place: Place) -> None:
     """The companion waits for what an editor writes when it is asked to end, even if it is asked twice."""
-    tree(place)
+    prepare_runs(place)
     done = edit(place, LAST_WORDS, *place.by_file("old"), "a.yml")
     assert done.returncode == -signal.SIGTERM
     assert "a.yml: signal 15 ended the edit; " in done.stderr, "the reason"
@@ -206,40 +211,62 @@ def is_running(number: str) -> bool:
     return line.exists() and line.read_bytes() != b""
 
 
-SCRIPTS = {"": False, "kill -STOP $$;": False, "trap '' TERM;": True}
+class Script(NamedTuple):
+    """What a password script does first, whether it is stopped then, and whether the signal ends it."""
+
+    before: str
+    is_stopped: bool
+    is_ended: bool
 
 
-@pytest.mark.parametrize("before", SCRIPTS)
-def test_password_script(place: Place, before: str) -> None:
+SCRIPTS = {
+    "it waits": Script(before="", is_stopped=False, is_ended=True),
+    "it is stopped": Script(before="", is_stopped=True, is_ended=True),
+    "it ignores the signal": Script(before="trap '' TERM;", is_stopped=False, is_ended=False),
+}
+
+
+@pytest.mark.parametrize("script", SCRIPTS.values(), ids=SCRIPTS)
+def test_password_script(place: Place, script: Script) -> None:
     """A password script gets the signal, even if it is stopped. If it ignores the signal, only the companion ends."""
     needs("bash")
-    tree(place)
-    file = Path(sleeping(place, "" if "STOP" in before else before))
+    prepare_runs(place)
+    file = Path(sleeping(place, script.before))
     with started([CHECK, "--vault-id", "../script", "a.yml"], cwd=place.tree, env=place.environment) as process:
         wait_until(file.exists, "the script")
         number = file.read_text().strip()
-        if "STOP" in before:
+        if script.is_stopped:
             os.kill(int(number), signal.SIGSTOP)
         process.terminate()
-        assert process.wait(SECONDS) == -signal.SIGTERM
-    if not SCRIPTS[before]:
+        assert process.wait(SECONDS) == -signal.SIGTERM, "the companion ends by the signal"
+    if script.is_ended:
         wait_until(lambda: not is_running(number), "the end of the script")
     else:
-        assert is_running(number)
+        assert is_running(number), "the script goes on"
         os.kill(int(number), signal.SIGKILL)
 
 
-EDITORS = {"it is stopped": "kill -STOP $$", "it ignores the signal": "trap '' TERM; sleep 0.3; : > ../waited"}
+class Editor(NamedTuple):
+    """What an editor does after it has saved, and whether the companion waits for the end of that."""
+
+    text: str
+    is_awaited: bool
 
 
-@pytest.mark.parametrize("what", EDITORS)
-def test_editor(place: Place, what: str) -> None:
+EDITORS = {
+    "it is stopped": Editor(text="kill -STOP $$", is_awaited=False),
+    "it ignores the signal": Editor(text="trap '' TERM; sleep 0.3; : > ../waited", is_awaited=True),
+}
+
+
+@pytest.mark.parametrize("editor", EDITORS.values(), ids=EDITORS)
+def test_editor(place: Place, editor: Editor) -> None:
     """The companion waits for an editor that ignores a signal, and one that is stopped goes on to be ended by it."""
-    tree(place)
+    prepare_runs(place)
     kill = "(trap '' TERM; sleep 0.1; kill -TERM $PPID) > /dev/null 2>&1 &"
-    done = edit(place, f"{CHANGE}; : > ../saved; {kill} {EDITORS[what]}", *place.by_file("old"), "a.yml")
-    assert done.returncode == -signal.SIGTERM
-    assert (place.path / "waited").exists() == ("ignores" in what)
+    done = edit(place, f"{CHANGE}; : > ../saved; {kill} {editor.text}", *place.by_file("old"), "a.yml")
+    assert done.returncode == -signal.SIGTERM, "the companion ends by the signal"
+    assert (place.path / "waited").exists() == editor.is_awaited, "what the editor does in the end"
     assert "a.yml: signal 15 ended the edit; " in done.stderr, "the reason"
     check_edit(place, done.stderr)
 
@@ -316,7 +343,7 @@ def has_started_program(place: Place, number: int) -> bool:
 
 @pytest.mark.parametrize("line, call", WAITS.values(), ids=WAITS)
 def test_waits(place: Place, line: str, call: str) -> None:
-    tree(place)
+    prepare_runs(place)
     place.put("b.yml", block("old"))
     place.put("long.yml", sealed("old", b"text\n" * 100_000))
     os.mkfifo(place.path / "pipe")
@@ -333,7 +360,7 @@ def test_waits(place: Place, line: str, call: str) -> None:
 @pytest.mark.parametrize("line", WORKS.values(), ids=WORKS)
 def test_workers(place: Place, line: str) -> None:
     """The main thread takes all signals, so that it may postpone them while workers go on."""
-    tree(place)
+    prepare_runs(place)
     place.put("many.yml", b"".join(block("old", b"%d" % number, name=f"key{number}") for number in range(100)))
     # The signals that each thread but the main one blocks. Its number may be lower than the main one's.
     masks: dict[str, set[int]] = {}
@@ -355,7 +382,7 @@ def test_workers(place: Place, line: str) -> None:
 @pytest.mark.parametrize("line, command", [(line, command) for line in OF_GIT for command in OF_GIT[line]])
 def test_git(place: Place, git: None, line: str, command: str) -> None:
     """Whatever it asks git."""
-    merge = tree(place)[MERGE]
+    merge = prepare_runs(place)[MERGE]
     commit = "git -c user.name=a -c user.email=b commit -qm c --allow-empty"
     place.shell(f"git init -q && {commit} && git add . && {commit}")
     answer = SILENT if command in SERVERS else ENDLESS
@@ -379,7 +406,7 @@ def test_slow_parse(place: Place, git: None, line: str) -> None:
 
 def test_later_edits(place: Place) -> None:
     """A signal ends the second edit of a command, and a resumed one. What was saved is kept each time."""
-    tree(place)
+    prepare_runs(place)
     place.put("b.yml", sealed("old"))
     kill = 'case "$1" in */b.yml) touch ../saved; kill -TERM $PPID; sleep 0.1;; esac'
     for number, words in enumerate((["a.yml", "b.yml"], ["--resume", "b.yml"], ["--resume", "b.yml"]), 1):
@@ -411,8 +438,10 @@ yaml_draft.require_nodes = require_later
 """
     editor = place.script('echo "a: !vault more" >> "$1"; : > ../saved', "editor")
     done = run_changed(place, EDIT, change, [*place.by_file("old"), "vars.yml"], EDITOR=editor)
-    assert done.returncode == -signal.SIGTERM and "signal 15 ended the edit; what you saved is " in done.stderr, done
-    assert "processor time" not in done.stderr and len(place.kept()) == 1
+    assert done.returncode == -signal.SIGTERM, done
+    assert "signal 15 ended the edit; what you saved is " in done.stderr, "the reason"
+    assert "processor time" not in done.stderr, "it is not the limit"
+    assert len(place.kept()) == 1, "what was saved is kept"
 
 
 @pytest.mark.parametrize("number", (1, 2))
@@ -434,8 +463,9 @@ bounding._limit_time = limit_less
 """
     editor = place.script('echo "a: !vault more" >> "$1"; : > ../saved', "editor")
     done = run_changed(place, EDIT, change, [*place.by_file("old"), "vars.yml"], EDITOR=editor)
-    assert done.returncode == 1 and "it takes over 10 s of processor time; what you saved is " in done.stderr, done
-    assert len(place.kept()) == 1
+    assert done.returncode == 1, done
+    assert "it takes over 10 s of processor time; what you saved is " in done.stderr, "the reason"
+    assert len(place.kept()) == 1, "what was saved is kept"
 
 
 MOMENTS = 12
@@ -455,14 +485,20 @@ startup.prepare_process = prepare
 def prepare(place: Place, name: str) -> list[str]:
     """Return a command line of a companion, in a repository."""
     place.shell("git init -q && git -c user.name=a -c user.email=b commit -qm c --allow-empty")
-    lines = {CHECK: [CHECK, *place.by_file("old"), "."], TEXTCONV: [TEXTCONV, *place.by_file("old"), "a.yml"]}
-    lines |= {HOOK: [HOOK, "--since", "HEAD"], WITH: [WITH, "rekey", *to_new(place), "a.yml"]} | tree(place)
+    lines = {
+        CHECK: [CHECK, *place.by_file("old"), "."],
+        TEXTCONV: [TEXTCONV, *place.by_file("old"), "a.yml"],
+        HOOK: [HOOK, "--since", "HEAD"],
+        WITH: [WITH, "rekey", *to_new(place), "a.yml"],
+        **prepare_runs(place),
+    }
     return lines[name]
 
 
 def check_end(place: Place, name: str, number: int, status: int, errors: str) -> None:
     """Check that a signal has ended a run by its default action, or came too late, and that nothing is torn or left."""
-    assert status in (0, -number) and "Traceback" not in errors and "KeyboardInterrupt" not in errors, errors
+    assert status in (0, -number), errors
+    assert "Traceback" not in errors and "KeyboardInterrupt" not in errors, errors
     shutil.rmtree(place.tree / ".git")
     if name == EDIT:
         check_edit(place, errors)
@@ -473,9 +509,12 @@ def check_end(place: Place, name: str, number: int, status: int, errors: str) ->
 @pytest.mark.parametrize("name", COMPANIONS)
 def test_random_moments(cases: Companions, git: None, pytestconfig: pytest.Config, name: str) -> None:
     """From the first millisecond on."""
-    random, longest = Random(f"{pytestconfig.getoption('--seed')} {name}"), 0.0
+    random = Random(f"{pytestconfig.getoption('--seed')} {name}")
+    # The time of the first run, to which no signal is sent.
+    longest = 0.0
     for attempt in range(MOMENTS):
-        place, number = cases.place(), random.choice((signal.SIGTERM, signal.SIGHUP))
+        place = cases.place()
+        number = random.choice((signal.SIGTERM, signal.SIGHUP))
         words = prepare(place, name)
         begin = time.monotonic()
         streams = {"stdout": subprocess.DEVNULL, "stderr": subprocess.PIPE}
@@ -493,7 +532,8 @@ def test_random_moments(cases: Companions, git: None, pytestconfig: pytest.Confi
 @pytest.mark.parametrize("name", COMPANIONS)
 def test_early_interrupts(cases: Companions, git: None, pytestconfig: pytest.Config, name: str) -> None:
     """While modules are imported, too."""
-    random, statuses = Random(f"{pytestconfig.getoption('--seed')} {name}"), set[int]()
+    random = Random(f"{pytestconfig.getoption('--seed')} {name}")
+    statuses: set[int] = set()
     for _ in range(MOMENTS):
         place = cases.place()
         companion, *words = prepare(place, name)
@@ -501,7 +541,7 @@ def test_early_interrupts(cases: Companions, git: None, pytestconfig: pytest.Con
         done = run_changed(place, companion, change, words)
         check_end(place, name, signal.SIGINT, done.returncode, done.stderr)
         statuses.add(done.returncode)
-    assert -signal.SIGINT in statuses
+    assert -signal.SIGINT in statuses, "a signal ends a run"
 
 
 def test_time_of_threads(place: Place) -> None:
