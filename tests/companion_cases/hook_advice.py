@@ -5,7 +5,7 @@ import json
 import os
 import re
 from collections.abc import Callable
-from itertools import permutations
+from itertools import permutations, product
 from typing import NamedTuple
 
 import pytest
@@ -34,11 +34,11 @@ Act = Callable[[Place, str], None]
 
 def paste(place: Place, advice: str) -> None:
     """Add the line to the file that is named before it, as `echo LINE >> FILE` does."""
-    [(path, hint, line)] = re.findall(
-        r"at the end of (.*?gitattributes)( \(first end its last line.*?\))?: (.*)", advice
-    )
-    with open(place.tree / path, "ab") as file:
-        file.write((b"\n" if hint else b"") + os.fsencode(line) + b"\n")
+    form = r"at the end of (?P<file>.*?gitattributes)(?P<hint> \(first end its last line.*?\))?: (?P<line>.*)"
+    found = re.search(form, advice)
+    assert found, f"the advice has a line: {advice}"
+    with open(place.tree / found["file"], "ab") as file:
+        file.write((b"\n" if found["hint"] else b"") + os.fsencode(found["line"]) + b"\n")
 
 
 def type_it(place: Place, advice: str) -> None:
@@ -76,7 +76,7 @@ class Row(NamedTuple):
     committed: Act
     # What marks the files.
     attributes: str = ""
-    # Where the files are before and after, by their names.
+    # Where a file is before and after, with its name in place of {}.
     old: str = "{}"
     new: str = "{}"
 
@@ -101,7 +101,8 @@ def list_advice(place: Place, *words: str) -> list[str]:
     """Run the hook, and return its advice on each file."""
     done = place.run(HOOK, *words)
     advice = [line for line in done.stderr.splitlines() if line.startswith("  ")]
-    assert len(advice) == len(told(done)) and all(line.isprintable() for line in advice)
+    assert len(advice) == len(told(done)), "there is an advice on each file"
+    assert [line for line in advice if not line.isprintable()] == [], "lines with control characters"
     return advice
 
 
@@ -123,13 +124,13 @@ def test_staged(place: Place, row: Row) -> None:
     """A line has to be staged, too."""
     put_change(place, row)
     advice = list_advice(place)
-    assert len(advice) == len(NAMES)
+    assert len(advice) == len(NAMES), "each file is refused"
     for line in advice:
         row.staged(place, line)
     left = list_advice(place)
-    assert len(left) == (len(NAMES) if row.staged is paste else 0)
+    assert len(left) == (len(NAMES) if row.staged is paste else 0), "a line that is not staged does not count"
     place.shell("git add .gitattributes")
-    assert list_advice(place) == []
+    assert list_advice(place) == [], "nothing is refused then"
 
 
 @pytest.mark.parametrize("row", ROWS.values(), ids=ROWS)
@@ -138,16 +139,17 @@ def test_committed(place: Place, row: Row) -> None:
     put_change(place, row)
     place.shell("git commit -qm after --no-verify")
     advice = list_advice(place, "--since", "HEAD~1")
-    assert len(advice) == len(NAMES) and len({*advice}) == 1
-    [(base, later)] = re.findall("rewrite the commit, .*`git rebase -i (.*)`; .* begin later: (--since .*)", advice[0])
-    assert list_advice(place, *later.split()) == []
-    assert place.shell(f"git rev-parse {base}").stdout == place.shell("git rev-parse HEAD~1").stdout
+    assert len(advice) == len(NAMES), "each file is refused"
+    [line] = {*advice}
+    [(base, later)] = re.findall("rewrite the commit, .*`git rebase -i (.*)`; .* begin later: (--since .*)", line)
+    assert list_advice(place, *later.split()) == [], "nothing is refused then"
+    assert place.shell(f"git rev-parse {base}").stdout == place.shell("git rev-parse HEAD~1").stdout, "the base"
     advice = list_advice(place, "--all")
-    assert len(advice) == len(NAMES)
+    assert len(advice) == len(NAMES), "each file is refused"
     for line in advice:
         row.committed(place, line)
     place.shell("git add -A && git commit -qm repair --no-verify")
-    assert list_advice(place, "--all") == []
+    assert list_advice(place, "--all") == [], "nothing is refused after the repair"
 
 
 def test_keys(place: Place) -> None:
@@ -155,16 +157,16 @@ def test_keys(place: Place) -> None:
     under_git(place, "")
     forms = [b"%s: %s\n", b"m:\n  ? %s\n  : %s\n", b"l:\n- ? %s\n  : %s\n"]
     envelope = b'!vault "%s"' % VAULT.replace(b"\n", b"\\n")
-    for is_plain in (False, True):
-        for number, (key, form) in enumerate((key, form) for form in forms for key in KEYS):
-            place.put(f"{number}.yml", form % (os.fsencode(key), b"plain" if is_plain else envelope))
-        place.shell("git add -A" if is_plain else "git add -A && git commit -qm before")
+    for value, command in ((envelope, "git add -A && git commit -qm before"), (b"plain", "git add -A")):
+        for number, (form, key) in enumerate(product(forms, KEYS)):
+            place.put(f"{number}.yml", form % (os.fsencode(key), value))
+        place.shell(command)
     advice = list_advice(place)
-    assert len(advice) == len(KEYS) * len(forms)
+    assert len(advice) == len(KEYS) * len(forms), "each key is refused"
     for line in advice:
         paste(place, line)
     place.shell("git add .gitattributes")
-    assert list_advice(place) == []
+    assert list_advice(place) == [], "nothing is refused then"
 
 
 # Contents of a file, each in place of each other one.
@@ -225,10 +227,11 @@ def test_one_line_for_all(place: Place) -> None:
     committed(place, "x", b"")
     advice = list_advice(place, "--all")
     lines = [line for line in advice if " at the end of " in line]
+    assert lines != [], "some lines are shown"
     for line in lines:
         paste(place, line)
     place.shell("git add -A && git commit -qm lines --no-verify")
-    assert lines and len(list_advice(place, "--all")) == len(advice) - len(lines)
+    assert len(list_advice(place, "--all")) == len(advice) - len(lines), "each line is all that is needed"
 
 
 def test_no_line(place: Place) -> None:
@@ -245,9 +248,10 @@ def test_no_line(place: Place) -> None:
         place.put(name, content)
     place.shell("git add -A")
     no_verify = "  if that is intended, commit with --no-verify: "
-    reasons = ["a line for it in .gitattributes would be too long for git"]
-    reasons += ["a line in .gitattributes counts only in the commit that adds it"] * 2 + reasons
-    assert list_advice(place) == [no_verify + reason for reason in reasons]
+    too_long = f"{no_verify}a line for it in .gitattributes would be too long for git"
+    too_early = f"{no_verify}a line in .gitattributes counts only in the commit that adds it"
+    # Of a.yml, b.yml, c.yml and the long path.
+    assert list_advice(place) == [too_long, too_early, too_early, too_long]
     place.shell(f"git rm -q --cached {long} && rm {long} && git commit -qm after --no-verify")
     later = "do nothing: only the last commit is compared with the one before"
     assert [line.endswith(later) for line in list_advice(place, "--all")] == [True] * 3
@@ -265,7 +269,8 @@ def test_combined_change(place: Place) -> None:
     first, last = place.shell(f"git rev-parse {first} {last}").stdout.split()
     assert f"rewrite the commits, for example with `git rebase -i {first}`; " in advice
     [later] = re.findall("begin later: (--since .*)", advice)
-    assert later == f"--since {last}" and list_advice(place, *later.split()) == []
+    assert later == f"--since {last}", "the later beginning"
+    assert list_advice(place, *later.split()) == [], "nothing is refused then"
 
 
 def test_rewritten_commit(place: Place) -> None:
@@ -279,7 +284,8 @@ def test_rewritten_commit(place: Place) -> None:
     place.shell(command, GIT_SEQUENCE_EDITOR="sed -i '1s/^pick/edit/'")
     place.put("a.yml", sealed("new"))
     place.shell("git commit -qa --amend --no-edit && git rebase --continue")
-    assert list_advice(place, "--since", first) == [] and place.get("a.yml") == sealed("new")
+    assert list_advice(place, "--since", first) == [], "nothing is refused then"
+    assert place.get("a.yml") == sealed("new"), "the rewritten file"
 
 
 # How a file of attributes ends, in the directory of the vault or at the top.
@@ -352,39 +358,46 @@ def test_first_commit(place: Place) -> None:
     assert list_advice(place, "--since", first) == []
 
 
-# The attributes in HEAD, by the path of their file; and a commit that removes no protection by itself, but by which a
-# line that a stranger has planted concerns the plaintext of a vault or a value.
+class Planted(NamedTuple):
+    """The attributes in HEAD, by the path of their file; and a commit that removes no protection by itself, but by
+    which a line that a stranger has planted concerns the plaintext of a vault or a value."""
+
+    attributes: dict[str, bytes]
+    command: str
+
+
 PLANTED = {
-    "a directory with its own line": (
-        {"roles/db/.gitattributes": b"*.yml -ansible-vault ansible-vault-plain=pw\n"},
-        "git mv roles/db roles/database",
+    "a directory with its own line": Planted(
+        attributes={"roles/db/.gitattributes": b"*.yml -ansible-vault ansible-vault-plain=pw\n"},
+        command="git mv roles/db roles/database",
     ),
-    "a line for another directory": (
-        {".gitattributes": b"prod/* -ansible-vault ansible-vault-plain=pw\n"},
-        "git mv roles/db prod",
+    "a line for another directory": Planted(
+        attributes={".gitattributes": b"prod/* -ansible-vault ansible-vault-plain=pw\n"},
+        command="git mv roles/db prod",
     ),
-    "a line that hides another": (
-        {
+    "a line that hides another": Planted(
+        attributes={
             ".gitattributes": b"roles/** -ansible-vault ansible-vault-plain=pw\n",
             "roles/db/.gitattributes": b"* !ansible-vault !ansible-vault-plain\n",
         },
-        "git rm -q roles/db/.gitattributes",
+        command="git rm -q roles/db/.gitattributes",
     ),
 }
 
 
-@pytest.mark.parametrize("attributes, command", PLANTED.values(), ids=PLANTED)
+@pytest.mark.parametrize("planted", PLANTED.values(), ids=PLANTED)
 @pytest.mark.parametrize("before, after", [(VAULT, TEXT), (VALUE, b"pw: text\n")], ids=["vault", "value"])
-def test_planted_lines(place: Place, attributes: dict[str, bytes], command: str, before: bytes, after: bytes) -> None:
+def test_planted_lines(place: Place, planted: Planted, before: bytes, after: bytes) -> None:
     """A line allows nothing in a commit that does not add it, wherever it was."""
     under_git(place, "")
-    for name, content in attributes.items():
+    for name, content in planted.attributes.items():
         place.put(name, content)
     place.put("roles/db/x.yml", before)
     add_and_commit(place)
     place.put("roles/db/x.yml", after)
-    done = place.shell(f"{command} && git add -A && {HOOK}")
-    assert done.returncode == 1 and "x.yml " in done.stderr, done
+    done = place.shell(f"{planted.command} && git add -A && {HOOK}")
+    assert done.returncode == 1, done
+    assert "x.yml " in done.stderr, done
 
 
 @pytest.mark.parametrize("before, after", [(VAULT, TEXT), (VALUE, b"pw: text\n")], ids=["vault", "value"])
