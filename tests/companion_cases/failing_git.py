@@ -213,16 +213,24 @@ class Call(NamedTuple):
 
 
 class Result(NamedTuple):
-    """What is left of a run: status, messages, and files and settings, if it may change them."""
+    """What is left of a run: status, messages, and, if it may change them, the files, and git's settings and hooks."""
 
     status: int
     output: str
     errors: str
-    files: dict[str, Described]
-    settings: tuple[bytes, list[str]]
+    files: dict[str, Described] = {}
+    config: bytes = b""
+    hooks: list[str] = []
 
     def __str__(self) -> str:
         return f"the status {self.status}, {sorted(self.files)}, and the messages\n{self.errors}"
+
+
+class Attempt(NamedTuple):
+    """The result of a run, and whether the call that was to fail was made."""
+
+    result: Result
+    has_failed: bool
 
 
 class Failing(NamedTuple):
@@ -232,26 +240,27 @@ class Failing(NamedTuple):
     forks: Forks
     line: str
 
-    def run(self, call: Call | None = None, way: Way = WHOLE, alike: bool = False) -> tuple[Result, bool]:
-        """Return the result of a run in the prepared repository, and whether the call failed, or all of its kind."""
+    def run(self, call: Call | None = None, way: Way = WHOLE, is_of_kind: bool = False) -> Attempt:
+        """Run the line in the prepared repository. The call fails, or all of its kind."""
         for name in ("kinds", "failed"):
             (self.place.path / name).write_text("")
         fails = {}
         if call:
-            name = call.kind if alike else f"{call.kind} {call.number}"
+            name = call.kind if is_of_kind else f"{call.kind} {call.number}"
             fails = {"FAILS": name, "BYTES": str(call.length(way.part)), "END": ENDS[way.end]}
         changes = EDIT in self.line or "--install" in self.line
         if changes:
             shutil.rmtree(self.place.tree)
             shutil.copytree(self.place.path / "prepared", self.place.tree, symlinks=True)
         run = self.forks.run(self.place, *self.line.split(), **fails)
-        result = Result(run.status, run.output, run.errors, {}, (b"", []))
+        result = Result(run.status, run.output, run.errors)
         if changes:
             contents = self.place.files().items()
+            # A new envelope is another one each time, but has the same text. A conflict is compared as it is.
             files = {name: (text, None) if b"<<<" in text else described(text) for name, text in contents}
-            settings = self.place.get(".git/config"), sorted(os.listdir(self.place.tree / ".git" / "hooks"))
-            result = result._replace(files=files, settings=settings)
-        return result, (self.place.path / "failed").read_text() != ""
+            hooks = sorted(os.listdir(self.place.tree / ".git" / "hooks"))
+            result = result._replace(files=files, config=self.place.get(".git/config"), hooks=hooks)
+        return Attempt(result, has_failed=(self.place.path / "failed").read_text() != "")
 
     def calls(self) -> list[Call]:
         """Return the calls of the last run, in which none failed."""
@@ -333,7 +342,7 @@ def test_failures(
     random = Random(int(pytestconfig.getoption("--seed")))
     prepare(place, scenario)
     failing = Failing(place, forks, scenario.line)
-    whole, _ = failing.run()
+    whole = failing.run().result
     missing = [word for word in scenario.words.split(" ") if word not in whole.errors]
     assert whole.status == scenario.status, whole
     assert missing == [], whole
@@ -341,12 +350,12 @@ def test_failures(
     reached = 0
     wrong = []
     for failure in choose_failures(calls, share, random):
-        result, has_failed = failing.run(failure.call, failure.way, failure.is_of_kind)
-        if has_failed:
+        attempt = failing.run(failure.call, failure.way, failure.is_of_kind)
+        if attempt.has_failed:
             reached += 1
         else:
             wrong.append(f"{scenario.line} never comes to where {failure}")
-        if not is_fine(result, whole, failure):
-            wrong.append(f"If {failure}, {scenario.line} has {result}")
+        if not is_fine(attempt.result, whole, failure):
+            wrong.append(f"If {failure}, {scenario.line} has {attempt.result}")
     assert not wrong, "\n".join(wrong)
     record_property("failing calls of git", (reached, len(list_failures(calls))))
