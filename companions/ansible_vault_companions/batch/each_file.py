@@ -113,7 +113,7 @@ class Runner:
         fails = (
             self._is_marked(found)
             or parsed.number_envelopes()
-            or file_kinds.find_yaml_fault(parsed, path, found.target)
+            or file_kinds.find_fault(parsed, path, found.target)
         )
         report = Report()
         report.add_file(FAILED if fails else SKIPPED, path, found.refusal)

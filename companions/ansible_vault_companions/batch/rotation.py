@@ -41,10 +41,12 @@ class Rotation(Work):
 
     def process_file(self, found: FoundFile, parsed: ParsedText, report: Report) -> bytes | None:
         path = found.paths[0]
-        if not parsed.values and file_kinds.find_yaml_fault(parsed, path, found.target):
-            raise Refused(parsed.fault)
         is_prose = file_kinds.is_prose(found.target) and not parsed.is_vault
         after = self.change_envelopes(parsed, path, report, is_prose=is_prose)
+        fault = file_kinds.find_fault(parsed, path, found.target)
+        # In what is no YAML, all that has digits was found.
+        if fault and (parsed.is_too_much or not parsed.values):
+            report.add_file(FAILED, path, fault)
         return after if after != parsed.data else None
 
     def write_file(self, found: FoundFile, after: bytes, before: bytes) -> None:

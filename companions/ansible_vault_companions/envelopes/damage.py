@@ -3,11 +3,9 @@
 from __future__ import annotations
 
 from ansible_vault_companions.envelopes import conflicts, header
-from ansible_vault_companions.envelopes.header import MAGIC
+from ansible_vault_companions.envelopes.header import HEADER
 from ansible_vault_companions.envelopes.node import LOOSE, STRAY
 from ansible_vault_companions.envelopes.parsed_text import ParsedText
-
-HEADER = MAGIC + b";"
 
 NOT_ENCRYPTED = "is not encrypted"
 NOT_READ = "cannot be checked: {}"

@@ -4,6 +4,7 @@ from __future__ import annotations
 
 import re
 
+from ansible_vault_companions.envelopes.header import HEADER
 from ansible_vault_companions.envelopes.pointers import refuse_pointer
 from ansible_vault_companions.envelopes.yaml_nodes import BINARY
 from ansible_vault_companions.files.reading import open_regular, read_parts, read_whole
@@ -17,6 +18,13 @@ OVERLAP = 80
 def may_have_envelope(data: bytes) -> bool:
     """Whether the data may have an envelope. It may be a piece of a file."""
     return any(word in data for word in WORDS) or BINARY not in data and ESCAPES.search(data) is not None
+
+
+def count_mentions(data: bytes) -> int:
+    """How many envelopes the data may have, if it cannot be read: as many as headers or tags, and any that an escape or
+    a directive may hide."""
+    hidden = len(ESCAPES.findall(data)) + data.count(b"%TAG")
+    return max(data.count(HEADER), data.count(b"!vault")) + hidden
 
 
 def read_envelope_file(path: str) -> bytes:

@@ -2,6 +2,7 @@
 
 from __future__ import annotations
 
+from ansible_vault_companions.envelopes.detection import count_mentions
 from ansible_vault_companions.envelopes.parsed_text import ParsedText
 from ansible_vault_companions.envelopes.yaml_nodes import BINARY
 
@@ -18,8 +19,11 @@ def is_yaml(path: str) -> bool:
     return path.lower().endswith(YAML)
 
 
-def find_yaml_fault(parsed: ParsedText, path: str, target: str) -> str:
-    """Why a file with an envelope that is YAML, by its name or by that of its target, cannot be read; else empty."""
+def find_fault(parsed: ParsedText, path: str, target: str) -> str:
+    """Why a file that may have an envelope cannot be read: it exceeds a limit, or is no YAML, but has the name of it or
+    its target has; else empty."""
+    if parsed.is_too_much:
+        return parsed.fault if count_mentions(parsed.data) else ""
     if not (is_yaml(path) or is_yaml(target)):
         return ""
     return parsed.fault if parsed.values or BINARY in parsed.data else ""

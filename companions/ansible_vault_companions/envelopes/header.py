@@ -9,6 +9,8 @@ from ansible_vault_companions.limits import LONGEST_LABEL
 
 # The first word of an envelope.
 MAGIC = b"$ANSIBLE_VAULT"
+# How a header begins.
+HEADER = MAGIC + b";"
 LINE_END = re.compile(rb"\r\n?|\n")
 START = re.compile(rb"\$ANSIBLE_VAULT[^;\r\n]*;")
 # A header with digits after it, which no text has that only speaks of envelopes. In a folded scalar a space takes the

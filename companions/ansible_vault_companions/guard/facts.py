@@ -9,15 +9,14 @@ from typing import Iterator, Mapping, NamedTuple
 
 from ansible_vault_companions import bounding, limits
 from ansible_vault_companions.envelopes.damage import (
-    HEADER,
     NOT_ENCRYPTED,
     find_damage,
     find_tagged,
     find_unencrypted,
     is_unmerged,
 )
-from ansible_vault_companions.envelopes.detection import may_have_envelope
-from ansible_vault_companions.envelopes.header import LINE_END, MAGIC
+from ansible_vault_companions.envelopes.detection import count_mentions, may_have_envelope
+from ansible_vault_companions.envelopes.header import HEADER, LINE_END, MAGIC
 from ansible_vault_companions.envelopes.key_paths import MERGE_TAG, KeyPath
 from ansible_vault_companions.envelopes.node import ALIAS, NO_SCALAR, Node
 from ansible_vault_companions.envelopes.parsed_text import ParsedText
@@ -50,8 +49,9 @@ class Facts(NamedTuple):
     is_too_much: bool = False
     # Why Ansible may read it as other keys or texts, if that is known.
     ambiguity: str = ""
-    # How many envelopes it has; if it cannot be read, how many headers of some.
+    # How many envelopes it has at least, and at most. The numbers differ only if it cannot be read.
     envelopes: int = 0
+    most_envelopes: int = 0
     # What is wrong with its envelopes, and whether that is git's conflict markers; with what only has their tag; and
     # with the whole if it is marked.
     damage: str = ""
@@ -70,7 +70,7 @@ def find_facts(data: bytes, needs_plain: bool = False) -> Facts:
         with bounding.limit_work(Effort(len(data))):
             return _read_facts(data, needs_plain)
     except TooMuch as fault:
-        return Facts(fault=str(fault), is_too_much=True, envelopes=data.count(HEADER))
+        return Facts(fault=str(fault), is_too_much=True, **_count_headers(data))
 
 
 def _read_facts(data: bytes, needs_plain: bool) -> Facts:
@@ -79,6 +79,7 @@ def _read_facts(data: bytes, needs_plain: bool) -> Facts:
         return Facts(
             is_vault=True,
             envelopes=1,
+            most_envelopes=1,
             damage=find_damage(parsed),
             is_unmerged=is_unmerged(parsed),
             unencrypted="",
@@ -92,10 +93,12 @@ def _read_facts(data: bytes, needs_plain: bool) -> Facts:
     if not (needs_plain or may_have_envelope(data)):
         return Facts()
     parsed, leaves, keys = _read_leaves(data)
+    count = sum(value.is_envelope for value in parsed.values)
+    counts = _count_headers(data) if parsed.fault else {"envelopes": count, "most_envelopes": count}
     return Facts(
         fault=parsed.fault,
         ambiguity=_find_hidden_break(data) or _find_unclear_key(keys),
-        envelopes=data.count(HEADER) if parsed.fault else sum(value.is_envelope for value in parsed.values),
+        **counts,
         damage=find_damage(parsed),
         is_unmerged=is_unmerged(parsed),
         tagged=find_tagged(parsed),
@@ -104,6 +107,10 @@ def _read_facts(data: bytes, needs_plain: bool) -> Facts:
         plain=_count_texts(leaves, are_encrypted=False),
         leaves=tuple(leaf._replace(path=drop_merges(leaf.path)) for leaf in leaves),
     )
+
+
+def _count_headers(data: bytes) -> dict[str, int]:
+    return {"envelopes": data.count(HEADER), "most_envelopes": count_mentions(data)}
 
 
 def _find_hidden_break(data: bytes) -> str:

@@ -14,7 +14,7 @@ NO_FILTER = "!filter"
 def find_fault(evidence: Evidence, file: File) -> Fault | None:
     if not evidence.now[file].is_pointer:
         return None
-    was_encrypted = evidence.before[file].envelopes > 0 or find_replaced_vault(evidence, file) is not None
+    was_encrypted = evidence.before[file].most_envelopes > 0 or find_replaced_vault(evidence, file) is not None
     is_lost = was_encrypted and not exemptions.allows_loss(evidence, file)
     if not (evidence.attributes[file.name].is_marked or is_lost):
         return None

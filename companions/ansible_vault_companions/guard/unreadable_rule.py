@@ -35,14 +35,14 @@ def find_fault(evidence: Evidence, file: File) -> Fault | None:
 
 
 def _find_too_much(evidence: Evidence, file: File) -> Fault | None:
-    """A limit, which a file with envelopes exceeds, or one that had some."""
+    """A limit, which a file exceeds that may have envelopes, or that may have had some."""
     before, now = evidence.before[file], evidence.now[file]
     if not now.is_too_much:
         return None
     why = NOT_READ.format(now.fault)
-    if before.envelopes:
+    if before.most_envelopes:
         return exemptions.make_loss(evidence, file, why)
-    if now.envelopes and not exemptions.allows_damage(evidence, file):
+    if now.most_envelopes and not exemptions.allows_damage(evidence, file):
         return exemptions.make_damage(file, why, Remedy.ALLOW)
     return None
 
@@ -61,7 +61,7 @@ def _find_fewer(evidence: Evidence, file: File) -> Fault | None:
     before, now = evidence.before[file], evidence.now[file]
     if not (before.is_too_much or before.fault and is_yaml(file)) or now.is_vault or now.is_empty:
         return None
-    if before.envelopes <= now.envelopes:
+    if before.most_envelopes <= now.envelopes:
         return None
     return exemptions.make_loss(evidence, file, FEWER.format(evidence.since, before.fault))
 
