@@ -64,6 +64,8 @@ SECONDS = 10
 MEGABYTES = 256
 # Of that time, what the attributes of all files take together in a check, before the first file is read.
 ATTRIBUTE_SECONDS = 4
+# Beside it, what the reading of an ansible.cfg takes.
+SETTINGS_SECONDS = 1
 # And what the start and the end of a program take, with the time between two looks at what is limited.
 RESERVE = 0.5
 

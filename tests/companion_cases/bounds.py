@@ -592,9 +592,7 @@ SETTINGS = {
 def test_settings(place: Place, text: str, why: str) -> None:
     """The time to read them is limited."""
     place.put("ansible.cfg", text.encode())
-    change = "from ansible_vault_companions import bounding, limits; bounding.SECONDS = limits.SECONDS = 1"
-    done = run_changed(place, CHECK, change, ["."])
-    ended("the check", done, 1, f"{CHECK}: ansible.cfg: {why}\n")
+    ended("the check", place.run(CHECK, "."), 1, f"{CHECK}: ansible.cfg: {why}\n")
 
 
 def test_sparse_gigabyte(place: Place) -> None:

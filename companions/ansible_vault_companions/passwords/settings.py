@@ -13,7 +13,7 @@ import stat
 from collections.abc import Callable
 
 from ansible_vault_companions.files import link_bounds
-from ansible_vault_companions.limits import LONGEST_SETTINGS, Effort, TooMuch
+from ansible_vault_companions.limits import LONGEST_SETTINGS, SETTINGS_SECONDS, Effort, TooMuch
 from ansible_vault_companions.passwords.path_expansion import CURRENT, expand_path, is_absolute
 from ansible_vault_companions.quoting import escape
 from ansible_vault_companions.refusals import Refused, describe_refusal
@@ -150,7 +150,7 @@ def _read_section(path: str) -> dict[str, str]:
             text = file.read(LONGEST_SETTINGS + 1)
         _require_short(text)
         # Python's parser takes quadratic time for blanks, and for lines that are no settings.
-        with bounding.limit_work(Effort(len(text))):
+        with bounding.limit_run(SETTINGS_SECONDS), bounding.limit_work(Effort(len(text))):
             parser.read_string(text)
     except UnicodeError:
         raise Refused(f"{escape(path)}: it is not UTF-8") from None
