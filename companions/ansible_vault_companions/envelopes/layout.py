@@ -43,7 +43,7 @@ def indent_lines(text: bytes, margin: bytes, end: bytes) -> bytes:
 
 
 def replace_envelope(value: Node, envelope: bytes) -> Replacement:
-    """Puts another envelope in its place, in the same layout: a block stays one, and others get double quotes."""
+    """Puts another envelope in its place, in the same layout: a literal stays one, and others get double quotes."""
     if value.style == WHOLE:
         return Replacement(value.start, value.end, envelope.replace(b"\n", value.ending))
     if value.style in (LITERAL, STRAY):
