@@ -74,6 +74,14 @@ def test_found(make: Make, place: Path) -> None:
     check_starts(f"{place}/lib/ansible-vault", *as_nobody)
 
 
+def test_downloaded(tmp_path: Path, program: str, place: Path) -> None:
+    """A program that may not be executed yet can be executed once it is installed."""
+    downloaded = Path(shutil.copyfile(program, tmp_path / "downloaded"))
+    downloaded.chmod(0o644)
+    done = run_make(str(downloaded), "install", f"DESTDIR={place}", "PREFIX=")
+    assert (done.returncode, stat.S_IMODE((place / PROGRAM).stat().st_mode)) == (0, 0o755)
+
+
 def test_python(tmp_path: Path, make: Make, place: Path) -> None:
     """The Python that make is told, by default Debian's, runs the companions. If it lacks PyYAML, make says so."""
     lacking = write_script(tmp_path / "lacking", 'case "$*" in *yaml*) exit 1 ;; esac; exec /usr/bin/python3 "$@"')
