@@ -170,8 +170,8 @@ install: all
 	@case "$(PYTHON)" in (*[" ,&"]* | [!/]* | "") echo "PYTHON=$(PYTHON) is no plain path that begins with /" >&2; exit 1; esac
 	@$(if $(DESTDIR),,[ -x "$(PYTHON)" ] || { echo "there is no $(PYTHON): name a Python by PYTHON=PATH" >&2; exit 1; })
 	@umask 022; tools/installed install "$(TOP)" $(SUMS) "$(PYTHON)" $(REPLACE) $(INSTALLED) -- $(LINKS)
-# Compiled companions start faster. A package compiles them where it is installed.
-	@$(if $(DESTDIR),,umask 022; "$(PYTHON)" -I -m compileall -q "$(TOP)/$(LIBRARY)" || true)
+# Compiled companions start faster. A package compiles them where it is installed. The lock is that of tools/installed.
+	@$(if $(DESTDIR),,umask 022; flock "$(TOP)" "$(PYTHON)" -I -m compileall -q "$(TOP)/$(LIBRARY)" || true)
 	@$(if $(DESTDIR),,"$(PYTHON)" -I -c "import yaml" 2> /dev/null || echo "$(NO_PYYAML)" >&2)
 	@$(if $(DESTDIR),,echo "Type next: hash -r; ansible-vault --version")
 

@@ -14,6 +14,7 @@ from lib.cases import Answer, answer_of
 from lib.installed import PREFIX_FILES, SHARED, check_program, check_starts, compiled_modules, files_below, printed
 from lib.installed import run_make
 from lib.links import dead_links
+from lib.paths import ROOT
 from lib.scripts import searched_first, write_script
 
 SUMS = "lib/ansible-vault/installed.sha256"
@@ -23,6 +24,7 @@ LINK = "bin/ansible-vault-edit"
 MANUAL = "share/man/man1/ansible-vault-edit.1"
 
 Make = Callable[..., subprocess.CompletedProcess[str]]
+Begin = Callable[..., subprocess.Popen[str]]
 
 
 @pytest.fixture
@@ -170,3 +172,46 @@ def test_changed(make: Make, place: Path) -> None:
     assert files_below(place) == {PROGRAM, LINK, MANUAL, stray}, "it leaves what is not its own"
     listed = {f"left, since it was changed: {place / name}" for name in (PROGRAM, LINK, MANUAL)}
     assert (done.returncode, {*done.stdout.splitlines()}) == (0, listed), "and lists it"
+
+
+# Fewer files than the program has, each with its source.
+FEW = {f"share/{number}": f"source-{number}" for number in range(20)}
+
+
+@pytest.fixture
+def begin(tmp_path: Path, place: Path) -> Begin:
+    """Return a function that begins what make runs, for FEW."""
+    sources = tmp_path / "sources"
+    sources.mkdir()
+    for source in FEW.values():
+        (sources / source).write_text(f"{source}\n" * 1000)
+
+    def begin(action: str) -> subprocess.Popen[str]:
+        named = ["/usr/bin/python3", "no", *map(":".join, FEW.items()), "--"] if action == "install" else []
+        words = [str(ROOT / "tools/installed"), action, str(place), SUMS, *named, "share/link:0"]
+        return subprocess.Popen(words, cwd=sources, text=True, stdout=subprocess.PIPE, stderr=subprocess.PIPE)
+
+    return begin
+
+
+def status_and_errors(process: subprocess.Popen[str]) -> tuple[int, str]:
+    errors = process.communicate()[1]
+    return process.returncode, errors
+
+
+def test_at_once(tmp_path: Path, place: Path, begin: Begin) -> None:
+    """Each of several runs is as if it were alone, though it may have to wait."""
+    waiting, nothing = (
+        f"{said} below {place}\n"
+        for said in ("waiting for another make install or make uninstall", "nothing is installed")
+    )
+    for _ in range(5):
+        installs, uninstall = [begin("install") for _ in range(3)], begin("uninstall")
+        ended = {status_and_errors(each) for each in installs}
+        assert ended <= {(0, ""), (0, waiting)}, "every installation succeeds"
+        assert status_and_errors(uninstall) in {(0, ""), (0, waiting), (1, nothing), (1, waiting + nothing)}
+        found = {name: (place / name).read_text() for name in files_below(place) - {SUMS, "share/link"}}
+        whole = {name: (tmp_path / "sources" / source).read_text() for name, source in FEW.items()}
+        assert found in ({}, whole) and bool(found) == (place / SUMS).exists(), "all files are whole, or there are none"
+    assert status_and_errors(begin("install")) == (0, "")
+    assert (status_and_errors(begin("uninstall")), files_below(place)) == ((0, ""), set()), "no file is left"
