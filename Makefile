@@ -175,7 +175,7 @@ install: all
 	@$(if $(DESTDIR),,"$(PYTHON)" -I -c "import yaml" 2> /dev/null || echo "$(NO_PYYAML)" >&2)
 	@$(if $(DESTDIR),,echo "Type next: hash -r; ansible-vault --version")
 
-# Remove the installed files that are unchanged, and list the others.
+# Remove the installed files that are unchanged, and list the others. As long as there are others, keep the checksums.
 uninstall:
 	@tools/installed uninstall "$(TOP)" $(SUMS) $(LINKS)
 

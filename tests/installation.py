@@ -159,7 +159,7 @@ def test_interrupted(tmp_path: Path, make: Make, place: Path, tool: str, number:
 
 
 def test_changed(make: Make, place: Path) -> None:
-    """`make uninstall` leaves what it did not install, and lists what was changed."""
+    """`make uninstall` leaves what it did not install, and lists what was changed. It remembers that."""
     make("install")
     stray = "lib/ansible-vault/stray"
     program, link = place / PROGRAM, place / LINK
@@ -168,10 +168,15 @@ def test_changed(make: Make, place: Path) -> None:
     link.symlink_to("elsewhere")
     for name in (MANUAL, stray):
         theirs(place / name)
-    done = make("uninstall")
-    assert files_below(place) == {PROGRAM, LINK, MANUAL, stray}, "it leaves what is not its own"
     listed = {f"left, since it was changed: {place / name}" for name in (PROGRAM, LINK, MANUAL)}
-    assert (done.returncode, {*done.stdout.splitlines()}) == (0, listed), "and lists it"
+    listed.add(f"left, since the next make uninstall needs it: {place / SUMS}")
+    for _ in range(2):
+        done = make("uninstall")
+        assert files_below(place) == {PROGRAM, LINK, MANUAL, SUMS, stray}, "it leaves what is not its own"
+        assert (done.returncode, {*done.stdout.splitlines()}) == (0, listed), "and lists it"
+    for name in (PROGRAM, LINK, MANUAL):
+        (place / name).unlink()
+    assert (make("uninstall").stdout, files_below(place)) == ("", {stray}), "the checksums go last"
 
 
 # Fewer files than the program has, each with its source.
@@ -186,8 +191,8 @@ def begin(tmp_path: Path, place: Path) -> Begin:
     for source in FEW.values():
         (sources / source).write_text(f"{source}\n" * 1000)
 
-    def begin(action: str) -> subprocess.Popen[str]:
-        named = ["/usr/bin/python3", "no", *map(":".join, FEW.items()), "--"] if action == "install" else []
+    def begin(action: str, replace: str = "no") -> subprocess.Popen[str]:
+        named = ["/usr/bin/python3", replace, *map(":".join, FEW.items()), "--"] if action == "install" else []
         words = [str(ROOT / "tools/installed"), action, str(place), SUMS, *named, "share/link:0"]
         return subprocess.Popen(words, cwd=sources, text=True, stdout=subprocess.PIPE, stderr=subprocess.PIPE)
 
@@ -215,3 +220,38 @@ def test_at_once(tmp_path: Path, place: Path, begin: Begin) -> None:
         assert found in ({}, whole) and bool(found) == (place / SUMS).exists(), "all files are whole, or there are none"
     assert status_and_errors(begin("install")) == (0, "")
     assert (status_and_errors(begin("uninstall")), files_below(place)) == ((0, ""), set()), "no file is left"
+
+
+DAMAGES: dict[str, Callable[[str], str]] = {
+    "empty": lambda text: "",
+    "with another line": lambda text: f"{text}theirs\n",
+    "without its end": lambda text: text[:-1],
+}
+
+
+@pytest.mark.parametrize("damage", DAMAGES.values(), ids=DAMAGES)
+def test_damaged_checksums(place: Path, begin: Begin, damage: Callable[[str], str]) -> None:
+    """A damaged list of checksums is refused, and nothing is removed. The message says what to do."""
+    assert status_and_errors(begin("install")) == (0, "")
+    sums = place / SUMS
+    sums.write_text(damage(sums.read_text()))
+    before = files_below(place)
+    refused = f"{sums} is no list of checksums: remove it, and run make install REPLACE=yes\n"
+    for action in ("install", "uninstall"):
+        assert (status_and_errors(begin(action)), files_below(place)) == ((1, refused), before)
+    sums.unlink()
+    assert status_and_errors(begin("install", "yes")) == (0, "")
+    assert (status_and_errors(begin("uninstall")), files_below(place)) == ((0, ""), set())
+
+
+def test_unreadable(place: Path, begin: Begin) -> None:
+    """A file is not forgotten because it cannot be read at the moment."""
+    assert status_and_errors(begin("install")) == (0, "")
+    share = place / "share"
+    moved = share.rename(place / "moved")
+    share.symlink_to("share")
+    status, errors = status_and_errors(begin("uninstall"))
+    assert status == 1 and errors.startswith(f"{place / SUMS} lists what cannot be read: share/"), errors
+    share.unlink()
+    moved.rename(share)
+    assert (status_and_errors(begin("uninstall")), files_below(place)) == ((0, ""), set())
