@@ -51,7 +51,10 @@ def test_contents(package: Path, tmp_path: Path) -> None:
     assert files_below(folder) == own | {f"usr/{name}" for name in PACKAGE_FILES}
     check_program(folder / "usr" / "bin" / "ansible-vault", "the packaged program")
     shebangs = {each.read_text().split("\n")[0] for each in (folder / "usr/lib/ansible-vault").glob("ansible-vault-*")}
-    assert shebangs == {"#!/usr/bin/python3 -IBXutf8", "#!/usr/bin/python3 -ISBXutf8"}, "the companions run by Debian's Python"
+    assert shebangs == {
+        "#!/usr/bin/python3 -IBXutf8",
+        "#!/usr/bin/python3 -ISBXutf8",
+    }, "the companions run by Debian's Python"
     needs("lintian")
     found = subprocess.run(["lintian", "--pedantic", str(package)], capture_output=True, text=True)
     assert found.returncode == 0 and found.stdout == "", found.stdout

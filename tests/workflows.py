@@ -401,7 +401,8 @@ def prepare_examples(repository: Repository, password: str) -> str:
 def test_companion_example(repository: Repository, name: str, title: str) -> None:
     """Each example ends as expected, and prints nothing on standard error. If it asks for a password, type it."""
     shell = examples(name)[title]
-    editor = prepare_examples(repository, "old.pass" if name == "ansible-vault-rotate" else "prod.pass")
+    password = "old.pass" if name == "ansible-vault-rotate" else "new.pass" if "dropped" in shell else "prod.pass"
+    editor = prepare_examples(repository, password)
     if "prompt" in shell or "--ask-" in shell:
         typed = repository.pasted(shell.rstrip() + " && echo d''one; exit\n", PASSWORDS["prod.pass"].decode())
         assert "done\r\n" in typed

@@ -165,7 +165,9 @@ def run_slowed(place: Place, word: str, seconds: float, limits: str, companion: 
     calls = place.path / "calls"
     calls.write_text("")
     place.script(
-        SLOW_GIT.format(word=word, seconds=seconds, git=shutil.which("git")), "tools/git", "/usr/bin/env -S python3 -IBXutf8"
+        SLOW_GIT.format(word=word, seconds=seconds, git=shutil.which("git")),
+        "tools/git",
+        "/usr/bin/env -S python3 -IBXutf8",
     )
     change = f"from ansible_vault_companions import bounding, limits\n{limits}"
     done = run_changed(place, companion, change, [*words], CALLS=str(calls))

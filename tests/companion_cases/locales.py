@@ -1,6 +1,5 @@
 """Names and texts are UTF-8, whatever the locale says: companions answer in each as in a locale with UTF-8."""
 
-from pathlib import Path
 
 import pytest
 
@@ -18,7 +17,7 @@ KEYS = ["schlüssel", "ключ", "鍵", "naïve"]
 NAMES = ["ü.yml", "ключ.yml", "\udcfc.yml"]
 
 
-@pytest.fixture(scope="module", params=CHARACTER_SETS.values(), ids=CHARACTER_SETS)
+@pytest.fixture(scope="module", params=CHARACTER_SETS.values(), ids=[*CHARACTER_SETS])
 def locale(request: pytest.FixtureRequest, tmp_path_factory: pytest.TempPathFactory) -> dict[str, str]:
     """Make a locale, and return the variables that choose it."""
     needs("localedef")

@@ -14,6 +14,7 @@ from shells import all_shown, bash_at_terminal
 PASSWORDS = {
     "old.pass": b"the old one",
     "new.pass": b"the new one",
+    "dropped.pass": b"another new one",
     "prod.pass": b"in production",
     "ci.pass": rb"of \CI\t\\",
 }

@@ -25,7 +25,7 @@ from ansible_vault_companions.merging.vault_merge import VaultMerge
 from ansible_vault_companions.passwords.labels import Policy
 from ansible_vault_companions.passwords.password import Password
 from ansible_vault_companions.refusals import Refused
-from ansible_vault_companions.tool import Decryption, Key, Tool
+from ansible_vault_companions.tool import Key, Tool
 
 NOTHING_TO_EDIT = (
     "it is not a vault, and no value in it has the tag `!vault`; encrypt it with `ansible-vault-with encrypt`, or "

@@ -70,7 +70,8 @@ def find_facts(data: bytes, needs_plain: bool = False) -> Facts:
         with bounding.limit_work(Effort(len(data))):
             return _read_facts(data, needs_plain)
     except TooMuch as fault:
-        return Facts(fault=str(fault), is_too_much=True, **_count_headers(data))
+        least, most = _count_headers(data)
+        return Facts(fault=str(fault), is_too_much=True, envelopes=least, most_envelopes=most)
 
 
 def _read_facts(data: bytes, needs_plain: bool) -> Facts:
@@ -94,11 +95,12 @@ def _read_facts(data: bytes, needs_plain: bool) -> Facts:
         return Facts()
     parsed, leaves, keys = _read_leaves(data)
     count = sum(value.is_envelope for value in parsed.values)
-    counts = _count_headers(data) if parsed.fault else {"envelopes": count, "most_envelopes": count}
+    least, most = _count_headers(data) if parsed.fault else (count, count)
     return Facts(
         fault=parsed.fault,
         ambiguity=_find_hidden_break(data) or _find_unclear_key(keys),
-        **counts,
+        envelopes=least,
+        most_envelopes=most,
         damage=find_damage(parsed),
         is_unmerged=is_unmerged(parsed),
         tagged=find_tagged(parsed),
@@ -109,8 +111,9 @@ def _read_facts(data: bytes, needs_plain: bool) -> Facts:
     )
 
 
-def _count_headers(data: bytes) -> dict[str, int]:
-    return {"envelopes": data.count(HEADER), "most_envelopes": count_mentions(data)}
+def _count_headers(data: bytes) -> tuple[int, int]:
+    """How many envelopes there are at least, and at most."""
+    return data.count(HEADER), count_mentions(data)
 
 
 def _find_hidden_break(data: bytes) -> str:
