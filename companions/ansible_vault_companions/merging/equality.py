@@ -5,6 +5,7 @@ One that a password decrypts means the key that it has in the result, and its te
 
 from __future__ import annotations
 
+from collections import defaultdict
 from typing import Hashable, NamedTuple, Union
 
 from ansible_vault_companions.envelopes.node import Node
@@ -38,9 +39,12 @@ class Meanings:
     def __init__(self, decrypt: Decrypt, values: dict[str, list[Node]], chosen: Key | None, effort: Effort) -> None:
         self.values = values
         self.decryptions = self._decrypt_all(decrypt, effort)
+        ours, base, theirs = (self._group_keys(side) for side in SIDES)
         # The key of the result for the values with each label, unless each keeps its own.
         labels = {decryption.key.label for decryption in self.decryptions.values()}
-        self.keys = {label: self._choose_key(label, chosen) for label in labels}
+        self.keys = {
+            label: choose_value_key(label, ours[label], base[label], theirs[label], chosen) for label in labels
+        }
 
     def find_meaning(self, envelope: bytes) -> Meaning:
         decryption = self.decryptions.get(envelope)
@@ -55,17 +59,13 @@ class Meanings:
         decryptions = work_at_once(lambda text: _try_to_decrypt(decrypt, text), differing, effort)
         return {each.envelope: each for each in decryptions if each}
 
-    def _choose_key(self, label: str, chosen: Key | None) -> Key | None:
-        ours, base, theirs = (self._list_keys(side, label) for side in SIDES)
-        return choose_value_key(label, ours, base, theirs, chosen)
-
-    def _list_keys(self, side: str, label: str) -> set[Key | None]:
-        """The keys of a side's envelopes with a label; None stands for those that are not decrypted."""
-        keys: set[Key | None] = set()
+    def _group_keys(self, side: str) -> defaultdict[str | None, set[Key | None]]:
+        """The keys of a side's envelopes by label; None stands for those that are not decrypted. A label is read once,
+        since that takes long, and each value may have its own."""
+        keys: defaultdict[str | None, set[Key | None]] = defaultdict(set)
         for value in self.values[side]:
-            if value.label == label:
-                decryption = self.decryptions.get(value.text)
-                keys.add(decryption.key if decryption else None)
+            decryption = self.decryptions.get(value.text)
+            keys[value.label].add(decryption.key if decryption else None)
         return keys
 
 
