@@ -7,7 +7,7 @@ import os
 import re
 
 from ansible_vault_companions import bounding, processes
-from ansible_vault_companions.limits import TOO_SLOW_PATTERNS, TOO_SLOW_PROGRAM, TooMuch
+from ansible_vault_companions.limits import SECONDS, TOO_SLOW_PATTERNS, TOO_SLOW_PROGRAM, TooMuch
 from ansible_vault_companions.refusals import Refused
 
 # The module `typing` takes long to import.
@@ -32,8 +32,6 @@ CUT = "git {} failed: its output is cut"
 LONGEST_MESSAGE = 1_000
 # How git, and zlib in it, say that there is no more memory. A path in a message does not count.
 OUT_OF_MEMORY = re.compile(rb"^(?:fatal|error): (?:\w+: )?out of memory|: Cannot allocate memory$", re.I | re.M)
-# The status of git if it cannot do its work at all.
-FATAL = 128
 
 # No transport is started, and no object counts as another one, as refs/replace might say.
 ONLY_WHAT_IS_THERE = {"GIT_NO_LAZY_FETCH": "1", "GIT_ALLOW_PROTOCOL": "none", "GIT_NO_REPLACE_OBJECTS": "1"}
@@ -57,11 +55,12 @@ def build_environment(index: str | None = None, folder: str | None = None) -> di
 
 
 def start_git(
-    words: tuple[str, ...], index: str | None = None, folder: str | None = None, **options: Any
+    words: tuple[str, ...], index: str | None = None, folder: str | None = None, most: float = SECONDS, **options: Any
 ) -> Popen[bytes]:
-    """Starts a git command, with limits of processor time and memory. None is started if no time is left."""
+    """Starts a git command, with limits of processor time, at most as given, and memory. None is started if no time is
+    left."""
     environment = build_environment(index, folder)
-    seconds = bounding.measure_time_left()
+    seconds = min(most, bounding.measure_time_left())
     git = processes.start_program(build_command(words), env=environment, cwd=folder, **options)
     bounding.limit_program(git, seconds)
     return git

@@ -39,7 +39,7 @@ def merge_file(tool: Tool, decrypt: Decrypt, versions: Versions, chosen: Key | N
             refuse_pointer(text)
         are_vaults = [text.startswith(MAGIC) for text in (ours, theirs)]
         if all(are_vaults):
-            return MergedFile(_merge_vaults(tool, decrypt, versions, chosen))
+            return MergedFile(_merge_vaults(tool, decrypt, versions, chosen, effort))
         if any(are_vaults):
             raise Refused(KINDS_DIFFER)
         return _merge_values(tool, decrypt, versions, chosen, effort)
@@ -47,8 +47,8 @@ def merge_file(tool: Tool, decrypt: Decrypt, versions: Versions, chosen: Key | N
         return MergedFile(conflicts.join_sides(ours, theirs), NOT_MERGED.format(fault))
 
 
-def _merge_vaults(tool: Tool, decrypt: Decrypt, versions: Versions, chosen: Key | None) -> bytes:
-    vaults = VaultMerge(decrypt, versions)
+def _merge_vaults(tool: Tool, decrypt: Decrypt, versions: Versions, chosen: Key | None, effort: Effort) -> bytes:
+    vaults = VaultMerge(decrypt, versions, effort)
     key = vaults.choose_key(chosen)
     if vaults.merged_lines.conflicts:
         raise Refused(vaults.why)

@@ -5,8 +5,10 @@ from __future__ import annotations
 import os
 from typing import NamedTuple
 
+from ansible_vault_companions import bounding
 from ansible_vault_companions.envelopes.conflicts import END_MARKER
 from ansible_vault_companions.git import commands
+from ansible_vault_companions.limits import Effort
 from ansible_vault_companions.refusals import Refused
 
 # The names of the sides in git's conflict markers.
@@ -14,9 +16,10 @@ OURS = "ours"
 BASE = "base"
 THEIRS = "theirs"
 SIDES = (OURS, BASE, THEIRS)
-# The status of `git merge-file` is the number of conflicts, up to this. A greater status means failure. So does one
-# without as many conflicts in the text.
+# The status of `git merge-file` is the number of conflicts, up to this, or that of a text that git does not merge. Any
+# other means failure. So does one without as many conflicts in the text.
 MOST_CONFLICTS = 127
+NOT_MERGED = 255
 END_OF_CONFLICT = END_MARKER + b" " + THEIRS.encode()
 
 
@@ -33,8 +36,9 @@ class MergedLines(NamedTuple):
     conflicts: int
 
 
-def merge_lines(versions: Versions) -> MergedLines:
-    """The result of git's merge. The texts are passed in memory, never on disk."""
+def merge_lines(versions: Versions, effort: Effort) -> MergedLines:
+    """The result of git's merge, which has the time that is left. The texts are passed in memory, never on disk."""
+    effort.begin_version()
     files = [os.memfd_create("version") for _ in versions]
     for file, text in zip(files, versions):
         with open(file, "wb", closefd=False) as writer:
@@ -42,12 +46,13 @@ def merge_lines(versions: Versions) -> MergedLines:
     names = [word for side in SIDES for word in ("-L", side)]
     words = ["merge-file", "-p", *names, *(f"/proc/self/fd/{file}" for file in files)]
     try:
-        done = commands.run_git_command(*words, pass_fds=files)
+        with bounding.count_programs(effort):
+            done = commands.run_git_command(*words, most=effort.left, pass_fds=files)
     finally:
         for file in files:
             os.close(file)
-    if done.returncode == commands.FATAL:
-        commands.require_success(words[0], done)
-    if not 0 <= done.returncode <= min(MOST_CONFLICTS, done.stdout.count(END_OF_CONFLICT)):
+    if done.returncode not in (*range(MOST_CONFLICTS + 1), NOT_MERGED):
+        raise commands.make_refusal(words[0], done.returncode, done.stderr)
+    if done.returncode > min(MOST_CONFLICTS, done.stdout.count(END_OF_CONFLICT)):
         raise Refused("git merge-file cannot merge it; it may be binary")
     return MergedLines(done.stdout, done.returncode)

@@ -4,7 +4,6 @@ from __future__ import annotations
 
 from collections import Counter
 
-from ansible_vault_companions import bounding
 from ansible_vault_companions.envelopes import conflicts
 from ansible_vault_companions.envelopes.layout import apply_replacements
 from ansible_vault_companions.envelopes.node import LOOSE, Node
@@ -37,8 +36,7 @@ class ValueMerge:
         """The merged file."""
         tokens = Tokens()
         shadows = Versions(*(self._shadow(side, tokens) for side in SIDES))
-        with bounding.count_programs(self.effort):
-            text, count = merge_lines(shadows)
+        text, count = merge_lines(shadows, self.effort)
         if count and any(conflicts.count_markers(self.parsed_versions[side].data) for side in SIDES):
             raise Refused(HAS_MARKERS)
         restoration = Restoration(tokens, self.meanings.decryptions, tool, self.effort)
