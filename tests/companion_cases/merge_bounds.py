@@ -1,5 +1,7 @@
 """ansible-vault-merge: the bounds of its work, counted and not timed."""
 
+import os
+
 import pytest
 
 from companion_cases import CONFLICT, MERGE, Place, block, ended, run_changed, sealed, versions
@@ -72,3 +74,18 @@ def test_time_of_git(place: Place, kind: str, runs: int) -> None:
     ended("the merge", run_changed(place, MERGE, NOTE_TIME, [*place.by_file("old"), *words]), 0)
     (seconds,) = map(float, place.get("../seconds").split())
     assert 0 < seconds <= 9.5 - runs, seconds
+
+
+@pytest.mark.parametrize("base", [0, 1_000_000, 50_331_643])
+def test_long_versions(place: Place, base: int) -> None:
+    """Versions that are too long together are refused by name before they are read, and ours stays as it is."""
+    words = versions(place, "a.yml", b"", b"x: 1\n", b"")
+    sizes = {"base": base, "theirs": 50_331_648 - len(b"x: 1\n") + 1 - base}
+    for name, size in sizes.items():
+        os.truncate(place.path / "versions" / f"{name}-a.yml", size)
+    done = place.run(MERGE, *place.by_file("old"), *words)
+    ended("the merge", done, 2, "theirs-a.yml: the three versions have over 50,331,648 bytes")
+    assert place.get("a.yml") == b"x: 1\n"
+    os.truncate(place.path / "versions" / "theirs-a.yml", sizes["theirs"] - 1)
+    done = place.run(MERGE, *place.by_file("old"), *words)
+    assert done.returncode in (0, CONFLICT) and "the three versions" not in done.stderr, done
