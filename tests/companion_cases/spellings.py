@@ -7,6 +7,7 @@ import json
 import re
 from collections import Counter
 from collections.abc import Callable, Iterable, Iterator
+from itertools import product
 from random import Random
 from typing import NamedTuple
 
@@ -15,8 +16,10 @@ import pytest
 from ansible_vault_companions.envelopes import header
 from ansible_vault_companions.envelopes.header import LINE_END
 from ansible_vault_companions.envelopes.key_paths import KeyPath
-from ansible_vault_companions.envelopes.node import LOOSE, STRAY, TAGS
+from ansible_vault_companions.envelopes.layout import apply_replacements, put_plaintext
+from ansible_vault_companions.envelopes.node import LOOSE, STRAY, TAGS, Node
 from ansible_vault_companions.envelopes.parsed_text import ParsedText, parse_envelopes, parse_nodes
+from ansible_vault_companions.refusals import Refused
 from companion_cases import BODY, CHECK, ROTATE, Place, block, ended, lines_of, sealed, summary, to_new
 from lib.needs import needs_pyyaml
 
@@ -379,3 +382,49 @@ def test_valid_headers(place: Place, pytestconfig: pytest.Config) -> None:
             assert header.read_label(vault) == ([*first_line.split(";"), ""][3].strip() or "default"), first_line
         counts[is_valid] += 1
     assert min(counts[True], counts[False]) > 20, counts
+
+
+# Each form of a tag, also those that only PyYAML without libyaml reads, and what is around it.
+TAG_FORMS = ["!", "!a", "!!str", "!v%61ult", "!a;/?:@&=+$.~*'()_-b", "!<!vault>", "!<&a>", "!<a%3Eb,c>", "!<a]b[c>"]
+TAG_FORMS += ["!<tag:yaml.org,2002:str>"]
+PURE_FORMS = ["!a,b", "!a]b[c"]
+AROUND = ["{}", "- - k: {}", "[x, {}\n, y]", "{{k: {}\n}}"]
+STYLED = ["|\n   old\n   old\n", ">-\n   old\n", "old", "'old'", '"old\\ue0b0"', ""]
+
+
+@pytest.mark.parametrize("loader", LOADERS, ids=["libyaml", "PyYAML"])
+def test_tags(monkeypatch: pytest.MonkeyPatch, loader: type) -> None:
+    """Whatever the tag and the anchor before a scalar, it begins behind them, and another text takes its place."""
+    monkeypatch.setattr(yaml, "CSafeLoader", loader, raising=False)
+    tags = TAG_FORMS + (PURE_FORMS if loader is yaml.SafeLoader else [])
+    read: Counter[str] = Counter()
+    for tag, gap, around, style in product(tags, [" ", "  # !x, &y\n   "], AROUND, STYLED):
+        for words in ([tag], ["&a-1_", tag], [tag, "&a-1_"]):
+            data = around.format(gap.join([*words, style])).encode()
+            values = [value for value in parse_nodes(data).values if value.tag]
+            if values:
+                check_begin(data, values[0], words[-1], style)
+                read.update([tag, around, style])
+    assert {*tags, *AROUND, *STYLED} - read.keys() == set(), read
+
+
+def check_begin(data: bytes, value: Node, word: str, style: str) -> None:
+    """Check that a scalar begins with its style, or behind its last tag or anchor, and gets a new text there."""
+    if not style:
+        assert value.begin == value.end and data[: value.begin].endswith(word.encode()), (data, value)
+        return
+    assert value.begin == data.index(style.encode()), (data, value)
+    after = parse_nodes(apply_replacements(data, put_plaintext(data, value, b"new\n"))).values
+    assert (value.path, value.tag, value.anchor, b"new\n") in [(n.path, n.tag, n.anchor, n.text) for n in after], data
+
+
+def test_text_beside_anchor() -> None:
+    """A colon ends an anchor, and may begin a text."""
+    assert [(node.anchor, node.begin, node.text) for node in parse_nodes(b"&a:b").values] == [("a", 2, b":b")]
+
+
+def test_unknown_block() -> None:
+    """Where the header of a block is not found, the value stays as it is, with a reason."""
+    value = parse_nodes(b"|\n x\n").values[0]
+    with pytest.raises(Refused, match="the `|` of its block cannot be found"):
+        put_plaintext(b" |\n x\n", value, b"new")

@@ -17,6 +17,7 @@ BEGINS_WITH_BLANK = re.compile(rb"\n*[ \t]")
 # What precedes a key or the text of an item in its line.
 DASHES = re.compile(rb" *(?:- +)*")
 NOT_UTF_8 = "it is not UTF-8"
+NO_HEADER = "the `|` of its block cannot be found"
 
 
 class Replacement(NamedTuple):
@@ -75,7 +76,8 @@ def put_in_quotes(value: Node, text: str) -> Replacement:
 def _put_literal(data: bytes, value: Node, text: bytes) -> list[Replacement]:
     """The replacements of the header, which tells how the text begins and ends, and of the lines."""
     header = BLOCK_HEADER.match(data, value.begin)
-    assert header
+    if not header:
+        raise Refused(NO_HEADER)
     indicator = b"2" if BEGINS_WITH_BLANK.match(text) else b""
     new_header = b"|" + indicator + _find_chomping(text)
     margin = b" " * (find_column(data, value.begin) + 2)

@@ -37,8 +37,9 @@ ESCAPE = re.compile(
     re.DOTALL,
 )
 MAY_BE_MISREAD = re.compile(rb"\\(?:u|U0000)(?:[dD][89a-fA-F]|[eE]0)")
-# What precedes the text of a scalar: tag, anchor, comments; and the first line of a block with text.
-PROPERTIES = re.compile(rb"(?:[!&][^\s,\]}]*(?:\s|(?<=\s)#[^\r\n]*)*)*")
+# What precedes the text of a scalar: tag, anchor, comments. A tag, as `!<a,b>`, ends at white space or with the scalar.
+PROPERTIES = re.compile(rb"(?:(?:![^ \t\r\n]*|&[-\w]*)(?:[ \t\r\n]|(?<=[ \t\r\n])#[^\r\n]*)*)*")
+# The first line of a block with text.
 FIRST_LINE = re.compile(rb"[^\n\r]*(?:\r\n?|\n)(?:[ \t]*(?:\r\n?|\n))*(?P<margin>[ \t]*)")
 BLANKS = b" \t\r\n"
 # The first word of an envelope, among characters.
