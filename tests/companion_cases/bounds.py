@@ -7,8 +7,6 @@ from random import Random
 
 import pytest
 
-from ansible_vault_companions.envelopes.node import Node
-from ansible_vault_companions.envelopes.parsed_text import parse_nodes
 from companion_cases import CHECK, CONFLICT, EDIT, HOOK, MERGE, NOT_ENCRYPTED, PASSWORDS, ROTATE, TEXTCONV, WITH
 from companion_cases import Done, Place, block, ended, run_changed, sealed, to_new
 from companion_cases.repository import AUTHOR
@@ -229,20 +227,6 @@ def test_time_of_single_value(place: Place) -> None:
         limits, done = limits_of(place, interval, EDIT, "--value", "secret", "a.yml")
         assert (len(limits), done.returncode) == (2 - status, status), (limits, done)
         assert ("before it is even edited" in done.stderr) == bool(status), done
-
-
-def test_typed_paths(monkeypatch: pytest.MonkeyPatch) -> None:
-    """Only where the last key is that of the path that is looked for, the path of a node is written."""
-    typed: list[Node] = []
-
-    def write_and_count(node: Node) -> str:
-        typed.append(node)
-        return ".".join(map(str, node.path))
-
-    monkeypatch.setattr(Node, "typed_path", property(write_and_count))
-    parsed = parse_nodes(b"a: [" + b"b: ," * 1_000 + b"]\nc: {d: 1}\n")
-    assert [node.text for node in parsed.list_values_at("c.d")] == [b"1"]
-    assert len(parsed.values) > 2_000 and len(typed) <= 2, len(typed)
 
 
 # Two sides that are merged before they are edited.

@@ -131,6 +131,7 @@ NEW = [
     NewLabel(content=b"# a\n---  # b", path="new", written=b"# a\n---  # b\nnew" + TO_PROD),
     NewLabel(content=None, path="db pw", written=b'"db pw"' + TO_PROD),
     NewLabel(content=None, path="No", written=b'"No"' + TO_PROD),
+    NewLabel(content=None, path='"pw"', written=b"pw" + TO_PROD),
 ]
 
 

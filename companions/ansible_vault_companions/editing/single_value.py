@@ -10,7 +10,7 @@ from ansible_vault_companions.editing.blocks_and_quotes import make_sealed_block
 from ansible_vault_companions.editing.encrypting_password import Choice, keep_key
 from ansible_vault_companions.envelopes import conflicts
 from ansible_vault_companions.envelopes.header import MAGIC
-from ansible_vault_companions.envelopes.key_paths import KeyPath, quote_key
+from ansible_vault_companions.envelopes.key_paths import KeyPath, parse_path, quote_key
 from ansible_vault_companions.envelopes.layout import Replacement, apply_replacements
 from ansible_vault_companions.envelopes.node import ALIAS, NO_SCALAR, Node
 from ansible_vault_companions.envelopes.parsed_text import NO_SCALAR_THERE, VALUE_NOT_ENCRYPTED, ParsedText, parse_nodes
@@ -25,9 +25,8 @@ INPUT_TOO_LONG = f"standard input has over {LONGEST_PLAINTEXT:,} bytes, more tha
 NOTHING_GIVEN = "standard input is empty"
 HOW_TO_ENCRYPT = "; to encrypt it there, choose its password with --encrypt-vault-id"
 NO_PLACE_IN_YAML = "there is no place for {} in this YAML; edit the file without --value"
-# A new key, and one that YAML reads as this string without further quotes.
-KEY = re.compile(r'[^."\[\]\x00-\x1f]+|"(?:[^"\\]|\\.)*"')
-SIMPLE_KEY = re.compile(r'(?!(?i:y|yes|n|no|on|off|true|false|null)\Z)[A-Za-z_][A-Za-z0-9_-]*|".*"')
+# A key that YAML reads as this string without quotes.
+SIMPLE_KEY = re.compile(r"(?!(?i:y|yes|n|no|on|off|true|false|null)\Z)[A-Za-z_][A-Za-z0-9_-]*")
 
 
 class SingleValue:
@@ -80,8 +79,10 @@ def _tag(data: bytes, path: str, is_chosen: bool, effort: Effort) -> ParsedText:
         raise Refused(f"it {conflicts.UNMERGED}")
     parsed = require_nodes(data, effort)
     effort.require_third()
-    if is_chosen and KEY.fullmatch(path) and not parsed.list_values_at(path):
-        tag = _add_key(data, path)
+    steps = parse_path(path)
+    is_new = is_chosen and len(steps) == 1 and not parsed.list_values_at(path)
+    if is_new and isinstance(steps[0], str):
+        tag = _add_key(data, steps[0])
     else:
         value = parsed.find_value_at(path)
         if value.is_tagged and value.is_envelope:
@@ -98,11 +99,11 @@ def _tag(data: bytes, path: str, is_chosen: bool, effort: Effort) -> ParsedText:
     return after
 
 
-def _add_key(data: bytes, path: str) -> Replacement:
+def _add_key(data: bytes, key: str) -> Replacement:
     """The change that adds a key at the end of a file, with an empty value."""
-    key = path if SIMPLE_KEY.fullmatch(path) else quote_key(path)
+    spelled = key if SIMPLE_KEY.fullmatch(key) else quote_key(key)
     end = b"" if data.endswith(b"\n") or not data else b"\n"
-    return Replacement(len(data), len(data), b'%s%s: !vault ""\n' % (end, key.encode(errors="surrogateescape")))
+    return Replacement(len(data), len(data), b'%s%s: !vault ""\n' % (end, spelled.encode(errors="surrogateescape")))
 
 
 def _add_tag(value: Node, path: str) -> Replacement:

@@ -7,13 +7,12 @@ with a header. Whatever else has a header and digits is a stray.
 
 from __future__ import annotations
 
-import re
 from collections.abc import Callable, Iterable, Iterator
 
 from ansible_vault_companions import bounding
 from ansible_vault_companions.envelopes.detection import may_have_envelope
 from ansible_vault_companions.envelopes.header import MAGIC, WITH_DIGITS
-from ansible_vault_companions.envelopes.key_paths import type_key
+from ansible_vault_companions.envelopes.key_paths import leads_to, parse_path
 from ansible_vault_companions.envelopes.layout import apply_replacements, replace_envelope
 from ansible_vault_companions.envelopes.node import WHOLE, Node
 from ansible_vault_companions.envelopes.strays import find_strays
@@ -24,8 +23,6 @@ from ansible_vault_companions.refusals import Refused
 
 NOT_REPLACEABLE = "its values cannot be replaced where they are; write each as `NAME: !vault |`"
 
-# The number of a list item in a typed path.
-NUMBER = re.compile(r"\[\d+\]")
 # How many values a message lists if a typed path leads nowhere.
 MOST_LISTED = 20
 NO_SCALAR_THERE = "{} is a list, a mapping or an alias; name a value in it"
@@ -66,7 +63,8 @@ class ParsedText:
     def list_values_at(self, path: str) -> list[Node]:
         """The values at a typed path that are encrypted or have the tag, else all nodes there. A list item may also be
         written as `[]`."""
-        values = [value for value in self.values if _leads_to(path, value)]
+        steps = parse_path(path)
+        values = [value for value in self.values if leads_to(steps, value.path)]
         return [value for value in values if value.is_value] or values
 
     def find_value_at(self, path: str) -> Node:
@@ -80,14 +78,6 @@ class ParsedText:
             what = "number the items of lists, as in `users[0].name`, or rename a key that is there twice"
             raise Refused(f"{len(values)} values are at {escape(path)}; {what}")
         return values[0]
-
-
-def _leads_to(path: str, value: Node) -> bool:
-    """Whether a typed path is that of a node. Most nodes have another last key, and writing all paths takes long."""
-    last = value.path[-1] if value.path else ""
-    if not path.endswith("]" if isinstance(last, int) else type_key(last)):
-        return False
-    return path in (value.typed_path, NUMBER.sub("[]", value.typed_path))
 
 
 def parse_envelopes(data: bytes, effort: Effort | None = None) -> ParsedText:
