@@ -12,7 +12,8 @@ from hypothesis import strategies as st
 
 from ansible_vault_companions.envelopes.key_paths import ANY_ITEM, KeyPath, parse_path
 from ansible_vault_companions.envelopes.node import PLAIN, Node
-from ansible_vault_companions.envelopes.parsed_text import parse_nodes
+from ansible_vault_companions.envelopes.parsed_text import MOST_LISTED, parse_nodes
+from ansible_vault_companions.refusals import Refused
 from lib.needs import needs_pyyaml
 
 needs_pyyaml()
@@ -86,3 +87,16 @@ def test_search(monkeypatch: pytest.MonkeyPatch) -> None:
     assert [node.text for node in parsed.list_values_at("c.d")] == [b"1"]
     assert len(parsed.list_values_at("a[].d")) == 1_000
     assert written == []
+
+
+@pytest.mark.parametrize("number", [0, 1, MOST_LISTED, MOST_LISTED + 1])
+def test_list(monkeypatch: pytest.MonkeyPatch, number: int) -> None:
+    """Only as many values as are listed have their paths written."""
+    written = count_paths(monkeypatch)
+    parsed = parse_nodes(b"a:\n" + b"- !vault $ANSIBLE_VAULT;1.1;AES256\n" * number)
+    listed = number if number <= MOST_LISTED else 0
+    names = ", ".join(f"a[{place}]" for place in range(listed))
+    with pytest.raises(Refused) as refused:
+        parsed.find_value_at("b")
+    assert str(refused.value) == "there is no value b" + (f"; encrypted here: {names}" if names else "")
+    assert len(written) == listed

@@ -71,8 +71,9 @@ class ParsedText:
         """The only one of the values at a typed path."""
         values = self.list_values_at(path)
         if not values:
-            names = [escape(value.typed_path) for value in self.values if value.is_envelope]
-            listed = f"; encrypted here: {', '.join(names)}" if 0 < len(names) <= MOST_LISTED else ""
+            envelopes = self.number_envelopes().values()
+            names = [escape(value.typed_path) for value in envelopes] if len(envelopes) <= MOST_LISTED else []
+            listed = f"; encrypted here: {', '.join(names)}" if names else ""
             raise Refused(f"there is no value {escape(path)}{listed}")
         if len(values) > 1:
             what = "number the items of lists, as in `users[0].name`, or rename a key that is there twice"
