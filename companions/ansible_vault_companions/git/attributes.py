@@ -19,6 +19,8 @@ from ansible_vault_companions.refusals import Refused, describe_refusal
 DIFF, VAULT, PLAIN_VALUES = ATTRIBUTES = ("diff", "ansible-vault", "ansible-vault-plain")
 NAME = b"ansible-vault"
 FILE = b".gitattributes"
+# What git prints of an attribute that no line gives.
+UNSPECIFIED = b"unspecified"
 # The bytes that a pipe holds, at least.
 LEAST_PIPE = 4_096
 # git ignores longer lines.
@@ -31,7 +33,13 @@ SPECIAL = re.compile(rb"[*?\[\\]")
 class Attributes(NamedTuple):
     is_marked: bool = False
     is_exempt: bool = False
-    plain_values: frozenset[str] = frozenset()
+    # The key paths as git prints them: one line may give hundreds to each of thousands of files.
+    plain: bytes = UNSPECIFIED
+
+    @property
+    def plain_values(self) -> frozenset[str]:
+        has_values = self.plain not in (UNSPECIFIED, b"set", b"unset")
+        return frozenset(os.fsdecode(self.plain).split(",") if has_values else ())
 
 
 class AttributeReader(Server):
@@ -40,6 +48,8 @@ class AttributeReader(Server):
     def __init__(self, index: str | None = None, folder: str | None = None) -> None:
         options = [] if folder else ["--cached"]
         super().__init__("check-attr", *options, "-z", "--stdin", *ATTRIBUTES, index=index, folder=folder)
+        # What was read so far. Files that have the same attributes share them.
+        self.known: dict[Attributes, Attributes] = {}
 
     def read(self, names: Collection[bytes]) -> dict[bytes, Attributes]:
         """The attributes of each file."""
@@ -57,7 +67,8 @@ class AttributeReader(Server):
             if (self.take_until(b"\0"), self.take_until(b"\0")) != (name, attribute.encode()):
                 raise Refused(CUT.format("check-attr"))
             values.append(self.take_until(b"\0"))
-        return _make_attributes(*values)
+        given = _make_attributes(*values)
+        return self.known.setdefault(given, given)
 
 
 def _list_batches(names: Iterable[bytes]) -> Iterator[list[bytes]]:
@@ -80,8 +91,7 @@ def is_attribute_file(name: bytes) -> bool:
 def _make_attributes(diff: bytes, vault: bytes, plain: bytes) -> Attributes:
     is_exempt = vault == b"unset"
     is_marked = not is_exempt and (diff == NAME or vault == b"set")
-    has_values = plain not in (b"unspecified", b"set", b"unset")
-    return Attributes(is_marked, is_exempt, frozenset(os.fsdecode(plain).split(",") if has_values else ()))
+    return Attributes(is_marked, is_exempt, plain)
 
 
 def find_marked(paths: Iterable[tuple[str, Collection[str]]]) -> set[str]:
