@@ -27,3 +27,36 @@ def test_key_paths_of_files(place: Place, companion: str) -> None:
     change = "import resource\nresource.setrlimit(resource.RLIMIT_DATA, (150_000_000, 150_000_000))"
     words = [] if companion == HOOK else ["--list", "."]
     ended("with little memory", run_changed(place, companion, change, words), 0)
+
+
+class CountedText(str):
+    """A path that says how often it is split."""
+
+    splits = 0
+
+    def split(self, *words: object) -> list[str]:  # type: ignore[override]
+        CountedText.splits += 1
+        return super().split(*words)  # type: ignore[arg-type]
+
+    def __getitem__(self, part: object) -> CountedText:  # type: ignore[override]
+        return CountedText(super().__getitem__(part))  # type: ignore[index]
+
+
+@pytest.mark.parametrize(
+    "path, folder, is_within",
+    [
+        ("/a", "/a", True),
+        ("/a/.git", "/a/.git", True),
+        ("/a/b/.gitx/x.git", "/a", True),
+        ("/a/.git", "/a", False),
+        ("/a/b/.git/c", "/a", False),
+        ("/.git/a", "/", False),
+        ("/.git/a", "/.git", True),
+        ("/ab", "/a", False),
+        ("/a", "/", True),
+    ],
+)
+def test_within(path: str, folder: str, is_within: bool) -> None:
+    """A real path is looked at as a whole, and not taken apart for each link that leads through it."""
+    CountedText.splits = 0
+    assert (link_bounds.is_within(CountedText(path), folder), CountedText.splits) == (is_within, 0)

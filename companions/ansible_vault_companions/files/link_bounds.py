@@ -26,6 +26,7 @@ MOST_LINKS = 40
 # Directories of names for open files and devices, such as /dev/stdin. Only the system can follow the links there.
 OF_OPEN_FILES = re.compile("/dev|/proc/[0-9]+/fd")
 GIT = ".git"
+WITHIN_GIT = f"/{GIT}/"
 TOO_MANY_STEPS = f"a link leads through over {MOST_STEPS} directories"
 # The links, and what is none, that a search remembers: many found links may lead through the same ones.
 MOST_REMEMBERED_LINKS = 10_000
@@ -50,7 +51,7 @@ def find_current_folder() -> str:
 def is_within(path: str, folder: str) -> bool:
     """Whether a real path is that of a directory or below it, but not in git's own directory."""
     below = os.path.join(folder, "")
-    return path == folder or path.startswith(below) and GIT not in path[len(below) :].split(os.sep)
+    return path == folder or path.startswith(below) and WITHIN_GIT not in f"/{path[len(below) :]}/"
 
 
 def find_target(path: str) -> str:
