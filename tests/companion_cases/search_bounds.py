@@ -18,6 +18,11 @@ LOWER = "from ansible_vault_companions import bounding, limits\nbounding.MEGABYT
 FEWER = "name fewer directories, or leave some out with --exclude"
 
 
+def put_deep(place: Place, count: int) -> None:
+    """Make so many empty files below a long path, of which the tests themselves need no name."""
+    place.shell(f"git init -q; mkdir -p {DEEP}; cd {DEEP}; seq {count} | xargs touch")
+
+
 @pytest.mark.parametrize("companion", [CHECK, HOOK])
 def test_key_paths_of_files(place: Place, companion: str) -> None:
     """Thousands of files share the key paths that a line gives them, which take more memory than the line."""
@@ -27,6 +32,52 @@ def test_key_paths_of_files(place: Place, companion: str) -> None:
     change = "import resource\nresource.setrlimit(resource.RLIMIT_DATA, (150_000_000, 150_000_000))"
     words = [] if companion == HOOK else ["--list", "."]
     ended("with little memory", run_changed(place, companion, change, words), 0)
+
+
+@pytest.mark.parametrize("megabytes, status", [(20, 1), (80, 0)])
+def test_memory_of_search(place: Place, megabytes: int, status: int) -> None:
+    """The files that are found, with their attributes, take no more memory than a file may."""
+    put_deep(place, 3_000)
+    why = [f"the search for files: it takes over {megabytes} MB of memory; {FEWER}\n"] if status else []
+    for companion, words in ((CHECK, place.by_file("old")), (ROTATE, to_new(place))):
+        done = run_changed(place, companion, LOWER.format(megabytes), [*words, "."])
+        if companion == CHECK or status:
+            ended(companion, done, status, *why)
+        assert ("the search" in done.stderr) == bool(status), done
+
+
+# Adds to the time of a run for each link that is followed.
+SLOW = """
+from ansible_vault_companions import bounding
+from ansible_vault_companions.files import link_bounds
+
+taken = 0
+measure, resolve = bounding._measure_run_time, link_bounds.resolve_link
+bounding._measure_run_time = lambda: measure() + taken
+bounding.INTERVAL = 0.001
+
+def resolve_slowly(*words):
+    global taken
+    taken += {}
+    for _number in range(100_000):
+        pass
+    return resolve(*words)
+
+link_bounds.resolve_link = resolve_slowly
+"""
+
+
+@pytest.mark.parametrize("seconds, status", [(0.001, 0), (1, 1)])
+def test_time_of_search(place: Place, seconds: float, status: int) -> None:
+    """The search ends when its time is over, and says so."""
+    place.put("a.yml", block("old"))
+    place.shell("git init -q; for n in 1 2 3 4 5 6 7 8 9 10 11 12; do ln -s a.yml $n; done")
+    why = [f"the search for files: it takes over 6 s of processor time; {FEWER}\n"] if status else []
+    for companion, words in ((CHECK, place.by_file("old")), (ROTATE, [*to_new(place), "--dry-run"])):
+        done = run_changed(place, companion, SLOW.format(seconds), [*words, "."])
+        assert ("the search" in done.stderr) == bool(status), done
+        if companion == CHECK or status:
+            ended(companion, done, status, *why)
 
 
 class CountedText(str):

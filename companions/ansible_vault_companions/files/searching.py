@@ -6,15 +6,20 @@ import argparse
 import errno
 import os
 import stat
+from contextlib import contextmanager
 from fnmatch import fnmatchcase
-from typing import Callable, Collection, NamedTuple
+from typing import Callable, Collection, Iterator, NamedTuple
 
+from ansible_vault_companions import bounding
 from ansible_vault_companions.files import link_bounds
 from ansible_vault_companions.files.leftovers import is_leftover
-from ansible_vault_companions.limits import TooMuch
+from ansible_vault_companions.limits import ATTRIBUTE_SECONDS, SECONDS, Effort, TooMuch
 from ansible_vault_companions.quoting import quote_word
-from ansible_vault_companions.refusals import describe_fault
+from ansible_vault_companions.refusals import Refused, describe_fault
 
+# Of processor time. What is left of that for a file is for the attributes of what is found.
+SEARCH_SECONDS = SECONDS - ATTRIBUTE_SECONDS
+TOO_MUCH_TO_SEARCH = "the search for files: {}; name fewer directories, or leave some out with --exclude"
 NOT_SEARCHED = "it is a link to a directory, which is not searched; name {} as well"
 
 
@@ -51,6 +56,17 @@ def add_paths(parser: argparse.ArgumentParser) -> None:
     parser.add_argument("paths", metavar="PATH", nargs="+", help="a file or directory to search")
 
 
+@contextmanager
+def limit_search() -> Iterator[None]:
+    """A context for a search, and for the attributes of what it finds, which together take no more memory than the work
+    on one file. In git, directories that are the same take a few bytes, however many files and links they are."""
+    try:
+        with bounding.limit_work(Effort()):
+            yield
+    except TooMuch as fault:
+        raise Refused(TOO_MUCH_TO_SEARCH.format(fault)) from None
+
+
 class _Folder(NamedTuple):
     """A directory that is searched: its typed path, that from the searched one, and the real one."""
 
@@ -75,8 +91,9 @@ class Search:
         self.found: dict[str, list[Way]] = {}
         # Links to directories, and where they lead.
         self.folders: dict[str, str] = {}
-        for path in paths:
-            self._search(path)
+        with bounding.limit_run(SEARCH_SECONDS):
+            for path in paths:
+                self._search(path)
 
     def list_files(self) -> list[FoundFile]:
         """Each file, once."""
