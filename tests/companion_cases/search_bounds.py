@@ -111,3 +111,19 @@ def test_within(path: str, folder: str, is_within: bool) -> None:
     """A real path is looked at as a whole, and not taken apart for each link that leads through it."""
     CountedText.splits = 0
     assert (link_bounds.is_within(CountedText(path), folder), CountedText.splits) == (is_within, 0)
+
+
+@pytest.mark.parametrize("variable", [False, True], ids=["", "GIT_INDEX_FILE"])
+def test_longest_index(place: Place, variable: bool) -> None:
+    """git maps the file of an index and copies it, so it is refused before git reads it."""
+    place.put("a.yml", block("old"))
+    place.shell("git init -q; git add a.yml")
+    if variable:
+        place.shell("mv .git/index .git/other")
+        place.environment["GIT_INDEX_FILE"] = ".git/other"
+    ended("the index", run_changed(place, HOOK, LOWER.format(40), []), 0)
+    # git would not read beyond the entries either, but say that the checksum is wrong.
+    os.truncate(place.tree / (".git/other" if variable else ".git/index"), 30_000_000)
+    done = run_changed(place, HOOK, LOWER.format(40), [])
+    ended("a long index", done, 1, f"{HOOK}: the index has over 1", " MB")
+    assert "git" not in done.stderr.partition(":")[2], done

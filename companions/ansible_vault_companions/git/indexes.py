@@ -4,6 +4,8 @@ from __future__ import annotations
 
 import os
 import re
+import resource
+from contextlib import suppress
 from functools import cached_property
 from typing import Collection
 
@@ -22,7 +24,7 @@ from ansible_vault_companions.git.differences import (
 )
 from ansible_vault_companions.git.history import require_few_parents
 from ansible_vault_companions.git.index_files import find_empty_tree, open_index_file
-from ansible_vault_companions.limits import MOST_PARENTS
+from ansible_vault_companions.limits import MOST_PARENTS, TooMuch
 from ansible_vault_companions.quoting import escape
 from ansible_vault_companions.refusals import Refused
 
@@ -32,6 +34,9 @@ MERGED = "GITHEAD_"
 MERGE_HEAD = "MERGE_HEAD"
 OBJECT_ID = re.compile("[0-9a-f]{40}(?:[0-9a-f]{24})?")
 LONGEST_MERGE_HEAD = MOST_PARENTS * 65
+# What the file of an index may have of the memory for a review. git maps it, which does not count, and copies it.
+INDEX_PART = 4
+TOO_LONG_INDEX = "the index has over {} MB"
 
 
 class Index:
@@ -72,8 +77,18 @@ class Index:
 def read_staged() -> Index:
     """What is staged. The next commit will have HEAD as a parent, and what is being merged."""
     merged = {name.removeprefix(MERGED) for name in os.environ if name.startswith(MERGED)}
-    merged.update(_read_merged(read_line("rev-parse", "--git-path", MERGE_HEAD)))
+    path = read_line("rev-parse", "--git-path", MERGE_HEAD)
+    _require_short_index(os.environ.get("GIT_INDEX_FILE") or os.path.join(os.path.dirname(path), "index"))
+    merged.update(_read_merged(path))
     return Index(["HEAD", *sorted(merged)] if _has_commit() else [])
+
+
+def _require_short_index(path: str) -> None:
+    """Refuses an index before git reads it if it is too long for the memory of a review, which has a limit here."""
+    most, _ = resource.getrlimit(resource.RLIMIT_DATA)
+    with suppress(FileNotFoundError):
+        if most != resource.RLIM_INFINITY and os.stat(path).st_size > most // INDEX_PART:
+            raise TooMuch(TOO_LONG_INDEX.format((most // INDEX_PART) >> 20))
 
 
 def _read_merged(path: str) -> list[str]:
