@@ -418,6 +418,34 @@ def test_examples(place: Place, before: str, after: str, says: str) -> None:
     assert len(EXAMPLES) == PAGE.count("\nhook ") == 4
 
 
+# What makes a vault v.yml: in the first commit, in a later one, on a branch, or in a merge whose parents have none.
+SAVE = "git add -A && git commit -qm change --allow-empty"
+MERGE_SIDE = "git merge -q --no-ff --no-edit side"
+FORK = f"{SAVE} && git checkout -qb side && {SAVE} && git checkout -q -"
+ADD = f"cp ../vault v.yml && {SAVE}"
+ADD_TO_MERGE = f"{MERGE_SIDE} && cp ../vault v.yml && git add -A && git commit -q --amend --no-edit"
+MADE = {
+    "in the first commit": ADD,
+    "in a later one": f"{SAVE} && {ADD}",
+    "on a branch": f"{FORK} && git checkout -q side && {ADD} && git checkout -q - && {MERGE_SIDE}",
+    "in a merge": f"{FORK} && {ADD_TO_MERGE}",
+    "in a merge, in place of plaintext": f"echo 1 > v.yml && {FORK} && {ADD_TO_MERGE}",
+}
+
+
+@pytest.mark.parametrize("lines", MADE.values(), ids=MADE)
+def test_every_earlier_vault(place: Place, lines: str) -> None:
+    """Whichever commit made a vault, --all finds that it was decrypted before the last commit."""
+    under_git(place, "")
+    place.put("../vault", sealed("old"))
+    done = place.shell(lines)
+    assert done.returncode == 0, done
+    silent("the vault", place.run(HOOK, "--all"))
+    committed(place, "v.yml", TEXT)
+    committed(place, "x.txt", TEXT)
+    assert told(place.run(HOOK, "--all")) == [f"v.yml {WHOLE.replace('HEAD', 'an earlier commit')}"]
+
+
 def test_merge(place: Place) -> None:
     """What a merge puts in plaintext is compared with each branch, before the commit and after it."""
     under_git(place, "")
