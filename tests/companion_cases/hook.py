@@ -446,6 +446,23 @@ def test_every_earlier_vault(place: Place, lines: str) -> None:
     assert told(place.run(HOOK, "--all")) == [f"v.yml {WHOLE.replace('HEAD', 'an earlier commit')}"]
 
 
+def test_several_merge_bases(place: Place) -> None:
+    """After two branches have merged each other, what later commits change together is compared with each merge
+    base."""
+    under_git(place, "")
+    names = ("one", "two")
+    fork(place, {"x.txt": b"1\n"}, *({f"{name}.yml": sealed("old")} for name in names))
+    ends = [place.shell(f"git rev-parse {end}").stdout.strip() for end in ("HEAD", "theirs")]
+    place.shell(f"git merge -q --no-edit {ends[1]} && git checkout -q theirs && git merge -q --no-edit {ends[0]}")
+    assert len(place.shell("git merge-base --all theirs @{-1}").stdout.split()) == 2
+    base = place.shell("git rev-parse @{-1}").stdout.strip()
+    place.shell("git rm -q one.yml two.yml && git commit -qm removed")
+    place.put("one.yml", TEXT)
+    last = committed(place, "two.yml", TEXT)
+    wanted = {f"{last}: {name}.yml {WHOLE.replace('HEAD', end[:10])}" for name, end in zip(names, ends)}
+    assert {*told(place.run(HOOK, "--since", base))} == wanted
+
+
 def test_merge(place: Place) -> None:
     """What a merge puts in plaintext is compared with each branch, before the commit and after it."""
     under_git(place, "")
