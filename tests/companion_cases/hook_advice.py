@@ -10,6 +10,7 @@ from typing import NamedTuple
 
 import pytest
 
+from ansible_vault_companions.git.attributes import make_line
 from companion_cases import HOOK, TEXT, Place, block, sealed
 from companion_cases.repository import add_and_commit, committed, told, under_git
 from lib.needs import needs
@@ -117,6 +118,21 @@ def put_change(place: Place, row: Row) -> None:
     for name in NAMES:
         place.put(row.new.format(name), row.after)
     place.shell("git add -A")
+
+
+def test_no_other_file(place: Place) -> None:
+    """The line for a file matches no other one, whatever is in place of its signs."""
+    under_git(place, "")
+    for name in NAMES:
+        _, line = make_line(os.fsencode(name), "-ansible-vault", ())
+        place.put(".gitattributes", os.fsencode(line) + b"\n")
+        alike = {name.replace(sign, other) for sign in SIGNS for other in (sign, "", "x", "xx", "x/x")}
+        alike = {each for each in alike if os.path.normpath(each) == each and not each.startswith("/")}
+        asked = b"\0".join(map(os.fsencode, alike))
+        fields = place.run_on(asked, "git", "check-attr", "-z", "--stdin", "ansible-vault").stdout.split(b"\0")
+        values = dict(zip(map(os.fsdecode, fields[::3]), fields[2::3]))
+        assert values.keys() >= alike, "git answers"
+        assert {each for each, value in values.items() if value == b"unset"} == {name}, line
 
 
 @pytest.mark.parametrize("row", ROWS.values(), ids=ROWS)
