@@ -9,7 +9,7 @@ from typing import NamedTuple
 import pytest
 
 from ansible_vault_companions.passwords.settings import Settings
-from companion_cases import CHECK, EDIT, ROTATE, TEXT, TEXTCONV, WITH, Place, described, ended, sealed
+from companion_cases import CHECK, EDIT, ROTATE, TEXT, TEXTCONV, WITH, Place, check_answer, described, ended, sealed
 from lib.ansible import ansible_release
 from lib.needs import needs, needs_root
 from lib.subtests import SubTests
@@ -330,14 +330,25 @@ def test_missing_secrets_to_encrypt_with(place: Place, line: str, row: Chosen) -
         assert place.left() == [], "no editor was opened"
 
 
-def test_world_writable_folders(place: Place) -> None:
-    """As with Ansible's tool, a configuration file in a world-writable directory is ignored, unless it is named."""
+# Modes of directories in which everybody may write, and of others.
+OPEN_MODES = [0o777, 0o1777, 0o2777, 0o703, 0o1707]
+CLOSED_MODES = [0o700, 0o755, 0o775, 0o1775, 0o2770]
+
+
+@pytest.mark.parametrize("mode", [*OPEN_MODES, *CLOSED_MODES], ids=oct)
+def test_world_writable_folders(place: Place, mode: int) -> None:
+    """As with Ansible's tool, a configuration file in a world-writable directory is ignored, even if the directory is
+    sticky, such as /tmp; unless it is named."""
     place.put("ansible.cfg", FILE.format("../secrets/old").encode())
     place.put("../.ansible.cfg", FILE.format("secrets/dev").encode())
     place.put("a.yml", sealed("old"))
-    place.tree.chmod(0o777)
-    warning = f"{CHECK}: {place.tree}/ansible.cfg is ignored, since its directory is world-writable\n"
-    ended("the next one counts", place.run(CHECK, "."), 1, warning, f"tried {place.secret('dev')}")
+    place.tree.chmod(mode)
+    done = place.run(CHECK, ".")
+    if mode in OPEN_MODES:
+        warning = f"{CHECK}: {place.tree}/ansible.cfg is ignored, since its directory is world-writable\n"
+        ended("the next one counts", done, 1, warning, f"tried {place.secret('dev')}")
+    else:
+        check_answer("it counts", done, output=None)
     ended("what is named counts", place.run(CHECK, ".", ANSIBLE_CONFIG="ansible.cfg"), 0)
 
 
