@@ -2,7 +2,7 @@
 
 import pytest
 
-from companion_cases import CHECK, HOOK, TEXT, Place, block, check_answer, ended, sealed
+from companion_cases import CHECK, HOOK, ROTATE, TEXT, Place, block, check_answer, ended, sealed
 from companion_cases.repository import under_git
 from lib.needs import needs_root
 
@@ -144,3 +144,25 @@ def test_some_labels(place: Place) -> None:
         "./d.yml: no label: it is damaged: vault header line is malformed; ",
         "2 decrypted, 1 failed",
     )
+
+
+# Envelopes in a document that are no more than examples.
+EXAMPLES = {
+    "one that no password decrypts": block("dev", label="prod"),
+    "a damaged one": b"$ANSIBLE_VAULT;1.2;AES256;prod\n%s\n[...]\n" % (b"61" * 40),
+    "a damaged value": b"pw: !vault |\n  $ANSIBLE_VAULT;1.2;AES256;prod\n  6162\n",
+}
+
+
+@pytest.mark.parametrize("example", EXAMPLES.values(), ids=EXAMPLES)
+def test_labels_of_examples(place: Place, example: bytes) -> None:
+    """Nothing has a label that only an example in a document has. What is decrypted there has it."""
+    place.put("a.md", b"An example:\n\n" + example)
+    place.put("b.yml", sealed("old"))
+    check = [CHECK, *place.by_file("old"), "--label", "prod", "."]
+    rotate = [ROTATE, *place.by_file("old"), *place.by_id("prod", "new", "new-"), "."]
+    for words in (check, rotate):
+        ended(words[0], place.run(*words), 1, f"{words[0]}: no vault or value has the label prod")
+    place.put("a.md", b"An example:\n\n" + example + b"\nAnother one:\n\n" + block("old", label="prod"))
+    for words in (check, rotate):
+        check_answer(words[0], place.run(*words), output=None)
