@@ -148,6 +148,25 @@ def test_conflict_as_base(tmp_path: Path, monkeypatch: pytest.MonkeyPatch) -> No
     assert merged.content.count(b"<<<<<<< ours") == 2, "each is marked"
 
 
+# Lines like a marker, and the versions that have one: base, ours and theirs.
+LIKE_MARKERS = [b"<<<<<<<\n", b"||||||| a\n", b"=======\n", b">>>>>>> b\n"]
+HAVE_ONE = {"all": (1, 1, 1), "ours": (0, 1, 0), "theirs": (0, 0, 1)}
+
+
+@pytest.mark.parametrize("line", LIKE_MARKERS, ids=repr)
+@pytest.mark.parametrize("have_one", HAVE_ONE.values(), ids=HAVE_ONE)
+def test_lines_like_markers(
+    line: bytes, have_one: tuple[int, ...], tmp_path: Path, monkeypatch: pytest.MonkeyPatch
+) -> None:
+    """Where a line looks like a marker, such as that below a title, nobody can tell the sides of a conflict apart. So
+    both sides are whole."""
+    monkeypatch.chdir(repository(tmp_path, "merge"))
+    contents = [b"x\n" + line * count + block("old", side, name="a") for side, count in zip(SIDES, have_one)]
+    merged = Model().merged(contents)
+    assert merged.why == f"{WHOLE}it has lines that look like git's conflict markers"
+    assert merged.content == both(contents[1:]), "both are whole"
+
+
 def test_copies(place: Place) -> None:
     """Where a side has rotated, what the other one adds gets the new password: each of its envelopes once, however
     many copies of it there are. Those that differ still do."""
