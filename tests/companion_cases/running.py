@@ -183,6 +183,17 @@ def test_several_strings(place: Place) -> None:
     assert "word" not in (place.path / "seen").read_text(), "strings are no arguments of the tool"
 
 
+# Bytes that a shell gives as a word, not all of them UTF-8.
+WORDS = [b"gr\xf6\xdfe", b"gr\xc3\xb6\xc3\x9fe", b"\xff", b"\xed\xa0\x80", b" a\n", b"-x", bytes(range(1, 256))]
+
+
+def test_bytes_of_strings(place: Place) -> None:
+    """Each of several strings is encrypted byte for byte."""
+    words = [WITH, "encrypt_string", *place.by_file("dev"), "--output", "blocks.yml", "--", *map(os.fsdecode, WORDS)]
+    assert place.run(*words).returncode == 0
+    assert texts(place.get("blocks.yml"), "dev") == WORDS
+
+
 def test_create(place: Place) -> None:
     """Options reach ansible-vault-edit, and a word of newer releases is ignored."""
     words = ["--skip-tty-check", *place.by_id("dev", "dev"), *place.by_id("prod", "prod"), "--encrypt-vault-id", "prod"]
