@@ -59,7 +59,7 @@ FORMS = {
         "$ANSIBLE_VAULT;1.1;AES256\n# größe\n".encode() + block("old"), why="vault body is not hexadecimal"
     ),
     "a null character.yml": Form(block("old") + b"\0", why="it cannot be read as YAML: it has a null character"),
-    "a vault with CR LF": Form(sealed("old").replace(b"\n", b"\r\n")),
+    "a vault": Form(sealed("old")),
     "a label that says nothing": Form(
         b"a: !vault |2+   # why\n" + lines_of(sealed("old", label="default"), 2),
     ),
@@ -72,6 +72,9 @@ FORMS = {
 for first_line in (f"{MAGIC} ;1.2;AES256;default", f"{MAGIC}_x; 1.1 ;AES256", f"{MAGIC};1.1;\tAES256;default"):
     for vault in (sealed("old"), block("old")):
         FORMS[f"{len(FORMS)} {first_line}"] = Form(vault.replace(b"$ANSIBLE_VAULT;1.1;AES256", first_line.encode()))
+# Each form with other line ends.
+WITH_CR_LF = {f"CR LF, {name}": Form(form.content.replace(b"\n", b"\r\n"), form.why) for name, form in FORMS.items()}
+FORMS |= WITH_CR_LF
 # What is rotated, and what is left with a reason.
 ROTATED = {name for name, form in FORMS.items() if not form.why}
 LEFT = FORMS.keys() - ROTATED
@@ -134,7 +137,8 @@ def test_rotation_of_forms(place: Place) -> None:
     check_reasons(done.stderr, before)
     ended("the summary", done, 1, summary(len(ROTATED), failed=len(LEFT)))
     assert {name for name, content in place.files().items() if content != before[name]} == ROTATED, "what is rotated"
-    assert b"\n" not in place.get("a vault with CR LF").replace(b"\r\n", b""), "its line ends"
+    for name in ROTATED & WITH_CR_LF.keys():
+        assert b"\n" not in place.get(name).replace(b"\r\n", b""), f"{name}: its line ends"
     for name in LEFT:
         (place.tree / name).unlink()
     to_be = summary(0, len(ROTATED)).replace("rotated", "to be rotated", 1)
