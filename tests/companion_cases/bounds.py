@@ -7,8 +7,9 @@ from random import Random
 
 import pytest
 
-from companion_cases import CHECK, CONFLICT, EDIT, HOOK, MERGE, NOT_ENCRYPTED, PASSWORDS, ROTATE, TEXTCONV, WITH
-from companion_cases import Done, Place, block, ended, run_changed, sealed, to_new
+from ansible_vault_companions.limits import LONGEST_VAULT
+from companion_cases import CHECK, CONFLICT, EDIT, HOOK, MERGE, NOT_DECRYPTED, NOT_ENCRYPTED, PASSWORDS, ROTATE
+from companion_cases import TEXTCONV, WITH, Done, Place, block, ended, run_changed, sealed, to_new
 from companion_cases.repository import AUTHOR
 from lib.needs import needs
 from model.vaults import serialized, yaml_block
@@ -590,6 +591,23 @@ def test_sparse_gigabyte(place: Place) -> None:
     ended("decrypt", place.run(WITH, "decrypt", *place.by_file("old"), "image"), 1, too_long)
     done = place.shell(f"{TEXTCONV} --vault-id {place.secret('old')} image | wc -c")
     assert done.stdout == f"{(1 << 30) + len(NOT_ENCRYPTED)}\n"
+
+
+# The beginnings of files that have an envelope but are longer than any vault.
+TOO_LONG = {"a value": BLOCK, "a vault": sealed("old"), "a vault for another password": sealed("dev")}
+
+
+@pytest.mark.parametrize("start", TOO_LONG.values(), ids=TOO_LONG)
+def test_too_long_to_show(place: Place, start: bytes) -> None:
+    """It is shown as it is, with the reason, so `git diff` goes on."""
+    place.put("a.yml", start)
+    os.truncate(place.tree / "a.yml", LONGEST_VAULT + 1)
+    assert used(place, TEXTCONV, *place.by_file("old"), "a.yml") == 0
+    words = f"{TEXTCONV} --vault-id {place.secret('old')} a.yml"
+    done = place.shell(f'{words} | {{ read -r line; echo "$line"; wc -c; }}')
+    assert done.stdout == f"{NOT_DECRYPTED}{LONGEST_VAULT + 1}\n", "all of it"
+    why = "it has more than 100,671,488 bytes, more than any vault"
+    assert done.stderr == f"{TEXTCONV}: a.yml: shown as it is: {why}\n"
 
 
 def put_packed(place: Place, size: int) -> None:
