@@ -85,11 +85,11 @@ class CountedText(str):
 
     splits = 0
 
-    def split(self, *words: object) -> list[str]:  # type: ignore[override]
+    def split(self, *words: object) -> list[str]:
         CountedText.splits += 1
         return super().split(*words)  # type: ignore[arg-type]
 
-    def __getitem__(self, part: object) -> CountedText:  # type: ignore[override]
+    def __getitem__(self, part: object) -> CountedText:
         return CountedText(super().__getitem__(part))  # type: ignore[index]
 
 

@@ -94,13 +94,13 @@ class Loader:
 
     def _load_conflict(self, target: str, content: bytes, sides: Versions) -> Draft:
         key = self.chosen.find_key()
+        effort = Effort()
         are_vaults = [side.startswith(MAGIC) for side in (sides.ours, sides.theirs)]
         if all(are_vaults):
-            vaults = VaultMerge(self.decrypt, sides)
+            vaults = VaultMerge(self.decrypt, sides, effort)
             return ConflictDraft(target, content, vaults, vaults.choose_key(key))
         if any(are_vaults):
             raise Refused(ONE_SIDE.format(make_pathspec(target)))
-        effort = Effort()
         if not (sides.ours and sides.theirs):
             return self._load_values(target, content, content, effort)
         # Before the merge, which takes long.

@@ -26,7 +26,7 @@ WORD = re.compile(rb"(!vault)|[-:?][ \t]+(![!< \t]*\w[^\s,\[\]{}]*)(?=[ \t]*(?:[
 TAG = re.compile(rb"!(?:(?!!vault)[^\s,\[\]{}])*(?:\s+&(?:(?!!vault)\S)+)?\s*")
 # Where a tag would begin in its line; and any tag, up to its text. One that is longer counts as none.
 MARK = re.compile(rb"(?:\A|[-:?\[{,])[ \t]*(?:&[^\s&,\[\]{}]+[ \t]+)?(?=!)")
-ANY_TAG = re.compile(rb"![^\s,\[\]{}]{0,256}(?:\s+&\S+)?\s*")
+ANY_TAG = re.compile(rb"!(?:<[^\s>]{0,256}>|[^\s,\[\]{}]{0,256})(?:\s+&\S+)?\s*")
 # What may follow a text without quotes in its line.
 REST = re.compile(rb"[ \t,\]}]*(?:[\r\n]|\Z)")
 LINE = re.compile(rb"[^\r\n]+")

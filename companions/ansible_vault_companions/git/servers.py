@@ -26,8 +26,7 @@ class Server:
         self.command = words[0]
         # A pipe would be full at some point, with nobody to read it.
         self.errors = open(os.memfd_create("errors"), "w+b")
-        streams = {"stdin": subprocess.PIPE, "stdout": subprocess.PIPE, "stderr": self.errors}
-        self.git = start_git(words, index, folder, **streams)
+        self.git = start_git(words, index, folder, stdin=subprocess.PIPE, stdout=subprocess.PIPE, stderr=self.errors)
         # What was read, of which the part from this place is left.
         self.data, self.place = b"", 0
 

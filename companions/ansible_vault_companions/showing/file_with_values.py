@@ -42,7 +42,7 @@ def show_envelopes(
     with suppress(Refused):
         sides = find_versions(target, parsed.data)
         if sides and sides.ours.startswith(MAGIC) and sides.theirs.startswith(MAGIC):
-            vaults = VaultMerge(decrypt, sides)
+            vaults = VaultMerge(decrypt, sides, effort)
             labels = dict.fromkeys((vaults.ours.key.label, vaults.theirs.key.label))
             return first_line.describe_vault(" and ".join(labels)) + vaults.merged_lines.text
     return _choose_first_line(parsed) + _show_values(companion, parsed, path, decrypt, effort)
