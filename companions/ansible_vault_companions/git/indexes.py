@@ -77,9 +77,8 @@ class Index:
 def read_staged() -> Index:
     """What is staged. The next commit will have HEAD as a parent, and what is being merged."""
     merged = {name.removeprefix(MERGED) for name in os.environ if name.startswith(MERGED)}
-    path = read_line("rev-parse", "--git-path", MERGE_HEAD)
-    _require_short_index(os.environ.get("GIT_INDEX_FILE") or os.path.join(os.path.dirname(path), "index"))
-    merged.update(_read_merged(path))
+    _require_short_index(read_line("rev-parse", "--git-path", "index"))
+    merged.update(_read_merged(read_line("rev-parse", "--git-path", MERGE_HEAD)))
     return Index(["HEAD", *sorted(merged)] if _has_commit() else [])
 
 
