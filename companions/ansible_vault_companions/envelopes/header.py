@@ -67,8 +67,10 @@ def measure_padded(length: int) -> int:
 
 def _read_digits(text: bytes) -> tuple[bytes, ...]:
     """The salt, tag and ciphertext; empty if the digits have another form."""
+    lines = text.translate(None, b"\r\n")
     try:
-        inner = binascii.unhexlify(text[len(_read_first_line(text)) :].translate(None, b"\r\n"))
+        # A part of a long vault is no copy.
+        inner = binascii.unhexlify(memoryview(lines)[len(_read_first_line(text)) :])
         salt, tag, ciphertext = map(binascii.unhexlify, inner.split(b"\n", 2))
     except ValueError:
         return b"", b"", b""
