@@ -113,6 +113,10 @@ FAULTY |= {
     "crates/a/src/long.rt": (f"// {'a' * 98}\n", "crates/a/src/long.rt:1: too long"),
     "crates/a/src/unused.rt": ("fn unused() {}\n", "crates/a/src/unused.rt: unused is mentioned nowhere else"),
     "crates/a/must-fail/stale.edit": ("file: src/unused.rt\nold: gone\n", "stale.edit: not once in its file: gone"),
+    "tests/planted/faults.toml": (
+        '[[fault]]\nfile = "man/a.1"\nold = "gone"\n',
+        "faults.toml: not once in man/a.1: gone",
+    ),
 }
 DEAD = ": there is no "
 # The same for paths and names. Each file also has some that exist.
@@ -127,6 +131,7 @@ FAULTY |= {
 }
 # What is said of nothing by the lints that look at files of several kinds.
 NOTHING = ["there are no names in .rt files", "there are no names in .antt files", "there are no edits"]
+NOTHING += ["there are no faults in files"]
 NOTHING += ["only 0 references in pages", "only 0 references in sources"]
 
 
