@@ -20,10 +20,10 @@ MOST_KEYS = 1_000_000
 MOST_ALIASED = 50_000
 # The values of a file that are decrypted or encrypted, each in a run of ansible-vault, which derives a key. A rotation
 # takes two runs for each.
-MOST_VALUES = 300
-# What a run counts for, of the seconds below. It takes 12 to 15 ms, but a file is not refused since a machine is slow.
+MOST_VALUES = 200
+# What a run counts for, of the seconds below. It takes 12 to 20 ms, but a file is not refused since a machine is slow.
 # With a wrong password, it takes less than half of that.
-RUN_SECONDS = 0.014
+RUN_SECONDS = 0.02
 WRONG = 0.5
 # The bytes of a key, as many as libyaml allows for one that does not follow a question mark. A message names a key for
 # each value below it.

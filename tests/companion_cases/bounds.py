@@ -372,7 +372,8 @@ VALUES = {
     "headers": b"# $ANSIBLE_VAULT;1.1;AES256 61616161616161616161 %d\n",
     "sides": b"<<<<<<< a\nk: !vault $ANSIBLE_VAULT;%d\n=======\nk: !vault $ANSIBLE_VAULT;\n>>>>>>> b\n",
 }
-TOO_MANY = "it has over 300 values"
+MOST_VALUES = 200
+TOO_MANY = f"it has over {MOST_VALUES} values"
 TOO_MANY_RUNS = "its values take over 10 s of processor time; divide it, or name fewer passwords"
 BY_OLD = "--vault-password-file ../secrets/old"
 # A command line of each companion, and which of these it opens or encrypts.
@@ -418,15 +419,15 @@ def repeated(name: str, count: int) -> bytes:
 def test_most_values(place: Place, line: str, opened: list[str]) -> None:
     """So many values are each opened once, and of more none is, whatever they are."""
     place.environment["EDITOR"] = place.script('echo "# x" >> "$1"', "editor")
-    output, count = runs(place, line, repeated("other values", 300))
-    assert count == 300 and "it has over" not in output and TOO_MANY_RUNS not in output, output
+    output, count = runs(place, line, repeated("other values", MOST_VALUES))
+    assert count == MOST_VALUES and "it has over" not in output and TOO_MANY_RUNS not in output, output
     for name in VALUES:
-        size = 301 if name == "values" else Random(name).randint(301, 3_000)
+        size = MOST_VALUES + (1 if name == "values" else Random(name).randint(1, 3_000))
         output, count = runs(place, line, repeated(name, size))
         assert count == 0 and (TOO_MANY in output or name not in opened), (name, output)
 
 
-# Ten times as much for each run, so that there are fewer.
+# Seven times as much for each run, so that there are fewer.
 SLOW_RUNS = "from ansible_vault_companions import limits; limits.RUN_SECONDS = 0.14"
 MOST_RUNS = 67
 CONFLICT_OF_SIDES = f"{MERGE}: a.yml: 1 conflict; resolve with {EDIT}\n"
@@ -481,11 +482,11 @@ def test_rotated_versions(place: Place) -> None:
 
 def test_most_typed_values(place: Place) -> None:
     """So many texts are encrypted at once. With one more, only what was saved is."""
-    for count in (300, 301):
+    for count in (MOST_VALUES, MOST_VALUES + 1):
         place.environment["EDITOR"] = place.script(f"echo k{count}: !vault v >> $1", "editor")
         output, encrypted = runs(place, OPENING[EDIT][0], repeated("text", count - 1))
-        assert encrypted == (300 if count == 300 else 1), output
-        assert (f"a.yml: {TOO_MANY}; what you saved is encrypted in " in output) == (count > 300), output
+        assert encrypted == (count if count == MOST_VALUES else 1), output
+        assert (f"a.yml: {TOO_MANY}; what you saved is encrypted in " in output) == (count > MOST_VALUES), output
 
 
 # Counts how often PyYAML reads a text.
