@@ -1,8 +1,10 @@
 """A file over a limit is a failure for whoever reads it, whatever its name, and however its envelope is spelled."""
 
+from random import Random
+
 import pytest
 
-from companion_cases import CHECK, HOOK, ROTATE, Place, block, ended, sealed, to_new
+from companion_cases import CHECK, HOOK, ROTATE, Place, block, ended, sealed, silent, to_new
 from companion_cases.repository import committed, under_git
 
 pytestmark = pytest.mark.usefixtures("git")
@@ -16,6 +18,8 @@ SPELLINGS = {
     "a long escape": f'k: !vault "\\u0024{HEADER[1:]}\\n{REST}\\n"\n',
     "an escaped letter": f'k: !vault "$\\x41{HEADER[2:]}\\n{REST}\\n"\n',
     "an escaped tag": f'k: !v%61ult "{HEADER}\\n{REST}\\n"\n',
+    "an escaped semicolon": f'k: !vault "{HEADER[:14]}\\x3b{HEADER[15:]}\\n{REST}\\n"\n',
+    "a divided header": f'k: !vault "{HEADER[:14]}\\\n  {HEADER[14:]}\\n{REST}\\n"\n',
     "a divided word": f'k: !vault "{HEADER[:5]}\\\n  {HEADER[5:]}\\n{REST}\\n"\n',
 }
 # What is above the envelope, and the message.
@@ -51,3 +55,31 @@ def test_each_reader(place: Place, above: str, why: str, name: str) -> None:
         place.shell("git add --all")
         ended(f"{what}: plaintext", place.run(HOOK), 1, f"{HOOK}: {name} has fewer envelopes than in HEAD")
         place.shell(f"git rm -qf {name} && git commit -qnm two")
+
+
+TEMPLATE = b"{% if x %}\nx: 1\n{% endif %}\n"
+# What has no envelope, whatever else it has.
+HARMLESS = {
+    "a long binary": Random(1).randbytes(20_000_000),
+    "a long text": b'"user\\u0040example.com \\x41"\n' * 600_000,
+    "a deep text": b"x: " + b"[" * 70 + b"]" * 70 + b'\ny: "\\u0041"\n',
+    "a template with escapes": TEMPLATE + b'regex: "[\\x41-\\x5a]+"\n',
+    "a template with a tag": TEMPLATE + b"# how to use `!vault`\n",
+}
+
+
+@pytest.mark.parametrize("content", HARMLESS.values(), ids=HARMLESS)
+def test_no_envelope(place: Place, content: bytes) -> None:
+    """What has no header may be new, change, and become short or a pointer of git-lfs, whatever limit it exceeds."""
+    under_git(place, "")
+    committed(place, "other.txt", b"x\n")
+    pointer = b"version https://git-lfs.github.com/spec/v1\noid sha256:%s\nsize 20000000\n" % (b"0" * 64)
+    for name in ("a.yml", "a.bin"):
+        for version in (content, content + b"# more\n", b"x\n", content, pointer):
+            place.put(name, version)
+            place.shell("git add --all")
+            silent(f"{name}: the hook", place.run(HOOK))
+            place.shell("git commit -qnm one")
+        place.put(name, content)
+        done = place.run(CHECK, "--list", name)
+        ended("the check", done, 0, "0 listed, 0 failed")

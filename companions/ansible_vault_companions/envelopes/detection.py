@@ -13,6 +13,8 @@ from ansible_vault_companions.files.reading import open_regular, read_parts, rea
 WORDS = (b"ANSIBLE_VAULT", b"!vault", b"__ansible_vault", b"%TAG")
 ESCAPES = re.compile(rb"![^\s!%]{0,64}%[0-9a-fA-F]{2}|\\(?:x|u00|U000000)(?:24|[4-7][0-9a-fA-F])")
 OVERLAP = 80
+# A line end that double quotes do not have.
+FOLD = rb"(?:\\\r?\n[ \t]*)*"
 
 
 def may_have_envelope(data: bytes) -> bool:
@@ -20,11 +22,17 @@ def may_have_envelope(data: bytes) -> bool:
     return any(word in data for word in WORDS) or BINARY not in data and ESCAPES.search(data) is not None
 
 
-def count_mentions(data: bytes) -> int:
-    """How many envelopes the data may have, if it cannot be read: as many as headers or tags, and any that an escape or
-    a directive may hide."""
-    hidden = len(ESCAPES.findall(data)) + data.count(b"%TAG")
-    return max(data.count(HEADER), data.count(b"!vault")) + hidden
+def count_headers(data: bytes) -> int:
+    """How often the data has the beginning of a header, even one that is spelled with escapes, or divided by one. In
+    what is no text, an escape means nothing."""
+    if BINARY in data or b"\\" not in data:
+        return data.count(HEADER)
+    return sum(1 for _ in re.finditer(FOLD.join(map(_spell, HEADER)), data))
+
+
+def _spell(character: int) -> bytes:
+    """A pattern for a character in double quotes, or an escape of it."""
+    return rb"(?:%s|\\(?:x|u00|U000000)(?i:%02x))" % (re.escape(bytes([character])), character)
 
 
 def read_envelope_file(path: str) -> bytes:

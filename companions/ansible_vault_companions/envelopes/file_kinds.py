@@ -2,7 +2,7 @@
 
 from __future__ import annotations
 
-from ansible_vault_companions.envelopes.detection import count_mentions
+from ansible_vault_companions.envelopes.detection import count_headers
 from ansible_vault_companions.envelopes.parsed_text import ParsedText
 from ansible_vault_companions.envelopes.yaml_nodes import BINARY
 
@@ -23,7 +23,7 @@ def find_fault(parsed: ParsedText, path: str, target: str) -> str:
     """Why a file that may have an envelope cannot be read: it exceeds a limit, or is no YAML, but has the name of it or
     its target has; else empty."""
     if parsed.is_too_much:
-        return parsed.fault if count_mentions(parsed.data) else ""
+        return parsed.fault if count_headers(parsed.data) else ""
     if not (is_yaml(path) or is_yaml(target)):
         return ""
     return parsed.fault if parsed.values or BINARY in parsed.data else ""

@@ -15,7 +15,7 @@ from ansible_vault_companions.envelopes.damage import (
     find_unencrypted,
     is_unmerged,
 )
-from ansible_vault_companions.envelopes.detection import count_mentions, may_have_envelope
+from ansible_vault_companions.envelopes.detection import count_headers, may_have_envelope
 from ansible_vault_companions.envelopes.header import HEADER, LINE_END, MAGIC
 from ansible_vault_companions.envelopes.key_paths import MERGE_TAG, KeyPath
 from ansible_vault_companions.envelopes.node import ALIAS, NO_SCALAR, Node
@@ -49,7 +49,7 @@ class Facts(NamedTuple):
     is_too_much: bool = False
     # Why Ansible may read it as other keys or texts, if that is known.
     ambiguity: str = ""
-    # How many envelopes it has at least, and at most. The numbers differ only if it cannot be read.
+    # How many envelopes it has; if it cannot be read, how many headers, and how many with those that have escapes.
     envelopes: int = 0
     most_envelopes: int = 0
     # What is wrong with its envelopes, and whether that is git's conflict markers; with what only has their tag; and
@@ -112,8 +112,8 @@ def _read_facts(data: bytes, needs_plain: bool) -> Facts:
 
 
 def _count_headers(data: bytes) -> tuple[int, int]:
-    """How many envelopes there are at least, and at most."""
-    return data.count(HEADER), count_mentions(data)
+    """How many headers there are, without those that have escapes, and with them."""
+    return data.count(HEADER), count_headers(data)
 
 
 def _find_hidden_break(data: bytes) -> str:

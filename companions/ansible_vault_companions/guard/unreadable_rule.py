@@ -1,7 +1,7 @@
 """What is or was encrypted is not unreadable.
 
 What cannot be read as Ansible reads it counts as if it had lost what was encrypted. A limit counts for every file with
-an envelope, an ambiguity for every file that had one, and bad YAML only for what is YAML by its name, since a template
+a header, an ambiguity for every file that had one, and bad YAML only for what is YAML by its name, since a template
 never parses. If a value was removed from any file, what is YAML by its name has to be read even if it never had an
 envelope: it may be there in plaintext.
 """
