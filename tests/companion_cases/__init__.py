@@ -61,7 +61,9 @@ def sealed(password: str, text: bytes = TEXT, label: str = "") -> bytes:
 
 
 def decrypted(password: str, envelope: bytes) -> bytes | None:
-    """Return the plaintext, or None if the password is wrong."""
+    """Return the plaintext, or None if the password is wrong, or the envelope is empty."""
+    if not envelope:
+        return None
     inner = bytes.fromhex(b"".join(envelope.split(b"\n")[1:]).decode())
     salt, tag, ciphertext = (bytes.fromhex(part.decode()) for part in inner.split(b"\n", 2))
     if not hmac.compare_digest(tag_of(PASSWORDS[password], salt, ciphertext), tag):

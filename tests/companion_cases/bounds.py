@@ -178,11 +178,12 @@ def test_keys_of_sides(place: Place) -> None:
     ended("the edit", place.run(EDIT, *place.by_file("old"), "a.yml"), 1, TOO_MANY_KEYS)
 
 
-# A clock that is looked at twice for each reading, and the limits that it leads to.
+# A clock that is looked at twice for each reading, and the limits that it leads to. Runs of the program take no time.
 CLOCK = """
 import itertools, time, types
-from ansible_vault_companions import bounding
+from ansible_vault_companions import bounding, limits
 
+limits.RUN_SECONDS = 0
 looks = itertools.count()
 bounding.time = types.SimpleNamespace(clock_gettime=time.clock_gettime, thread_time=lambda: next(looks) * {})
 # The timer would look as well.

@@ -218,7 +218,9 @@ def count_lines(place: Place) -> int:
 def places_of_text(place: Place) -> list[str]:
     """Return the directories with the plaintext that was saved, and the copies, if one of them has it."""
     private = [path for path in place.left() if Path(path).is_file() and Path(path).read_bytes() == CHANGED]
-    copies = [str(path) for path in place.copies()] if CHANGED in place.kept() else []
+    # A fault may leave an empty copy, beside the text.
+    texts = {path: decrypted("old", path.read_bytes()) or b"" for path in place.copies()}
+    copies = [str(path) for path, text in texts.items() if text.endswith(CHANGED)]
     return [*(os.path.dirname(path) for path in private), *copies]
 
 
