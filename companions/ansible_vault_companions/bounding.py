@@ -29,8 +29,8 @@ if TYPE_CHECKING:
 
 # Seconds of this process's time between two looks at what is limited.
 INTERVAL = 0.1
-# A program is started, or asked, only if so many seconds are left. The system counts whole ones.
-LEAST = 0.5
+# A program is started, or asked, only if so many seconds are left. The system counts whole ones, and at least one.
+LEAST = 1
 # A library in C may fail without saying why.
 OUT_OF_MEMORY = (MemoryError, SystemError)
 
@@ -114,21 +114,19 @@ def limit_run(seconds: int, taken: float = 0.0) -> Iterator[None]:
         _run = None
 
 
-def measure_time_left() -> float:
-    """The seconds of processor time that a program may take. Raises TooMuch if there are next to none."""
-    if not _run:
-        return SECONDS
-    left = _run.end - _measure_run_time()
+def measure_time_left(most: float = SECONDS) -> float:
+    """The seconds of processor time that a program may take, at most as given. Raises TooMuch if there are too few."""
+    left = min(most, _run.end - _measure_run_time()) if _run else most
     if left < LEAST:
-        raise TooMuch(_run.text)
+        raise TooMuch(_run.text if _run else TOO_SLOW.format(SECONDS))
     return left
 
 
 def limit_program(program: Popen[bytes], seconds: float) -> None:
-    """Limits a program to so much more processor time than it has taken, and its memory, unless it has the limit of
-    this process anyway."""
+    """Limits a program to so much more processor time than it has taken, rounded down to whole seconds, and its memory,
+    unless it has the limit of this process anyway."""
     _programs.add(program)
-    limits = {resource.RLIMIT_CPU: round(_measure_program_time(program.pid) + seconds)}
+    limits = {resource.RLIMIT_CPU: int(_measure_program_time(program.pid) + seconds)}
     if not _memory:
         limits[resource.RLIMIT_DATA] = MEGABYTES << 20
     for kind, most in limits.items():

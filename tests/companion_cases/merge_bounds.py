@@ -51,29 +51,39 @@ def test_ended_git(place: Place, kind: str, signal: str, why: str) -> None:
     ended("the merge", done, CONFLICT, f"both sides are whole in the file: git merge-file failed: {why}; resolve")
 
 
-# Notes the time that git gets, where each run of ansible-vault counts for a second.
-NOTE_TIME = """
-from ansible_vault_companions import bounding, limits
-limits.RUN_SECONDS = 1
-limit = bounding.limit_program
-
-def note_and_limit(program, seconds):
-    if "merge-file" in program.args:
-        with open("../seconds", "a") as file:
-            print(seconds, file=file)
-    limit(program, seconds)
-
-bounding.limit_program = note_and_limit
+# Starts the companion with runs of ansible-vault that count for so many seconds each.
+COUNT_RUNS = """
+from ansible_vault_companions import limits
+limits.RUN_SECONDS = {}
 """
+# A git that notes the limit of its time. The companion sets it while git runs.
+NOTE_LIMIT = """case " $* " in *" merge-file "*)
+    until seconds=$(ulimit -S -t) && [ "$seconds" != unlimited ]; do :; done
+    echo "$seconds" >> ../seconds ;;
+esac"""
 
 
+@pytest.mark.parametrize("seconds", [0.2, 0.5, 0.8, 1, 2])
 @pytest.mark.parametrize("kind, runs", [("values", 2), ("vaults", 3)])
-def test_time_of_git(place: Place, kind: str, runs: int) -> None:
-    """git gets the time that is left of the merge's."""
+def test_time_of_git(place: Place, kind: str, runs: int, seconds: float) -> None:
+    """git gets the time that is left of the merge's, in whole seconds."""
+    place.wrap_tool(NOTE_LIMIT, "git")
     words = versions(place, "a.yml", *VERSIONS[kind])
-    ended("the merge", run_changed(place, MERGE, NOTE_TIME, [*place.by_file("old"), *words]), 0)
-    (seconds,) = map(float, place.get("../seconds").split())
-    assert 0 < seconds <= 9.5 - runs, seconds
+    ended("the merge", run_changed(place, MERGE, COUNT_RUNS.format(seconds), [*place.by_file("old"), *words]), 0)
+    limit = int(place.get("../seconds"))
+    assert limit >= 1 and limit + runs * seconds <= 10, f"git may take {limit} s"
+
+
+@pytest.mark.parametrize("left", [0.1, 0.9])
+@pytest.mark.parametrize("kind, runs", [("values", 2), ("vaults", 3)])
+def test_too_little_time(place: Place, kind: str, runs: int, left: float) -> None:
+    """git is not started if less than a second is left, which is the lowest limit that the system has."""
+    place.wrap_tool(NOTE_LIMIT, "git")
+    words = versions(place, "a.yml", *VERSIONS[kind])
+    change = COUNT_RUNS.format((9.5 - left) / runs)
+    done = run_changed(place, MERGE, change, [*place.by_file("old"), *words])
+    ended("the merge", done, CONFLICT, "both sides are whole in the file: it takes over 10 s of processor time")
+    assert not (place.path / "seconds").exists(), "git merges nothing"
 
 
 @pytest.mark.parametrize("base", [0, 1_000_000, 50_331_643])

@@ -57,10 +57,10 @@ def build_environment(index: str | None = None, folder: str | None = None) -> di
 def start_git(
     words: tuple[str, ...], index: str | None = None, folder: str | None = None, most: float = SECONDS, **options: Any
 ) -> Popen[bytes]:
-    """Starts a git command, with limits of processor time, at most as given, and memory. None is started if no time is
-    left."""
+    """Starts a git command, with limits of processor time, at most as given, and memory. None is started if too little
+    time is left."""
     environment = build_environment(index, folder)
-    seconds = min(most, bounding.measure_time_left())
+    seconds = bounding.measure_time_left(most)
     git = processes.start_program(build_command(words), env=environment, cwd=folder, **options)
     bounding.limit_program(git, seconds)
     return git
