@@ -159,6 +159,30 @@ def test_what_cannot_be_removed(place: Place) -> None:
     assert decrypted("old", place.get("all.yml")) == CHANGED, "what was saved"
 
 
+# Writes a file into a directory just before it is removed.
+LATE = """
+remove = os.rmdir
+
+def write_and_remove(folder):
+    with open(os.path.join(folder, "all.yml"), "w") as file:
+        file.write("typed")
+    remove(folder)
+
+os.rmdir = write_and_remove
+"""
+
+
+def test_late_file(place: Place) -> None:
+    """What a program of the editor writes while the directory is emptied stays, and the message names it."""
+    place.put("all.yml", sealed("old"))
+    words = [*place.by_file("old"), "all.yml"]
+    done = run_changed(place, EDIT, LATE, words, EDITOR=place.script(CHANGE, "editor"))
+    folder, path = place.left()
+    assert Path(path).read_bytes() == b"typed", "what was typed"
+    ended("the edit", done, 1, f"what you saved is in the file; {folder} is left, with all.yml in it; save what you ")
+    assert decrypted("old", place.get("all.yml")) == CHANGED, "what was saved"
+
+
 # Raises an exception at a line of the companion, of those that run once something is saved, and counts them. The first
 # line has the number 1, so with 0, none raises it.
 PLANT = """

@@ -33,13 +33,17 @@ from lib.processes import SECONDS, started
 from lib.subtests import SubTests
 
 RUNS = (EDIT, ROTATE, MERGE)
+# An editor adds a line, and notes that it has. It does both itself, and the first in a single call: a program that it
+# started could still write after a signal has ended the editor and the companion has cleaned up.
+ADD = 'echo "more: text" >> "$1"; : > ../saved'
+ADDED = TEXT + b"more: text\n"
 
 
 def prepare_runs(place: Place) -> dict[str, list[str]]:
     """Write a vault, and return each run over it. A merge puts ours under the new password."""
     vaults = versions(place, "a.yml", sealed("old", CHANGED), sealed("old"), sealed("new", CHANGED))
     (place.tree / "a.yml").chmod(0o640)
-    place.environment["EDITOR"] = place.script(f"{CHANGE}; touch ../saved; sleep 0.1", "editor")
+    place.environment["EDITOR"] = place.script(f"{ADD}; sleep 0.1", "editor")
     old, new = place.by_file("old"), place.by_file("new")
     return {
         EDIT: [EDIT, *old, "a.yml"],
@@ -54,13 +58,13 @@ def check_whole(place: Place) -> None:
     by_old, by_new = texts(vault, "old"), texts(vault, "new")
     assert len(by_old) == (2 if b"<<<<<<<" in vault else 1), ("how many envelopes there are", vault)
     for pair in zip(by_old, by_new):
-        assert {TEXT, CHANGED}.intersection(pair), ("an envelope is whole", vault)
+        assert {TEXT, CHANGED, ADDED}.intersection(pair), ("an envelope is whole", vault)
     assert place.names() == ["a.yml"], "nothing is left in the tree"
     assert place.left() + os.listdir(place.temporary) == [], "nothing is left elsewhere"
     assert place.mode("a.yml") == "0o640", "the mode stays"
 
 
-def check_edit(place: Place, errors: str, wanted: bytes = CHANGED) -> None:
+def check_edit(place: Place, errors: str, wanted: bytes = ADDED) -> None:
     """Check that a saved text is in the vault, or encrypted in a copy that the message names."""
     copies, kept = place.copies(), place.kept()
     is_replaced = decrypted("old", place.get("a.yml")) == wanted
@@ -182,7 +186,7 @@ def test_ignored_signals(place: Place, name: str) -> None:
 # The editor writes when it is asked to end, which happens twice.
 LAST_WORDS = """
 printf first > "$1"
-trap 'sleep 0.3; printf last > "$1"; touch ../saved; exit' TERM
+trap 'sleep 0.3; printf last > "$1"; : > ../saved; exit' TERM
 (trap '' TERM; sleep 0.1; kill -TERM $PPID; sleep 0.1; kill -TERM $PPID) > /dev/null 2>&1 &
 while :; do sleep 0.05; done
 """
@@ -264,7 +268,7 @@ def test_editor(place: Place, editor: Editor) -> None:
     """The companion waits for an editor that ignores a signal, and one that is stopped goes on to be ended by it."""
     prepare_runs(place)
     kill = "(trap '' TERM; sleep 0.1; kill -TERM $PPID) > /dev/null 2>&1 &"
-    done = edit(place, f"{CHANGE}; : > ../saved; {kill} {editor.text}", *place.by_file("old"), "a.yml")
+    done = edit(place, f"{ADD}; {kill} {editor.text}", *place.by_file("old"), "a.yml")
     assert done.returncode == -signal.SIGTERM, "the companion ends by the signal"
     assert (place.path / "waited").exists() == editor.is_awaited, "what the editor does in the end"
     assert "a.yml: signal 15 ended the edit; " in done.stderr, "the reason"
