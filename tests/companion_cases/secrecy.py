@@ -6,8 +6,9 @@ import resource
 
 import pytest
 
-from companion_cases import CHECK, EDIT, MERGE, PASSWORDS, ROTATE, TEXT, TEXTCONV, WITH, Place, block, ended, sealed
-from companion_cases import versions
+from companion_cases import CHECK, EDIT, HOOK, MERGE, PASSWORDS, ROTATE, TEXT, TEXTCONV, WITH, Place, block, ended
+from companion_cases import sealed, versions
+from companion_cases.repository import add_and_commit, under_git
 from companion_cases.terminal import ask
 from lib.needs import needs
 
@@ -137,6 +138,57 @@ def test_plaintext(place: Place, line: str, places: set[str]) -> None:
     assert place.names() == sorted(before), "nothing is left"
     only_reads = companion in (CHECK, TEXTCONV)
     assert (place.files() == before) == only_reads, "it does its work"
+
+
+# What a commit of a vault and of a value becomes: other files, with a text that must stay hidden.
+PLAIN = TEXTS[0]
+LEAKS = {
+    "a vault in plaintext": {"a.yml": PLAIN},
+    "a vault in plaintext elsewhere": {"a.yml": None, "b.txt": PLAIN},
+    "a copy beside a vault": {"a.yml.bak": PLAIN},
+    "a value in plaintext": {"b.yml": b"key: horse\n"},
+    "a value in plaintext elsewhere": {"b.yml": None, "c.yml": b"key: horse\n"},
+    "a tag alone": {"b.yml": b"key: !vault horse\n"},
+    "a tag before several lines": {"b.yml": b"key: !vault |\n  horse\n  staple\n"},
+    "an envelope in plaintext lines": {"b.yml": b"key: !vault |\n  $ANSIBLE_VAULT;1.1;AES256\n  horse\n"},
+    "an open bracket": {"b.yml": b"key: [horse\n"},
+    "an open quote": {"b.yml": b'key: "horse\n'},
+    "an unknown escape": {"b.yml": b'key: "\\horse"\n'},
+    "an unknown alias": {"b.yml": b"key: *horse\n"},
+    "an unknown tag": {"b.yml": b"key: !horse! battery\n"},
+    "a tab": {"b.yml": b"key:\n\thorse: staple\n"},
+    "a colon too many": {"b.yml": b"key: horse: staple\n"},
+    "no UTF-8": {"b.yml": b"key: horse\xff\n"},
+    "a control character": {"b.yml": b"key: horse\x01\n"},
+    "a conflict": {"b.yml": b"<<<<<<< ours\nkey: horse\n=======\nkey: staple\n>>>>>>> theirs\n"},
+    "an attribute": {".gitattributes": b"horse[ diff=ansible-vault\n*.yml diff=ansible-vault\n", "a.yml": PLAIN},
+}
+IN_LOGS = [HOOK, f"{HOOK} --all", f"{HOOK} --since HEAD~1", f"{CHECK} {OLD} .", f"{CHECK} {OLD} --json ."]
+IN_LOGS += [f"{CHECK} --list .", f"{ROTATE} {OLD} {NEW} --dry-run .", f"{ROTATE} {OLD} {NEW} ."]
+
+
+@pytest.mark.parametrize("files", LEAKS.values(), ids=LEAKS)
+def test_logs(place: Place, files: dict[str, bytes | None]) -> None:
+    """What the commands of a pipeline print may be read by others. It has no plaintext, even of what they refuse."""
+    under_git(place, "*.yml diff=ansible-vault\n")
+    place.put("a.yml", sealed("old", PLAIN))
+    place.put("b.yml", block("old", b"horse", name="key"))
+    add_and_commit(place)
+    for name, content in files.items():
+        if content is None:
+            (place.tree / name).unlink()
+        else:
+            place.put(name, content)
+    place.shell("git add -A")
+    staged, *others = IN_LOGS
+    runs = [place.shell(staged)]
+    add_and_commit(place)
+    runs += [place.shell(line) for line in others]
+    assert any(done.returncode == 1 for done in runs), "something is refused"
+    for line, done in zip(IN_LOGS, runs):
+        output = done.stdout + done.stderr
+        assert "Traceback" not in output, (line, output)
+        assert [word for word in HIDDEN if word in output] == [], (line, output)
 
 
 def test_which_tool(place: Place) -> None:
