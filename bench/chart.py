@@ -22,7 +22,11 @@ from matplotlib import pyplot
 Point = dict[str, Any]
 
 # The tools, and what takes the time where their lines are flat.
-NAMES = {"ours": "this tool (flat: deriving the keys)", "theirs": "Ansible's tool (flat: start-up)"}
+NAMES = {
+    "theirs": "Ansible's tool (flat: start-up)",
+    "the alias": "this tool via the alias (flat: Python's start-up, deriving the keys)",
+    "ours": "this tool (flat: deriving the keys)",
+}
 UNITS = [(1 << 20, "MiB"), (1 << 10, "KiB"), (1, "B")]
 # The possible ticks of a logarithmic axis.
 TICKS = [digit * 10**power for power in range(6) for digit in (1, 2, 5)]

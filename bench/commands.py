@@ -19,7 +19,7 @@ import subprocess
 import sys
 import tempfile
 from collections.abc import Callable, Iterator
-from functools import partial
+from functools import cached_property, partial
 from pathlib import Path
 from typing import Any, NamedTuple
 
@@ -124,21 +124,25 @@ class Rows:
         theirs = self.both(task, ["rekey", *options, path], stdin=b"", accepts=lambda _: True, prepare=prepare)
         return Row(f"rekey, {name}", size, theirs)
 
-    def alias(self) -> Row:
-        """Compare `view` by the tool, by ansible-vault-with, as `make install` puts it there, and by Ansible's tool."""
-        text = plaintext(1 << 10)
-        path = self.file("vault", seal(RIGHT, text))
+    @cached_property
+    def companion(self) -> list[str]:
+        """How ansible-vault-with starts, as `make install` puts it there."""
         prefix = self.folder / "installed"
         run_make(str(self.program), "install", "DESTDIR=", f"PREFIX={prefix}", check=True)
-        companion = prefix / "bin/ansible-vault-with"
+        return [PYTHON, "-ISBXutf8", str(prefix / "bin/ansible-vault-with")]
+
+    def alias(self, name: str, size: int) -> Row:
+        """Compare `view` by the tool, by ansible-vault-with, and by Ansible's tool."""
+        text = plaintext(size)
+        path = self.file(f"vault{size}", seal(RIGHT, text))
         accepts = lambda output: output == text
         tasks = {
             OURS: Task([self.program, "view", *self.alone, path], b"", accepts),
-            ALIAS: Task([PYTHON, "-ISBXutf8", str(companion), "view", *self.alone, path], b"", accepts),
+            ALIAS: Task([*self.companion, "view", *self.alone, path], b"", accepts),
         }
         if self.ansible is not None:
             tasks[THEIRS] = Task([self.ansible, "decrypt", *self.alone, "--output", "-", path], b"", accepts)
-        return Row("view, 1 KiB, via the alias", 1 << 10, tasks)
+        return Row(f"view, {name}, via the alias", size, tasks)
 
     def chosen(self, sizes: dict[str, int], start: str) -> Iterator[Row]:
         """Yield the rows whose names begin with `start`. The others are not prepared."""
@@ -222,15 +226,12 @@ def draw(points: list[dict[str, Any]], path: str) -> None:
     subprocess.run([str(HERE / "chart.py"), path], input=json.dumps(points).encode(), check=True)
 
 
-def chart_points(rows: Rows, args: argparse.Namespace, measured: dict[str, dict[str, Times]]) -> list[dict[str, Any]]:
-    taken = {size: measured[f"view, {name}"] for name, size in SIZES.items() if f"view, {name}" in measured}
-    for name, size in (QUICK_CHART_SIZES if args.quick else CHART_SIZES).items():
-        taken[size] = measure_in_turn(rows.view(name, size, rows.alone).tasks, args.runs)
-    return [
-        {"size": size, "tool": tool, "milliseconds": spread(took.of(args.time)).median}
-        for size, times in sorted(taken.items())
-        for tool, took in times.items()
-    ]
+def chart_points(rows: Rows, sizes: dict[str, int], args: argparse.Namespace) -> list[dict[str, Any]]:
+    points = []
+    for name, size in sorted(sizes.items(), key=lambda item: item[1]):
+        for tool, took in measure_in_turn(rows.alias(name, size).tasks, args.runs).items():
+            points.append({"size": size, "tool": tool, "milliseconds": spread(took.of(args.time)).median})
+    return points
 
 
 def parsed_arguments() -> argparse.Namespace:
@@ -256,16 +257,17 @@ def main() -> None:
     measured: dict[str, dict[str, Times]] = {}
     with tempfile.TemporaryDirectory() as folder:
         rows = Rows(os.path.abspath(args.program), ansible, Path(folder))
+        sizes, more = (QUICK_SIZES, QUICK_CHART_SIZES) if args.quick else (SIZES, CHART_SIZES)
         print(heading(ansible is not None, args.time))
-        for row in rows.chosen(QUICK_SIZES if args.quick else SIZES, args.only):
+        for row in rows.chosen(sizes, args.only):
             measured[row.name] = measure_in_turn(row.tasks, args.runs)
             print(line_of(row.name, measured[row.name], args.time), flush=True)
             print_instructions(row)
         if rows.alias.__name__.startswith(args.only):
-            row = rows.alias()
+            row = rows.alias("1 KiB", SIZES["1 KiB"])
             measured[row.name] = measure_alias(row, args.runs, args.time)
         if args.chart:
-            draw(chart_points(rows, args, measured), args.chart)
+            draw(chart_points(rows, sizes | more, args), args.chart)
     print_table(measured, args.runs, args.time)
 
 

@@ -5,7 +5,7 @@ Usage: companions.py PROGRAM [--vaults N] [--runs N] [--quick]
 
 The bare runs view as many vaults, one on each processor at a time. A rotation is compared with twice their time, since
 it decrypts and encrypts; it also syncs each file. All are run in turn. No two vaults are equal, since equal ones are
-decrypted once.
+decrypted once. Ansible's tool views and rekeys the same vaults, in one run each. The table is for docs/speed.md.
 """
 
 import os
@@ -18,7 +18,8 @@ from statistics import median
 ROOT = Path(__file__).resolve().parent.parent
 sys.path.insert(0, str(ROOT / "tests"))
 
-from measured import CLOCK, PROCESSOR, Task, Times, measure_in_turn, options, spread
+from lib.ansible import ansible_vault
+from measured import CLOCK, PROCESSOR, Task, Times, describe_processor, measure_in_turn, options, spread
 from model.vaults import seal, yaml_block
 
 PASSWORDS = {"old": b"the old password", "new": b"the new password"}
@@ -26,6 +27,8 @@ BARE = "bare runs"
 # How often the time of the bare runs each companion may take; and as a multiple of theirs, what is compared.
 MOST = {"check": 1.15, "textconv": 1.15, "rotate": 1.4}
 RUNS_EACH = {"check": 1, "textconv": 1, "rotate": 2}
+# What Ansible's tool does in place of a companion.
+THEIRS = {"check": "view", "rotate": "rekey"}
 
 
 class Vaults:
@@ -63,18 +66,36 @@ class Vaults:
         folder, blocks = str(self.folder / "vaults"), str(self.folder / "blocks.yml")
         rotate = task("rotate", new, folder, says=b"%d rotated" % count)
         rotate.prepare = self.write
-        return {
-            BARE: Task(["sh", "-c", view], b"", lambda shown: shown.count(b"text") == count, self.write),
+        has_all = lambda shown: shown.count(b"text") == count
+        tasks = {
+            BARE: Task(["sh", "-c", view], b"", has_all, self.write),
             "check": task("check", folder, says=b"%d decrypted" % count),
             "textconv": task("textconv", blocks, says=b"text %d\n" % (count - 1)),
             "rotate": rotate,
         }
+        ansible = ansible_vault()
+        if ansible is not None:
+            tasks["view"] = Task([ansible, "view", old, *map(str, self.vaults)], b"", has_all, self.write)
+            rekey = [ansible, "rekey", old, new, *map(str, self.vaults)]
+            tasks["rekey"] = Task(rekey, b"", lambda _: True, self.write)
+        return tasks
 
 
 def ratio(times: dict[str, Times], name: str, kind: str) -> float:
     """Return the median ratio of one round. A machine that is busy slows down both."""
     pairs = zip(times[name].of(kind), times[BARE].of(kind))
     return median(time / bare for time, bare in pairs) / RUNS_EACH[name]
+
+
+def print_table(times: dict[str, Times], count: int) -> None:
+    """Print the table of docs/speed.md: many vaults in one run."""
+    print(f"\nOn {len(os.sched_getaffinity(0))} processors, {describe_processor()}:\n")
+    print("| | companion | its CPU time | Ansible's tool | its CPU time |\n|---|---|---|---|---|")
+    for ours, theirs in THEIRS.items():
+        if theirs in times:
+            took = [times[name].of(kind) for name in (ours, theirs) for kind in (CLOCK, PROCESSOR)]
+            cells = [spread([time / 1000 for time in each]).shown(" s") for each in took]
+            print("|", " | ".join([f"`ansible-vault-{ours}`, {count} vaults; `{theirs}`", *cells]), "|")
 
 
 def main() -> None:
@@ -88,12 +109,15 @@ def main() -> None:
     with tempfile.TemporaryDirectory() as folder:
         times = measure_in_turn(Vaults(Path(folder), args.program, args.vaults).tasks(), args.runs)
     for name, each in times.items():
+        if name in THEIRS.values():
+            continue
         figures = f"{spread([time / 1000 for time in each.clock]).shown(' s')}, {each.memory:.0f} MiB"
         if name != BARE:
             clock, processor = (ratio(times, name, kind) for kind in (CLOCK, PROCESSOR))
             what = f"{BARE}{' twice' if RUNS_EACH[name] == 2 else ''}"
             figures += f": {clock:.2f} times {what} (at most {MOST[name]}), {processor:.2f} of their processor time"
         print(f"{args.vaults} vaults, {name}: {figures}")
+    print_table(times, args.vaults)
 
 
 if __name__ == "__main__":
