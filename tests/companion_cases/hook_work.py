@@ -140,7 +140,7 @@ def test_pattern_without_end(place: Place) -> None:
     place.shell(f"git update-index --add --cacheinfo 100644,{blob},.gitattributes")
     is_slow = place.shell(f"timeout 5 git check-attr --cached -a {NAME}").returncode == 124
     status, why = (1, TOO_SLOW_PATTERNS) if is_slow else (0, "")
-    lower = "from ansible_vault_companions import limits\nlimits.SECONDS = 3; limits.ATTRIBUTE_SECONDS = 1"
+    lower = "from ansible_vault_companions import limits\nlimits.SECONDS = 4; limits.ATTRIBUTE_SECONDS = 2"
     ended("the hook", run_changed(place, HOOK, lower, []), status, why)
     place.put(".gitattributes", PATTERN)
     done = run_changed(place, CHECK, lower, [*place.by_file("old"), NAME])
