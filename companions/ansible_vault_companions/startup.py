@@ -8,12 +8,14 @@ import sys
 # The module `typing` takes long to import, and so does `types`.
 TYPE_CHECKING = False
 if TYPE_CHECKING:
+    from sys import UnraisableHookArgs
     from types import TracebackType
 
 
 def prepare_process() -> None:
     """Turns exceptions that nothing catches into a line, and sets the actions of signals."""
     sys.excepthook = report_failure
+    sys.unraisablehook = report_ignored_exception
     # This may lack memory, too.
     from ansible_vault_companions import signals
 
@@ -29,3 +31,10 @@ def report_failure(kind: type[BaseException], fault: BaseException, trace: Trace
         sys.stderr.write(f"{os.path.basename(sys.argv[0])}: {'; '.join(filter(None, reasons))}\n")
     else:
         sys.__excepthook__(kind, fault, trace)
+
+
+def report_ignored_exception(ignored: UnraisableHookArgs) -> None:
+    """Reports an exception that Python ignores, as in a finalizer, unless it lacks memory there. If that ends the run,
+    the run says so itself."""
+    if not issubclass(ignored.exc_type, (MemoryError, SystemError)):
+        sys.__unraisablehook__(ignored)

@@ -115,6 +115,25 @@ def lack(*words):
     assert (done.returncode, done.stderr) == (0, ""), done
 
 
+@pytest.mark.parametrize("kind, is_said", [("MemoryError", False), ("SystemError", False), ("ValueError", True)])
+def test_ignored_exceptions(place: Place, kind: str, is_said: bool) -> None:
+    """Nothing is said of a lack of memory that Python ignores, since the run goes on. A bug is still reported."""
+    code = f"""
+{START} as it
+it.prepare_process()
+
+class Fails:
+    def __del__(self):
+        raise {kind}
+
+Fails()
+print("goes on")
+"""
+    done = place.run("python3", "-IBc", code)
+    assert (done.returncode, done.stdout) == (0, "goes on\n"), done
+    assert (kind in done.stderr) == is_said == bool(done.stderr), done
+
+
 def test_recursion(place: Place) -> None:
     """What recurses in a library too deeply, for all that is done to prevent it, ends a run in a line."""
     code = f"{START} as it; it.prepare_process(); recurse = lambda: recurse(); recurse()"
