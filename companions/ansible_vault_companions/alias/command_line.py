@@ -70,13 +70,14 @@ ARGUMENTS: dict[str, tuple[int | str, str, str]] = {
 }
 
 
-def make_command_line(words: Collection[str] = tuple(COMMANDS)) -> parsers.Parser:
-    """The parser, with the options of the commands that are among the words."""
+def make_command_line(names: Iterable[str] = COMMANDS, words: Collection[str] = COMMANDS) -> parsers.Parser:
+    """The parser of these commands, with the options of those that are among the words."""
     parser = parsers.make_parser(NAME, SUMMARY, EXAMPLE, allow_abbrev=True)
     options.add_options(parser, before="before_")
     parser.add_argument("-v", "--verbose", action="count", help=argparse.SUPPRESS)
     commands = parser.add_subparsers(dest="command", metavar="COMMAND", title="commands")
-    for name, text in COMMANDS.items():
+    for name in names:
+        text = COMMANDS[name]
         command = commands.add_parser(
             name, help=text, description=text, formatter_class=parsers.Formatter, add_help=False
         )
@@ -87,7 +88,8 @@ def make_command_line(words: Collection[str] = tuple(COMMANDS)) -> parsers.Parse
 
 def parse(words: list[str]) -> Namespace:
     """The command line."""
-    parser = make_command_line(words)
+    # argparse takes long to make a parser. If the command comes first, nothing needs those of the others.
+    parser = make_command_line(words[:1] if words and words[0] in COMMANDS else COMMANDS, words)
     args = parser.parse_args(words)
     if not args.command:
         parser.error(f"no command is given; {NAME} --help lists the commands")
