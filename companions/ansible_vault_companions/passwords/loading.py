@@ -7,11 +7,10 @@ import stat
 
 from ansible_vault_companions.envelopes.header import MAGIC
 from ansible_vault_companions.limits import LONGEST_PASSWORD
-from ansible_vault_companions.passwords import prompts, scripts
+from ansible_vault_companions.passwords.asking import Asking, NoAnswer
 from ansible_vault_companions.passwords.labels import is_allowed
 from ansible_vault_companions.passwords.password import Password
 from ansible_vault_companions.passwords.path_expansion import expand_path
-from ansible_vault_companions.passwords.prompts import Asking, NoAnswer
 from ansible_vault_companions.passwords.sources import ASK_ID, Source, parse_vault_id
 from ansible_vault_companions.refusals import Refused, describe_fault
 
@@ -68,10 +67,15 @@ def _require_descriptors(descriptor: int) -> None:
 
 def _read(source: Source, asking: Asking) -> bytes:
     if source.is_prompt:
+        # Most passwords are in files, which are read without this module and that of scripts.
+        from ansible_vault_companions.passwords import prompts
+
         return prompts.ask_password(source.place, source.label, asking)
     path = expand_path(source.place)
     mode = os.stat(path).st_mode
     if stat.S_ISREG(mode) and mode & 0o111:
+        from ansible_vault_companions.passwords import scripts
+
         return scripts.run_script(path, source.written_label)[: LONGEST_PASSWORD + 1]
     with open(path, "rb") as file:
         return file.read(LONGEST_PASSWORD + 1)

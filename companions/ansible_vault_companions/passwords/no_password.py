@@ -6,7 +6,7 @@ import argparse
 
 from ansible_vault_companions.passwords.loading import load_typed_password
 from ansible_vault_companions.passwords.password import Password
-from ansible_vault_companions.passwords.prompts import Asking
+from ansible_vault_companions.passwords.asking import Asking
 from ansible_vault_companions.refusals import Refused
 
 # Of the alias, for an edit. The option for a user would itself name a password, and so switch off ./ansible.cfg, in

@@ -9,7 +9,7 @@ from ansible_vault_companions.output import write_error
 from ansible_vault_companions.passwords import loading
 from ansible_vault_companions.passwords.labels import ANY_LABEL, Policy, make_policy
 from ansible_vault_companions.passwords.password import Password
-from ansible_vault_companions.passwords.prompts import Asking
+from ansible_vault_companions.passwords.asking import Asking
 from ansible_vault_companions.passwords.settings import Settings
 from ansible_vault_companions.passwords.sources import (
     ASK_ID,

@@ -2,8 +2,7 @@
 
 from __future__ import annotations
 
-from ansible_vault_companions.passwords import prompts
-from ansible_vault_companions.passwords.prompts import Asking
+from ansible_vault_companions.passwords.asking import Asking
 from ansible_vault_companions.passwords.sources import Source
 from ansible_vault_companions.quoting import escape
 from ansible_vault_companions.refusals import Refused
@@ -56,6 +55,9 @@ class Password:
     def confirm(self) -> None:
         """Asks again for one that is in doubt, before it encrypts."""
         if self._doubt:
+            # Most passwords are not typed.
+            from ansible_vault_companions.passwords import prompts
+
             if not prompts.confirm_password(self.source.place, self.label, self.content, self._doubt):
                 raise self.make_refusal(prompts.DIFFER)
             self.trust()

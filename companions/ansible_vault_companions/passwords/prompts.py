@@ -15,6 +15,7 @@ from io import FileIO
 from ansible_vault_companions import signals
 from ansible_vault_companions.limits import LONGEST_ANSWER
 from ansible_vault_companions.output import write_error, write_when_possible
+from ansible_vault_companions.passwords.asking import Asking, NoAnswer
 from ansible_vault_companions.passwords.settings import ASK, PROMPT
 from ansible_vault_companions.quoting import escape
 from ansible_vault_companions.refusals import Refused
@@ -34,20 +35,6 @@ TO_ENCRYPT = {
     PROMPT: ["New vault password ({}): ", "Confirm new vault password ({}): "],
     ASK: ["New Vault password: ", "Confirm New Vault password: "],
 }
-
-
-class NoAnswer(Refused):
-    """There is nobody to ask, or nobody answers."""
-
-
-class Asking:
-    """How passwords are asked for."""
-
-    def __init__(self, encrypts: bool, reads_lines: bool) -> None:
-        # Whether they are to encrypt, so that each is typed twice.
-        self.encrypts = encrypts
-        # Whether lines of standard input answer if there is no terminal.
-        self.reads_lines = reads_lines
 
 
 def ask_password(kind: str, label: str, asking: Asking) -> bytes:

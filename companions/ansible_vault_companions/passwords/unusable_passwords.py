@@ -5,7 +5,7 @@ from __future__ import annotations
 from ansible_vault_companions.output import write_error
 from ansible_vault_companions.passwords.loading import read_password
 from ansible_vault_companions.passwords.password import Password
-from ansible_vault_companions.passwords.prompts import Asking
+from ansible_vault_companions.passwords.asking import Asking
 from ansible_vault_companions.passwords.sources import Source
 from ansible_vault_companions.quoting import escape
 
