@@ -12,13 +12,6 @@ MAGIC = b"$ANSIBLE_VAULT"
 # How a header begins.
 HEADER = MAGIC + b";"
 LINE_END = re.compile(rb"\r\n?|\n")
-START = re.compile(rb"\$ANSIBLE_VAULT[^;\r\n]*;")
-# A header with digits after it, which no text has that only speaks of envelopes. In a folded scalar a space takes the
-# place of the line end, and in JSON an escape does. The lookahead and the limits keep a search linear.
-WITH_DIGITS = re.compile(
-    rb"\$ANSIBLE_VAULT[^;\r\n\\]{0,240};"
-    rb"(?:[^\r\n\\]{1,240}?[\s#]|[^\r\n\\]{1,240}(?=[\r\n\\])(?:\\[rn]|[\s#\\]){1,2000})[0-9a-fA-F]{16}"
-)
 # What docs/formats.md says of a header. The tool ignores further fields, which may be plaintext.
 VERSIONS = (b"1.1", b"1.2")
 CIPHER = b"AES256"
@@ -32,9 +25,6 @@ LONGEST_HEADER = 256
 LONGEST_SALT = 256
 TAG_LENGTH = 32
 CIPHER_BLOCK = 16
-
-# A header whose line goes on with digits: a space, a comment mark or an escape is in place of the line end.
-JOINED_LINES = re.compile(rb"(?P<header>[^\r\n]{0,300}?)(?:\\[rn]|[ \t#\\]){1,80}[0-9a-fA-F]{16}")
 
 
 def read_label(text: bytes) -> str | None:

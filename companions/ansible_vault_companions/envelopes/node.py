@@ -2,9 +2,10 @@
 
 from __future__ import annotations
 
+import re
 from typing import NamedTuple
 
-from ansible_vault_companions.envelopes.header import JOINED_LINES, START, WITH_DIGITS, is_whole_envelope, read_label
+from ansible_vault_companions.envelopes.header import is_whole_envelope, read_label
 from ansible_vault_companions.envelopes.key_paths import KeyPath, type_key
 from ansible_vault_companions.quoting import escape
 from ansible_vault_companions.refusals import Refused
@@ -22,6 +23,17 @@ LOOSE = "loose"
 # The tags of an encrypted value in YAML, and its key in JSON.
 TAGS = ("!vault", "!vault-encrypted")
 JSON_KEY = "__ansible_vault"
+
+# The beginning of a header.
+START = re.compile(rb"\$ANSIBLE_VAULT[^;\r\n]*;")
+# A header with digits after it, which no text has that only speaks of envelopes. In a folded scalar a space takes the
+# place of the line end, and in JSON an escape does. The lookahead and the limits keep a search linear.
+WITH_DIGITS = re.compile(
+    rb"\$ANSIBLE_VAULT[^;\r\n\\]{0,240};"
+    rb"(?:[^\r\n\\]{1,240}?[\s#]|[^\r\n\\]{1,240}(?=[\r\n\\])(?:\\[rn]|[\s#\\]){1,2000})[0-9a-fA-F]{16}"
+)
+# A header whose line goes on with digits: a space, a comment mark or an escape is in place of the line end.
+JOINED_LINES = re.compile(rb"(?P<header>[^\r\n]{0,300}?)(?:\\[rn]|[ \t#\\]){1,80}[0-9a-fA-F]{16}")
 
 ELSEWHERE = "an envelope within other text; write it as a value (`NAME: !vault |`), or encrypt the whole file"
 LINES_JOINED = (

@@ -11,10 +11,10 @@ from collections.abc import Callable, Iterable, Iterator
 
 from ansible_vault_companions import bounding
 from ansible_vault_companions.envelopes.detection import may_have_envelope
-from ansible_vault_companions.envelopes.header import MAGIC, WITH_DIGITS
+from ansible_vault_companions.envelopes.header import MAGIC
 from ansible_vault_companions.envelopes.key_paths import leads_to, parse_path
 from ansible_vault_companions.envelopes.layout import apply_replacements, replace_envelope
-from ansible_vault_companions.envelopes.node import WHOLE, Node
+from ansible_vault_companions.envelopes.node import WHOLE, WITH_DIGITS, Node
 from ansible_vault_companions.envelopes.strays import find_strays
 from ansible_vault_companions.envelopes.yaml_nodes import BINARY, NotYaml, read_envelopes, read_nodes
 from ansible_vault_companions.limits import Effort, TooMuch

@@ -6,8 +6,7 @@ import re
 from bisect import bisect_right
 from typing import Iterator, NamedTuple
 
-from ansible_vault_companions.envelopes.header import WITH_DIGITS
-from ansible_vault_companions.envelopes.node import LOOSE, STRAY, Node
+from ansible_vault_companions.envelopes.node import LOOSE, STRAY, WITH_DIGITS, Node
 
 # The lines of an envelope, each after the same margin.
 LINES_OF_STRAY = re.compile(

@@ -14,9 +14,19 @@ from functools import lru_cache
 from typing import Any, Callable, Iterator, Union
 
 from ansible_vault_companions import limits
-from ansible_vault_companions.envelopes.header import LINE_END, MAGIC, WITH_DIGITS
+from ansible_vault_companions.envelopes.header import LINE_END, MAGIC
 from ansible_vault_companions.envelopes.key_paths import MERGE, MERGE_TAG, KeyPath
-from ansible_vault_companions.envelopes.node import ALIAS, FOLDED, JSON_KEY, LITERAL, NO_SCALAR, PLAIN, TAGS, Node
+from ansible_vault_companions.envelopes.node import (
+    ALIAS,
+    FOLDED,
+    JSON_KEY,
+    LITERAL,
+    NO_SCALAR,
+    PLAIN,
+    TAGS,
+    WITH_DIGITS,
+    Node,
+)
 from ansible_vault_companions.limits import Effort, TooMuch
 from ansible_vault_companions.refusals import Refused
 
