@@ -249,7 +249,7 @@ def _lower(limit: int, most: int) -> int:
 def _measure_memory() -> int:
     """The bytes of data that this process has."""
     try:
-        with open("/proc/self/statm", encoding="ascii") as file:
+        with open("/proc/self/statm", "rb") as file:
             return int(file.read().split()[5]) * resource.getpagesize()
     except OSError as fault:
         # Not the exception itself, which would be taken for that of the file that is read.

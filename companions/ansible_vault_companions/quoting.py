@@ -4,10 +4,9 @@ from __future__ import annotations
 
 import os
 import re
-import shlex
 
 # What bash and zsh read by number within `$'..'`.
-ESCAPED = re.compile(r"[^ -&(-\[\]-~]")
+ESCAPED = r"[^ -&(-\[\]-~]"
 # The characters of a name that a message quotes whole, as many as a path has in Linux. git takes names of any length.
 LONGEST_QUOTE = 4_096
 
@@ -29,6 +28,9 @@ def quote_word(text: str) -> str:
     """A path as a word of a shell command in a message. No program takes it for an option."""
     path = f"./{text}" if text.startswith("-") else text
     if path.isprintable():
+        # Most runs quote nothing.
+        import shlex
+
         return shlex.quote(path)
-    escaped = ESCAPED.sub(lambda byte: f"\\{ord(byte[0]):03o}", os.fsencode(path).decode("latin-1"))
+    escaped = re.sub(ESCAPED, lambda byte: f"\\{ord(byte[0]):03o}", os.fsencode(path).decode("latin-1"))
     return f"$'{escaped}'"

@@ -56,7 +56,7 @@ CUT_SHORT = "line {}: a text without quotes ends within the line, so the rest wo
 
 def refuse_directive(data: bytes) -> None:
     """Refuses a text with `%TAG`, even if that is within a string."""
-    found = DIRECTIVE.search(data)
+    found = re.search(DIRECTIVE, data)
     if found:
         raise Refused(HAS_DIRECTIVE.format(_find_line(data, found.end())))
 

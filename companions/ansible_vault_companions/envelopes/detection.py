@@ -9,9 +9,10 @@ from ansible_vault_companions.envelopes.pointers import refuse_pointer
 from ansible_vault_companions.envelopes.yaml_nodes import BINARY
 from ansible_vault_companions.files.reading import open_regular, read_parts, read_whole
 
-# A file with an envelope has one of these words, or spells it with escapes, which take no more than OVERLAP bytes.
+# A file with an envelope has one of these words, or spells it with escapes, which take no more than OVERLAP bytes. Most
+# have a word, so the pattern, which Python takes long to compile, is not compiled for them.
 WORDS = (b"ANSIBLE_VAULT", b"!vault", b"__ansible_vault", b"%TAG")
-ESCAPES = re.compile(rb"![^\s!%]{0,64}%[0-9a-fA-F]{2}|\\(?:x|u00|U000000)(?:24|[4-7][0-9a-fA-F])")
+ESCAPES = rb"![^\s!%]{0,64}%[0-9a-fA-F]{2}|\\(?:x|u00|U000000)(?:24|[4-7][0-9a-fA-F])"
 OVERLAP = 80
 # A line end that double quotes do not have.
 FOLD = rb"(?:\\\r?\n[ \t]*)*"
@@ -19,7 +20,7 @@ FOLD = rb"(?:\\\r?\n[ \t]*)*"
 
 def may_have_envelope(data: bytes) -> bool:
     """Whether the data may have an envelope. It may be a piece of a file."""
-    return any(word in data for word in WORDS) or BINARY not in data and ESCAPES.search(data) is not None
+    return any(word in data for word in WORDS) or BINARY not in data and re.search(ESCAPES, data) is not None
 
 
 def count_headers(data: bytes) -> int:

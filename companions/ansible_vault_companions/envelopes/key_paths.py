@@ -9,9 +9,10 @@ from typing import Union
 # The key that merges a mapping into another, and the tag with which any other key does.
 MERGE, MERGE_TAG = "<<", "tag:yaml.org,2002:merge"
 
-# A key that needs no quotes in a typed path; and a step of such a path: an item, or a key with a dot before it.
+# A key that needs no quotes in a typed path.
 UNQUOTED_KEY = re.compile(r'[^."\[\]\x00-\x1f]+')
-STEP = re.compile(r'\[([0-9]{0,9})\]|\.(?:([^."\[\]\x00-\x1f]+)|"((?:[^"\\]|\\["\\])*)")')
+# A step of a typed path: an item, or a key with a dot before it. It is compiled only where somebody has typed one.
+STEP = r'\[([0-9]{0,9})\]|\.(?:([^."\[\]\x00-\x1f]+)|"((?:[^"\\]|\\["\\])*)")'
 # What stands for the number of any list item, typed as `[]`.
 ANY_ITEM = -1
 
@@ -32,7 +33,7 @@ def quote_key(key: str) -> str:
 def parse_path(typed: str) -> KeyPath:
     """The steps of a typed path; none if it is not written like one."""
     typed = typed if typed.startswith("[") else f".{typed}"
-    steps = [*STEP.finditer(typed)]
+    steps = [*re.finditer(STEP, typed)]
     is_path = "".join(step[0] for step in steps) == typed
     return tuple(map(_read_step, steps)) if is_path else ()
 

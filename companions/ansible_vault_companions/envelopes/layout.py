@@ -2,7 +2,6 @@
 
 from __future__ import annotations
 
-import json
 import re
 from typing import Iterable, NamedTuple
 
@@ -10,8 +9,9 @@ from ansible_vault_companions.envelopes.node import LITERAL, STRAY, WHOLE, Node
 from ansible_vault_companions.limits import LONGEST_MARGIN, MARGIN_TOO_LONG, TooMuch
 from ansible_vault_companions.refusals import Refused
 
-# What YAML does not allow, or takes for the end of a line. Python compiles a set of all others ten times as slowly.
-UNSHOWN = re.compile("[\0-\x08\x0b-\x1f\x7f-\x9f\u2028\u2029\ud800-\udfff\ufeff\ufffe\uffff]")
+# What YAML does not allow, or takes for the end of a line. Python compiles it slowly, and a set of all others ten times
+# as slowly.
+UNSHOWN = "[\0-\x08\x0b-\x1f\x7f-\x9f\u2028\u2029\ud800-\udfff\ufeff\ufffe\uffff]"
 BLOCK_HEADER = re.compile(rb"[|>][-+0-9]*")
 BEGINS_WITH_BLANK = re.compile(rb"\n*[ \t]")
 # What precedes a key or the text of an item in its line.
@@ -62,14 +62,22 @@ def put_plaintext(data: bytes, value: Node, text: bytes) -> list[Replacement]:
         characters = text.decode()
     except UnicodeDecodeError:
         raise Refused(NOT_UTF_8) from None
-    if value.style == LITERAL and not UNSHOWN.search(characters):
+    if value.style == LITERAL and _can_be_shown(characters):
         return _put_literal(data, value, text)
     return [put_in_quotes(value, characters)]
 
 
+def _can_be_shown(text: str) -> bool:
+    """Whether a literal can have a text. If all of it is printable, the pattern is not even compiled."""
+    return text.replace("\n", "").isprintable() or not re.search(UNSHOWN, text)
+
+
 def put_in_quotes(value: Node, text: str) -> Replacement:
     """Puts a text in double quotes in its place."""
-    escaped = UNSHOWN.sub(lambda match: f"\\U{ord(match[0]):08x}", json.dumps(text, ensure_ascii=False))
+    # Most texts become blocks, and do not need this module.
+    import json
+
+    escaped = re.sub(UNSHOWN, lambda match: f"\\U{ord(match[0]):08x}", json.dumps(text, ensure_ascii=False))
     return Replacement(value.begin, value.end, escaped.encode())
 
 

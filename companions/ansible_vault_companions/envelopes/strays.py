@@ -8,8 +8,8 @@ from typing import Iterator, NamedTuple
 
 from ansible_vault_companions.envelopes.node import LOOSE, STRAY, WITH_DIGITS, Node
 
-# The lines of an envelope, each after the same margin.
-LINES_OF_STRAY = re.compile(
+# The lines of an envelope, each after the same margin. Most files have none, so this is compiled when there is one.
+LINES_OF_STRAY = (
     rb"(?P<margin>[ \t]*(?:#[ \t]*)?)\$ANSIBLE_VAULT[^;\r\n]*;[^\r\n]*"
     rb"(?:\r?\n(?P=margin)[0-9a-fA-F]+(?=[ \t]*(?:\r?\n|\Z)))+"
 )
@@ -59,7 +59,7 @@ def _match_lines(data: bytes, header: _Header) -> re.Match[bytes] | None:
     only the first header in a line can have them, and each line is read once."""
     if header.line_start is None:
         return None
-    lines = LINES_OF_STRAY.match(data, header.line_start)
+    lines = re.compile(LINES_OF_STRAY).match(data, header.line_start)
     return lines if lines and lines.end("margin") == header.match.start() else None
 
 

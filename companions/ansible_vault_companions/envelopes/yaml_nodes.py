@@ -7,7 +7,6 @@ from __future__ import annotations
 
 import codecs
 import io
-import json
 import re
 import sys
 from functools import lru_cache
@@ -33,20 +32,20 @@ from ansible_vault_companions.refusals import Refused
 BYTE_ORDER_MARK = b"\xef\xbb\xbf"
 # YAML has no such character, but other files do, in which escapes mean nothing.
 BINARY = b"\0"
-# A line that may make a tag another one.
-DIRECTIVE = re.compile(rb"(?:\A(?:\xef\xbb\xbf)?|[\r\n])%TAG[^\r\n]*")
+# A line that may make a tag another one. Most files have none, so this is compiled when it is needed, and so are the
+# patterns for escapes.
+DIRECTIVE = rb"(?:\A(?:\xef\xbb\xbf)?|[\r\n])%TAG[^\r\n]*"
 
 # YAML allows each of these characters, and a name gets its bytes back.
 SHADOW = "".join(chr(byte) if 0x20 <= byte < 0x7F or byte in b"\t\n\r" else chr(0xE000 + byte) for byte in range(256))
 # Half of a character, as JSON has it and libyaml refuses it: within JSON, another character takes its place at first.
-SURROGATE = re.compile(rb"(?<!\\)((?:\\\\)*\\u)[dD](?=[89a-fA-F][0-9a-fA-F]{2})")
+SURROGATE = rb"(?<!\\)((?:\\\\)*\\u)[dD](?=[89a-fA-F][0-9a-fA-F]{2})"
 # Any escape in double quotes. The first ones are of two halves, of half a character, and of what stands for a byte.
-ESCAPE = re.compile(
-    rb"(?P<pair>\\u[dD][89abAB][0-9a-fA-F]{2}\\u[dD][c-fC-F][0-9a-fA-F]{2})|(?P<half>\\(?:u|U0000)[dD][89a-fA-F])"
-    rb"|\\(?:u|U0000)(?P<shadow>[eE]0[0-9a-fA-F]{2})|\\.",
-    re.DOTALL,
+ESCAPE = (
+    rb"(?s)(?P<pair>\\u[dD][89abAB][0-9a-fA-F]{2}\\u[dD][c-fC-F][0-9a-fA-F]{2})"
+    rb"|(?P<half>\\(?:u|U0000)[dD][89a-fA-F])|\\(?:u|U0000)(?P<shadow>[eE]0[0-9a-fA-F]{2})|\\."
 )
-MAY_BE_MISREAD = re.compile(rb"\\(?:u|U0000)(?:[dD][89a-fA-F]|[eE]0)")
+MAY_BE_MISREAD = rb"\\(?:u|U0000)(?:[dD][89a-fA-F]|[eE]0)"
 # What precedes the text of a scalar: tag, anchor, comments. A tag, as `!<a,b>`, ends at white space or with the scalar.
 PROPERTIES = re.compile(rb"(?:(?:![^ \t\r\n]*|&[-\w]*)(?:[ \t\r\n]|(?<=[ \t\r\n])#[^\r\n]*)*)*")
 # The first line of a block with text.
@@ -110,7 +109,7 @@ def _require_readable(data: bytes) -> None:
         raise NotYaml(NOT_YAML.format(NULL))
     if len(data) > limits.LONGEST_PLAINTEXT:
         raise TooMuch(limits.TOO_LONG)
-    directives = DIRECTIVE.finditer(data) if b"%TAG" in data else ()
+    directives = re.finditer(DIRECTIVE, data) if b"%TAG" in data else ()
     if sum(len(directive[0]) for directive in directives) > limits.LONGEST_DIRECTIVES:
         raise TooMuch(limits.DIRECTIVES_TOO_LONG)
 
@@ -120,8 +119,8 @@ class _Shadow(io.RawIOBase):
 
     def __init__(self, data: bytes) -> None:
         self.data = data
-        if SURROGATE.search(data) and _is_json(data):
-            self.data = SURROGATE.sub(rb"\1e", data)
+        if _may_be_misread(data) and re.search(SURROGATE, data) and _is_json(data):
+            self.data = re.sub(SURROGATE, rb"\1e", data)
         self.place = 0
 
     def read(self, size: int = -1) -> str:  # type: ignore[override]
@@ -130,7 +129,15 @@ class _Shadow(io.RawIOBase):
         return codecs.charmap_decode(piece, "strict", SHADOW)[0]  # type: ignore[arg-type]
 
 
+def _may_be_misread(data: bytes) -> bool:
+    """Whether a text may have an escape of half a character, or of what stands for a byte."""
+    return b"\\" in data and re.search(MAY_BE_MISREAD, data) is not None
+
+
 def _is_json(data: bytes) -> bool:
+    # Most files have no escapes.
+    import json
+
     try:
         json.loads(data)
     except (ValueError, RecursionError):
@@ -157,7 +164,7 @@ def _walk(yaml: Any, data: bytes) -> Iterator[tuple[Steps, bool, Any]]:
     starts = (mapping, yaml.SequenceStartEvent)
     ends = (yaml.MappingEndEvent, yaml.SequenceEndEvent)
     nodes = (scalar, yaml.AliasEvent, *starts)
-    may_be_misread = MAY_BE_MISREAD.search(data) is not None
+    may_be_misread = _may_be_misread(data)
     for event in _parse(yaml, data):
         kind = type(event)
         if may_be_misread and kind is scalar and event.style == '"':
@@ -194,9 +201,9 @@ def _read_quoted(yaml: Any, data: bytes, event: Any) -> str:
     properties = PROPERTIES.match(data, event.start_mark.index, event.end_mark.index)
     assert properties
     source = data[properties.end() : event.end_mark.index]
-    if not MAY_BE_MISREAD.search(source):
+    if not _may_be_misread(source):
         return str(event.value)
-    source = ESCAPE.sub(lambda escape: _write_character(escape, event), source)
+    source = re.sub(ESCAPE, lambda escape: _write_character(escape, event), source)
     return "".join(event.value for event in _parse(yaml, source) if hasattr(event, "value"))
 
 
