@@ -17,9 +17,9 @@ BASE_MARKER = b"|" * 7
 THEIRS_MARKER = b"=" * 7
 END_MARKER = b">" * 7
 # A line that is a marker; and one that is a marker or, by the attribute `conflict-marker-size`, a longer one. A longer
-# line of equal signs is a title.
-MARKER = re.compile(rb"^(<{7}|\|{7}|={7}|>{7})(?:[ \t][^\r\n]*)?\r?(?:\n|\Z)", re.MULTILINE)
-LONGER = re.compile(rb"^(?:<{7,}|\|{7,}|>{7,})(?:[ \t][^\r\n]*)?\r?$", re.MULTILINE)
+# line of equal signs is a title. These are compiled only where a text may have a marker.
+MARKER = rb"(?m)^(<{7}|\|{7}|={7}|>{7})(?:[ \t][^\r\n]*)?\r?(?:\n|\Z)"
+LONGER = rb"(?m)^(?:<{7,}|\|{7,}|>{7,})(?:[ \t][^\r\n]*)?\r?$"
 
 # What stands in place of a side for a line that is itself a marker, and for lines outside of conflicts.
 IS_MARKER, NO_SIDE = b"marker", b""
@@ -31,19 +31,20 @@ STILL = "it still has git's conflict markers: choose between the sides, and remo
 
 def is_unmerged(text: bytes) -> bool:
     """Whether a text has a marker other than equal signs, which may also be a title."""
-    return any(marker in text for marker in (OURS_MARKER, BASE_MARKER, END_MARKER)) and LONGER.search(text) is not None
+    may_have_marker = any(marker in text for marker in (OURS_MARKER, BASE_MARKER, END_MARKER))
+    return may_have_marker and re.search(LONGER, text) is not None
 
 
 def count_markers(text: bytes) -> Counter[bytes]:
     """How often a text has each line that is a marker, or that would be taken for one in a conflict."""
-    return Counter(match[0].rstrip() for match in MARKER.finditer(text))
+    return Counter(match[0].rstrip() for match in re.finditer(MARKER, text))
 
 
 def split_parts(text: bytes, is_unmerged: bool = True) -> Iterator[tuple[bytes, bytes]]:
     """The lines between two markers, with the marker of their side before them, or NO_SIDE; and each line that is a
     marker, with IS_MARKER. A text that git has merged may still have lines that look like markers."""
     side, place = NO_SIDE, 0
-    for match in MARKER.finditer(text) if is_unmerged else ():
+    for match in re.finditer(MARKER, text) if is_unmerged else ():
         if not (side or match[1] == OURS_MARKER):
             continue
         if place < match.start():

@@ -2,16 +2,11 @@
 
 from __future__ import annotations
 
-from contextlib import suppress
-
-from ansible_vault_companions.envelopes import detection
-from ansible_vault_companions.envelopes.header import MAGIC
+from ansible_vault_companions.envelopes import conflicts, detection
 from ansible_vault_companions.envelopes.layout import Replacement, apply_replacements, put_plaintext
 from ansible_vault_companions.envelopes.node import Node
 from ansible_vault_companions.envelopes.parsed_text import ParsedText, parse_envelopes
 from ansible_vault_companions.limits import Effort, require_few_values
-from ansible_vault_companions.merging.unmerged_file import find_versions
-from ansible_vault_companions.merging.vault_merge import VaultMerge
 from ansible_vault_companions.output import write_error
 from ansible_vault_companions.parallel import work_at_once
 from ansible_vault_companions.quoting import escape
@@ -39,12 +34,13 @@ def show_envelopes(
 ) -> bytes:
     """The file's data with plaintext in place of its envelopes, as far as they can be decrypted and shown; for a
     conflict of two vaults, the merged text."""
-    with suppress(Refused):
-        sides = find_versions(target, parsed.data)
-        if sides and sides.ours.startswith(MAGIC) and sides.theirs.startswith(MAGIC):
-            vaults = VaultMerge(decrypt, sides, effort)
-            labels = dict.fromkeys((vaults.ours.key.label, vaults.theirs.key.label))
-            return first_line.describe_vault(" and ".join(labels)) + vaults.merged_lines.text
+    if conflicts.is_unmerged(parsed.data):
+        # Most files have no conflict.
+        from ansible_vault_companions.showing import vault_conflict
+
+        merged = vault_conflict.merge_vaults(target, parsed.data, decrypt, effort)
+        if merged is not None:
+            return merged
     return _choose_first_line(parsed) + _show_values(companion, parsed, path, decrypt, effort)
 
 
