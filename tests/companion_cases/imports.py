@@ -30,10 +30,10 @@ def own(package: str, names: str) -> set[str]:
 START = own("", "exit_status limits output parsers processes quoting refusals signals startup")
 START |= own("files", "link_bounds") | own("passwords", "path_expansion settings") | {"argparse"}
 # What takes passwords, and what gives them to the program.
-PASSWORDS = own("passwords", "labels loading options password prompts scripts sources unusable_passwords")
+PASSWORDS = own("passwords", "asking labels loading options password sources unusable_passwords")
 TOOL = own("", "tool") | own("files", "reading")
 # What reads YAML; and what does without PyYAML or processes if it can.
-YAML = own("", "bounding") | {"json", "typing"}
+YAML = own("", "bounding") | {"typing"}
 YAML |= own("envelopes", "detection header key_paths layout node parsed_text pointers strays yaml_nodes")
 PARSER = {"subprocess", "yaml"}
 # What runs several programs at a time.
@@ -45,11 +45,15 @@ MERGING = own("merging", "equality file_merge restoration tokens value_merge")
 WRITING = own("files", "leftovers replacing") | {"subprocess", "tempfile"}
 
 SHOWING_A_VAULT = (
-    START | PASSWORDS | TOOL | own("envelopes", "header") | own("showing", "commit_message first_line whole_vault")
+    START
+    | PASSWORDS
+    | TOOL
+    | own("envelopes", "header")
+    | own("showing", "commit_message first_line plaintext whole_vault")
 )
-SHOWING_VALUES = SHOWING_A_VAULT | YAML | CONFLICTS | own("git", "repository")
-SHOWING_VALUES |= own("merging", "unmerged_file") | own("showing", "as_it_is file_with_values")
-BATCH = START | PASSWORDS | TOOL | YAML | PARSER | WORKERS | WRITING | {"dataclasses"}
+SHOWING_VALUES = SHOWING_A_VAULT | YAML | own("", "parallel") | own("envelopes", "conflicts")
+SHOWING_VALUES |= own("showing", "as_it_is file_with_values")
+BATCH = START | PASSWORDS | TOOL | YAML | PARSER | WORKERS | WRITING | {"dataclasses", "json"}
 BATCH |= (
     own("batch", "each_envelope each_file places report") | own("envelopes", "file_kinds") | own("files", "searching")
 )
@@ -82,7 +86,7 @@ RUNS = {
     | own("editing", "private_directory rescue_copies saved_text single_value typed_tags vault_draft yaml_draft")
     | own("git", "pathspecs repository")
     | own("merging", "unmerged_file")
-    | own("passwords", "no_password")
+    | own("passwords", "no_password prompts")
     | {"dataclasses"},
     f"{MERGE} {OLD} base.yml vault.yml theirs.yml vault.yml": START
     | PASSWORDS
