@@ -166,3 +166,17 @@ def test_labels_of_examples(place: Place, example: bytes) -> None:
     place.put("a.md", b"An example:\n\n" + example + b"\nAnother one:\n\n" + block("old", label="prod"))
     for words in (check, rotate):
         check_answer(words[0], place.run(*words), output=None)
+
+
+@pytest.mark.parametrize("suffix", (".md", ".rst", ".adoc", ".html"))
+@pytest.mark.parametrize("example", EXAMPLES.values(), ids=EXAMPLES)
+def test_examples_in_marked_documents(place: Place, example: bytes, suffix: str) -> None:
+    """What is an example in any other document is a failure in one that is marked."""
+    under_git(place, f"marked{suffix} ansible-vault\n")
+    content = b"about: |\n  An example\n" + block("old") + example
+    for name in ("marked", "other"):
+        place.put(f"{name}{suffix}", content)
+    done = place.run(CHECK, *place.by_file("old"), ".")
+    ended("the check", done, 1, "2 decrypted, 1 failed\n")
+    failed = [line for line in done.stderr.splitlines() if line.startswith(f"{CHECK}: ")]
+    assert [f"./marked{suffix}:" in line for line in failed] == [True], "only the marked one fails"
