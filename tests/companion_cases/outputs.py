@@ -3,7 +3,7 @@
 
 import pytest
 
-from companion_cases import TEXT, WITH, Companions, Place, decrypted, ended, run_changed, sealed, to_new
+from companion_cases import TEXT, WITH, Companions, Place, decrypted, ended, run_changed, sealed, silent, to_new
 
 # Command lines that ask for a password by a script, and then for a text or for nothing.
 ASKING = ["encrypt -", "encrypt_string x", "encrypt_string --prompt", "encrypt_string x y", "decrypt a.yml"]
@@ -41,6 +41,38 @@ def test_open_files(place: Place) -> None:
         done = place.shell(f"{words} {line}")
         assert decrypted("new", done.stdout.encode()) == TEXT, done
     assert place.get("a.yml") == sealed("old")
+
+
+# How each command leaves the mode of the file to which it writes: only the owner may read what is decrypted.
+MODES = {"encrypt": "0o644", "decrypt": "0o600", "rekey": "0o644"}
+# The ends of command lines, and the file that each replaces.
+WRITTEN = {
+    "--output out.yml a.yml": "out.yml",
+    "--output out.yml - < a.yml": "out.yml",
+    "--output a.yml a.yml": "a.yml",
+}
+WRITTEN |= {"--output link.yml a.yml": "out.yml"}
+# The settings beside options, where the program runs in place of the companion, and where it does not.
+BESIDE = {"no settings": b"", "settings that are switched off": b"[defaults]\nvault_password_file = /none\n"}
+
+
+@pytest.mark.parametrize("settings", BESIDE.values(), ids=BESIDE)
+@pytest.mark.parametrize("command", MODES)
+def test_modes(cases: Companions, command: str, settings: bytes) -> None:
+    """The mode of what --output replaces depends on the command alone, however the vault is read."""
+    for line, name in WRITTEN.items():
+        place = cases.place()
+        place.put("a.yml", TEXT if command == "encrypt" else sealed("old"))
+        place.put("out.yml", b"before\n")
+        (place.tree / "link.yml").symlink_to("out.yml")
+        if settings:
+            place.put("ansible.cfg", settings)
+        secrets = to_new(place) if command == "rekey" else place.by_file("old")
+        silent(line, place.shell(f"{WITH} {command} {' '.join(secrets)} {line}"))
+        password = {"encrypt": "old", "rekey": "new"}.get(command)
+        written = decrypted(password, place.get(name)) if password else place.get(name)
+        assert written == TEXT, f"{line}: what is written"
+        assert place.mode(name) == MODES[command], f"{line}: the mode of the output"
 
 
 # Puts a file of the same content in the place of one, once that was read.
