@@ -181,6 +181,24 @@ def test_those_of_others(place: Place) -> None:
     assert place.shell("git config --get-regexp ansible-vault").stdout == f"{DIFF} cat --\n{DRIVER} mine\n"
 
 
+@pytest.mark.parametrize("count", (1, 2, 3))
+def test_several_values(place: Place, count: int) -> None:
+    """However often this clone has a setting, an installation leaves one value, and --uninstall leaves none."""
+    under_git(place, ATTRIBUTES)
+    before = place.get(".git/config")
+    for option, last in (("--install", "set to"), ("--uninstall", "removed")):
+        for number in range(count):
+            for setting, name in zip(SETTINGS, (TEXTCONV, MERGE)):
+                place.run("git", "config", "--add", setting, f"/old/{number}/{name}")
+        done = place.run(HOOK, option, *(place.by_file("old") if option == "--install" else []))
+        ended(option, done, 0, *(f"{setting}: {last}" for setting in SETTINGS))
+        values = [place.run("git", "config", "--get-all", setting).stdout.splitlines() for setting in SETTINGS]
+        wanted = 1 if option == "--install" else 0
+        assert [len(each) for each in values] == [wanted] * 2, f"{option}: the values that are left"
+        assert not any("/old/" in line for each in values for line in each), f"{option}: the earlier values"
+    assert place.get(".git/config") == before, "nothing is left"
+
+
 def test_refused_secrets(place: Place) -> None:
     """A clone could bring a secret at a relative path along, and only an installation has a use for secrets."""
     under_git(place, ATTRIBUTES)
