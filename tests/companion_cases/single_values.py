@@ -57,6 +57,12 @@ NOT_SHOWN = [
 ]
 
 
+# What is at a key and is no text of its own.
+NO_TEXTS = b"text: &t one\nlist: &l [1]\nmapping: &m {a: 1}\nempty: &e {}\n"
+NO_TEXTS += b"at: *t\nal: *l\nam: *m\nae: *e\nitems: [*t, [], {}]\n"
+PATHS = ["list", "mapping", "empty", "at", "al", "am", "ae", "items", "items[0]", "items[1]", "items[2]"]
+
+
 @pytest.fixture
 def both(place: Place) -> list[str]:
     """Write a file with values of two secrets, whose labels stay whatever the settings say; return both options."""
@@ -82,6 +88,20 @@ def test_not_shown(place: Place, both: list[str], content: bytes, path: str, why
     place.put("vars.yml", content)
     done = place.run(TEXTCONV, *both, "--value", path, "vars.yml")
     assert (done.returncode, done.stdout, why in done.stderr) == (1, "", True), done.stderr
+
+
+@pytest.mark.parametrize("path", PATHS)
+def test_no_text(place: Place, both: list[str], path: str) -> None:
+    """A list, a mapping or an alias is no value, neither to show nor to set: an alias has its text elsewhere."""
+    why = f"{path} is a list, a mapping or an alias; name a value in it\n"
+    place.put("vars.yml", sealed("dev", NO_TEXTS, "dev"))
+    done = place.run(TEXTCONV, *both, "--value", path, "vars.yml")
+    assert (done.returncode, done.stdout) == (1, ""), "what is shown"
+    assert done.stderr.endswith(why), "why it is not shown"
+    place.put("vars.yml", NO_TEXTS)
+    done = set_to(place, b"x", *both, "--encrypt-vault-id", "dev", "--value", path, "vars.yml")
+    assert (done.returncode, place.get("vars.yml")) == (1, NO_TEXTS), "what is set"
+    assert done.stderr.endswith(why), "why it is not set"
 
 
 def test_shown(place: Place, both: list[str]) -> None:
