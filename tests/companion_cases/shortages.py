@@ -200,7 +200,7 @@ MISSING = {
     "git": ("git is not installed; install it", {MERGE, CHECK, HOOK, SINCE, SCRIPT}),
     "sh": ("sh is not installed; install it", {EDIT}),
     "/dev/null": ("/dev/null", {MERGE, CHECK, HOOK, SINCE, SCRIPT}),
-    "the current directory": ("the current directory: No such file", {EDIT, MERGE, CHECK, HOOK, SINCE, TEXTCONV, WITH}),
+    "the current directory": ("the current directory: No such file", {*NAMES, SINCE, SCRIPT}),
 }
 TAKE_AWAY = {
     "/dev/null": "mount -t tmpfs none /dev; ln -s /proc/self/fd /dev/fd; mknod /dev/urandom c 1 9;",
@@ -211,7 +211,7 @@ TAKE_AWAY = {
 @pytest.mark.parametrize("name", (*NAMES, SINCE, SCRIPT))
 @pytest.mark.parametrize("what", MISSING)
 def test_what_is_missing(place: Place, git: None, what: str, name: str) -> None:
-    """A run that fails names what it misses. Any other does its work."""
+    """A run that needs what is missing fails, and names it. Any other does its work."""
     needs("unshare")
     words = prepare_in_repository(place)[name]
     told, needing = MISSING[what]
@@ -224,7 +224,7 @@ def test_what_is_missing(place: Place, git: None, what: str, name: str) -> None:
             (few / program).symlink_to(str(path))
     line = f"{TAKE_AWAY.get(what, '')} PATH={place.tools}:{few}; exec {shlex.join(words)}"
     done = place.run("unshare", "--mount", "/bin/sh", "-c", line)
-    is_needed = name in needing or done.returncode != 0
+    is_needed = name in needing
     assert (done.returncode != 0, told in done.stderr) == (is_needed, is_needed), done
     assert "Traceback" not in done.stderr, done
 
