@@ -187,6 +187,31 @@ def test_closed(place: Place, text: bytes) -> None:
     assert texts(after, "old") == [text, b"\nB"]
 
 
+# Values that stay encrypted, and why.
+DAMAGED = "it is damaged"
+CLOSED_VALUES = {
+    "another password": (block("dev", name="a"), "no secret decrypts this vault"),
+    "a value that is cut": (block("old", name="a")[:-30] + b"\n", DAMAGED),
+    "a changed digit": (block("old", name="a")[:-2] + b"z\n", DAMAGED),
+    "an empty body": (b"a: !vault |\n  $ANSIBLE_VAULT;1.1;AES256\n", DAMAGED),
+    "a malformed header": (b"a: !vault |\n  $ANSIBLE_VAULT;1.1\n  6162\n", DAMAGED),
+    "another version": (b"a: !vault |\n  $ANSIBLE_VAULT;9.9;AES256\n  6162\n", DAMAGED),
+    "in quotes": (b'a: !vault "$ANSIBLE_VAULT;1.1;AES256\\n6162\\n"\n', DAMAGED),
+}
+
+
+@pytest.mark.parametrize("closed, why", CLOSED_VALUES.values(), ids=CLOSED_VALUES)
+def test_closed_values(place: Place, closed: bytes, why: str) -> None:
+    """A value that nothing opens keeps every byte, and others can be changed, added and moved around it."""
+    typed = "b: !vault |-\n  B\n" + closed.decode() + "c: !vault |-\n  C\n"
+    done = type_into(place, closed + block("old", b"b", name="b"), typed)
+    ended("the edit", done, 0, f"vars.yml: line {2 if b'|' in closed else 1}: a stays encrypted: {why}")
+    before, own, after = place.get("vars.yml").partition(closed)
+    assert own == closed, "the value stays as it is"
+    assert [texts(part, "old") for part in (before, after)] == [[b"B"], [b"C"]], "the others are encrypted"
+    assert place.copies() == [], "nothing is kept elsewhere"
+
+
 class Item(NamedTuple):
     """An item of a list: the name of its password, and its text."""
 
