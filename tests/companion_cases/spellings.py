@@ -422,6 +422,24 @@ def check_begin(data: bytes, value: Node, word: str, style: str) -> None:
     assert (value.path, value.tag, value.anchor, b"new\n") in [(n.path, n.tag, n.anchor, n.text) for n in after], data
 
 
+# What tells how a block begins and ends, or might be taken for something else there.
+SIGNS = "a \t\n#"
+
+
+@pytest.mark.parametrize("loader", LOADERS, ids=["libyaml", "PyYAML"])
+@pytest.mark.parametrize("around", (b"k: %s", b"- %s", b"k:\n- - %s", b"k: %sz: 1\n"), ids=repr)
+def test_shown_texts(monkeypatch: pytest.MonkeyPatch, loader: type, around: bytes) -> None:
+    """Whatever blanks and line ends a plaintext begins and ends with, what is shown in place of a block reads as it."""
+    monkeypatch.setattr(yaml, "CSafeLoader", loader, raising=False)
+    data = around % block("old", name="")
+    [value] = [each for each in parse_nodes(data).values if each.is_envelope]
+    for length in range(5):
+        for text in map(str.encode, map("".join, product(SIGNS, repeat=length))):
+            after = parse_nodes(apply_replacements(data, put_plaintext(data, value, text)))
+            found = [each.text for each in after.values if each.path == value.path]
+            assert (after.fault, found) == ("", [text]), "what is read"
+
+
 def test_text_beside_anchor() -> None:
     """A colon ends an anchor, and may begin a text."""
     assert [(node.anchor, node.begin, node.text) for node in parse_nodes(b"&a:b").values] == [("a", 2, b":b")]
