@@ -209,3 +209,26 @@ def test_ignored_signals(place: Place) -> None:
     place.wrap_tool("kill -HUP $PPID; sleep 0.05")
     ended("a rotation", place.shell(f"trap '' HUP; {ROTATE} {' '.join(to_new(place))} ."), 0, summary(1))
     assert decrypted("new", place.get("a.yml")) == TEXT, "it is done"
+
+
+# Command lines in which the program, or another one that a companion starts, notes which signals it ignores.
+STARTING = [f"{WITH} view {OLD} a.yml", f"{WITH} view {OLD} a.yml a.yml", f"{WITH} decrypt {OLD} --output b.yml a.yml"]
+STARTING += [f"{WITH} edit {OLD} a.yml", f"{EDIT} {OLD} a.yml", f"{TEXTCONV} {OLD} a.yml", f"{CHECK} {OLD} a.yml"]
+STARTING += [f"{CHECK} --vault-id ../script a.yml", f"{WITH} view --vault-id ../script a.yml"]
+
+
+@pytest.mark.parametrize("ignored", ("", "trap '' HUP;", "trap '' PIPE XFSZ;"))
+@pytest.mark.parametrize("line", STARTING)
+def test_inherited_signals(place: Place, line: str, ignored: str) -> None:
+    """A program that a companion starts ignores what the companion's caller ignores, but not SIGPIPE and SIGXFSZ, which
+    Python ignores: at the front of a pipe to `head`, it ends without a message."""
+    note = "grep SigIgn /proc/$$/status >> ../ignored"
+    place.put("a.yml", sealed("old"))
+    place.wrap_tool(note)
+    place.script(f'{note}; cat "$HOME/secrets/old"')
+    done = place.shell(f"{ignored} {line} > ../output", EDITOR=place.script(f"{note}; {CHANGE}", "editor"))
+    assert done.returncode == 0, done
+    direct = place.shell(f"{'' if 'PIPE' in ignored else ignored} sh -c 'grep SigIgn /proc/$$/status'").stdout
+    noted = place.get("../ignored").decode().splitlines(keepends=True)
+    assert len(noted) >= (2 if "script" in line or "dit" in line else 1), "the programs that were started"
+    assert {*noted} == {direct}, "the signals that they ignore"
