@@ -9,10 +9,12 @@ from pathlib import Path
 
 import pytest
 
-from ansible_vault_companions import OLDEST
+from ansible_vault_companions import OLDEST, limits
 from ansible_vault_companions.editing import private_directory
-from ansible_vault_companions.files import leftovers
+from ansible_vault_companions.files import leftovers, searching
+from ansible_vault_companions.git import attributes, differences
 from ansible_vault_companions.limits import LONGEST_PLAINTEXT, LONGEST_VAULT
+from ansible_vault_companions.merging.line_merge import SIDES
 from contracts import CRATES, code, declared_in
 from documents import FORMATS, PAGE as VERIFICATION, REFERENCE, WRITTEN, definition_files
 from lib.links import dead_links
@@ -145,6 +147,63 @@ def test_limits() -> None:
     assert LONGEST_PLAINTEXT == limits["PLAINTEXT_LIMIT"], "the companions' longest plaintext"
     assert LONGEST_VAULT == limits["ENVELOPE_LIMIT"], "the companions' longest vault"
     assert {int(each.replace(",", "")) for each in re.findall(r"\d+,\d{3},\d{3}", TEXT)} <= {*limits.values()}
+
+
+# The sentences of the companions' pages that name a limit, and the constants in the order of their numbers.
+SENTENCES = [
+    ("check", r"leads through over (\d+) directories", "MOST_STEPS"),
+    ("check", r"search itself may take (\d+) s .* git may take (\d+) s ", "SEARCH_SECONDS ATTRIBUTE_SECONDS"),
+    ("check", r"Together they may take (\d+) MB of memory", "MEGABYTES"),
+    ("check", r"(\d+) levels, ([\d,]+) bytes, and a million keys and texts;", "DEEPEST LONGEST_PLAINTEXT"),
+    ("check", r"([\d,]+) bytes for a key, and ([\d,]+) characters for nested keys", "LONGEST_KEY LONGEST_PATH"),
+    ("check", r"([\d,]+) bytes for the directives", "LONGEST_DIRECTIVES"),
+    ("check", r"(\d+) s of processor time, and (\d+) MB of memory", "SECONDS MEGABYTES"),
+    ("check", r"file with over (\d+) values", "MOST_VALUES"),
+    ("check", r"counts as (\d+) ms of the time", "RUN_MILLISECONDS"),
+    ("check", r"indented by over (\d+) columns", "LONGEST_MARGIN"),
+    ("check", r"longer than any vault can be \(([\d,]+) bytes\)", "LONGEST_VAULT"),
+    ("hook", r"over (\d+) levels, ([\d,]+) bytes, or a million keys and texts;", "DEEPEST LONGEST_PLAINTEXT"),
+    ("hook", r"key of over ([\d,]+) bytes; nested keys of over ([\d,]+) characters", "LONGEST_KEY LONGEST_PATH"),
+    ("hook", r"of over ([\d,]+) bytes; or aliases .* over ([\d,]+) texts", "LONGEST_DIRECTIVES MOST_ALIASED"),
+    ("hook", r"link may lead through over (\d+) directories", "MOST_STEPS"),
+    ("hook", r"commit may have over (\d+) parents", "MOST_PARENTS"),
+    ("hook", r"takes at most (\d+) s of processor time and (\d+) MB of memory", "SECONDS MEGABYTES"),
+    ("hook", r"compares up to (\d+) removed files", "MOST_RENAMES"),
+    ("hook", r"git ignores lines of ([\d,]+) bytes or more", "LINE_IGNORED"),
+    ("merge", r"versions may have (\d+) MiB together, as vaults with (\d+) MiB of", "VERSIONS_MIB PLAINTEXTS_MIB"),
+    ("with", r"name up to (\d+) passwords", "MOST_PASSWORDS"),
+]
+# The other numbers of limits.py: shares of the above, and what a message or another tool names.
+UNNAMED = """\
+    RUN_SECONDS WRONG RESERVE SETTINGS_SECONDS LONGEST_PASSWORD LONGEST_LABEL LONGEST_ANSWER LONGEST_FILE_PATH
+    LONGEST_LINK LONGEST_SETTINGS
+""".split()
+
+
+def test_limits_of_companions() -> None:
+    """The pages of the companions have the numbers of the code, and name each limit except those in UNNAMED."""
+    own = {name: value for name, value in vars(limits).items() if isinstance(value, (int, float)) and name.isupper()}
+    code = (ROOT / "companions" / "ansible-vault-merge").read_text()
+    [factor] = re.findall(r"^LONGEST_VERSIONS = (\d+) \* LONGEST_PLAINTEXT$", code, re.MULTILINE)
+    # A vault has four digits for each byte of its text.
+    versions = int(factor) * limits.LONGEST_PLAINTEXT >> 20
+    others = {
+        "SEARCH_SECONDS": searching.SEARCH_SECONDS,
+        "RUN_MILLISECONDS": 1000 * limits.RUN_SECONDS,
+        "MOST_RENAMES": int(differences.RENAMES[-1].removeprefix("-l")),
+        "LINE_IGNORED": attributes.LONGEST_LINE + 1,
+        "VERSIONS_MIB": versions,
+        "PLAINTEXTS_MIB": versions // (4 * len(SIDES)),
+    }
+    texts = {path.stem: " ".join(path.read_text().split()) for path in PAGE.parent.glob("*.1")}
+    named = set[str]()
+    for name, sentence, constants in SENTENCES:
+        found = [[*match.groups()] for match in re.finditer(sentence, texts[f"{PROGRAM}-{name}"])]
+        wanted = [f"{int((own | others)[each]):,}" for each in constants.split()]
+        assert found == [wanted], f"the numbers of ansible-vault-{name}(1) in {sentence}"
+        named.update(constants.split())
+    assert limits.MOST_KEYS == 1_000_000, "the million of the pages"
+    assert own.keys() - named - {*UNNAMED} == {"MOST_KEYS"}, "the limits that no page names"
 
 
 def test_files_of_companions() -> None:
