@@ -6,7 +6,8 @@ from typing import NamedTuple
 import pytest
 
 from companion_cases import HOOK, TEXT, WITH, Done, Place, block, ended, run_changed, sealed, silent
-from companion_cases.repository import GONE, WHOLE, add_and_commit, committed, fork, staged, told, under_git, with_hooks
+from companion_cases.repository import GONE, IN_PART, WHOLE, add_and_commit, committed, fork, staged, told, under_git
+from companion_cases.repository import with_hooks
 from lib.needs import needs
 from lib.paths import COMPANIONS, ROOT
 from lib.processes import run_text
@@ -476,6 +477,28 @@ def test_merge(place: Place) -> None:
     merge = committed(place, "x.txt", b"2\n")
     lines = told(place.run(HOOK, "--since", ours))
     assert lines == [f"{merge}: one.yml {in_ours}", f"{merge}: two.yml {in_theirs}"], "after the commit"
+
+
+@pytest.mark.parametrize("is_vault", (True, False), ids=["a vault", "a value"])
+@pytest.mark.parametrize("count", (2, 3))
+def test_last_merge(place: Place, is_vault: bool, count: int) -> None:
+    """--all compares the last commit with each of its parents, whichever of them has encrypted what it puts in
+    plaintext."""
+    under_git(place, "")
+    base = committed(place, "x.txt", b"1\n")
+    parents = []
+    for number in range(count):
+        place.shell(f"git checkout -q --detach {base}")
+        content = sealed("old") if is_vault else block("old", name=f"pw{number}")
+        parents.append(committed(place, f"{number}.yml", content))
+    for number in range(count):
+        place.put(f"{number}.yml", b"pw%d: plain\n" % number)
+    words = " ".join(f"-p {parent}" for parent in parents)
+    done = place.shell(f"git add -A && git reset -q --soft $(git commit-tree {words} -m merge $(git write-tree))")
+    assert done.returncode == 0, done
+    why = "{}.yml " + (WHOLE if is_vault else IN_PART.format("pw{}"))
+    wanted = [why.replace("HEAD", parent).replace("{}", str(number)) for number, parent in enumerate(parents)]
+    assert sorted(told(place.run(HOOK, "--all"))) == wanted, "each file, and the parent that encrypted it"
 
 
 def test_replaced_objects(place: Place) -> None:
