@@ -207,3 +207,25 @@ def test_messages(place: Place) -> None:
     texts = re.compile(b"password: (first|second)")
     kept = [path for path in place.path.rglob("*") if path.is_file() and texts.search(path.read_bytes())]
     assert kept == [], "no plaintext is left"
+
+
+# How a file is made that cannot be read, and why.
+UNREADABLE = {
+    "nothing": (":", "No such file or directory"),
+    "a directory": ("mkdir a.yml", "Is a directory"),
+    "a pipe": ("mkfifo a.yml", "it is not a regular file"),
+    "a loop": ("ln -s a.yml a.yml", "Too many levels of symbolic links"),
+    "a closed file": ("echo x > a.yml; chmod 0 a.yml", "Permission denied"),
+    "a device": ("ln -s /dev/null a.yml", "a link leads out of "),
+}
+
+
+@pytest.mark.parametrize("where", ("", "7> COMMIT_EDITMSG"), ids=["alone", "beside a commit message"])
+@pytest.mark.parametrize("line, why", UNREADABLE.values(), ids=UNREADABLE)
+def test_unreadable_files(place: Place, line: str, why: str, where: str) -> None:
+    """Nothing is shown of what cannot be read, not even a first line, as if there were a file."""
+    place.put("COMMIT_EDITMSG", b"", 0o666)
+    place.shell(line)
+    done = place.as_nobody("sh", "-c", f"{TEXTCONV} {' '.join(place.by_file('old'))} a.yml {where}")
+    assert (done.returncode, done.stdout) == (1, ""), "the status and what is shown"
+    assert why in done.stderr, "the reason"
