@@ -47,11 +47,18 @@ def prefix(clone: Path) -> Path:
     return clone.with_name("prefix")
 
 
-def test_readme(clone: Path, prefix: Path) -> None:
+def test_readme(clone: Path, prefix: Path, tmp_path: Path) -> None:
     """Run the commands without a prompt. A variable alone makes `make install` use another prefix."""
-    words = [command for command in commands(README.read_text()) if command != GATE]
-    printed = {command: typed(command, clone, PREFIX=str(prefix)) for command in words}
-    assert [each for each in words if each.startswith("make")][:1] == words[:1], "the first builds the program"
+    git("init", "--quiet", at=tmp_path)
+    names = {"YOUR/REPOSITORY": str(tmp_path), "PATH/TO/THE/CLONE": str(clone)}
+    first, *others = [command for command in commands(README.read_text()) if command != GATE]
+    for name, path in names.items():
+        assert name in first, "the command has this name"
+        first = first.replace(name, path)
+    typed(first, clone)
+    assert [path.name for path in (tmp_path / ".git/hooks").iterdir() if path.is_symlink()] != [], "the hooks"
+    assert not (clone / "bin/ansible-vault").exists(), "nothing is built for that"
+    printed = {command: typed(command, clone, PREFIX=str(prefix)) for command in others}
     assert {"make demo", "make install", "make package"} <= printed.keys()
     assert PREFIX_FILES <= files_below(prefix), "make install"
     assert [each.name for each in (clone / "bin").glob("*.deb")] != [], "make package"
