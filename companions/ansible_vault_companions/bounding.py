@@ -9,6 +9,7 @@ import resource
 import threading
 import time
 from contextlib import contextmanager, suppress
+from math import inf
 from typing import TYPE_CHECKING, Callable, Iterator, NamedTuple
 
 from ansible_vault_companions import signals
@@ -114,9 +115,9 @@ def limit_run(seconds: int, taken: float = 0.0) -> Iterator[None]:
         _run = None
 
 
-def measure_time_left(most: float = SECONDS) -> float:
+def measure_time_left(most: float = inf) -> float:
     """The seconds of processor time that a program may take, at most as given. Raises TooMuch if there are too few."""
-    left = min(most, _run.end - _measure_run_time()) if _run else most
+    left = min(most, _run.end - _measure_run_time() if _run else SECONDS)
     if left < LEAST:
         raise TooMuch(_run.text if _run else TOO_SLOW.format(SECONDS))
     return left

@@ -212,6 +212,33 @@ def test_time_of_running_git(place: Place) -> None:
     ended("the hook", done, 1, f"{TOO_SLOW.format(4)}; the last file that it read is 0.yml\n")
 
 
+# Notes the processor time that a git process may take when it is asked.
+NOTE_LIMITS = """
+from ansible_vault_companions import bounding
+limit = bounding.limit_program
+
+def note_and_limit(program, seconds):
+    if "cat-file" in program.args:
+        with open("../limits", "a") as file:
+            print(seconds, file=file)
+    limit(program, seconds)
+
+bounding.limit_program = note_and_limit
+"""
+
+
+def test_time_of_a_question(place: Place) -> None:
+    """git has the rest of a review's time for each question, and a large repository gives it more than a small one."""
+    under_git(place, "")
+    place.put("a.yml", sealed("old"))
+    place.shell("head -c 5000000 /dev/urandom > random")
+    add_and_commit(place)
+    ended("the hook", run_changed(place, HOOK, NOTE_LIMITS, ["--all"]), 0)
+    limits = [float(line) for line in place.get("../limits").split()]
+    # It begins with ten seconds for each of five MB and the first part of one.
+    assert max(limits) > 40, limits
+
+
 # Notes how many MB of objects the hook counts.
 NOTE_SIZES = """
 from ansible_vault_companions import bounding
