@@ -34,7 +34,7 @@ def report_failure(kind: type[BaseException], fault: BaseException, trace: Trace
 
 
 def report_ignored_exception(ignored: UnraisableHookArgs) -> None:
-    """Reports an exception that Python ignores, as in a finalizer, unless it lacks memory there. If that ends the run,
-    the run says so itself."""
+    """Reports an exception that Python ignores, as in a finalizer, unless it lacks memory there, which may also be a
+    SystemError. If that ends the run, the run says so itself."""
     if not issubclass(ignored.exc_type, (MemoryError, SystemError)):
         sys.__unraisablehook__(ignored)

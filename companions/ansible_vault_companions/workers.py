@@ -51,7 +51,7 @@ class Workers:
     def __init__(self) -> None:
         # Python tells of a thread that lacks the memory to begin, whose work others do. For a function of Python's own,
         # there would be no memory either.
-        sys.unraisablehook = callable
+        self.hook, sys.unraisablehook = sys.unraisablehook, callable
         self.most = 2 * len(os.sched_getaffinity(0))
         # How many threads there are, and those that have ended.
         self.count = 0
@@ -72,7 +72,7 @@ class Workers:
         for _number in range(self.count):
             if not self.ended.acquire(timeout=PATIENCE):
                 break
-        sys.unraisablehook = sys.__unraisablehook__
+        sys.unraisablehook = self.hook
 
     def begin(self, work: Callable[..., Result], *items: object) -> Task[Result]:
         """Begins some work."""

@@ -121,6 +121,9 @@ def test_ignored_exceptions(place: Place, kind: str, is_said: bool) -> None:
     code = f"""
 {START} as it
 it.prepare_process()
+from ansible_vault_companions.workers import Workers
+with Workers() as workers:
+    workers.share(abs, [1, 2])
 
 class Fails:
     def __del__(self):
