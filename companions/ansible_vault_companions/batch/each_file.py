@@ -21,8 +21,9 @@ from ansible_vault_companions.quoting import escape
 from ansible_vault_companions.refusals import Refused
 from ansible_vault_companions.workers import Task
 
-# How many files are read ahead of the work on them, and how many bytes of them.
-AHEAD, AHEAD_BYTES = 32, 1 << 26
+# How many files are read ahead of the work on them, and how many bytes they take, with their values.
+AHEAD, AHEAD_BYTES = 32, 1 << 25
+BYTES_OF_VALUE = 512
 LABEL_NOT_FOUND = "no vault or value has the label {}{}"
 
 
@@ -43,7 +44,7 @@ class Outcome:
 
 
 class Begun(NamedTuple):
-    """The work on a file, and the bytes of the file, which are kept until it is done."""
+    """The work on a file, and the bytes that are kept until it is done."""
 
     task: Task[Outcome]
     size: int = 0
@@ -85,7 +86,8 @@ class Runner:
             return Begun(Task(Outcome, found, self._report_unread(found, fault)))
         if found.refusal:
             return Begun(Task(Outcome, found, self._report_refused(found, parsed)))
-        return Begun(self.work.workers.begin(_do_work, found, parsed, self.work.begin_file(effort)), len(parsed.data))
+        task = self.work.workers.begin(_do_work, found, parsed, self.work.begin_file(effort))
+        return Begun(task, len(parsed.data) + BYTES_OF_VALUE * len(parsed.values))
 
     def _report_unread(self, found: FoundFile, fault: Exception) -> Report:
         """The report on a file that cannot be read."""
