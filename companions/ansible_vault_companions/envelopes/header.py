@@ -57,11 +57,13 @@ def measure_padded(length: int) -> int:
 
 def _read_digits(text: bytes) -> tuple[bytes, ...]:
     """The salt, tag and ciphertext; empty if the digits have another form."""
-    lines = text.translate(None, b"\r\n")
+    begin = len(_read_first_line(text))
     try:
-        # A part of a long vault is no copy.
-        inner = binascii.unhexlify(memoryview(lines)[len(_read_first_line(text)) :])
-        salt, tag, ciphertext = map(binascii.unhexlify, inner.split(b"\n", 2))
+        # A long vault takes much memory, so each form of it goes once the next one is made, and a part is no copy.
+        inner = binascii.unhexlify(memoryview(text.translate(None, b"\r\n"))[begin:])
+        parts = inner.split(b"\n", 2)
+        del inner
+        salt, tag, ciphertext = map(binascii.unhexlify, parts)
     except ValueError:
         return b"", b"", b""
     return salt, tag, ciphertext
