@@ -171,22 +171,21 @@ SENTENCES = [
     ("hook", r"compares up to (\d+) removed files", "MOST_RENAMES"),
     ("hook", r"git ignores lines of ([\d,]+) bytes or more", "LINE_IGNORED"),
     ("merge", r"versions may have (\d+) MiB together, as vaults with (\d+) MiB of", "VERSIONS_MIB PLAINTEXTS_MIB"),
+    ("edit", r"file with a conflict may have (\d+) MiB", "VERSIONS_MIB"),
     ("with", r"name up to (\d+) passwords", "MOST_PASSWORDS"),
 ]
-# The other numbers of limits.py: shares of the above, and what a message or another tool names.
+# The other numbers of limits.py: shares of the above, what pages have in MiB, and what a message or another tool names.
 UNNAMED = """\
     RUN_SECONDS WRONG RESERVE SETTINGS_SECONDS LONGEST_PASSWORD LONGEST_LABEL LONGEST_ANSWER LONGEST_FILE_PATH
-    LONGEST_LINK LONGEST_SETTINGS
+    LONGEST_LINK LONGEST_SETTINGS LONGEST_VERSIONS
 """.split()
 
 
 def test_limits_of_companions() -> None:
     """The pages of the companions have the numbers of the code, and name each limit except those in UNNAMED."""
     own = {name: value for name, value in vars(limits).items() if isinstance(value, (int, float)) and name.isupper()}
-    code = (ROOT / "companions" / "ansible-vault-merge").read_text()
-    [factor] = re.findall(r"^LONGEST_VERSIONS = (\d+) \* LONGEST_PLAINTEXT$", code, re.MULTILINE)
     # A vault has four digits for each byte of its text.
-    versions = int(factor) * limits.LONGEST_PLAINTEXT >> 20
+    versions = limits.LONGEST_VERSIONS >> 20
     others = {
         "SEARCH_SECONDS": searching.SEARCH_SECONDS,
         "RUN_MILLISECONDS": 1000 * limits.RUN_SECONDS,

@@ -39,6 +39,9 @@ LONGEST_DIRECTIVES = 1_024
 # endless ones as in /proc, no more is read.
 LONGEST_PLAINTEXT = 16_777_216
 LONGEST_VAULT = 6 * LONGEST_PLAINTEXT + 8_192
+# The bytes of the three versions of a merge, or of a conflict. A merge takes some five times as much memory, since it
+# writes both sides and compares them with the file.
+LONGEST_VERSIONS = 3 * LONGEST_PLAINTEXT
 # The passwords that the tool takes, and the bytes of a password file and the characters of a label.
 MOST_PASSWORDS = 16
 LONGEST_PASSWORD = 4_096
@@ -79,6 +82,8 @@ TOO_MANY_ALIASED = f"its aliases stand for over {MOST_ALIASED:,} texts"
 TOO_MANY_VALUES = f"it has over {MOST_VALUES} values"
 TOO_MANY_RUNS = f"its values take over {SECONDS} s of processor time; divide it, or name fewer passwords"
 TOO_LONG = f"it has over {LONGEST_PLAINTEXT:,} bytes"
+VERSIONS_TOO_LONG = f"the three versions have over {LONGEST_VERSIONS:,} bytes"
+CONFLICT_TOO_LONG = f"it has git's conflict markers, and over {LONGEST_VERSIONS:,} bytes"
 TOO_SLOW = "it takes over {} s of processor time"
 TOO_SLOW_TO_EDIT = f"it takes too much of {SECONDS} s of processor time before it is even edited"
 TOO_SLOW_PROGRAM = "it takes too much processor time"

@@ -2,14 +2,17 @@
 
 import os
 import sys
+import tracemalloc
 from collections.abc import Callable
 from random import Random
 
 import pytest
 
-from ansible_vault_companions.limits import LONGEST_VAULT
+from ansible_vault_companions.envelopes.conflicts import parse_envelopes_of_sides, parse_nodes_of_sides
+from ansible_vault_companions.envelopes.parsed_text import ParsedText
+from ansible_vault_companions.limits import LONGEST_VAULT, Effort
 from companion_cases import CHECK, CONFLICT, EDIT, HOOK, MERGE, NOT_DECRYPTED, NOT_ENCRYPTED, PASSWORDS, ROTATE
-from companion_cases import TEXTCONV, WITH, Done, Place, block, ended, run_changed, sealed, to_new
+from companion_cases import TEXTCONV, WITH, Done, Place, block, edit, ended, run_changed, sealed, to_new
 from companion_cases.repository import AUTHOR
 from lib.needs import needs
 from model.vaults import serialized, yaml_block
@@ -70,6 +73,53 @@ def test_files(place: Place, content: bytes) -> None:
     assert used(place, TEXTCONV, *place.by_file("old"), "a.yml") == 0
     assert used(place, ROTATE, *to_new(place), ".") == (len(content) > 16_777_216), "it fails if a limit is met"
     assert len(place.get("a.yml")) == len(content) and place.get("a.yml") != content, "it is rotated"
+
+
+# The two sides of a conflict with as many short lines as fit.
+LINES = [b"\n" * 3_000_000, b"#\n" * 1_000_000]
+
+
+@pytest.mark.parametrize("parse", [parse_envelopes_of_sides, parse_nodes_of_sides])
+@pytest.mark.parametrize("sides", [LINES, LINES[::-1]], ids=["ours", "theirs"])
+def test_lines_of_conflicts(sides: list[bytes], parse: Callable[[bytes, Effort], ParsedText]) -> None:
+    """Lines are counted, but not listed, and a value has its line in the whole text."""
+    data = b"<<<<<<< ours\n%b=======\n%b>>>>>>> theirs\n" % tuple(sides) + BLOCK
+    tracemalloc.start()
+    try:
+        parsed = parse(data, Effort())
+        _, most = tracemalloc.get_traced_memory()
+    finally:
+        tracemalloc.stop()
+    [value] = [value for value in parsed.values if value.is_envelope]
+    assert value.line == data[: value.start].count(b"\n") + 1
+    assert most < 10 * len(data), f"it takes {most:,} bytes"
+
+
+SIDE = b"x" * 5_000_000 + b"\n"
+# Conflicts that are too long, and what is said of them.
+LONG_CONFLICTS = {
+    "one side": (4 * SIDE, b"y\n", "it has over 16,777,216 bytes"),
+    "both sides": (5 * SIDE, 6 * SIDE, "it has git's conflict markers, and over 50,331,648 bytes"),
+}
+
+
+@pytest.mark.parametrize("ours, theirs, why", LONG_CONFLICTS.values(), ids=LONG_CONFLICTS)
+def test_long_conflicts(place: Place, ours: bytes, theirs: bytes, why: str) -> None:
+    """A conflict that is too long to edit is refused before it is merged."""
+    place.put("a.yml", BLOCK + b"<<<<<<< ours\n%b=======\n%b>>>>>>> theirs\n" % (ours, theirs))
+    place.wrap_tool('echo "$*" >> ../git', "git")
+    ended("the edit", edit(place, "true", *place.by_file("old"), "a.yml"), 1, f"a.yml: {why}\n")
+    calls = place.path / "git"
+    assert not calls.exists() or "merge-file" not in calls.read_text(), "git merges nothing"
+
+
+def test_values_read_ahead(place: Place) -> None:
+    """Files with many values are not all read ahead of the work on them."""
+    for number in range(12):
+        place.put(f"{number}.yml", b"- !vault a\n" * 25_000)
+    place.put("a.yml", BLOCK)
+    assert used(place, CHECK, *place.by_file("old"), ".") == 0
+    assert used(place, ROTATE, *to_new(place), ".") == 0
 
 
 PATH_TOO_LONG = "it has nested keys of over 2,048 characters in total"

@@ -17,7 +17,7 @@ from ansible_vault_companions.envelopes.header import MAGIC
 from ansible_vault_companions.envelopes.pointers import refuse_pointer
 from ansible_vault_companions.files import link_bounds, reading
 from ansible_vault_companions.git.pathspecs import make_pathspec
-from ansible_vault_companions.limits import Effort
+from ansible_vault_companions.limits import LONGEST_PLAINTEXT, TOO_LONG, Effort, TooMuch
 from ansible_vault_companions.merging.file_merge import KINDS_DIFFER, merge_file
 from ansible_vault_companions.merging.line_merge import Versions
 from ansible_vault_companions.merging.unmerged_file import find_versions
@@ -104,6 +104,8 @@ class Loader:
         if not (sides.ours and sides.theirs):
             return self._load_values(target, content, content, effort)
         # Before the merge, which takes long.
+        if max(map(len, sides)) > LONGEST_PLAINTEXT:
+            raise TooMuch(TOO_LONG)
         refuse_directive(content)
         # Where git has merged the digits of values, only whole ones are between the markers of the merged text.
         merged = merge_file(self.tool, partial(self.decrypt, effort=effort), sides, key, effort)

@@ -3,7 +3,6 @@
 from __future__ import annotations
 
 import re
-from bisect import bisect_left
 from collections import Counter
 from collections.abc import Callable, Hashable, Iterator
 
@@ -61,26 +60,21 @@ def split_sides(text: bytes, is_masked: bool = False) -> dict[bytes, bytes]:
     lines become newlines, so that all places stay."""
     if OURS_MARKER not in text:
         return {}
-    markers: dict[bytes, None] = {}
+    sides = {marker: bytearray() for marker in (OURS_MARKER, BASE_MARKER, THEIRS_MARKER)}
+    markers: set[bytes] = set()
     last = b""
     for kind, part in split_parts(text):
         if kind == IS_MARKER:
             last = part[: len(END_MARKER)]
-            markers[last] = None
-    if not markers.keys() >= {OURS_MARKER, THEIRS_MARKER, END_MARKER} or last != END_MARKER:
+            markers.add(last)
+        for marker, side in sides.items():
+            if kind in (NO_SIDE, marker):
+                side += part
+            elif is_masked:
+                side += b"\n" * len(part)
+    if not markers >= {OURS_MARKER, THEIRS_MARKER, END_MARKER} or last != END_MARKER:
         return {}
-    return {side: _join_parts(text, side, is_masked) for side in markers if side != END_MARKER}
-
-
-def _join_parts(text: bytes, side: bytes, is_masked: bool) -> bytes:
-    """The lines of a side and those outside of conflicts."""
-    pieces = []
-    for own, part in split_parts(text):
-        if own in (NO_SIDE, side):
-            pieces.append(part)
-        elif is_masked:
-            pieces.append(b"\n" * len(part))
-    return b"".join(pieces)
+    return {marker: bytes(side) for marker, side in sides.items() if marker in markers}
 
 
 def join_sides(ours: bytes, theirs: bytes) -> bytes:
@@ -109,11 +103,20 @@ def _parse_sides(
     texts = split_sides(data, is_masked=True).values()
     if not texts:
         return parse(data, effort)
-    line_ends = [end.start() for end in re.finditer(b"\n", data)]
     values: dict[Hashable, Node] = {}
     for parsed in (parse(text, effort) for text in texts):
         if parsed.fault:
             return parse(data, effort)
         for value in parsed.values:
-            values.setdefault(identify(value), value._replace(line=bisect_left(line_ends, value.start) + 1))
-    return ParsedText(data, sorted(values.values(), key=lambda value: (value.start, value.end)))
+            values.setdefault(identify(value), value)
+    ordered = sorted(values.values(), key=lambda value: (value.start, value.end))
+    return ParsedText(data, [*_number_lines(data, ordered)])
+
+
+def _number_lines(data: bytes, values: list[Node]) -> Iterator[Node]:
+    """The values with their lines in the whole text, since each byte of another side was a line."""
+    line, place = 1, 0
+    for value in values:
+        line += data.count(b"\n", place, value.start)
+        place = value.start
+        yield value._replace(line=line)

@@ -8,7 +8,7 @@ import string
 
 from ansible_vault_companions.envelopes import conflicts
 from ansible_vault_companions.git import commands, repository
-from ansible_vault_companions.limits import LONGEST_PLAINTEXT, TooMuch
+from ansible_vault_companions.limits import CONFLICT_TOO_LONG, LONGEST_PLAINTEXT, LONGEST_VERSIONS, TooMuch
 from ansible_vault_companions.merging.line_merge import Versions
 from ansible_vault_companions.refusals import Refused
 
@@ -18,6 +18,8 @@ HEAD_OF_CONTENT = re.compile(rb"[0-9a-f]{40,} blob (?P<size>\d+)\n")
 
 def find_versions(target: str, data: bytes) -> Versions | None:
     """The sides of a file with a conflict, and their base if the index has this conflict; None if there is none."""
+    if len(data) > LONGEST_VERSIONS and conflicts.OURS_MARKER in data:
+        raise TooMuch(CONFLICT_TOO_LONG)
     sides = conflicts.split_sides(data)
     if not sides:
         return None
