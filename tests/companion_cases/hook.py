@@ -479,6 +479,25 @@ def test_merge(place: Place) -> None:
     assert lines == [f"{merge}: one.yml {in_ours}", f"{merge}: two.yml {in_theirs}"], "after the commit"
 
 
+# What cannot be read as YAML, with a value in plaintext.
+UNREADABLE = {
+    "an open quote": b'pw: plain\nx: "\n',
+    "an open bracket": b"pw: plain\nx: [\n",
+    "a statement of Jinja": b"{% if x %}\npw: plain\n{% endif %}\n",
+    "a tab": b"pw: plain\nx:\n\ty: 1\n",
+}
+
+
+@pytest.mark.parametrize("text", UNREADABLE.values(), ids=UNREADABLE)
+@pytest.mark.parametrize("name", ("a.yml", "a.json", "group_vars/all", "a", "a.txt", "a.j2", "a.py", ".env"))
+def test_no_longer_read(place: Place, name: str, text: bytes) -> None:
+    """A file that has lost a value must still be readable, whatever its name."""
+    under_git(place, "")
+    committed(place, name, block("old", name="pw"))
+    [fault] = staged(place, {name: text})
+    assert fault.startswith(f"{name} had encrypted values, but can no longer be checked: "), fault
+
+
 @pytest.mark.parametrize("is_vault", (True, False), ids=["a vault", "a value"])
 @pytest.mark.parametrize("count", (2, 3))
 def test_last_merge(place: Place, is_vault: bool, count: int) -> None:

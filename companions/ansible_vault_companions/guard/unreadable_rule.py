@@ -1,9 +1,9 @@
 """What is or was encrypted is not unreadable.
 
 What cannot be read as Ansible reads it counts as if it had lost what was encrypted. A limit counts for every file with
-a header, an ambiguity for every file that had one, and bad YAML only for what is YAML by its name, since a template
-never parses. If a value was removed from any file, what is YAML by its name has to be read even if it never had an
-envelope: it may be there in plaintext.
+a header, and an ambiguity for every file that had one. Bad YAML counts for what is YAML by its name, and for any other
+file that has fewer envelopes than it had: a template need not parse. If a value was removed from any file, what is YAML
+by its name has to be read even if it never had an envelope: it may be there in plaintext.
 """
 
 from __future__ import annotations
@@ -49,9 +49,10 @@ def _find_too_much(evidence: Evidence, file: File) -> Fault | None:
 
 def _find_no_longer_read(evidence: Evidence, file: File) -> Fault | None:
     """An ambiguity or bad YAML in a file that had values."""
-    now = evidence.now[file]
-    why = now.ambiguity or (now.fault if is_yaml(file) else "")
-    if not (why and evidence.before[file].encrypted):
+    before, now = evidence.before[file], evidence.now[file]
+    must_parse = is_yaml(file) or now.envelopes < before.most_envelopes
+    why = now.ambiguity or (now.fault if must_parse else "")
+    if not (why and before.encrypted):
         return None
     return exemptions.make_loss(evidence, file, NO_LONGER_READ.format(why), Remedy.REPAIR)
 
