@@ -16,7 +16,7 @@ import builtins, itertools, pathlib
 
 note = open
 calls = itertools.count()
-above = [sys.argv[0], *map(str, pathlib.Path.cwd().parents)]
+above = [sys.argv[0], *map(str, pathlib.Path.cwd().parents[1:])]
 
 def failing(call):
     def make(path, *words, **options):

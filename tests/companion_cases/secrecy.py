@@ -144,7 +144,7 @@ def test_plaintext(place: Place, line: str, places: set[str]) -> None:
 PLAIN = TEXTS[0]
 LEAKS = {
     "a vault in plaintext": {"a.yml": PLAIN},
-    "a vault in plaintext elsewhere": {"a.yml": None, "b.txt": PLAIN},
+    "a vault in plaintext elsewhere": {"a.yml": None, "a.yaml": PLAIN},
     "a copy beside a vault": {"a.yml.bak": PLAIN},
     "a value in plaintext": {"b.yml": b"key: horse\n"},
     "a value in plaintext elsewhere": {"b.yml": None, "c.yml": b"key: horse\n"},
@@ -184,7 +184,7 @@ def test_logs(place: Place, files: dict[str, bytes | None]) -> None:
     runs = [place.shell(staged)]
     add_and_commit(place)
     runs += [place.shell(line) for line in others]
-    assert any(done.returncode == 1 for done in runs), "something is refused"
+    assert runs[0].returncode == 1, "the hook refuses it"
     for line, done in zip(IN_LOGS, runs):
         output = done.stdout + done.stderr
         assert "Traceback" not in output, (line, output)
