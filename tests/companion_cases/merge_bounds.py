@@ -66,12 +66,12 @@ esac"""
 @pytest.mark.parametrize("seconds", [0.2, 0.5, 0.8, 1, 2])
 @pytest.mark.parametrize("kind, runs", [("values", 2), ("vaults", 3)])
 def test_time_of_git(place: Place, kind: str, runs: int, seconds: float) -> None:
-    """git gets the time that is left of the merge's, in whole seconds."""
+    """git gets the whole seconds that are left of the merge. Half a second is for the start and the end."""
     place.wrap_tool(NOTE_LIMIT, "git")
     words = versions(place, "a.yml", *VERSIONS[kind])
     ended("the merge", run_changed(place, MERGE, COUNT_RUNS.format(seconds), [*place.by_file("old"), *words]), 0)
     limit = int(place.get("../seconds"))
-    assert limit >= 1 and limit + runs * seconds <= 10, f"git may take {limit} s"
+    assert limit >= 1 and limit + runs * seconds + 0.5 <= 10, f"git may take {limit} s"
 
 
 @pytest.mark.parametrize("left", [0.1, 0.9])
