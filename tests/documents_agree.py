@@ -154,7 +154,7 @@ SENTENCES = [
     ("check", r"leads through over (\d+) directories", "MOST_STEPS"),
     ("check", r"search itself may take (\d+) s .* git may take (\d+) s ", "SEARCH_SECONDS ATTRIBUTE_SECONDS"),
     ("check", r"Together they may take (\d+) MB of memory", "MEGABYTES"),
-    ("check", r"(\d+) levels, ([\d,]+) bytes, and a million keys and texts;", "DEEPEST LONGEST_PLAINTEXT"),
+    ("check", r"(\d+) levels, ([\d,]+) bytes, and ([\d,]+) keys and", "DEEPEST LONGEST_PLAINTEXT MOST_KEYS"),
     ("check", r"([\d,]+) bytes for a key, and ([\d,]+) characters for nested keys", "LONGEST_KEY LONGEST_PATH"),
     ("check", r"([\d,]+) bytes for the directives", "LONGEST_DIRECTIVES"),
     ("check", r"(\d+) s of processor time, and (\d+) MB of memory", "SECONDS MEGABYTES"),
@@ -162,7 +162,7 @@ SENTENCES = [
     ("check", r"counts as (\d+) ms of the time", "RUN_MILLISECONDS"),
     ("check", r"indented by over (\d+) columns", "LONGEST_MARGIN"),
     ("check", r"longer than any vault can be \(([\d,]+) bytes\)", "LONGEST_VAULT"),
-    ("hook", r"over (\d+) levels, ([\d,]+) bytes, or a million keys and texts;", "DEEPEST LONGEST_PLAINTEXT"),
+    ("hook", r"over (\d+) levels, ([\d,]+) bytes, or ([\d,]+) keys and", "DEEPEST LONGEST_PLAINTEXT MOST_KEYS"),
     ("hook", r"key of over ([\d,]+) bytes; nested keys of over ([\d,]+) characters", "LONGEST_KEY LONGEST_PATH"),
     ("hook", r"of over ([\d,]+) bytes; or aliases .* over ([\d,]+) texts", "LONGEST_DIRECTIVES MOST_ALIASED"),
     ("hook", r"link may lead through over (\d+) directories", "MOST_STEPS"),
@@ -201,8 +201,7 @@ def test_limits_of_companions() -> None:
         wanted = [f"{int((own | others)[each]):,}" for each in constants.split()]
         assert found == [wanted], f"the numbers of ansible-vault-{name}(1) in {sentence}"
         named.update(constants.split())
-    assert limits.MOST_KEYS == 1_000_000, "the million of the pages"
-    assert own.keys() - named - {*UNNAMED} == {"MOST_KEYS"}, "the limits that no page names"
+    assert own.keys() - named == {*UNNAMED}, "the limits that no page names"
 
 
 def test_files_of_companions() -> None:

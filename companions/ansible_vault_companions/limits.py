@@ -14,7 +14,7 @@ from ansible_vault_companions.refusals import Refused
 DEEPEST = 64
 # The keys and texts of a file. If each text is kept, the keys above it count once more for it, and so they do for each
 # alias.
-MOST_KEYS = 1_000_000
+MOST_KEYS = 800_000
 # The texts that the aliases of a file add, which are not in proportion to its bytes, so many small files would take as
 # much as a large one each. A list of 1,000 hosts, each with an alias of 50 values, adds as many.
 MOST_ALIASED = 50_000

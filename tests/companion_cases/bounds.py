@@ -196,10 +196,10 @@ def test_longest_key(place: Place, size: int, why: str) -> None:
     ended("the check", done, int(bool(why)), *([f"a.yml: {why}\n"] if why else []))
 
 
-TOO_MANY_KEYS = "it has over 1,000,000 keys and texts, with those above each"
+TOO_MANY_KEYS = "it has over 800,000 keys and texts, with those above each"
 
 
-@pytest.mark.parametrize("items, why", [(999_994, ""), (999_995, TOO_MANY_KEYS)])
+@pytest.mark.parametrize("items, why", [(799_994, ""), (799_995, TOO_MANY_KEYS)])
 def test_most_keys(place: Place, items: int, why: str) -> None:
     """Whatever is read of a file counts, even if only its values are kept."""
     place.put("a.yml", BLOCK + b"x: [%s]\n" % (b"~," * items))
