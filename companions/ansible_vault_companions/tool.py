@@ -10,6 +10,7 @@ import re
 import threading
 from collections.abc import Callable, Hashable
 from contextlib import suppress
+from functools import partial
 
 from ansible_vault_companions import processes
 from ansible_vault_companions.envelopes.header import (
@@ -94,24 +95,25 @@ Decrypt = Callable[[bytes], Decryption]
 
 
 class Result:
-    """What a call returns or raises. Whoever asks first makes the call, and others wait for it."""
+    """What a call returns or refuses. Whoever asks first makes the call, and others wait for it."""
 
     def __init__(self, call: Callable[[], bytes]) -> None:
         self.call = call
         self.lock = threading.Lock()
         self.data: bytes | None = None
-        self.fault: BaseException | None = None
+        self.refusal: Callable[[], Refused] | None = None
 
     def get(self) -> bytes:
         with self.lock:
-            if self.data is None and self.fault is None:
+            if self.data is None and self.refusal is None:
                 try:
                     self.data = self.call()
-                except BaseException as fault:
-                    self.fault = fault
+                except Refused as fault:
+                    # The exception itself would keep the frames that it passes, and the envelope that they hold.
+                    self.refusal = partial(type(fault), str(fault), fault.status)
         if self.data is None:
-            assert self.fault
-            raise self.fault
+            assert self.refusal
+            raise self.refusal()
         return self.data
 
 

@@ -55,11 +55,11 @@ print(os.waitstatus_to_exitcode(status), used.ru_utime + used.ru_stime, memory, 
 """
 
 
-def used(place: Place, *words: str) -> int:
+def used(place: Place, *words: str, kilobytes: int = KILOBYTES) -> int:
     """Return the status of a companion, which has to keep to the bounds."""
     status, seconds, memory, loop = place.run(sys.executable, "-c", MEASURE, *words).stdout.split()
     assert float(seconds) < SECONDS * float(loop) / LOOP_SECONDS, (words[0], seconds, loop)
-    assert int(memory) < KILOBYTES, (words[0], memory)
+    assert int(memory) < kilobytes, (words[0], memory)
     return int(status)
 
 
@@ -660,6 +660,28 @@ def test_too_long_to_show(place: Place, start: bytes) -> None:
     assert done.stdout == f"{NOT_DECRYPTED}{LONGEST_VAULT + 1}\n", "all of it"
     why = "it has more than 100,671,488 bytes, more than any vault"
     assert done.stderr == f"{TEXTCONV}: a.yml: shown as it is: {why}\n"
+
+
+# Command lines of those that read a vault.
+READING = [
+    f"{CHECK} {{}} a.yml",
+    f"{TEXTCONV} {{}} a.yml",
+    f"{TEXTCONV} --value x {{}} a.yml",
+    f"{ROTATE} {{}} --new-vault-password-file ../secrets/new a.yml",
+    f"{EDIT} {{}} a.yml",
+    f"{WITH} view {{}} a.yml a.yml",
+]
+
+
+@pytest.mark.parametrize("line", READING)
+def test_longest_refused_vault(place: Place, line: str) -> None:
+    """What the program refuses is not kept, even if the file is read once more."""
+    place.put("a.yml", serialized(bytes(32), bytes(32), bytes(LONGEST_VAULT * 80 // 81 // 4 - 100)))
+    assert LONGEST_VAULT - 1_000 < len(place.get("a.yml")) <= LONGEST_VAULT
+    place.environment["EDITOR"] = "true"
+    words = line.format("--vault-password-file ../secrets/old").split()
+    status = 0 if line.startswith(f"{TEXTCONV} {{}}") else 1
+    assert used(place, *words, kilobytes=3 * LONGEST_VAULT // 1024) == status
 
 
 def put_packed(place: Place, size: int) -> None:

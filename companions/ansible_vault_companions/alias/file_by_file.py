@@ -45,18 +45,21 @@ class Files:
         try:
             return self.tool.run(call.words("--output"), data, [*call.passwords, *call.new], call.new_label)
         except Refused as fault:
-            refusal = fault
-        # Other statuses say nothing of the vault.
-        if refusal.status == 1 and call.args.command != ENCRYPT:
-            self._explain(data)
-        raise refusal
+            # Other statuses say nothing of the vault.
+            if fault.status == 1 and call.args.command != ENCRYPT:
+                self._explain(data)
+            raise
 
     def _explain(self, vault: bytes) -> None:
         """Raises Refused with what the tool does not say: what was tried, that the vault is damaged, or that the label
         alone is the reason."""
-        decrypted = self.tool.decrypt(vault, self.call.passwords, self.call.policy)
-        if self.call.args.command == REKEY:
-            decrypted.require_label()
+        try:
+            decrypted = self.tool.decrypt(vault, self.call.passwords, self.call.policy)
+            if self.call.args.command == REKEY:
+                decrypted.require_label()
+        except Refused as reason:
+            # It takes the place of the tool's message.
+            raise reason from None
 
 
 def run_to_output(companion: str, call: Call, reads_input: bool) -> int:
