@@ -170,7 +170,7 @@ SENTENCES = [
     ("hook", r"takes at most (\d+) s of processor time and (\d+) MB of memory", "SECONDS MEGABYTES"),
     ("hook", r"compares up to (\d+) removed files", "MOST_RENAMES"),
     ("hook", r"git ignores lines of ([\d,]+) bytes or more", "LINE_IGNORED"),
-    ("merge", r"versions may have (\d+) MiB together, as vaults with (\d+) MiB of", "VERSIONS_MIB PLAINTEXTS_MIB"),
+    ("merge", r"versions may have (\d+) MiB together, as vaults with about (\d+) MiB", "VERSIONS_MIB PLAINTEXTS_MIB"),
     ("edit", r"file with a conflict may have (\d+) MiB", "VERSIONS_MIB"),
     ("with", r"name up to (\d+) passwords", "MOST_PASSWORDS"),
 ]
