@@ -234,10 +234,10 @@ def test_bytes() -> None:
 
 # Options of git, of the prover, of other programs, and of Ansible's tool after release 2.14; and one for any option.
 OTHER_OPTIONS = """\
-    --cached --clean --filter --global --merge --no-edit --no-textconv --no-verify --ours --range-diff --stat --textconv
+    --cached --clean --continue --filter --global --merge --no-edit --no-textconv --no-verify --ours --range-diff --stat --textconv
     --theirs --verify
     --allow-holes --anew --list-axioms --mutants --only --test --hook-type --no-install-recommends --strict
-    --unshallow --wait --skip-tty-check --option
+    --unshallow --user --wait --skip-tty-check --option
 """.split()
 
 
