@@ -234,8 +234,8 @@ def test_bytes() -> None:
 
 # Options of git, of the prover, of other programs, and of Ansible's tool after release 2.14; and one for any option.
 OTHER_OPTIONS = """\
-    --cached --clean --continue --filter --global --merge --no-edit --no-textconv --no-verify --ours --range-diff --stat --textconv
-    --theirs --verify
+    --cached --clean --continue --filter --global --merge --no-edit --no-textconv --no-verify --ours --range-diff --stat
+    --textconv --theirs --verify
     --allow-holes --anew --list-axioms --mutants --only --test --hook-type --no-install-recommends --strict
     --unshallow --user --wait --skip-tty-check --option
 """.split()

@@ -54,7 +54,7 @@ BLANKS = b" \t\r\n"
 # The first word of an envelope, among characters.
 HEADER_WORD = MAGIC.decode()
 
-NO_PYYAML = "PyYAML, which reads YAML, is missing: install Debian's python3-yaml, or PyYAML with pip, but without --user"
+NO_PYYAML = "PyYAML, which reads YAML, is missing: install Debian's python3-yaml, or PyYAML with pip without --user"
 NOT_YAML = "it cannot be read as YAML: {}"
 NULL = "it has a null character"
 HALF = "it has half a character"
