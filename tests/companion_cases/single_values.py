@@ -5,7 +5,7 @@ from typing import NamedTuple
 
 import pytest
 
-from companion_cases import EDIT, TEXTCONV, Done, Place, block, sealed, silent
+from companion_cases import EDIT, TEXTCONV, Done, Place, block, sealed, silent, texts
 from companion_cases.terminal import ask
 from lib.needs import needs_pyyaml
 
@@ -169,6 +169,28 @@ def test_chosen_label(
     assert written in place.get("vars.yml"), "its line"
     check_values(place, both, (VALUES if content == FILE else {}) | {path: text})
     assert place.mode("vars.yml") == ("0o600" if content is None else "0o644")
+
+
+# What a file has, if there is one, before a new key is added.
+WITHOUT_KEY = [None, b"", b"\n", b"# a", b"# a\n", b"a: 1", b"a: 1\n\n", b"a:\n- 1\n", b"a: |\n  b\n\n"]
+WITHOUT_KEY += [content.replace(b"\n", b"\r\n") for content in WITHOUT_KEY if content and b"\n" in content]
+
+
+@pytest.mark.parametrize("content", WITHOUT_KEY, ids=repr)
+def test_new_key(place: Place, both: list[str], content: bytes | None) -> None:
+    """It is added at the end of the file, which may be empty, with the line ends of the file."""
+    (place.tree / "vars.yml").unlink()
+    if content is not None:
+        place.put("vars.yml", content)
+    words = [*both, "--encrypt-vault-id", "prod", "--value", "new", "vars.yml"]
+    silent("it is set", set_to(place, b"text", *words))
+    before, end = content or b"", b"\r\n" if b"\r\n" in (content or b"") else b"\n"
+    if before and not before.endswith(b"\n"):
+        before += end
+    after = place.get("vars.yml")
+    assert after.startswith(before + b"new: !vault |" + end), "all else stays, and the key is below it"
+    assert texts(after.removeprefix(before), "prod") == [b"text"], "the value is encrypted"
+    assert after.endswith(end) and after.count(b"\n") == after.count(end), "the line ends"
 
 
 # Most paths are refused before anything is read.

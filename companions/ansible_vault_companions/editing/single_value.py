@@ -102,8 +102,10 @@ def _tag(data: bytes, path: str, is_chosen: bool, effort: Effort) -> ParsedText:
 def _add_key(data: bytes, key: str) -> Replacement:
     """The change that adds a key at the end of a file, with an empty value."""
     spelled = key if SIMPLE_KEY.fullmatch(key) else quote_key(key)
-    end = b"" if data.endswith(b"\n") or not data else b"\n"
-    return Replacement(len(data), len(data), b'%s%s: !vault ""\n' % (end, spelled.encode(errors="surrogateescape")))
+    end = b"\r\n" if b"\r\n" in data else b"\n"
+    before = b"" if data.endswith(b"\n") or not data else end
+    line = b'%s: !vault ""%s' % (spelled.encode(errors="surrogateescape"), end)
+    return Replacement(len(data), len(data), before + line)
 
 
 def _add_tag(value: Node, path: str) -> Replacement:
