@@ -119,6 +119,31 @@ def test_editors(place: Place) -> None:
     assert place.get("vars.yml").startswith(block("old", name="other")), "its envelope stays"
 
 
+# Commands of a shell that run an editor.
+COMMANDS = [
+    "{}",
+    "X=1 {}",
+    "true; {}",
+    "true\n{}",
+    "true && {}",
+    "false || {}",
+    "true & {}",
+    "true | {}",
+    "{} < /dev/null",
+]
+COMMANDS += ["{} > ../log", "{} 2> ../log", "$(echo {})", "`echo {}`", "if true; then true; fi; {}", "{}  -x", "'{}'"]
+COMMANDS += ['f() {{ {} "$@"; }}; f', "(exit 0); {}", "exec {}", "command {}", "eval {}", "env {}"]
+
+
+@pytest.mark.parametrize("command", COMMANDS)
+def test_commands(place: Place, command: str) -> None:
+    """Whatever a shell runs is an editor. The path of the file is its last argument."""
+    place.put("all.yml", sealed("old"))
+    script = place.script('for file do :; done; sed -i s/correct/wrong/ "$file"', "editor")
+    silent("the edit", place.run(EDIT, *place.by_file("old"), "all.yml", EDITOR=command.format(script)))
+    assert decrypted("old", place.get("all.yml")) == CHANGED, "what was saved"
+
+
 # What is refused if it is typed, and why. `yaml_values.py` has what is encrypted.
 MISREAD = {
     "b: !vault\n": "line 1: b is missing after `!vault`",

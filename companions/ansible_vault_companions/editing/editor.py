@@ -14,6 +14,8 @@ VARIABLES, DEFAULT = ("ANSIBLE_EDITOR", "VISUAL", "EDITOR"), "vi"
 NO_FILE = "the editor left no file"
 # With one of these characters, a command is more than the name of a program and its arguments.
 OF_SHELL = frozenset("=;&|()<>{}`\n")
+# Words that begin a command and are the shell's own: there need be no programs of these names.
+WORDS_OF_SHELL = frozenset(("command", "eval", "exec"))
 
 
 class EditorResult(NamedTuple):
@@ -43,8 +45,13 @@ def run_editor(folder: PrivateDirectory) -> EditorResult:
 def _run_to_end(editor: str, path: str) -> int:
     """Runs the editor on a file, and returns its status."""
     # After `exec`, signals reach the editor itself. A command that needs a shell keeps it.
-    command = editor if OF_SHELL.intersection(editor) else f"exec {editor}"
+    command = editor if _needs_shell(editor) else f"exec {editor}"
     # A signal may have come before the editor is opened again. What was saved first is still there.
     with suppress(signals.Stopped):
         return processes.run_on_terminal(["sh", "-c", f'{command} "$@"', editor, path])
     return 0
+
+
+def _needs_shell(editor: str) -> bool:
+    """Whether a command is more than the name of a program and its arguments."""
+    return bool(OF_SHELL.intersection(editor) or WORDS_OF_SHELL.intersection(editor.split()[:1]))
