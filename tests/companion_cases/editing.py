@@ -7,7 +7,7 @@ from typing import NamedTuple
 import pytest
 
 from companion_cases import AWKWARD, CHANGE, CHANGED, EDIT, TEXT, Done, Place, block, decrypted, edit, ended
-from companion_cases import check_answer, envelope_of, sealed, silent, texts
+from companion_cases import check_answer, described, envelope_of, sealed, silent, texts
 
 
 @pytest.mark.parametrize("name", AWKWARD)
@@ -144,6 +144,34 @@ def test_commands(place: Place, command: str) -> None:
     assert decrypted("old", place.get("all.yml")) == CHANGED, "what was saved"
 
 
+def test_empty_text(place: Place) -> None:
+    """An editor may save nothing at all, and then the vault and the value have an empty text."""
+    place.put("all.yml", sealed("old", label="prod"))
+    silent("a vault", edit(place, ': > "$1"', *place.by_file("old"), "all.yml"))
+    assert described(place.get("all.yml")) == (b"$ANSIBLE_VAULT;1.2;AES256;prod", ("old", b"")), "it is emptied"
+
+
+def test_empty_file(place: Place) -> None:
+    """A file that is there and empty is not a new vault."""
+    place.put("all.yml", b"")
+    done = edit(place, "touch ../started", *place.by_file("old"), "--allow-empty", "all.yml")
+    ended("the edit", done, 1, "all.yml: it is not a vault, and no value in it has the tag `!vault`; ")
+    assert not (place.path / "started").exists(), "no editor is started"
+    assert place.files() == {"all.yml": b""}, "the file stays"
+
+
+def test_several_files(place: Place) -> None:
+    """One that cannot be edited keeps no other from being edited. The status is that of a failure, whichever it is."""
+    place.put("all.yml", sealed("old"))
+    for words in (["closed.yml", "all.yml"], ["all.yml", "closed.yml"]):
+        place.put("closed.yml", sealed("dev"))
+        done = edit(place, 'echo more >> "$1"', *place.by_file("old"), *words)
+        why = f"{EDIT}: closed.yml: no secret decrypts this vault"
+        assert (done.returncode, done.stdout) == (1, ""), "one is refused"
+        assert done.stderr.startswith(why) and done.stderr.count("\n") == 1, "the reason"
+    assert decrypted("old", place.get("all.yml")) == TEXT + b"more\n" * 2, "the other one is edited each time"
+
+
 # What is refused if it is typed, and why. `yaml_values.py` has what is encrypted.
 MISREAD = {
     "b: !vault\n": "line 1: b is missing after `!vault`",
@@ -152,6 +180,10 @@ MISREAD = {
     "b: !vault |-\n  x\ny\n": "line 4: it cannot be read as YAML: could not find expected ':'",
     "b: !vault x\n# c: !vault y\n": "line 2: no value follows `!vault` here",
     "b: !vault x\n  - !vault |\n  y\n  # z\n": "line 2: no value follows `!vault` here",
+    "b: !vault x\n# c: !valt\n#   y\n": "line 2: no value follows `!` here, as in a comment or a string, so line 2 ",
+    "b: !vault x\n# c: !valt y\n": "line 2: no value follows `!` here, as in a comment or a string; if it is to be ",
+    "!vault b: x\n": "line 1: this value is a list, a mapping or a key, not a string",
+    "b: !vault &c x\n": "line 1: a word after `&` is no part of the text but an anchor",
     "b: !vault x #y\n": "line 1: a text without quotes ends within the line",
     "\ufeff%TAG ! !x\n---\nb: !vault x\n": "line 1: `%TAG` may make `!vault` another tag",
     "b: !vault $ANSIBLE_VAULT_TOKEN x\n": "line 1: b begins like a vault ($ANSIBLE_VAULT), but is not one",
@@ -199,6 +231,7 @@ def test_lookalikes(place: Place, text: str) -> None:
 
 
 CLOSED = {b"\xff": "it is not UTF-8", b"$ANSIBLE_VAULT;1.1;AES256\n": "its plaintext is itself a vault"}
+CLOSED[b" \n$ANSIBLE_VAULT;1.1;AES256"] = "its plaintext is itself a vault"
 
 
 @pytest.mark.parametrize("text", CLOSED)
@@ -235,6 +268,37 @@ def test_closed_values(place: Place, closed: bytes, why: str) -> None:
     assert own == closed, "the value stays as it is"
     assert [texts(part, "old") for part in (before, after)] == [[b"B"], [b"C"]], "the others are encrypted"
     assert place.copies() == [], "nothing is kept elsewhere"
+
+
+def test_each_closed_value(place: Place) -> None:
+    """Each is named, in a line of its own on standard error."""
+    place.put("vars.yml", b"".join(block(password, name=password) for password in ("dev", "old", "prod")))
+    done = edit(place, "true", *place.by_file("old"), "vars.yml")
+    why = "stays encrypted: no secret decrypts this vault (label default; tried "
+    *lines, last = done.stderr.splitlines()
+    assert (done.returncode, done.stdout) == (0, ""), "nothing is on standard output"
+    assert [line.partition(why)[0] for line in lines] == [
+        f"{EDIT}: vars.yml: line {line}: {name} " for line, name in ((2, "dev"), (2 + 2 * len(BLOCK_LINES), "prod"))
+    ], "the values that stay encrypted"
+    assert last.startswith(f"{EDIT}: vars.yml: {UNCHANGED}"), "nothing was changed"
+
+
+BLOCK_LINES = block("old").splitlines()
+
+
+def test_pasted_envelopes(place: Place) -> None:
+    """A whole envelope that is typed stays, whatever its password. One that is damaged is refused."""
+    before, pasted = block("old"), block("dev", label="dev", name="pasted")
+    place.put("vars.yml", before)
+    place.put("../pasted", pasted)
+    paste = 'cat ../pasted >> "$1"'
+    silent("a whole one", edit(place, paste, *place.by_file("old"), "vars.yml"))
+    assert place.get("vars.yml") == before + pasted, "it stays"
+    place.put("vars.yml", before)
+    place.put("../pasted", pasted[:-30] + b"\n")
+    done = edit(place, paste, *place.by_file("old"), "vars.yml")
+    ended("a damaged one", done, 1, "pasted begins like a vault ($ANSIBLE_VAULT), but is not one")
+    assert place.get("vars.yml") == before, "the file stays"
 
 
 class Item(NamedTuple):
