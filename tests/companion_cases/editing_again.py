@@ -4,8 +4,8 @@ from typing import NamedTuple
 
 import pytest
 
-from companion_cases import CHANGE, CHANGED, EDIT, TEXT, Done, Place, block, decrypted, edit, ended, sealed, silent
-from companion_cases import texts
+from companion_cases import CHANGE, CHANGED, EDIT, TEXT, TEXTCONV, Done, Place, block, check_answer, decrypted, edit
+from companion_cases import ended, sealed, silent, texts
 from companion_cases.terminal import READING, ask
 from lib.needs import needs, needs_pyyaml
 
@@ -42,6 +42,8 @@ class End(NamedTuple):
 ENDS = {
     "mended": End(later=MEND, typed=[YES], status=0, why=""),
     "no answer, later": End(later=":", typed=[YES, YES, b"\x04"], status=1, why=NO_YAML),
+    "no": End(later=":", typed=[b"no\n"], status=1, why=NO_YAML),
+    "no, after another word": End(later=":", typed=[b"maybe\n", b"no\n"], status=1, why=NO_YAML),
     "an interrupt": End(later=":", typed=[b"\x03"], status=130, why=NO_YAML),
     "the editor fails": End(later="exit 3", typed=[YES], status=1, why="status 3"),
 }
@@ -96,6 +98,54 @@ def test_resumed(place: Place) -> None:
     assert place.kept() == [TYPED], "the copy that was taken up is gone"
     assert place.names() == [name], "no file is left beside it"
     assert place.left() == [], "no plaintext is left"
+
+
+NEWEST, OLDER = "--resume reopens it", "`ansible-vault-textconv` shows it"
+
+
+def test_several_copies(place: Place) -> None:
+    """All are named, the newest first, with what opens each."""
+    place.put("a.yml", sealed("old"))
+    words = [*place.by_file("old"), "a.yml"]
+    copies: list[str] = []
+    for number in range(4):
+        edit(place, f'echo {number} > "$1"; exit 3', *words)
+        [new] = {str(path) for path in place.copies()} - {*copies}
+        copies = [new, *copies]
+    told = [f"{EDIT}: a.yml: an earlier edit is encrypted in {copy}; " for copy in copies]
+    done = edit(place, "true", *words)
+    assert done.stderr.splitlines()[:-1] == [told[0] + NEWEST, *(line + OLDER for line in told[1:])], "all of them"
+    done = edit(place, 'cp "$1" ../seen; echo more >> "$1"', "--resume", *words)
+    check_answer("the newest", done, errors="".join(f"{line}{OLDER}\n" for line in told[1:]))
+    assert place.get("../seen") == b"3\n", "what the editor shows"
+    assert decrypted("old", place.get("a.yml")) == b"3\nmore\n", "what was saved"
+    assert sorted(place.kept()) == [b"0\n", b"1\n", b"2\n"], "the others stay"
+    shown = place.run(TEXTCONV, *place.by_file("old"), copies[1])
+    assert shown.stdout.endswith("\n2\n"), "an older one is shown"
+
+
+# A file, if there is one, and what is saved in it.
+KEPT: dict[str, tuple[bytes | None, bytes]] = {
+    "an empty text": (sealed("old"), b""),
+    "a new vault": (None, b"new\n"),
+    "what is no UTF-8": (sealed("old"), b"\xff\0"),
+}
+
+
+@pytest.mark.parametrize("before, saved", KEPT.values(), ids=KEPT)
+def test_each_text(place: Place, before: bytes | None, saved: bytes) -> None:
+    """Whatever is saved is kept, and taken up from there."""
+    if before is not None:
+        place.put("a.yml", before)
+    place.put("../saved", saved)
+    words = [*place.by_file("old"), "a.yml"]
+    ended("a failure", edit(place, 'cp ../saved "$1"; exit 3', *words), 1, "--resume reopens it")
+    assert place.kept() == [saved], "what was saved is kept"
+    assert place.files() == ({} if before is None else {"a.yml": before}), "the file stays"
+    silent("it is taken up", edit(place, 'cp "$1" ../seen; echo more >> "$1"', "--resume", *words))
+    assert place.get("../seen") == saved, "what the editor shows"
+    assert decrypted("old", place.get("a.yml")) == saved + b"more\n", "what was saved then"
+    assert place.copies() == [], "no copy is left"
 
 
 def test_resumed_beside_a_swap_file(place: Place) -> None:

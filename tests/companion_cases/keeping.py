@@ -51,6 +51,7 @@ def fail(question):
 prompts.ask_consent = fail
 """
 )
+GONE = UNASKED.replace('ValueError("no answer")', 'OSError(5, "no terminal")')
 FULL = """
 write = replacing.write_new
 def full(folder, *words, **options):
@@ -95,6 +96,7 @@ STOPS = {
         editor=CHANGE, change=UNWRITTEN, why="no memory to write", how=SEALED, stays=STAYS
     ),
     "an exception of a question": Stop(editor=CHANGE, change=UNASKED, why="no answer", how=PLAIN, stays=STAYS),
+    "a terminal that is gone": Stop(editor=CHANGE, change=GONE, why="too deep", how=SEALED, stays=STAYS),
     "a full disk": Stop(editor=CHANGE, change=FULL, why="no space", how=SEALED, stays=STAYS),
     "no memory to read it": Stop(editor=CHANGE, change=UNREAD, why="no memory to read", how=PLAIN, stays=STAYS),
     "no vault": Stop(
@@ -268,6 +270,10 @@ LEFTOVERS = {
     "what was not saved": Leftover(editor=f'echo typed > "${{1%/*}}/.all.yml.swp"; {KILLED}', names=".all.yml.swp"),
     "what was not saved, beside what was": Leftover(
         editor=f'{CHANGE}; cp "$1" "$1~"; echo typed > "$1.save"', names="all.yml.save"
+    ),
+    "several texts": Leftover(
+        editor=f'{CHANGE}; for name in c a b; do echo typed > "$1.$name"; done',
+        names="all.yml.a, all.yml.b, all.yml.c",
     ),
     "an empty file": Leftover(editor=f'{CHANGE}; : > "$1.lock"', names=""),
     "a link to nothing": Leftover(editor=f'{CHANGE}; ln -s nothing "$1.link"', names=""),

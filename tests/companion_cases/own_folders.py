@@ -18,7 +18,7 @@ from hypothesis import strategies as st
 
 from ansible_vault_companions.editing.own_folder import require_own_folder
 from ansible_vault_companions.editing.private_directory import FOLDER_PREFIX
-from companion_cases import CHANGE, CHANGED, EDIT, NOBODY, Place, decrypted, ended, run_changed, sealed
+from companion_cases import CHANGE, CHANGED, EDIT, NOBODY, Place, decrypted, ended, run_changed, sealed, silent
 from lib.needs import needs, needs_root
 
 # Another user, and a group that this one is in.
@@ -266,6 +266,39 @@ def test_others(place: Place, name: str) -> None:
     used = fail_in(place, where, ["sh", "-c", f'umask {umask}; exec "$@"', "sh"])
     assert used == Used(has_plaintext=False, has_copy=has_copy)
     assert len(place.copies()) == (name == "../runtime"), "the usual directory has the copy"
+
+
+UNLISTED = """
+list_folder = os.listdir
+def fail(path):
+    if path.endswith("/ansible-vault"):
+        raise PermissionError(13, "no list", path)
+    return list_folder(path)
+os.listdir = fail
+"""
+
+
+def test_copies_that_cannot_be_listed(place: Place) -> None:
+    """An edit goes on without them, and with --resume, the message says why it does not."""
+    (place.path / ".local/state/ansible-vault").mkdir(0o700, parents=True)
+    place.put("all.yml", sealed("old"))
+    words = [*place.by_file("old"), "all.yml"]
+    done = run_changed(place, EDIT, UNLISTED, [*words, "--resume"], EDITOR=place.script(CHANGE, "editor"))
+    ended("resumed", done, 1, f"{EDIT}: all.yml: {place.path}/.local/state/ansible-vault: no list\n")
+    silent("an edit", run_changed(place, EDIT, UNLISTED, words, EDITOR=place.script(CHANGE, "editor")))
+    assert decrypted("old", place.get("all.yml")) == CHANGED, "what was saved"
+
+
+def test_relative_home(place: Place) -> None:
+    """A relative home directory may lead into a stranger's, so no copy is kept there, and none is looked for."""
+    place.put("all.yml", sealed("old"))
+    words = [EDIT, *place.by_file("old"), "all.yml"]
+    done = place.run(*words, EDITOR=place.script(FAIL, "editor"), HOME="home")
+    why = "an encrypted copy cannot be kept: home/.local/state is relative; set XDG_STATE_HOME to an absolute path; "
+    ended("the edit", done, 1, why, "what you saved is left in plaintext in ")
+    done = place.run(*words, "--resume", EDITOR="true", HOME="home")
+    ended("resumed", done, 1, "home/.local/state is relative")
+    assert place.names() == ["all.yml"], "no directory is made"
 
 
 # Mounts a file system, and fills it.
