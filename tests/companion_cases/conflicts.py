@@ -2,9 +2,10 @@
 
 import pytest
 
-from companion_cases import Place, block, decrypted, edit, ended, sealed, texts
-from companion_cases.repository import fork, under_git
+from companion_cases import PASSWORDS, TEXT, Place, block, decrypted, edit, ended, sealed, texts
+from companion_cases.repository import SALTS, fork, under_git
 from lib.needs import needs_pyyaml
+from model.vaults import seal, yaml_block
 
 pytestmark = pytest.mark.usefixtures("git")
 
@@ -55,11 +56,66 @@ def test_long_markers(place: Place) -> None:
     assert place.get("a.yml") == before, "the file stays"
 
 
+# Lines like a marker, which the text of either side has by itself.
+LIKE_MARKERS = [b"<<<<<<< x\n", b"||||||| x\n", b"=======\n", b">>>>>>> x\n"]
+
+
+@pytest.mark.parametrize("line", LIKE_MARKERS, ids=repr)
+@pytest.mark.parametrize("number", (0, 1), ids=("ours", "theirs"))
+def test_lines_like_markers(place: Place, line: bytes, number: int) -> None:
+    """A line that one of the sides has is no marker that is left."""
+    sides = [b"x: ours\n", b"x: theirs\n"]
+    sides[number] += line + b"y: 1\n"
+    place.put("a.yml", both(*(sealed("old", side) for side in sides)))
+    place.put("../chosen", sides[number])
+    ended("the edit", edit(place, 'cp ../chosen "$1"', *place.by_file("old"), "a.yml"), 0)
+    assert place.get("a.yml") == sealed("old", sides[number]), "the vault of the side"
+
+
+def both(ours: bytes, theirs: bytes) -> bytes:
+    """Return a conflict of two files."""
+    return b"<<<<<<< ours\n%s=======\n%s>>>>>>> theirs\n" % (ours, theirs)
+
+
+@pytest.mark.parametrize("sides", ((block("old"), b""), (b"", block("old"))), ids=("ours", "theirs"))
+def test_one_empty_side(place: Place, sides: tuple[bytes, bytes]) -> None:
+    """A value that one of the sides has removed, with all else, is shown between the markers until one is chosen."""
+    needs_pyyaml()
+    before, words = both(*sides), [*place.by_file("old"), "a.yml"]
+    place.put("a.yml", before)
+    ended("no choice", edit(place, 'cp "$1" ../seen', *words), 1, STILL)
+    shown = b"secret: !vault |\n  %s" % TEXT
+    assert place.get("../seen") == both(*(shown if side else b"" for side in sides)), "what the editor shows"
+    assert place.get("a.yml") == before, "the file stays"
+    ended("a choice", edit(place, "sed -i '/^[<=>]\\{7\\}/d' \"$1\"", *words), 0)
+    assert place.get("a.yml") == block("old"), "the value keeps its envelope"
+
+
+@pytest.mark.parametrize("sides", ((sealed("old"), TEXT), (TEXT, sealed("old"))), ids=("ours", "theirs"))
+def test_one_vault(place: Place, sides: tuple[bytes, bytes]) -> None:
+    """If only one of the sides is a vault, git is to take one."""
+    place.put("a.yml", both(*sides))
+    done = edit(place, "touch ../started", *place.by_file("old"), "a.yml")
+    ended("the edit", done, 1, "one side is a vault and the other is not; take one with `git checkout --ours -- ")
+    assert not (place.path / "started").exists(), "no editor is started"
+    assert place.get("a.yml") == both(*sides), "the file stays"
+
+
 def test_merged_texts(place: Place) -> None:
     """Two vaults whose texts git can merge become one, even if the editor changes nothing."""
     merge(place, [sealed("old", text) for text in (LINES, b"x: ours\n" + LINES, LINES + b"y: theirs\n")])
     ended("no change", edit(place, "true", *place.by_file("old"), "a.yml"), 0)
     assert decrypted("old", place.get("a.yml")) == b"x: ours\n" + LINES + b"y: theirs\n"
+
+
+def test_merged_values(place: Place) -> None:
+    """Where the sides have one text in two envelopes, nothing is left to choose, even if the editor changes nothing."""
+    needs_pyyaml()
+    sides = [yaml_block(seal(PASSWORDS["old"], b"one text", b"", salt), b"secret") for salt in SALTS[:2]]
+    merge(place, [block("old"), *sides])
+    ended("no change", edit(place, 'cp "$1" ../seen', *place.by_file("old"), "a.yml"), 0)
+    assert place.get("../seen") == b"secret: !vault |-\n  one text\n", "what the editor shows"
+    assert place.get("a.yml") == sides[0], "the value of a side"
 
 
 def test_other_passwords(place: Place) -> None:
