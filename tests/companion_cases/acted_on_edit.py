@@ -90,6 +90,14 @@ ROWS = {
         act=write_advice("b{} x\n"),
         plaintexts=[b"x"],
     ),
+    "closed values": Row(
+        fault=written(block("prod")),
+        command=EDIT_BY_OLD,
+        advice=r"the new ones with (--\S+)",
+        act=run_with_advice(rf"{EDIT_BY_OLD} \1 default"),
+        plaintexts=[b"x", TEXT],
+        editor=TYPE_VALUE.format("x"),
+    ),
     "no text": Row(
         fault=written(block("old")),
         command=EDIT_BY_OLD,

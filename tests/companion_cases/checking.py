@@ -58,6 +58,7 @@ INVALID = [
     (EDIT, f"{OLD} --new-vault-id x@y a.yml"),
     (EDIT, f"{OLD} --vault-i x a.yml"),
     (EDIT, f"{OLD} --value x a.yml b.yml"),
+    (EDIT, f"{OLD} --value x --resume a.yml"),
     (HOOK, "--all --install"),
     (MERGE, ""),
     (ROTATE, f"{OLD} ."),

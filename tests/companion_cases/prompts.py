@@ -4,7 +4,7 @@ from typing import NamedTuple
 import pytest
 
 from companion_cases import EDIT, FOUND, PASSWORDS, ROTATE, TEXT, WITH, Place, block, decrypted, described, sealed
-from companion_cases.terminal import FOR_ANSIBLE, READY, SHELL, Session, ask
+from companion_cases.terminal import FOR_ANSIBLE, READING, READY, SHELL, Session, ask
 from lib.needs import needs_ansible
 
 ASKED, AGAIN = "Vault password: ", "Confirm New Vault password: "
@@ -126,6 +126,21 @@ def test_what_only_encrypts(place: Place, what: str, is_mistyped: bool) -> None:
         assert place.get("a.yml") == before, "nothing is changed"
     else:
         assert (session.returncode, header, found and found[0]) == (0, wanted, "prod"), session
+
+
+def test_label_of_a_new_vault(place: Place) -> None:
+    """It is asked for once, as for a new value. Of two passwords with one label, a label chooses none."""
+    editor = place.script('echo new > "$1"', "editor")
+    words = [*READING, EDIT, *place.by_id("dev", "dev"), *place.by_id("prod", "prod"), "new.yml"]
+    answers = [("Label to encrypt the new vault with (dev, prod): ", b"prod\n")]
+    session = ask(place, *words, answers=answers, EDITOR=editor)
+    assert session.returncode == 0, session
+    assert described(place.get("new.yml")) == (b"$ANSIBLE_VAULT;1.2;AES256;prod", ("prod", b"new\n")), "the new vault"
+    words = [*READING, EDIT, *place.by_id("prod", "dev"), *place.by_id("prod", "prod"), "other.yml"]
+    session = ask(place, *words, answers=[("", b"\x04")], EDITOR="touch started")
+    assert session.returncode == 1, session
+    assert session.stderr == f"{EDIT}: other.yml: the vault is new; choose its password with --encrypt-vault-id\n"
+    assert place.names() == ["new.yml"], "no editor is started, and no other vault is made"
 
 
 @pytest.mark.parametrize("words, key, status", (([EDIT], b"\x03", 130), ([WITH, "view"], b"\x1c", 131)))

@@ -1,13 +1,16 @@
 """One value of YAML for scripts: `ansible-vault-textconv --value` writes it, `ansible-vault-edit --value` sets it."""
 
 import os
+import subprocess
+from pathlib import Path
 from typing import NamedTuple
 
 import pytest
 
-from companion_cases import EDIT, TEXTCONV, Done, Place, block, sealed, silent, texts
+from companion_cases import EDIT, TEXTCONV, Done, Place, block, described, sealed, silent, texts, wait_until
 from companion_cases.terminal import ask
 from lib.needs import needs_pyyaml
+from lib.processes import SECONDS, started
 
 ANY_BYTES = b"\x00\xff\r\n two \n\n"
 FILE = (
@@ -39,6 +42,9 @@ NOT_SHOWN = [
         path="pw",
         why='no value pw; encrypted here: db_password, app.users[0].pw, "a.b \\"c\\\\d\\""[0].x',
     ),
+    # As if a variable of the shell were empty.
+    NotShown(content=FILE, path="", why="there is no value ; encrypted here: db_password, "),
+    NotShown(content=VAULT, path="", why="there is no value ; encrypted here: x\n"),
     NotShown(content=FILE, path="app.plain", why="app.plain is not encrypted"),
     NotShown(
         content=block("dev", b"one", "dev", "a") * 2,
@@ -193,6 +199,48 @@ def test_new_key(place: Place, both: list[str], content: bytes | None) -> None:
     assert after.endswith(end) and after.count(b"\n") == after.count(end), "the line ends"
 
 
+def test_any_label(place: Place, both: list[str]) -> None:
+    """With --any-label, a value keeps its label and the password that opens it, whatever label that has."""
+    place.put("vars.yml", block("dev", b"one", "prod", "a"))
+    silent("it is set", set_to(place, b"two", *both, "--any-label", "--value", "a", "vars.yml"))
+    assert described(place.get("vars.yml")) == (b"$ANSIBLE_VAULT;1.2;AES256;prod", ("dev", b"two")), "the value"
+
+
+def test_path_without_utf8(place: Place, both: list[str]) -> None:
+    """A path that is no UTF-8 leads nowhere, and adds no key."""
+    for words in ([TEXTCONV, *both], [EDIT, *both], [EDIT, *both, "--encrypt-vault-id", "prod"]):
+        done = place.run(*words, "--value", "\udcff", "vars.yml")
+        assert (done.returncode, done.stdout) == (1, ""), "it is refused"
+        assert (
+            done.stderr.startswith(f"{words[0]}: vars.yml: there is no ") and "'\\udcff'" in done.stderr
+        ), "the reason"
+    assert place.get("vars.yml") == FILE, "the file stays"
+
+
+# The numbers of the system calls that wait for several descriptors.
+SELECTS = ("23", "270")
+
+
+def test_slow_input(place: Place, both: list[str]) -> None:
+    """The whole text counts, even if another program has set standard input not to wait for it."""
+    reader, writer = os.pipe()
+    os.set_blocking(reader, False)
+    words = [EDIT, *both, "--value", "db_password", "vars.yml"]
+    with started(words, stdin=reader, stderr=subprocess.PIPE, cwd=place.tree, env=place.environment) as process:
+        os.close(reader)
+        for part in (b"one", b" two"):
+            wait_until(lambda: is_waiting(process.pid) or process.poll() is not None, "the companion's input")
+            os.write(writer, part)
+        os.close(writer)
+        assert (process.communicate(timeout=SECONDS)[1], process.returncode) == (b"", 0), "it is set"
+    check_values(place, both, VALUES | {"db_password": b"one two"})
+
+
+def is_waiting(number: int) -> bool:
+    """Whether a process waits for its standard input."""
+    return Path(f"/proc/{number}/syscall").read_text().split()[0] in SELECTS
+
+
 # Most paths are refused before anything is read.
 NEVER = "<> ../never"
 
@@ -211,6 +259,11 @@ REFUSED = [
         words="--encrypt-vault-id prod --value app.users vars.yml",
         why="app.users is a list, a mapping or an alias",
     ),
+    Refusal(standard_input=NEVER, words="--value '' vars.yml", why="there is no value ; encrypted here: "),
+    Refusal(standard_input=NEVER, words="--value '' --encrypt-vault-id prod vars.yml", why="there is no value ;"),
+    Refusal(standard_input=NEVER, words="--value a missing.yml", why="missing.yml: No such file or directory"),
+    Refusal(standard_input=NEVER, words="--value a empty.yml", why="empty.yml: there is no value a\n"),
+    Refusal(standard_input=NEVER, words="--value a conflict.yml", why="conflict.yml: it has git's conflict markers\n"),
     Refusal(standard_input="< /dev/null", words="--value a relabelled.yml", why="its label is prod, but dev@"),
     Refusal(
         standard_input=NEVER,
@@ -231,6 +284,9 @@ def test_refused(place: Place, both: list[str], standard_input: str, words: str,
     place.put("vault.yml", VAULT)
     place.put("relabelled.yml", block("dev", b"one", "prod", "a"))
     place.put("../long", bytes((1 << 24) + 1))
+    place.put("empty.yml", b"")
+    place.put("conflict.yml", b"<<<<<<< ours\na: 1\n=======\na: 2\n>>>>>>> theirs\n")
+    place.environment["EDITOR"] = "touch started"
     before = place.files()
     line = f"{EDIT} {' '.join(both)} {words} {standard_input}"
     session = ask(place, "sh", "-c", line, answers=[("", b"\x04")])
