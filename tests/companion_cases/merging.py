@@ -1,14 +1,17 @@
 """ansible-vault-merge as git runs it. What cannot be merged is a conflict of whole envelopes in the file."""
 
 import itertools
+import re
 from collections import Counter
 from collections.abc import Sequence
 from pathlib import Path
+from typing import NamedTuple
 
 import pytest
 
-from companion_cases import CONFLICT, EDIT, FOUND, MERGE, PASSWORDS, Place, block, decrypted, ended, sealed, silent
-from companion_cases import versions
+from ansible_vault_companions.envelopes.conflicts import OURS_MARKER, THEIRS_MARKER, join_sides, split_sides
+from companion_cases import CONFLICT, EDIT, FOUND, MERGE, PASSWORDS, Place, block, decrypted, described, ended
+from companion_cases import run_changed, sealed, silent, versions
 from companion_cases.random_merges import Model, Value, common
 from companion_cases.repository import BASE, BOTH, OURS, SALTS, THEIRS, fork, repository, set_driver, under_git
 from model.vaults import seal, yaml_block
@@ -16,6 +19,8 @@ from model.vaults import seal, yaml_block
 pytestmark = pytest.mark.usefixtures("git")
 
 WHOLE = "not merged, so both sides are whole in the file: "
+# Enough lines between two changes for git to take them for two conflicts.
+STAYS = b"stays: 1\n" * 5
 
 
 def both(sides: Sequence[bytes], size: int = 7) -> bytes:
@@ -132,6 +137,231 @@ def test_chosen_secret(place: Place) -> None:
     ended("neither is chosen", place.run(MERGE, "--encrypt-vault-id", "prod", *words), CONFLICT, why)
 
 
+FALSE_LABEL = [seal(PASSWORDS["dev"], text, b"prod", salt) for text, salt in zip((b"a", b"b", b"b"), SALTS)]
+
+
+def test_any_label(place: Place) -> None:
+    """The option accepts a password with another label than the vault or the value, which keeps its own."""
+    secrets = [*place.by_id("dev", "dev"), *place.by_id("prod", "prod")]
+    vaults = [sealed("dev", text, "prod") for text in (BASE, OURS, THEIRS)]
+    # Both sides have changed it to the same text.
+    files = {"vault.yml": vaults, "value.yml": [yaml_block(envelope, b"a") for envelope in FALSE_LABEL]}
+    whys = {"vault.yml": "its label is prod, but dev@", "value.yml": "value.yml: 1 conflict; "}
+    for name, contents in files.items():
+        words = [*secrets, *versions(place, name, *contents)]
+        ended("without it", place.run(MERGE, *words), CONFLICT, whys[name])
+        place.put(name, contents[1])
+        silent("with it", place.run(MERGE, "--any-label", *words))
+    assert described(place.get("vault.yml")) == (b"$ANSIBLE_VAULT;1.2;AES256;prod", ("dev", BOTH)), "the vault"
+    assert described(place.get("value.yml")) == (b"$ANSIBLE_VAULT;1.2;AES256;prod", ("dev", b"b")), "the value"
+
+
+class Chosen(NamedTuple):
+    """The label of two values, their passwords in each version, and in the result; empty if there is a conflict."""
+
+    label: str
+    base: list[str]
+    ours: list[str]
+    theirs: list[str]
+    result: list[str]
+
+
+MIXED = ["prod", "prod2"]
+CHOSEN = {
+    "two rotations": Chosen("prod", ["old"] * 2, ["prod"] * 2, ["prod2"] * 2, result=["prod"] * 2),
+    "two rotations, reversed": Chosen("prod", ["old"] * 2, ["prod2"] * 2, ["prod"] * 2, result=["prod"] * 2),
+    "two rotations of another label": Chosen("dev", ["old"] * 2, ["prod"] * 2, ["prod2"] * 2, result=[]),
+    "two passwords of both sides": Chosen("prod", MIXED, MIXED, MIXED, result=MIXED),
+    "one password of both sides": Chosen("prod", ["prod2"] * 2, ["prod2"] * 2, ["prod2"] * 2, result=["prod2"] * 2),
+}
+
+
+@pytest.mark.parametrize("row", CHOSEN.values(), ids=CHOSEN)
+def test_chosen_secret_of_values(place: Place, row: Chosen) -> None:
+    """The option counts for values with its label alone, and only if the sides have different passwords."""
+    texts_of = {"base": (b"a", b"b"), "ours": (b"A", b"b"), "theirs": (b"a", b"B")}
+    contents = []
+    for side, passwords in zip(texts_of, (row.base, row.ours, row.theirs)):
+        first, second = (
+            block(password, text, row.label, name)
+            for password, text, name in zip(passwords, texts_of[side], ("first", "second"))
+        )
+        contents.append(first + STAYS + second)
+    # Other labels of the passwords, so that each is the only one of its label.
+    secrets = [word for name in ("old", "prod", "prod2") for word in place.by_id(name, name)]
+    words = ["--any-label", "--encrypt-vault-id", "prod", *secrets, *versions(place, "a.yml", *contents)]
+    done = place.run(MERGE, *words)
+    if not row.result:
+        ended("the merge", done, CONFLICT, "a.yml: 2 conflicts; ")
+        return
+    silent("the merge", done)
+    header = f"$ANSIBLE_VAULT;1.2;AES256;{row.label}".encode()
+    wanted = [(header, (password, text)) for password, text in zip(row.result, (b"A", b"B"))]
+    found = [described(part) for part in place.get("a.yml").split(STAYS)]
+    assert found == wanted, "the labels, the passwords and the texts"
+
+
+# The passwords of a vault in each version, by that of the result.
+AGREED = {"prod": ["prod", "prod", "prod"], "prod2": ["prod", "prod2", "prod"], "new": ["prod", "prod", "new"]}
+
+
+@pytest.mark.parametrize("password", AGREED)
+def test_chosen_secret_of_no_use(place: Place, password: str) -> None:
+    """The option does not count for a vault of which both sides have one password, or one side has rotated it."""
+    secrets = [word for name in ("prod", "prod2", "new") for word in place.by_id("prod", name)]
+    vaults = [sealed(name, text, "prod") for name, text in zip(AGREED[password], (BASE, OURS, THEIRS))]
+    words = [*secrets, *place.by_id("dev", "dev"), *versions(place, "a.yml", *vaults)]
+    silent("the merge", place.run(MERGE, "--encrypt-vault-id", "dev", *words))
+    assert described(place.get("a.yml")) == (b"$ANSIBLE_VAULT;1.2;AES256;prod", (password, BOTH)), "what is merged"
+
+
+def test_plaintext_as_base(place: Place) -> None:
+    """Both sides have encrypted the file since then."""
+    words = versions(place, "a.yml", BASE, sealed("old", OURS), sealed("old", THEIRS))
+    silent("the merge", place.run(MERGE, *place.by_file("old"), *words))
+    assert decrypted("old", place.get("a.yml")) == BOTH, "both changes are in the vault"
+
+
+@pytest.mark.parametrize("texts", itertools.product((b"", b"a", b"a\n", b"a\r\n", b"a\r\nb"), repeat=2), ids=repr)
+def test_both_sides(texts: tuple[bytes, bytes]) -> None:
+    """A conflict of two whole files has every byte of them, and the line ends of ours. An empty one has no line."""
+    joined = join_sides(*texts)
+    end = b"\r\n" if b"\r\n" in texts[0] else b"\n"
+    ours, theirs = (text if text[-1:] in (b"", b"\n") else text + end for text in texts)
+    assert joined == b"<<<<<<< ours%s%s=======%s%s>>>>>>> theirs%s" % (end, ours, end, theirs, end)
+    assert split_sides(joined) == {OURS_MARKER: ours, THEIRS_MARKER: theirs}, "what an edit takes for the sides"
+
+
+class Layout(NamedTuple):
+    """The lines of a value, where %s is for its envelope, the bytes in each of its lines, and those around all."""
+
+    value: bytes
+    margin: bytes = b""
+    end: bytes = b"\n"
+    before: bytes = b""
+    after: bytes = b"z: 1\n"
+
+    def lay_out(self, envelope: bytes) -> bytes:
+        lines = (self.margin + line for line in envelope.splitlines())
+        return self.value % self.end.join(lines)
+
+    def file(self, envelope: bytes) -> bytes:
+        return self.before + self.lay_out(envelope) + self.after
+
+
+LAYOUTS = {
+    "a block": Layout(b"a: !vault |\n%s\n", b"          "),
+    "a block further left": Layout(b"a: !vault |-\n%s\n", b" "),
+    "an item": Layout(b"- !vault |\n%s\n", b"          ", before=b"l:\n"),
+    "other line ends": Layout(b"a: !vault |\r\n%s\r\n", b"   ", b"\r\n", after=b"z: 1\r\n"),
+    "quotes": Layout(b'a: !vault "%s\\n"\n', end=b"\\n"),
+    "JSON": Layout(b'"a": {"__ansible_vault": "%s\\n"},\n', end=b"\\n", before=b"{\n", after=b'"z": 1\n}\n'),
+    "a comment": Layout(b"%s\n", b"  # "),
+    "a comment with a tab": Layout(b"%s\n", b"\t#"),
+    "a script": Layout(b"%s\n", before=b"cat <<END\n", after=b"END\n"),
+}
+
+
+@pytest.mark.parametrize("layout", LAYOUTS.values(), ids=LAYOUTS)
+def test_layouts(place: Place, layout: Layout) -> None:
+    """Wherever an envelope is, one with a side's change and the other side's new password takes its place, and two
+    changes are a conflict of the whole envelopes."""
+    base, ours, theirs, rotated = (
+        sealed(*each) for each in (("old", b"base"), ("old", b"ours"), ("old", b"theirs"), ("new", b"base"))
+    )
+    secrets = [*place.by_file("old"), *place.by_file("new")]
+    words = versions(place, "a.yml", *(layout.file(each) for each in (base, ours, rotated)))
+    silent("a change and a rotation", place.run(MERGE, *secrets, *words))
+    after = place.get("a.yml")
+    [found] = re.findall(rb"\$ANSIBLE_VAULT;1\.1;AES256(?:(?:\\n|[\s#])+[0-9a-f]+)+", after)
+    envelope = b"".join(line + b"\n" for line in re.split(rb"[\s#]+", found.replace(b"\\n", b"\n")))
+    assert decrypted("new", envelope) == b"ours", "the text of a side under the password of the other one"
+    assert after == layout.file(envelope), "it is where the old one was"
+    words = versions(place, "b.yml", *(layout.file(each) for each in (base, ours, theirs)))
+    ended("two changes", place.run(MERGE, *secrets, *words), CONFLICT, "b.yml: 1 conflict; ")
+    end = b"\r\n" if layout.end == b"\r\n" else b"\n"
+    sides = (layout.lay_out(ours), end, layout.lay_out(theirs))
+    conflict = b"<<<<<<< ours%s%s=======%s%s>>>>>>> theirs%s" % (end, *sides, end)
+    assert place.get("b.yml") == layout.before + conflict + layout.after, "both are whole"
+
+
+# Those in lines of their own, which other values may follow at once.
+IN_LINES = [what for what in LAYOUTS if LAYOUTS[what].end != b"\\n"]
+
+
+@pytest.mark.parametrize("what", IN_LINES)
+def test_neighbours(place: Place, what: str) -> None:
+    """Each side changes one of two values, with no line between them."""
+    layout = LAYOUTS[what]
+    values = [
+        [layout.lay_out(sealed("old", text)) for text in pair] for pair in ((b"1", b"1"), (b"2", b"1"), (b"1", b"2"))
+    ]
+    contents = [layout.before + first + second + layout.after for first, second in values]
+    silent("the merge", place.run(MERGE, *place.by_file("old"), *versions(place, "a.yml", *contents)))
+    both_changes = layout.lay_out(sealed("old", b"2")) * 2
+    assert place.get("a.yml") == layout.before + both_changes + layout.after, "both changes"
+
+
+# Ways to write one value.
+WRITTEN = {
+    "a block": block("old", b"x", name="a"),
+    "a comment": block("old", b"x", name="a").replace(b"|", b"|  # why"),
+    "an indicator": block("old", b"x", name="a").replace(b"|", b"|-"),
+    "an anchor": block("old", b"x", name="a").replace(b"!vault", b"&b !vault"),
+    "another tag": block("old", b"x", name="a").replace(b"!vault", b"!vault-encrypted"),
+    "further left": block("old", b"x", name="a").replace(b" " * 10, b"  "),
+    "quotes": b'a: !vault "%s"\n' % sealed("old", b"x").replace(b"\n", b"\\n"),
+    "other line ends": block("old", b"x", name="a").replace(b"\n", b"\r\n"),
+    "an empty line below": block("old", b"x", name="a") + b"\n",
+}
+
+
+@pytest.mark.parametrize("what", [what for what in WRITTEN if what != "a block"])
+def test_written_otherwise(place: Place, what: str) -> None:
+    """A side may only write a value otherwise. That is a change, and the other side's are merged with it."""
+    for before, after in itertools.permutations((WRITTEN["a block"], WRITTEN[what])):
+        contents = [value + STAYS + block("old", text, name="b") for value, text in ((before, b"1"), (before, b"2"))]
+        for ours, theirs in itertools.permutations((after + contents[0].removeprefix(before), contents[1])):
+            words = [*place.by_file("old"), *versions(place, "a.yml", contents[0], ours, theirs)]
+            silent(what, place.run(MERGE, *words))
+            assert place.get("a.yml") == after + contents[1].removeprefix(before), "both changes"
+
+
+# What keeps ours from being replaced, and why.
+KEPT = {
+    "a directory": ("chmod 555 folder", "folder/a.yml: {}/folder: Permission denied"),
+    "hard links": ("ln folder/a.yml folder/b.yml; chmod 777 folder", "folder/a.yml: it has 2 names (hard links)"),
+    "a directory in its place": ("rm folder/a.yml; mkdir folder/a.yml", "folder/a.yml: Is a directory"),
+}
+
+
+@pytest.mark.parametrize("line, why", KEPT.values(), ids=KEPT)
+def test_ours_that_stays(place: Place, line: str, why: str) -> None:
+    """If our version cannot be replaced, all stays, and so git has no conflict to leave in the file."""
+    words = [*place.by_file("old"), *versions(place, "folder/a.yml", *OLD)]
+    place.shell(line)
+    before = place.files()
+    done = place.as_nobody(MERGE, *words)
+    assert (done.returncode, done.stdout) == (2, ""), done
+    assert done.stderr.startswith(f"{MERGE}: {why.format(place.tree)}"), "the reason"
+    assert place.files() == before, "all stays"
+
+
+def test_refused_call(place: Place) -> None:
+    """If the system refuses something once the versions are read, both of them are whole in the file."""
+    change = """
+make = os.memfd_create
+def fail(name):
+    if name == "version":
+        raise OSError(24, "Too many open files")
+    return make(name)
+os.memfd_create = fail
+"""
+    done = run_changed(place, MERGE, change, [*place.by_file("old"), *versions(place, "a.yml", *OLD)])
+    ended("the merge", done, CONFLICT, f"{MERGE}: a.yml: {WHOLE}Too many open files; resolve with {EDIT}\n")
+    assert place.files() == {"a.yml": both(OLD[1:])}, "both are whole"
+
+
 def test_conflict_as_base(tmp_path: Path, monkeypatch: pytest.MonkeyPatch) -> None:
     """In a crossed history, the base is a merge of bases and may be a conflict, and then counts as none. Where git
     reuses a resolution, ours is that conflict, too."""
@@ -181,10 +411,6 @@ def test_copies(place: Place) -> None:
     assert {decrypted("new", each.replace(b" ", b"") + b"\n") for each in found} == {b"text"}
     assert [each == found[0] for each in found] == [n % 3 == 0 for n in range(30)], "the same are copies"
     assert len({*found}) == 2 and place.get("../runs").decode().split().count("encrypt") == 2
-
-
-# Enough lines between two changes for git to take them for two conflicts.
-STAYS = b"stays: 1\n" * 5
 
 
 def test_many_conflicts(place: Place) -> None:

@@ -44,8 +44,12 @@ def test_each_companion(place: Place) -> None:
         ended("refused", place.run(*words, "big.vault.yml", EDITOR="touch started"), 1, f"big.vault.yml: {NAMED}\n")
     assert place.get("big.vault.yml") == POINTER
     assert {"started", "out.yml"}.isdisjoint(place.names())
-    merged = place.run(MERGE, *old, *versions(place, "m.yml", POINTER, POINTER + b"a", POINTER + b"b"))
-    ended("a merge", merged, CONFLICT, f"not merged, so both sides are whole in the file: {NAMED}")
+    texts = [sealed("old", text) for text in (b"base", b"ours", b"theirs")]
+    merges = [[POINTER, POINTER + b"a", POINTER + b"b"]]
+    merges += [[POINTER if each == pointer else each for each in texts] for pointer in texts]
+    for contents in merges:
+        merged = place.run(MERGE, *old, *versions(place, "m.yml", *contents))
+        ended("a merge", merged, CONFLICT, f"not merged, so both sides are whole in the file: {NAMED}")
 
 
 def test_filters(place: Place) -> None:
