@@ -24,10 +24,21 @@ OTHER, MALFORMED = block("dev", label="x"), b"$ANSIBLE_VAULT 1.1\n"
 NO_SECRET = "shown as it is: no secret decrypts this vault"
 NO_VAULT = ": shown as it is: it is not a vault and has no encrypted value\n"
 DEEP, TOO_DEEP = b"x: %s!vault v%s\n" % (b"[" * 65, b"]" * 65), "it is nested over 64 levels\n"
+# Half a character, for which a file is first read as JSON.
+DEEP_JSON = b"[" * 100_000 + b'"!vault \\ud83d"'
 SIDES = b"<<<<<<< a\n%s=======\n%s>>>>>>> b\n" % (sealed("old", b"1\n2\n"), sealed("new", b"1\n3\n"))
 SIDES_SHOWN = b"<<<<<<< a\n1\n2\n=======\n1\n3\n>>>>>>> b\n"
 TAGGED = b"secret: !vault plain\n"
 MERGED = b"1\n<<<<<<< ours\n2\n=======\n3\n>>>>>>> theirs\n"
+CONFLICT = b"<<<<<<< a\n%s=======\n%s>>>>>>> b\n"
+# Two vaults with one header, which git leaves above the conflict; and two of which one is for another password.
+HEADER, OURS = sealed("old", b"1\n2\n").split(b"\n", 1)
+TORN = HEADER + b"\n" + CONFLICT % (OURS, sealed("new", b"1\n3\n").split(b"\n", 1)[1])
+OURS_ALONE = CONFLICT % (sealed("old", b"1\n"), sealed("dev"))
+NO_YAML = b"{% if x %}\nx: [ # `!vault`\n"
+NO_UTF_8 = block("old", b"\xff")
+COMMENT = b"".join(b"  # " + line for line in sealed("old", b"one\ntwo\n").splitlines(keepends=True))
+CR_LF = (block("old", b"one\ntwo") + block("old", b"", name="x")).replace(b"\n", b"\r\n")
 
 
 class Content(NamedTuple):
@@ -55,6 +66,18 @@ CONTENTS = {
         shown=OTHER + b"secret: !vault |2+\n   a\n\n",
         told=f":2: {NO_SECRET} (",
     ),
+    "a comment": Content(
+        content=b"a: 1\n" + COMMENT + b"b: 2\n",
+        line=line_of_values(1),
+        shown=b"a: 1\n  # one\n  # two\nb: 2\n",
+        told="",
+    ),
+    "other line ends": Content(
+        content=CR_LF, line=line_of_values(2), shown=b"secret: !vault |-\r\n  one\r\n  two\r\nx: !vault |-\r\n", told=""
+    ),
+    "no UTF-8": Content(
+        content=NO_UTF_8, line=line_of_values(1), shown=NO_UTF_8, told=":2: shown as it is: it is not UTF-8\n"
+    ),
     "another vault": Content(
         content=sealed("dev"), line=NOT_DECRYPTED, shown=sealed("dev"), told=f": {NO_SECRET} (label default; tried "
     ),
@@ -65,12 +88,25 @@ CONTENTS = {
         told=": shown as it is: it is damaged: vault header line is malformed",
     ),
     "a conflict": Content(content=SIDES, line=first_line("default"), shown=MERGED, told=""),
+    "a conflict with markers between the digits": Content(
+        content=TORN, line=first_line("default"), shown=MERGED, told=""
+    ),
+    "a conflict of which one side is decrypted": Content(
+        content=OURS_ALONE,
+        line=line_of_values(2),
+        shown=CONFLICT % (b"1\n", sealed("dev")),
+        told=f":{OURS_ALONE.splitlines().index(b'=======') + 2}: {NO_SECRET} (",
+    ),
     "a conflict that does not end": Content(
         content=SIDES + b"<<<<<<< a\n", line=line_of_values(2), shown=SIDES_SHOWN + b"<<<<<<< a\n", told=""
     ),
     "plaintext": Content(content=TEXT, line=NOT_ENCRYPTED, shown=TEXT, told=NO_VAULT),
+    "no YAML": Content(content=NO_YAML, line=NOT_ENCRYPTED, shown=NO_YAML, told=NO_VAULT),
     "a tagged plaintext": Content(content=TAGGED, line=NOT_ENCRYPTED, shown=TAGGED, told=""),
     "what is too deep": Content(content=DEEP, line=NOT_DECRYPTED, shown=DEEP, told=f": shown as it is: {TOO_DEEP}"),
+    "JSON that is too deep": Content(
+        content=DEEP_JSON, line=NOT_DECRYPTED, shown=DEEP_JSON, told=f": shown as it is: {TOO_DEEP}"
+    ),
     "a block above it": Content(
         content=block("old", b"one") + DEEP,
         line=line_of_values(1),
