@@ -93,3 +93,28 @@ def test_plaintexts(place: Place, git: None, line: str, part: str) -> None:
 @pytest.mark.parametrize("line", OF_SEALING)
 def test_envelopes(place: Place, git: None, line: str, part: str) -> None:
     check(place, line, OF_SEALING[line], OF_ENVELOPES[part])
+
+
+# What a companion is run for, and the status that its page gives to a failure.
+STATUSES = {
+    f"{EDIT} {OLD} a.yml": 1,
+    f"{EDIT} {OLD} b.yml": 1,
+    f"{EDIT} {OLD} --value db_password c.yml": 1,
+    f"{TEXTCONV} {OLD} a.yml b.yml": 0,
+    f"{TEXTCONV} {OLD} --value secret b.yml": 1,
+    f"{CHECK} {OLD} a.yml b.yml": 1,
+    f"{ROTATE} {OLD} {NEW} a.yml b.yml": 1,
+    f"{MERGE} {OLD} ../versions/base-a.yml a.yml ../versions/theirs-a.yml a.yml": CONFLICT,
+}
+
+
+@pytest.mark.parametrize("status", [2, 127])
+@pytest.mark.parametrize("line", STATUSES)
+def test_statuses(place: Place, git: None, line: str, status: int) -> None:
+    """Whatever the status of the program, that of a companion is one that its page names."""
+    prepare(place, "view", ":")
+    place.put("c.yml", block("old", name="db_password"))
+    place.wrap_tool(f'[ "$1" = --version ] || exit {status}')
+    done = place.run(*line.split())
+    assert done.returncode == STATUSES[line], done
+    assert f"ansible-vault ended with status {status}" in done.stderr, "the reason"

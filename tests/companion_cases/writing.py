@@ -59,6 +59,8 @@ SYSTEMS = {
         call="listxattr", what=f"raise OSError({errno.EIO}, 'broken')", why="broken"
     ),
     "owners that cannot even be kept": System(call="fchown", what="raise PermissionError(1, 'no owners')", why=""),
+    "no room for the new name": System(call="replace", what=f"raise OSError({errno.ENOSPC}, 'full')", why="full"),
+    "no file of its own": System(call="fsync", what=f"raise OSError({errno.EIO}, 'broken')", why="broken"),
     "no syncs of directories": System(
         call="fsync", what=f"if os.path.isdir(_[0]): raise OSError({errno.EINVAL}, '')", why=""
     ),
@@ -76,6 +78,7 @@ def test_metadata(place: Place, call: str, what: str, why: str) -> None:
     else:
         silent("it is replaced", done)
         assert decrypted("new", place.get("a.yml")) == TEXT, "it has the new password"
+    assert place.names() == ["a.yml"], "no other file is left"
 
 
 def test_access_control_lists(place: Place) -> None:
@@ -93,6 +96,35 @@ def test_access_control_lists(place: Place) -> None:
     silent("decrypted", place.run(WITH, "decrypt", *place.by_file("new"), "a.yml"))
     after = place.run("getfacl", "-c", "a.yml").stdout.split()
     assert after == ["user::rw-", "group::---", "other::---"], "plaintext has none"
+
+
+def test_attributes(place: Place) -> None:
+    """A file keeps its extended attributes, too, of which users make some. Plaintext has none."""
+    place.put("a.yml", sealed("old"))
+    names = ["user.note", "user.other note"]
+    try:
+        for name in names:
+            os.setxattr(place.tree / "a.yml", name, b"text\0")
+    except OSError:
+        pytest.skip("the file system has no attributes of users")
+    ended("a rotation", place.run(ROTATE, *to_new(place), "."), 0, summary(1))
+    after = {name: os.getxattr(place.tree / "a.yml", name) for name in os.listxattr(place.tree / "a.yml")}
+    assert {name: after.get(name) for name in names} == dict.fromkeys(names, b"text\0"), "they stay"
+    silent("decrypted", place.run(WITH, "decrypt", *place.by_file("new"), "a.yml"))
+    assert not {*names}.intersection(os.listxattr(place.tree / "a.yml")), "plaintext has none"
+
+
+def test_closed_directory(place: Place) -> None:
+    """A directory in which the user can write, but whose names only others can list, cannot be synced. Its files are
+    replaced all the same."""
+    place.put("folder/a.yml", sealed("old"))
+    place.tree.chmod(0o755)
+    (place.tree / "folder").chmod(0o300)
+    if os.geteuid() == 0:
+        for path in ("folder", "folder/a.yml"):
+            os.chown(place.tree / path, NOBODY, NOBODY)
+    silent("rekeyed", place.as_nobody(WITH, "rekey", *to_new(place), "folder/a.yml"))
+    assert decrypted("new", place.get("folder/a.yml")) == TEXT, "it has the new password"
 
 
 def test_what_cannot_be_replaced(place: Place) -> None:
