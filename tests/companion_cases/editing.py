@@ -34,6 +34,7 @@ def test_where_the_plaintext_lies(place: Place, folder: str) -> None:
     lines = (place.path / "seen").read_text().splitlines()
     private = lines[0].removeprefix("700 ")
     assert (lines[1:], os.path.dirname(private)) == ([f"600 {private}/all.yml"], str(wanted)), "both are private"
+    assert os.path.basename(private).startswith("ansible-vault-"), "the name that users look for after a crash"
     assert not os.path.exists(private), "it is gone"
 
 
@@ -149,6 +150,18 @@ def test_empty_text(place: Place) -> None:
     place.put("all.yml", sealed("old", label="prod"))
     silent("a vault", edit(place, ': > "$1"', *place.by_file("old"), "all.yml"))
     assert described(place.get("all.yml")) == (b"$ANSIBLE_VAULT;1.2;AES256;prod", ("old", b"")), "it is emptied"
+
+
+@pytest.mark.parametrize("before", (sealed("old"), block("old"), None), ids=("a vault", "a value", "a new vault"))
+def test_saved_vault(place: Place, before: bytes | None) -> None:
+    """A vault in place of the plaintext is refused, and kept, whatever the file is."""
+    if before is not None:
+        place.put("all.yml", before)
+    place.put("../saved", sealed("dev"))
+    done = edit(place, 'cp ../saved "$1"', *place.by_file("old"), "all.yml")
+    ended("the edit", done, 1, "all.yml: what you gave is a vault, which ansible-vault does not encrypt again; ")
+    assert place.files() == ({} if before is None else {"all.yml": before}), "the file stays"
+    assert place.kept() == [sealed("dev")], "what was saved is kept"
 
 
 def test_empty_file(place: Place) -> None:
