@@ -71,12 +71,16 @@ def test_what_stays(place: Place, editor: str, status: int, why: str) -> None:
 
 BOTH = "--vault-id prod@../secrets/dev --vault-id dev@../secrets/prod"
 OF_ANOTHER = "its label is prod, but dev@../secrets/prod, a password"
-# Files, and why the edit of one is refused. A secret with another label opens the last two.
+# A value that its own label allows to encrypt again.
+ALLOWED = block("prod", label="dev", name="a")
+# Files, and why the edit of one is refused. A secret with another label opens each vault and value named `secret`.
 REFUSED = {
     "odd.yml": "its label a@b has an @, so no option can name it",
     "closed.yml": "line 2: secret: no secret decrypts this vault (label default; tried prod@../secrets/dev, dev@",
     "vault.yml": OF_ANOTHER,
     "values.yml": f"line 2: secret: {OF_ANOTHER}",
+    "first.yml": f"line 2: secret: {OF_ANOTHER}",
+    "second.yml": f"line {len(ALLOWED.splitlines()) + 2}: secret: {OF_ANOTHER}",
     "tags.yml": "line 2: `%TAG` may make `!vault` another tag",
 }
 
@@ -87,6 +91,8 @@ def test_labels(place: Place) -> None:
     place.put("closed.yml", block("old"))
     place.put("vault.yml", sealed("prod", label="prod"))
     place.put("values.yml", block("prod", label="prod"))
+    place.put("first.yml", block("prod", label="prod") + ALLOWED)
+    place.put("second.yml", ALLOWED + block("prod", label="prod"))
     place.put("tags.yml", b"# x\r%TAG ! !x\n---\n" + block("dev", label="prod"))
     before = place.files()
     whys = [f"{EDIT}: {name}: {why}" for name, why in REFUSED.items()]
