@@ -8,7 +8,7 @@ from typing import NamedTuple
 import pytest
 
 from companion_cases import CHANGE, CHANGED, CHECK, CONFLICT, EDIT, MERGE, ROTATE, TEXT, WITH, Done, Place, block
-from companion_cases import decrypted, edit, ended, envelope_of, sealed, silent, summary, versions
+from companion_cases import decrypted, edit, ended, envelope_of, sealed, silent, summary, texts, versions
 from model.vaults import yaml_block
 
 DEFAULT = "default"
@@ -359,6 +359,9 @@ def test_two_of_a_label(place: Place) -> None:
     assert "started" not in place.names(), "no editor is started"
     silent("what is there", edit(place, CHANGE, *two, "a.yml"))
     assert decrypted("dev", place.get("a.yml")) == CHANGED, "it keeps its password"
+    place.put("values.yml", block("dev", label="prod"))
+    silent("a value that is there", edit(place, CHANGE, *two, "values.yml"))
+    assert texts(place.get("values.yml"), "dev") == [CHANGED], "it keeps its password, too"
     one = [*place.by_id("prod", "dev"), *place.by_id("prod", "dev"), *chosen]
     silent("one password", place.run(WITH, "encrypt", *one, "plain.yml"))
     assert decrypted("dev", place.get("plain.yml")) == TEXT, "one password under two names"

@@ -199,6 +199,14 @@ def test_new_key(place: Place, both: list[str], content: bytes | None) -> None:
     assert after.endswith(end) and after.count(b"\n") == after.count(end), "the line ends"
 
 
+def test_only_value(place: Place, both: list[str]) -> None:
+    """Of several nodes at a path, the only encrypted one is meant."""
+    place.put("vars.yml", b"users:\n- pw: plain\n- " + block("prod", b"one", "prod", "pw") + b"- pw: [1]\n")
+    check_values(place, both, {"users[].pw": b"one"})
+    silent("it is set", set_to(place, b"two", *both, "--value", "users[].pw", "vars.yml"))
+    check_values(place, both, {"users[1].pw": b"two"})
+
+
 def test_any_label(place: Place, both: list[str]) -> None:
     """With --any-label, a value keeps its label and the password that opens it, whatever label that has."""
     place.put("vars.yml", block("dev", b"one", "prod", "a"))
