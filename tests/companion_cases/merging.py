@@ -171,6 +171,8 @@ CHOSEN = {
     "two rotations": Chosen("prod", ["old"] * 2, ["prod"] * 2, ["prod2"] * 2, result=["prod"] * 2),
     "two rotations, reversed": Chosen("prod", ["old"] * 2, ["prod2"] * 2, ["prod"] * 2, result=["prod"] * 2),
     "two rotations of another label": Chosen("dev", ["old"] * 2, ["prod"] * 2, ["prod2"] * 2, result=[]),
+    # The new password has another label, so it is no rotation.
+    "another label on one side": Chosen("prod", ["prod"] * 2, ["prod"] * 2, ["prod2"] * 2, result=["prod"] * 2),
     "two passwords of both sides": Chosen("prod", MIXED, MIXED, MIXED, result=MIXED),
     "one password of both sides": Chosen("prod", ["prod2"] * 2, ["prod2"] * 2, ["prod2"] * 2, result=["prod2"] * 2),
 }
