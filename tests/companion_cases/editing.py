@@ -231,6 +231,7 @@ LOOKALIKES = [
     "notes: |\n  password: !vault\n    changeme\n",
     "# password: !vault |-\n#   changeme\n",
     "x: 1 # password: !vault\n  # changeme\n",
+    "notes: |\n  - !valt # x\n    changeme\n",
 ]
 
 
@@ -241,7 +242,8 @@ def test_lookalikes(place: Place, text: str) -> None:
     shown = "b: !vault |-\n  x\n" + text
     changed = shown.replace("changeme", "S3cret")
     done = type_into(place, content + text.encode(), changed)
-    ended("the edit", done, 1, "no value follows `!vault` here", "; what you saved is encrypted in ")
+    word = "!vault" if "!vault" in text else "!"
+    ended("the edit", done, 1, f"no value follows `{word}` here", "; what you saved is encrypted in ")
     assert b"S3cret" not in place.get("vars.yml")
     done = type_into(place, content + text.encode() + b"y: 1\n", shown.replace("  x", "  S3cret", 1))
     ended("another edit", done, 0)
@@ -287,6 +289,14 @@ def test_closed_values(place: Place, closed: bytes, why: str) -> None:
     assert own == closed, "the value stays as it is"
     assert [texts(part, "old") for part in (before, after)] == [[b"B"], [b"C"]], "the others are encrypted"
     assert place.copies() == [], "nothing is kept elsewhere"
+
+
+def test_other_tag(place: Place) -> None:
+    """What Ansible reads as the same tag is one for an edit, too."""
+    place.put("vars.yml", block("old").replace(b"!vault", b"!vault-encrypted"))
+    done = edit(place, f"{CHANGE}; echo 'b: !vault-encrypted x' >> \"$1\"", *place.by_file("old"), "vars.yml")
+    silent("the edit", done)
+    assert texts(place.get("vars.yml"), "old") == [CHANGED, b"x"], "both values are encrypted"
 
 
 def test_each_closed_value(place: Place) -> None:
