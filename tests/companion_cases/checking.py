@@ -1,13 +1,14 @@
 """ansible-vault-check; and every companion's help, invalid command lines, secrets that it refuses, and links to it."""
 
 import os
+import re
 import subprocess
 from typing import NamedTuple
 
 import pytest
 
 from companion_cases import BODY, CHECK, EDIT, HOOK, MERGE, ROTATE, TEXT, TEXTCONV, WITH, Place, block, ended
-from companion_cases import check_answer, sealed, summary
+from companion_cases import check_answer, sealed, summary, to_new
 from lib.paths import COMPANIONS
 from lib.processes import run_text
 from model.vaults import seal
@@ -91,6 +92,9 @@ REFUSED = [
     (LONG, "a password file is longer than 4096 bytes"),
     (b"$ANSIBLE_VAULT", "a password file is itself a vault"),
     (b"#!/bin/sh\nprintf '\\033'\nexit 1\n", "this script ended with status 1"),
+    (b"#!/bin/sh\nprintf %04097d 0 | tr 0 p\n", "a password file is longer than 4096 bytes"),
+    # It is no script, since nobody may run it.
+    (b"#! no path\n", "a password file is a script"),
 ]
 
 
@@ -111,13 +115,13 @@ RUNS = [
 ]
 
 
-@pytest.mark.parametrize("content, why", REFUSED, ids=[why for _, why in REFUSED])
+@pytest.mark.parametrize("content, why", REFUSED, ids=map(str, range(len(REFUSED))))
 @pytest.mark.parametrize("name, option, line", RUNS)
 def test_refused_secrets(place: Place, name: str, option: str, line: str, content: bytes | None, why: str) -> None:
     """All stays, and the secret is named in one line. A password that is too long is not cut: it could decrypt."""
     place.put("a.yml", vault := seal(LONG[:-1], TEXT))
     if content is not None:
-        place.put(f"../{HOSTILE}", content, EXECUTABLE if content.startswith(b"#!") else 0o644)
+        place.put(f"../{HOSTILE}", content, EXECUTABLE if content.startswith(b"#!/") else 0o644)
     secret = f"dev@../{HOSTILE}"
     done = place.run(name, f"{option}={secret}", *line.split(), EDITOR="touch started")
     ended("it is refused", done, 1, f"{ascii(secret)}: {why}")
@@ -166,6 +170,9 @@ VANISHED = {
     "a named file": Vanishing(
         change="rm -f t/z.yml", paths=["t", "t/z.yml"], status=1, said="t/z.yml: No such file or directory\n"
     ),
+    "a named file, spelled otherwise": Vanishing(
+        change="rm -f t/z.yml", paths=["t", "t/z/../z.yml"], status=1, said="t/z.yml: No such file or directory\n"
+    ),
     "one of its paths": Vanishing(change="rm -f t/x.yml", paths=["t"], status=0, said="42 decrypted, 0 failed\n"),
 }
 
@@ -181,6 +188,49 @@ def test_vanished_files(place: Place, change: str, paths: list[str], status: int
     done = place.run(CHECK, *place.by_file("old"), *paths)
     ended("the check", done, status, said)
     assert bool(done.stderr) == bool(status)
+
+
+# Lines of git between which two sides of a plaintext are.
+MERGE_SIDES = b"<<<<<<< HEAD\na: 1\n=======\na: 2\n>>>>>>> branch\n"
+# Where a plaintext with them is, and how many vaults and values there are.
+UNMERGED = {
+    "a vault": (sealed("old", MERGE_SIDES), 1),
+    "a value": (block("old", MERGE_SIDES), 1),
+    "a value in a vault": (sealed("old", block("old", MERGE_SIDES)), 2),
+    "a value in a value": (block("old", block("old", MERGE_SIDES)), 2),
+}
+
+
+@pytest.mark.parametrize("content, count", UNMERGED.values(), ids=UNMERGED)
+def test_conflicts_in_plaintexts(place: Place, content: bytes, count: int) -> None:
+    place.put("a.yml", content)
+    done = place.run(CHECK, *place.by_file("old"), "a.yml")
+    ended(
+        "the check", done, 1, ": default: its plaintext has git's conflict markers\n", f"{count} decrypted, 1 failed\n"
+    )
+
+
+# Names of YAML, and of a link to a file with any name, and whether a file that cannot be read as YAML is a failure.
+NAMES = ["a.yml", "b.yaml", "c.json", "d.YML", "e.Yaml", "f.JSON"]
+LINKED = {"l.yml": "g", "m": "a.yml", "n.json": "h.txt"}
+
+
+@pytest.mark.parametrize("rest", [b"[\n", b"\0"], ids=["an open bracket", "a null character"])
+def test_names_of_yaml(place: Place, rest: bytes) -> None:
+    """A file with a value that cannot be read as YAML fails if it has the name of it, or if a link to it has."""
+    for name in [*NAMES, "g", "h.txt", "other.txt"]:
+        place.put(name, block("old") + rest)
+    for name, target in LINKED.items():
+        (place.tree / name).symlink_to(target)
+    why = "it cannot be read as YAML: "
+    done = place.run(CHECK, *place.by_file("old"), ".")
+    named = re.findall(rf"^{CHECK}: \./(.*?): (?:line \d+: )?{why}", done.stderr, re.MULTILINE)
+    assert named == [*NAMES, "g", "h.txt"], done
+    for name in (*NAMES, *LINKED):
+        ended(name, place.run(CHECK, *place.by_file("old"), name), 1, f"{CHECK}: {name}: ", why)
+        # A rotation finds the envelopes of what is text.
+        assert (why in place.run(ROTATE, *to_new(place), name).stderr) == (rest == b"\0"), name
+    ended("another name", place.run(CHECK, *place.by_file("old"), "other.txt"), 0)
 
 
 def test_beside_a_rotation(place: Place) -> None:

@@ -37,7 +37,7 @@ class Check(Work):
         path = next((path for path in found.paths if path in self.marked), found.paths[0])
         is_marked = path in self.marked
         is_prose = file_kinds.is_prose(found.target) and not (is_marked or parsed.is_vault)
-        why = file_kinds.find_fault(parsed, path, found.target)
+        why = file_kinds.find_fault(parsed, found.names)
         try:
             self.change_envelopes(parsed, path, report, is_prose=is_prose)
         except Refused as fault:

@@ -112,7 +112,7 @@ class Runner:
     def _report_refused(self, found: FoundFile, parsed: ParsedText) -> Report:
         """The report on a link that leads out: a failure if there is something to do in its file."""
         path = found.paths[0]
-        fails = self._is_marked(found) or parsed.number_envelopes() or file_kinds.find_fault(parsed, path, found.target)
+        fails = self._is_marked(found) or parsed.number_envelopes() or file_kinds.find_fault(parsed, found.names)
         report = Report()
         report.add_file(FAILED if fails else SKIPPED, path, found.refusal)
         return report

@@ -2,6 +2,8 @@
 
 from __future__ import annotations
 
+from collections.abc import Iterable
+
 from ansible_vault_companions.envelopes.detection import count_headers
 from ansible_vault_companions.envelopes.parsed_text import ParsedText
 from ansible_vault_companions.envelopes.yaml_nodes import BINARY
@@ -19,11 +21,11 @@ def is_yaml(path: str) -> bool:
     return path.lower().endswith(YAML)
 
 
-def find_fault(parsed: ParsedText, path: str, target: str) -> str:
-    """Why a file that may have an envelope cannot be read: it exceeds a limit, or is no YAML, but has the name of it or
-    its target has; else empty."""
+def find_fault(parsed: ParsedText, paths: Iterable[str]) -> str:
+    """Why a file that may have an envelope cannot be read: it exceeds a limit, or is no YAML, but one of its paths has
+    the name of it; else empty."""
     if parsed.is_too_much:
         return parsed.fault if count_headers(parsed.data) else ""
-    if not (is_yaml(path) or is_yaml(target)):
+    if not any(map(is_yaml, paths)):
         return ""
     return parsed.fault if parsed.values or BINARY in parsed.data else ""

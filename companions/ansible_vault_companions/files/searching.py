@@ -44,6 +44,11 @@ class FoundFile(NamedTuple):
         return [way.path for way in self.ways]
 
     @property
+    def names(self) -> list[str]:
+        """The paths, with the real one."""
+        return [*self.paths, self.target]
+
+    @property
     def refusal(self) -> str:
         """Why it must not be read or replaced; empty if it may be in one of the ways."""
         return "" if any(not way.refusal for way in self.ways) else self.ways[0].refusal
