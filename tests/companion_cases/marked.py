@@ -37,6 +37,43 @@ def test_marked_files(place: Place) -> None:
     ended("a link to one", place.run(CHECK, *place.by_file("old"), "link.yml"), 1, "link.yml: is not encrypted\n")
 
 
+# Files that are marked, and whether they pass. All that is read at first of some of them is blank.
+BLANK = b"\n" * (1 << 20)
+CONTENTS = {
+    "nothing": (b"", True),
+    "an empty line": (b"\n", True),
+    "blanks": (b" \t\r\n\f\v\n", True),
+    "many blanks": (2 * BLANK, True),
+    "many blanks before a text": (BLANK + b"x\n", False),
+    "many blanks behind a text": (b"x\n" + BLANK, False),
+    "blanks before a vault": (b"\n" + sealed("old"), False),
+}
+
+
+@pytest.mark.parametrize("content, passes", CONTENTS.values(), ids=CONTENTS)
+def test_empty_marked_files(place: Place, content: bytes, passes: bool) -> None:
+    """A marked file that is empty, or blank, is to be filled."""
+    under_git(place, ATTRIBUTES)
+    place.put("a.vault.yml", content)
+    done = place.run(CHECK, "--list", "a.vault.yml")
+    ended("the check", done, 0 if passes else 1, "0 failed\n" if passes else "1 failed\n")
+
+
+def test_second_names(place: Place) -> None:
+    """A pointer of git-lfs, and a link out of the repository, fail if any of their names is marked."""
+    place.shell("git init -q project")
+    place.put("project/a.bin", b"version https://git-lfs.github.com/spec/v1\noid sha256:61\nsize 5\n")
+    place.put("outside.yml", TEXT)
+    for name, target in {"b.vault.yml": "a.bin", "out.yml": "../outside.yml", "p.vault.yml": "../outside.yml"}.items():
+        (place.tree / "project" / name).symlink_to(target)
+    check = [CHECK, "--list", "project"]
+    ended(
+        "none is marked", place.run(*check), 0, "project/a.bin: it is a pointer", "project/out.yml: a link leads out of"
+    )
+    place.put("project/.gitattributes", ATTRIBUTES.encode())
+    ended("both are marked", place.run(*check), 1, "0 listed, 2 failed\n")
+
+
 def test_broken_repository(place: Place) -> None:
     """If git fails, so does the check, with git's own message."""
     under_git(place, ATTRIBUTES)
@@ -151,6 +188,7 @@ EXAMPLES = {
     "one that no password decrypts": block("dev", label="prod"),
     "a damaged one": b"$ANSIBLE_VAULT;1.2;AES256;prod\n%s\n[...]\n" % (b"61" * 40),
     "a damaged value": b"pw: !vault |\n  $ANSIBLE_VAULT;1.2;AES256;prod\n  6162\n",
+    "one whose first line is damaged": b"pw: !vault |\n  $ANSIBLE_VAULT;prod\n  6162\n",
 }
 
 

@@ -66,6 +66,8 @@ class Rotation(Work):
 
     def process_envelope(self, value: Node, place: Place, report: Report, is_prose: bool) -> bytes | None:
         label = value.label
+        if label is None and is_prose:
+            return None
         if label is None:
             raise Refused(f"{DAMAGED}: its first line is malformed")
         new = self.new.get(label)
