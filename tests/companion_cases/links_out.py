@@ -11,7 +11,7 @@ from typing import NamedTuple
 import pytest
 
 from companion_cases import CHECK, EDIT, HOOK, NOBODY, ROTATE, TEXT, TEXTCONV, WITH, Place, block, ended, first_line
-from companion_cases import check_answer, sealed, to_new
+from companion_cases import check_answer, sealed, summary, to_new
 from companion_cases.repository import committed, under_git
 from lib.cases import Answer, answer_of
 from lib.needs import needs, needs_root
@@ -297,6 +297,54 @@ def test_found_link(place: Place, linked: Linked) -> None:
     # Of such a file, any mention of a vault counts.
     status = 1 if b"vault" in linked.content.lower() else 0
     ended("one too long to be read whole", place.run(*rotate, folder="project"), status, told)
+
+
+class Unread(NamedTuple):
+    """What makes the target of a link that leads out, whether the link is named, and whether a search fails at it."""
+
+    make: str
+    is_named: bool
+    fails: bool
+
+
+UNREAD = {
+    "a closed file": Unread("echo > outside; chmod 0 outside", is_named=True, fails=True),
+    "a file in a closed directory": Unread("mkdir -m 0 outside; ln -sfn ../outside/a project/l.yml", True, fails=True),
+    "a pointer of git-lfs": Unread("echo version https://git-lfs.github.com/spec/v1 > outside", True, fails=False),
+    "nothing": Unread(":", is_named=False, fails=False),
+}
+
+
+@pytest.mark.usefixtures("git")
+@pytest.mark.parametrize("unread", UNREAD.values(), ids=UNREAD)
+def test_unread_targets(place: Place, unread: Unread) -> None:
+    """A link out to what cannot be searched is a failure, and nothing is said of what its target is."""
+    needs_root()
+    place.put("project/a.yml", sealed("new"))
+    place.shell(f"git init -q project; ln -s ../outside project/l.yml; {unread.make}; chown -R nobody project")
+    failed = int(unread.fails)
+    check = [CHECK, *place.by_file("new"), "."]
+    runs = {
+        f"1 decrypted, {failed} failed\n": check,
+        f"{summary(0, 1, failed=failed)}\n": [ROTATE, *to_new(place), "."],
+    }
+    for counts, words in runs.items():
+        done = place.as_nobody("env", "-C", "project", *words)
+        ended(words[0], done, failed, counts)
+        assert ("./l.yml: " in done.stderr) == unread.is_named, done
+        assert "git-lfs" not in done.stderr, done
+
+
+@pytest.mark.usefixtures("git")
+def test_long_links(place: Place) -> None:
+    """A link that leads through too many directories is a failure wherever it leads, since it is not followed."""
+    place.put("d/a.yml", sealed("old"))
+    for number, target in enumerate(("d/a.yml", "d", "nowhere")):
+        (place.tree / f"{number}").symlink_to("d/../" * 60 + target)
+    done = place.run(CHECK, *place.by_file("old"), ".")
+    lines = [f"{CHECK}: ./{number}: a link leads through over 100 directories" for number in range(3)]
+    assert done.stderr.splitlines() == lines
+    ended("the check", done, 1, "1 decrypted, 3 failed\n")
 
 
 @pytest.mark.usefixtures("git")

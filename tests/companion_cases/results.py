@@ -2,12 +2,13 @@
 
 import json
 import os
+import re
 
 from typing import Any
 
 import pytest
 
-from companion_cases import AWKWARD, CHECK, ROTATE, Done, Place, block, ended, sealed
+from companion_cases import AWKWARD, CHECK, ROTATE, Done, Place, block, ended, sealed, summary, to_new
 
 # The names of fields in their order.
 FIELDS = ["path", "line", "key_path", "within", "label", "result", "message"]
@@ -111,6 +112,73 @@ def test_lists(place: Place) -> None:
     ended("what is marked", place.run(CHECK, "--list", "."), 1, "./plain.yml: is not encrypted\n")
     for words in (place.by_file("old"), ["--any-label"], ["-J"]):
         ended("a password", place.run(CHECK, "--list", *words, "."), 2, "leave out the options for passwords")
+
+
+# A value in the plaintext of a value, which is in the plaintext of a vault.
+OF_VALUE = b"y: 2\n" + block("old", name="c")
+OF_VAULT = b"x: 1\n" + block("old", OF_VALUE, name="b")
+
+
+def test_places_within(place: Place) -> None:
+    """Each place names that of the vault or value around it, however deep it is."""
+    place.put("a.yml", sealed("old", OF_VAULT))
+    of_b = {"line": 3, "key_path": "b", "within": NOWHERE}
+    of_c = {"line": 3, "key_path": "c", "within": of_b}
+    for words in ([CHECK, *place.by_file("old")], [ROTATE, *to_new(place), "--dry-run"]):
+        found = read(place.run(*words, "--json", "a.yml"))
+        places = [{field: each[field] for field in NOWHERE} for each in found]
+        assert sorted(places, key=str) == sorted([NOWHERE, of_b, of_c], key=str), words[0]
+    told = "a.yml: default: in its plaintext, line 3: b: default: in its plaintext, line 3: c: default: decrypted by"
+    ended("the text", place.run(CHECK, *place.by_file("old"), "a.yml"), 0, told)
+
+
+def test_damaged_first_lines(place: Place) -> None:
+    """A first line that is damaged has no label, also not the one of a first line that has none."""
+    place.put("a.yml", b"$ANSIBLE_VAULT;1.1\n6162\n")
+    place.put("b.yml", b"k: !vault |\n  $ANSIBLE_VAULT;1.1\n  6162\n")
+    for words in ([CHECK, *place.by_file("old")], [CHECK, "--list"], [ROTATE, *to_new(place)]):
+        found = read(place.run(*words, "--json", "a.yml", "b.yml"))
+        assert [each["label"] for each in found if each["path"]] == [None, None], words[:2]
+    listed = place.run(CHECK, "--list", "a.yml", "b.yml").stdout
+    assert listed == "a.yml: no label\nb.yml:2: k: no label\n2 listed, 0 failed\n"
+
+
+def test_missing_labels(place: Place) -> None:
+    """Each of several labels that nothing has is named and counted, in their order, and each of the others counts."""
+    for label in ("b", "c", "x"):
+        place.put(f"{label}.yml", sealed("old", label=label))
+    check = [CHECK, *place.by_file("old"), *(f"--label={label}" for label in "dbca")]
+    rotate = [ROTATE, *place.by_file("old"), *(f"--new-vault-id={label}@../secrets/new" for label in "dbca")]
+    runs = {
+        "2 decrypted, 2 failed, 1 with other labels (x 1)\n": check,
+        summary(2, others=1, named=" (x 1)", failed=2): rotate,
+    }
+    for counts, words in runs.items():
+        done = place.run(*words, ".")
+        ended(words[0], done, 1, counts)
+        missing = re.findall(r"no vault or value has the label (\w)", done.stderr)
+        assert missing == ["a", "d"], done.stderr
+        assert len(done.stderr.splitlines()) == 2, "nothing else is named"
+
+
+# Files that are broken, and what is said of each.
+BROKEN = {
+    "no YAML": (block("old") + b"[\n", "it cannot be read as YAML: "),
+    "YAML with a null character": (block("old") + b"\0", "it cannot be read as YAML: "),
+    "markers": (b"<<<<<<< a\na: 1\n=======\na: 2\n>>>>>>> b\n" + block("old"), "has git's conflict markers; "),
+}
+
+
+@pytest.mark.parametrize("content, why", BROKEN.values(), ids=BROKEN)
+def test_lists_of_broken_files(place: Place, content: bytes, why: str) -> None:
+    """A list fails where a check does, without any password."""
+    place.put("a.yml", content)
+    for words in ([CHECK, *place.by_file("old")], [CHECK, "--list"]):
+        done = place.run(*words, "a.yml")
+        ended(words[1], done, 1, f"{CHECK}: a.yml: ", why)
+        results = {each["result"]: each for each in read(place.run(*words, "--json", "a.yml"))}
+        assert why in results["failed"]["message"], "as JSON"
+        assert (results["failed"]["line"], results["failed"]["label"]) == (None, None), "it is the file that fails"
 
 
 @pytest.mark.parametrize("name", [*AWKWARD, os.fsdecode(b"\xff.yml")])

@@ -170,6 +170,58 @@ def test_documents(place: Place) -> None:
         ended("no document", place.run(*words, "link.md", "vault.md"), 1, "link.md:2: ", "vault.md: ")
 
 
+# The program fails in these ways, which say nothing of the vault.
+FAILURES = {"kill -9 $$": "signal 9 ended ansible-vault; run this again", "echo ERROR! why >&2; exit 4": "why"}
+
+
+@pytest.mark.parametrize("failure, why", FAILURES.items())
+def test_failures_in_documents(place: Place, failure: str, why: str) -> None:
+    """An envelope in a document is no example because the program fails."""
+    place.put("a.md", b"An example:\n\n" + block("old"))
+    place.wrap_tool(f'[ "$1" != view ] || {{ {failure}; }}')
+    for words in ([ROTATE, *to_new(place)], [CHECK, *place.by_file("old")]):
+        ended(words[0], place.run(*words, "a.md"), 1, f"{words[0]}: a.md:4: ", f"{why}\n", "1 failed")
+
+
+# A value that cannot be replaced, since each of its lines is indented too far.
+FAR = b"k: !vault |\n" + b"".join(b" " * 513 + line + b"\n" for line in sealed("old").splitlines())
+TOO_FAR = "it has a value that is indented by over 512 columns\n"
+
+
+def test_what_cannot_be_replaced(place: Place) -> None:
+    """The check fails if a rotation would, wherever the value is, and what is beside it stays as well."""
+    for content in (FAR, FAR + block("old"), sealed("old", FAR), sealed("old", block("new") + block("old") + FAR)):
+        place.put("a.yml", content)
+        for words in ([CHECK, *place.by_file("old"), *place.by_file("new")], [ROTATE, *to_new(place)]):
+            done = place.run(*words, "a.yml")
+            ended(words[0], done, 1, f"{words[0]}: a.yml: ", TOO_FAR)
+        assert done.stdout == f"{summary(0, failed=1)}\n", "nothing is counted that is not written"
+        assert place.get("a.yml") == content, "it stays"
+
+
+def test_dry_run(place: Place) -> None:
+    """It says what the rotation does then, in the same order, and that alone is status 1."""
+    place.put("a.yml", block("old"))
+    place.put("b.yml", block("old") + block("new", name="b") + block("old", name="c"))
+    place.put("c.yml", sealed("new", block("old") + block("old", name="b")))
+    place.put("d.yml", sealed("old", block("new") + block("old") + FAR))
+    place.put("e.yml", sealed("dev", label="dev"))
+    (place.tree / "link.yml").symlink_to("a.yml")
+    before = place.files()
+    words = [ROTATE, *to_new(place), "link.yml", "."]
+    dry = place.run(*words, "--dry-run")
+    assert place.files() == before, "nothing is written"
+    done = place.run(*words)
+    lines = [f"link.yml ({place.tree}/a.yml): rotated", "./b.yml: 2 rotated", "./c.yml: 2 rotated"]
+    assert done.stdout.splitlines() == [*lines, summary(5, 2, 1, " (dev 1)", 1)], "the rotation"
+    said = dry.stdout.replace("would be rotated", "rotated").replace(" to be rotated", " rotated")
+    assert (said, dry.stderr, dry.returncode) == (done.stdout, done.stderr, 1)
+    (place.tree / "d.yml").unlink()
+    ended("nothing is left to do", place.run(*words, "--dry-run"), 0, "0 to be rotated, 7 already under")
+    place.put("a.yml", block("old"))
+    ended("something is", place.run(*words, "--dry-run"), 1, "1 to be rotated, 6 already under", " 0 failed\n")
+
+
 def test_what_would_be_read_otherwise(place: Place) -> None:
     """YAML reads no longer key than 1,024 characters, so a new envelope, whose salt is longer, does not fit here."""
     vault = seal(PASSWORDS["old"], b"x" * 180, salt=b"s").replace(b"\n", b"\\n")
@@ -180,8 +232,9 @@ def test_what_would_be_read_otherwise(place: Place) -> None:
 
 
 def test_copies(place: Place) -> None:
-    """An envelope is decrypted and encrypted once, however often it is there. Equal texts in different envelopes get
-    different ones, so that nobody can see that they are equal. A label that nothing has makes the status 1."""
+    """A password is tried once on an envelope, even a wrong one, and it is encrypted once, however often it is there.
+    Equal texts in different envelopes get different ones, so that nobody can see that they are equal. A label that
+    nothing has makes the status 1."""
     place.put("a.yml", sealed("old", block("old", b"one")))
     place.put("b.yml", place.get("a.yml"))
     place.put("c.yml", block("old", b"one") + block("old", b"one", name="b"))
@@ -189,8 +242,9 @@ def test_copies(place: Place) -> None:
     place.put("e.yml", sealed("old", label="default"))
     # A run that only checks a secret has no input.
     place.wrap_tool('cat > "$0.$$"; [ -s "$0.$$" ] && echo "$1" >> ../runs; exec < "$0.$$"; rm "$0.$$"')
-    done = place.run(ROTATE, *to_new(place), *place.by_id("prd", "prod2", "new-"), ".")
+    wrong = place.by_file("dev")
+    done = place.run(ROTATE, *wrong, *to_new(place), *place.by_id("prd", "prod2", "new-"), ".")
     ended("rotate", done, 1, summary(8, failed=1), f"{ROTATE}: no vault or value has the label prd\n")
-    assert Counter((place.path / "runs").read_text().split()) == {"view": 4, "encrypt": 4}
+    assert Counter((place.path / "runs").read_text().split()) == {"view": 2 * 4, "encrypt": 4}
     assert place.get("a.yml") == place.get("b.yml"), "a copy stays a copy"
     assert place.get("d.yml").split()[1:] != place.get("e.yml").split()[1:], "equal texts"

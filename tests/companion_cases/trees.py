@@ -200,4 +200,7 @@ def test_excluded(place: Place, patterns: tuple[str, ...], left_out: set[str]) -
     for path in (".", str(place.tree), f"../{place.tree.name}"):
         names = {os.path.relpath(place.tree / each, place.tree) for each in found(place, *words, path)}
         assert names == FILES - left_out, path
+        lines = place.run(ROTATE, *to_new(place), "--dry-run", *words, path).stdout.splitlines()[:-1]
+        names = {os.path.relpath(place.tree / line.partition(": ")[0], place.tree) for line in lines}
+        assert names == FILES - left_out, f"a rotation of {path}"
     assert found(place, "--exclude=tests/*", "--exclude=b.txt", "b.txt", "tests/a.yml", "a.yml") == ["a.yml"]
