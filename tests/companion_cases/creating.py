@@ -44,6 +44,8 @@ REFUSED = {
     f"{WITH} edit none/typo.yml": (3, f"{WITH}: none/typo.yml: {MISSING}\n"),
     f"{WITH} edit .": (3, f"{WITH}: .: Is a directory\n"),
     f"{WITH} create a.yml": (1, f"{WITH}: a.yml exists already; use `edit`\n"),
+    f"{WITH} create link.yml": (1, f"{WITH}: link.yml exists already; use `edit`\n"),
+    f"{WITH} edit {OLD} a.yml link.yml": (3, f"{WITH}: link.yml: {MISSING}\n"),
     f"{WITH} create none/new.yml": (1, f"{WITH}: none/new.yml: {NO_FOLDER}"),
     f"{WITH} create none/in/new.yml": (1, f"{WITH}: none/in/new.yml: there is no directory {{}}/none/in; make it"),
     f"{WITH} encrypt {OLD} --output none/new.yml a.yml": (1, f"{WITH}: none/new.yml: {NO_FOLDER}"),
@@ -55,6 +57,7 @@ REFUSED = {
 @pytest.mark.parametrize("line", REFUSED)
 def test_refused(place: Place, line: str) -> None:
     place.put("a.yml", sealed("old"))
+    (place.tree / "link.yml").symlink_to("nowhere")
     before, (status, message) = place.names(), REFUSED[line]
     done = place.run("setsid", "--wait", *line.split(), EDITOR=place.script("touch ../started", "editor"))
     assert (done.returncode, message.format(place.tree) in done.stderr) == (status, True), done

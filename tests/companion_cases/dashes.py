@@ -94,6 +94,16 @@ def test_beside_a_separator(place: Place) -> None:
     assert place.shell(f"{edit} -- -x.yml; exit $?").returncode == 0, "the alias names the file to the editor's program"
 
 
+def test_standard_input(place: Place) -> None:
+    """A dash alone is standard input, even where a file has this name."""
+    place.put("-", sealed("new"))
+    place.put("a.yml", sealed("old"))
+    shown = place.shell(f"{WITH} view {OLD} - < a.yml")
+    assert (shown.returncode, shown.stdout, shown.stderr) == (0, TEXT.decode(), "")
+    shown = place.shell(f"{TEXTCONV} --vault-password-file ../secrets/new -- -; {WITH} view {OLD} ./-")
+    assert shown.stdout == first_line() + TEXT.decode(), "the file, by its path"
+
+
 def test_strangers_password(place: Place) -> None:
     """A committed name chooses no password, and runs no script."""
     place.put("a.yml", sealed("old"))

@@ -118,3 +118,24 @@ def test_statuses(place: Place, git: None, line: str, status: int) -> None:
     done = place.run(*line.split())
     assert done.returncode == STATUSES[line], done
     assert f"ansible-vault ended with status {status}" in done.stderr, "the reason"
+
+
+# Messages of the program, and what companions pass on of each.
+MESSAGES = {
+    "ERROR! gr\\366\\337e\\n": "gr\ufffd\ufffde",
+    "\\033[2J\\n": "\\x1b[2J",
+    "ERROR! one\\ntwo\\n": "one\ntwo",
+    "": "ansible-vault ended with status 4",
+}
+FAILING = [f"{CHECK} {OLD} a.yml", f"{ROTATE} {OLD} {NEW} a.yml", f"{WITH} view {OLD} a.yml a.yml"]
+
+
+@pytest.mark.parametrize("message", MESSAGES)
+@pytest.mark.parametrize("line", FAILING)
+def test_messages(place: Place, line: str, message: str) -> None:
+    """Whatever the program says is passed on in printable form, and the alias ends with its status."""
+    place.put("a.yml", sealed("old"))
+    place.wrap_tool(f"[ $1 != view ] || {{ printf '{message}' >&2; exit 4; }}")
+    done = place.run(*line.split())
+    assert f"{line.split()[0]}: a.yml: " in done.stderr and MESSAGES[message] in done.stderr, done
+    assert done.returncode == (4 if WITH in line else 1), done

@@ -9,6 +9,7 @@ import pytest
 from companion_cases import HOOK, MERGE, ROTATE, TEXT, TEXTCONV, Place, ended, run_changed, sealed, silent, summary
 from companion_cases import check_answer, to_new
 from companion_cases.repository import BASE, OURS, THEIRS, add_and_commit, fork, told, under_git
+from companion_cases.terminal import ask
 
 pytestmark = pytest.mark.usefixtures("git")
 
@@ -125,6 +126,30 @@ def test_setting_in_other_words(place: Place, words: str, lacks: bool) -> None:
     done = place.run(ROTATE, *to_new(place), ".", folder="inner")
     last = NOT_IN_GIT if lacks else ""
     check_answer("the rotation", done, output=f"./a.vault.yml: rotated\n{summary(1)}\n{last}")
+
+
+@pytest.mark.parametrize("given", [[], ["new"], ["dev2"], ["new", "dev2"]], ids=str)
+def test_several_new_passwords(place: Place, given: list[str]) -> None:
+    """Each of several new passwords has to be in git's setting."""
+    under_git(place, ATTRIBUTES)
+    place.put("a.vault.yml", sealed("old"))
+    place.put("b.vault.yml", sealed("dev", label="dev"))
+    words = [f"--vault-id={place.secret(name)}" for name in ("old", "dev", *given)]
+    place.run("git", "config", DIFF, " ".join([TEXTCONV, *words]))
+    rotate = [ROTATE, *to_new(place), *place.by_id("dev", "dev"), *place.by_id("dev", "dev2", "new-"), "."]
+    lines = "./a.vault.yml: rotated\n./b.vault.yml: rotated\n"
+    last = "" if len(given) == 2 else NOT_IN_GIT
+    check_answer("the rotation", place.run(*rotate), output=f"{lines}{summary(2)}\n{last}")
+
+
+def test_typed_new_password(place: Place) -> None:
+    """It has no file that could be in git's setting."""
+    under_git(place, ATTRIBUTES)
+    place.put("a.vault.yml", sealed("old"))
+    place.run("git", "config", DIFF, f"{TEXTCONV} --vault-id={place.secret('old')}")
+    answers = [("New vault password (default): ", b"typed\n"), ("Confirm new vault password (default): ", b"typed\n")]
+    session = ask(place, ROTATE, *place.by_file("old"), "--new-vault-id=prompt", ".", answers=answers)
+    assert (session.returncode, session.stdout.endswith(f"\n{summary(1)}\n")) == (0, True), session
 
 
 def test_new_password_without_a_file(place: Place) -> None:

@@ -70,6 +70,8 @@ DATA = {
     f"{WITH} view --vault-id dev@prompt /dev/stdin": FOR_DATA,
     f"{WITH} decrypt -J --output=- /dev/fd/0": FOR_DATA,
     f"{WITH} rekey -J": FOR_DATA,
+    f"{WITH} view -J a.yml /dev/stdin": FOR_DATA,
+    f"{WITH} decrypt -J plain.yml /dev/fd/0 a.yml": FOR_DATA,
     f"{WITH} encrypt_string -J": FOR_DATA,
     f"{WITH} encrypt_string -J --stdin-name q word": FOR_DATA,
     f"{WITH} encrypt_string --vault-id ../secrets/old -p -": f"{NO_STRING}, and standard input is for data; give it as",

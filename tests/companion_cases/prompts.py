@@ -3,7 +3,8 @@ from typing import NamedTuple
 
 import pytest
 
-from companion_cases import EDIT, FOUND, PASSWORDS, ROTATE, TEXT, WITH, Place, block, decrypted, described, sealed
+from companion_cases import CHECK, EDIT, FOUND, PASSWORDS, ROTATE, TEXT, WITH, Place, block, decrypted, described
+from companion_cases import sealed, texts
 from companion_cases.terminal import FOR_ANSIBLE, READING, READY, SHELL, Session, ask
 from lib.needs import needs_ansible
 
@@ -46,6 +47,68 @@ def test_how_often(place: Place) -> None:
         check_asked(ask(place, *words, answers=answers, EDITOR=editor), *(question for question, _ in answers))
     found = [decrypted("dev2", place.get(name)) for name in ("a.yml", "new.yml")]
     assert found == [TEXT + b"more\nmore\n", b"more\n"]
+
+
+def test_order(place: Place) -> None:
+    """Passwords are tried in this order: those of the settings' list, of both options, of the settings' file, and the
+    one of -J, wherever that is among the options."""
+    place.put("a.yml", sealed("dev2"))
+    settings = {"ANSIBLE_VAULT_IDENTITY_LIST": f"{place.secret('dev')}, {place.secret('prod')}"}
+    settings["ANSIBLE_VAULT_PASSWORD_FILE"] = place.secret("prod2")
+    words = [CHECK, "-J", *place.by_file("old"), *place.by_id("default", "new"), "a.yml"]
+    session = ask(place, *words, answers=typed("old", ASKED), **settings)
+    tried = [place.secret("dev"), place.secret("prod"), f"default@{place.secret('new')}", place.secret("old")]
+    tried += [place.secret("prod2"), "--ask-vault-password"]
+    assert f"; tried {', '.join(tried)})" in session.stderr, session
+
+
+def test_settings_beside_options(place: Place) -> None:
+    """A prompt that the settings name leads to no file of a stranger, so it counts beside options."""
+    place.put("a.yml", sealed("dev", label="dev"))
+    for words in ([CHECK], [WITH, "view"]):
+        answers, variables = typed("dev", OF_DEV), {"ANSIBLE_VAULT_IDENTITY_LIST": "dev@prompt"}
+        session = ask(place, *words, *place.by_file("old"), "a.yml", answers=answers, **variables)
+        check_asked(session, OF_DEV)
+        assert session.returncode == 0, session
+
+
+# What is typed in place of a password, and what is said of it.
+NO_PASSWORDS = {
+    "no UTF-8": (b"gr\xf6\xdfe\n", "what you typed is not valid UTF-8; set the terminal to UTF-8"),
+    "an empty line": (b"\n", "you typed an empty password; try again"),
+    "blanks": (b" \t \n", "you typed an empty password; try again"),
+    "the end of the input": (b"\x04", "you typed nothing; try again"),
+}
+NAME, STRING = "Variable name (enter for no name): ", "String to encrypt (hidden): "
+
+
+@pytest.mark.parametrize("answer, why", NO_PASSWORDS.values(), ids=NO_PASSWORDS)
+def test_no_passwords(place: Place, answer: bytes, why: str) -> None:
+    place.put("a.yml", sealed("dev"))
+    for words in ([WITH, "view"], [CHECK]):
+        session = ask(place, *words, "-J", "a.yml", answers=[(ASKED, answer)])
+        assert (session.returncode, session.stdout) == (1, ""), session
+        assert why in session.stderr and session.echoes, session
+
+
+@pytest.mark.parametrize("what", NO_PASSWORDS)
+def test_no_strings(place: Place, what: str) -> None:
+    """A string that is typed is no answer for the same reasons, but blanks are one."""
+    answer, why = NO_PASSWORDS[what]
+    words = [WITH, "encrypt_string", *place.by_file("dev"), "--prompt"]
+    session = ask(place, *words, answers=[(NAME, b"\n"), (STRING, answer)])
+    if what == "blanks":
+        assert texts(session.stdout.encode(), "dev") == [b" \t "], session
+    else:
+        assert (session.returncode, session.stdout) == (1, ""), session
+        assert why.replace("password", "string") in session.stderr and session.echoes, session
+
+
+def test_end_of_input(place: Place) -> None:
+    """Ctrl-D ends a password, too: once for what is in the line, and once more."""
+    place.put("a.yml", sealed("dev"))
+    session = ask(place, WITH, "view", "-J", "a.yml", answers=[(ASKED, PASSWORDS["dev"] + b"\x04\x04")])
+    assert (session.returncode, session.stdout, session.stderr) == (0, TEXT.decode(), ""), session
 
 
 @pytest.mark.parametrize("words", (["-J"], []))

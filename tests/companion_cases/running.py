@@ -60,6 +60,7 @@ def test_the_answers_of_the_tool(place: Place, line: str, option: str) -> None:
 
 OLD, DEV = "--vault-password-file ../secrets/old", "--vault-id dev@../secrets/dev"
 STRINGS, REKEY = f"encrypt_string {DEV}", "rekey --vault-id prod@../secrets/old --encrypt-vault-id prod a.yml"
+BOTH = f"{OLD} --new-vault-password-file ../secrets/new"
 SALT_FOR_ONE = "--salt and --salt-file are for a single FILE or STRING"
 NOT_NAMED = "there are more names than STRINGs; --stdin-name is the name of standard input"
 NOT_NEW = "no new password has the label that was chosen for encryption, prod"
@@ -103,6 +104,10 @@ REFUSED = [
     Refusal(
         line=f"encrypt {OLD} --output - plain.yml -", status=2, part=f"{WITH}: error: --output is for a single FILE\n"
     ),
+    Refusal(line=f"rekey {BOTH} --output out.yml a.yml new.yml", status=2, part="--output is for a single FILE\n"),
+    Refusal(line=f"rekey {BOTH} --salt salt a.yml new.yml", status=2, part=SALT_FOR_ONE),
+    Refusal(line=f"rekey {BOTH} --salt-file plain.yml a.yml new.yml", status=2, part=SALT_FOR_ONE),
+    Refusal(line=f"encrypt {OLD} --salt salt plain.yml -", status=2, part=SALT_FOR_ONE),
     # Nobody can type a password.
     Refusal(
         line="view -J a.yml",
@@ -131,6 +136,40 @@ def test_refused(place: Place, line: str, status: int, part: str) -> None:
     assert (done.stdout, done.stderr.count("--help") < 2, place.files()) == ("", True, before), "in one message"
 
 
+@pytest.mark.parametrize("word", ["-v", "-vvvv", "-v -v", "--verbose", "--verb"])
+def test_verbose(place: Place, word: str) -> None:
+    """It is ignored, before a command and after it."""
+    place.put("a.yml", sealed("old"))
+    for line in (f"{word} view {OLD} a.yml", f"view {word} {OLD} a.yml", f"view {OLD} a.yml {word}"):
+        check_answer(line, place.shell(f"{WITH} {line}"), output=TEXT.decode())
+
+
+@pytest.mark.parametrize("option", ["--vault-password-file", "--vault-id", "--vault-pass-file"])
+def test_options_around_a_command(place: Place, option: str) -> None:
+    """Those before a command and those after it count together, in this order."""
+    place.put("a.yml", sealed("old"))
+    place.put("dev.yml", sealed("dev"))
+    for first, second in (("old", "new"), ("new", "old")):
+        words = [WITH, f"{option}=../secrets/{first}", "view", f"{option}=../secrets/{second}"]
+        check_answer(first, place.run(*words, "a.yml"), output=TEXT.decode())
+        done = place.run(*words, "dev.yml", "dev.yml")
+        ended("none", done, 1, f"tried ../secrets/{first}, ../secrets/{second})")
+
+
+def test_closed_files(place: Place) -> None:
+    """A file that cannot be read is named, whoever would open it."""
+    place.put("closed.yml", sealed("old"), 0)
+    place.path.chmod(0o777)
+    for line in (f"view {OLD}", f"decrypt {OLD} --output -", f"encrypt {OLD} --output -", f"rekey {BOTH} --output -"):
+        done = place.as_nobody(WITH, *line.split(), "closed.yml")
+        check_answer(line, done, 3, errors=f"{WITH}: closed.yml: Permission denied\n")
+    for line in (f"view {OLD} ./closed.yml", f"decrypt {OLD}", f"encrypt {OLD}", f"rekey {BOTH}"):
+        done = place.as_nobody(WITH, *line.split(), "closed.yml")
+        ended(line, done, 1, f"{WITH}: closed.yml: Permission denied\n")
+    done = place.as_nobody(WITH, "edit", *OLD.split(), "closed.yml")
+    check_answer("edit", done, 3, errors=f"{WITH}: closed.yml: Permission denied\n")
+
+
 def test_in_place(place: Place) -> None:
     """Several files and the file of a link are replaced. Only the owner may read what is decrypted."""
     contents = {name: name.encode() for name in [*AWKWARD, "folder/a.yml"]}
@@ -154,8 +193,8 @@ def test_those_that_fail(place: Place) -> None:
     memory = r'printf "ERROR! out of \\033memory\n" >&2; exit 4'
     place.wrap_tool(f'case "$*" in rekey*) mkdir ../once 2> /dev/null && {{ {memory}; }} ;; esac')
     tried = f"(label default; tried {place.secret('old')}): name its password with --vault-id LABEL@SOURCE"
-    whys = {"plain.yml": r"out of \x1bmemory", "new.yml": f"no secret decrypts this vault {tried}"}
-    whys["missing.yml"] = "No such file or directory"
+    whys = {"missing.yml": "No such file or directory", "plain.yml": r"out of \x1bmemory"}
+    whys["new.yml"] = f"no secret decrypts this vault {tried}"
     done = place.run(WITH, "rekey", *place.by_file("old"), *place.by_file("dev", "new-"), *whys, "a.yml")
     messages = "".join(f"{WITH}: {name}: {why}\n" for name, why in whys.items())
     check_answer("those that fail", done, 4, errors=messages)

@@ -7,6 +7,7 @@ import pytest
 
 from companion_cases import CHECK, PASSWORDS, TEXT, TEXTCONV, WITH, Place, check_answer, decrypted, first_line, sealed
 from companion_cases.terminal import READING, ask
+from lib.needs import needs_root
 
 # Options that name scripts, and the arguments that each script gets.
 STARTS = {
@@ -55,6 +56,12 @@ FAILING = [
         text="#!/bin/sh\nprintf 'no\\n\\033[2J' >&2; exit 9",
         why="this script ended with status 9: 'no \\x1b[2J'",
     ),
+    Failing(
+        name="keys-client",
+        text="#!/bin/sh\nprintf 'gr\\366\\337e' >&2; exit 9",
+        why="this script ended with status 9: gr\ufffd\ufffde",
+    ),
+    Failing(name="script", text="#!/bin/sh\nprintf 'word\\t\\n'", why=SPACE),
 ]
 
 
@@ -67,6 +74,40 @@ def test_those_that_fail(place: Place, name: str, text: str, why: str) -> None:
     shown = place.run(TEXTCONV, "--vault-id", f"../{name}", *place.by_file("dev"), "a.yml")
     told = f"{TEXTCONV}: ../{name}: {why}; it is ignored\n"
     check_answer("another secret is there", shown, output=first_line() + TEXT.decode(), errors=told)
+
+
+# What a script prints around the password, which it prints in place of %s.
+PRINTED = ["%s", "%s\\n", "%s\\r\\n", "\\n%s", "\\r\\n\\n%s\\n\\r\\n\\n", "\\r%s\\r"]
+
+
+@pytest.mark.parametrize("printed", PRINTED)
+def test_line_ends(place: Place, printed: str) -> None:
+    """Line ends around the password do not count."""
+    place.put("a.yml", sealed("dev"))
+    place.script(f'printf "{printed}" "$(cat ../secrets/dev)"')
+    done = place.run(CHECK, "--vault-id", "../script", "a.yml")
+    check_answer("the check", done, output="a.yml: default: decrypted by ../script\n1 decrypted, 0 failed\n")
+
+
+@pytest.mark.parametrize("mode", [0o600, 0o644, 0o700, 0o610, 0o601, 0o755], ids=oct)
+def test_modes(place: Place, mode: int) -> None:
+    """A file that anybody may execute is a script."""
+    needs_root()
+    place.put("a.yml", sealed("dev"))
+    place.put("../keys", b"#!/bin/sh\ncat ../secrets/dev\n", mode)
+    done = place.run(CHECK, "--vault-id", "../keys", "a.yml")
+    if mode & 0o111:
+        check_answer("it is run", done, output="a.yml: default: decrypted by ../keys\n1 decrypted, 0 failed\n")
+    else:
+        check_answer("it is read", done, 1, errors=f"{CHECK}: ../keys: a password file is a script\n")
+
+
+def test_pipe_that_may_be_executed(place: Place) -> None:
+    """It is read like any other pipe."""
+    place.put("a.yml", sealed("dev"))
+    place.shell("mkfifo -m 755 ../pipe")
+    done = place.shell(f"cat ../secrets/dev > ../pipe & {CHECK} --vault-id ../pipe a.yml")
+    check_answer("the check", done, output="a.yml: default: decrypted by ../pipe\n1 decrypted, 0 failed\n")
 
 
 def test_standard_input(place: Place) -> None:

@@ -151,6 +151,13 @@ def put_strange(place: Place, row: Strange) -> None:
 
 
 OLD, NEW = "--vault-password-file=../secrets/old", "--new-vault-password-file=../secrets/new"
+# Command lines that name no old secret, and their statuses.
+NEW_ALONE = {
+    f"{ROTATE} {NEW} a.yml": 2,
+    f"{ROTATE} --new-vault-id=../secrets/new a.yml": 2,
+    f"{WITH} rekey {NEW} a.yml": 1,
+    f"{WITH} rekey --new-vault-id=../secrets/new a.yml": 1,
+}
 BESIDE_OPTIONS = [
     f"{WITH} view {OLD} a.yml",
     f"{WITH} encrypt {OLD} --encrypt-vault-id default plain.yml",
@@ -172,8 +179,9 @@ def test_what_is_not_trusted(place: Place, subtests: SubTests, row: Strange) -> 
             assert not ran.exists(), "no script is run"
             untold = [path for path in row.ignored if f": {path}: beside options, a path in the" not in done.stderr]
             assert untold == [], f"what is ignored is named: {done.stderr}"
-    ended("a new secret is an option, too", place.shell(f"{ROTATE} {NEW} a.yml"), 2)
-    assert not ran.exists(), "no script is run"
+    for line, status in NEW_ALONE.items():
+        ended("a new secret is an option, too", place.shell(f"setsid --wait {line}"), status)
+        assert not ran.exists(), "no script is run"
 
 
 @pytest.mark.parametrize("row", STRANGE.values(), ids=STRANGE)
@@ -182,6 +190,68 @@ def test_what_is_trusted_without_options(place: Place, row: Strange, line: str) 
     put_strange(place, row)
     ended("the password of the script", place.shell(line), 1)
     assert (place.path / "ran").exists(), "it is run"
+
+
+# Settings that lead to the same secret from everywhere: variables, and a file of the user's own.
+TRUSTED = {
+    "a path in the home directory": Strange(variables={"ANSIBLE_VAULT_PASSWORD_FILE": "~/secrets/dev"}),
+    "a source in the home directory": Strange(variables={"ANSIBLE_VAULT_IDENTITY_LIST": "default@~/secrets/dev"}),
+    "a file of the user's own": Strange(files={"../.ansible.cfg": FILE.format("secrets/dev")}),
+    "a list in it": Strange(files={"../.ansible.cfg": LIST.format("default@~/secrets/dev")}),
+    "a file that is named": Strange(
+        files={"../far/my.cfg": FILE.format("../secrets/dev")}, variables={"ANSIBLE_CONFIG": "~/far/my.cfg"}
+    ),
+    "a directory that is named": Strange(
+        files={"../far/ansible.cfg": FILE.format("../secrets/dev")}, variables={"ANSIBLE_CONFIG": "~/far"}
+    ),
+}
+
+
+@pytest.mark.parametrize("row", TRUSTED.values(), ids=TRUSTED)
+def test_what_counts_beside_options(place: Place, row: Strange) -> None:
+    """A path in the settings counts beside options if it does not start from the current directory."""
+    put_strange(place, row)
+    place.put("a.yml", sealed("dev"))
+    for line in (f"{CHECK} {OLD} a.yml", f"{WITH} view {OLD} a.yml"):
+        check_answer(line, place.shell(line), output=None)
+
+
+@pytest.mark.parametrize("written", ["prod", "'prod'", '"prod"'])
+def test_quotes_around_a_label(place: Place, written: str) -> None:
+    """Quotes around the label to encrypt with are removed, in a variable and in a file."""
+    place.put("../my.cfg", f"[defaults]\nvault_encrypt_identity = {written}\n".encode())
+    for variables in ({"VAULT_ENCRYPT_IDENTITY": written}, {"CONFIG": f"{place.path}/my.cfg"}):
+        place.put("plain.yml", TEXT)
+        words = [*place.by_id("dev", "dev"), *place.by_id("prod", "prod"), "plain.yml"]
+        done = place.run(WITH, "encrypt", *words, **{f"ANSIBLE_{name}": text for name, text in variables.items()})
+        check_answer("encrypt", done)
+        assert described(place.get("plain.yml")) == (b"$ANSIBLE_VAULT;1.2;AES256;prod", ("prod", TEXT))
+
+
+# The secrets of settings that are skipped, and the reason for each.
+SKIPPED = {"a@/none": "No such file or directory", "b@/tmp": "Is a directory", "c@/dev/null": "a password is empty"}
+
+
+def test_each_one_that_is_skipped(place: Place) -> None:
+    """Each has a warning of its own, in their order."""
+    place.put("a.yml", sealed("old"))
+    variables = {"ANSIBLE_VAULT_IDENTITY_LIST": ", ".join([*SKIPPED, "../secrets/old"])}
+    warnings = [f"{CHECK}: {source}: {why}; it is ignored\n" for source, why in SKIPPED.items()]
+    check_answer("the check", place.run(CHECK, "a.yml", **variables), output=None, errors="".join(warnings))
+
+
+@pytest.mark.parametrize("count, status", [(16, 0), (17, 1)])
+def test_most_secrets(place: Place, count: int, status: int) -> None:
+    """Options and settings together name no more than the program takes."""
+    place.put("a.yml", sealed("old"))
+    for of_settings in (0, 1, 9, count):
+        listed = ",".join([place.secret("old")] * of_settings)
+        words = ["--vault-id=../secrets/old"] * ((count - of_settings) // 2)
+        words += ["--vault-password-file=../secrets/old"] * (count - of_settings - len(words))
+        for companion in ([CHECK], [WITH, "view"]):
+            done = place.run(*companion, *words, "a.yml", ANSIBLE_VAULT_IDENTITY_LIST=listed)
+            why = f"{count} passwords are named, and ansible-vault takes at most 16\n" if status else ""
+            ended(f"{companion[0]} with {of_settings} of the settings", done, status, why)
 
 
 # A home directory that there is not.

@@ -69,6 +69,23 @@ def test_outputs(place: Place, outputs: str) -> None:
         assert "xyz\nq: !vault |\n" in session.shown, session
 
 
+def test_several_strings(place: Place) -> None:
+    """A note says which value is which: the typed string, standard input, and those of the command line."""
+    line = f"printf second | {WITH} encrypt_string {OLD} third fourth -n r --prompt --stdin-name q"
+    answers = [("Variable name (enter for no name): ", b"p\n"), ("String to encrypt (hidden): ", b"first\n")]
+    session = ask(place, "sh", "-c", line, answers=answers)
+    assert texts(session.stdout.encode(), "old") == [b"first", b"second", b"third", b"fourth"], session
+    assert [line for line in session.stdout.splitlines() if "!vault" in line] == [
+        "p: !vault |",
+        "q: !vault |",
+        "r: !vault |",
+        "!vault |",
+    ]
+    notes = ["the variable p, from the prompt", "the variable q, from standard input"]
+    notes += ["the variable r, from the command line", "a string without a name, from the command line"]
+    assert session.stderr == "".join(f"# Value {number} is {note}.\n" for number, note in enumerate(notes, 1))
+
+
 def test_as_ansible(place: Place) -> None:
     """Ansible's tool ends the line of a string, too."""
     line = f"{needs_ansible()} encrypt_string {OLD} --stdin-name q < /dev/tty {BOTH}"
