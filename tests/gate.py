@@ -1,6 +1,8 @@
 """The tools of the gate: failures reach the exit status and the counts, and lints and tests catch planted faults."""
 
 import ast
+import os
+import re
 import runpy
 import shutil
 from pathlib import Path
@@ -135,9 +137,12 @@ NOTHING += ["there are no faults in files"]
 NOTHING += ["only 0 references in pages", "only 0 references in sources"]
 
 
-def lint(folder: Path, texts: dict[str, str]) -> str:
-    """Lint a repository with these files, and return what is printed."""
-    needs("black", "git", "mandoc", "mypy", "pyflakes3", "shellcheck")
+# The programs that it runs besides git.
+LINTERS = {"black", "mandoc", "mypy", "pyflakes3", "shellcheck"}
+
+
+def put_repository(folder: Path, texts: dict[str, str]) -> None:
+    """Make a repository with these files, and with what tools/lint runs."""
     for name, text in texts.items():
         (folder / name).parent.mkdir(parents=True, exist_ok=True)
         (folder / name).write_text(text)
@@ -146,6 +151,12 @@ def lint(folder: Path, texts: dict[str, str]) -> str:
     for name in LINT:
         (folder / name).parent.mkdir(parents=True, exist_ok=True)
         shutil.copy(ROOT / name, folder / name)
+
+
+def lint(folder: Path, texts: dict[str, str]) -> str:
+    """Lint a repository with these files, and return what is printed."""
+    needs("git", *LINTERS)
+    put_repository(folder, texts)
     done = run_text([str(folder / "tools" / "lint")])
     assert done.returncode == 1
     return done.stdout + done.stderr
@@ -157,6 +168,19 @@ def test_lint(tmp_path: Path) -> None:
     assert "\nlint: 0 passed, " in printed
     assert [said for _, said in FAULTY.values() if said not in printed] == [], printed
     assert printed.count(DEAD) == sum(DEAD in said for _, said in FAULTY.values()), printed
+
+
+def test_lint_without_tools(tmp_path: Path) -> None:
+    """Each tool that is not installed is named, and its lint fails."""
+    needs("git")
+    put_repository(tmp_path / "repository", {name: text for name, (text, _) in FAULTY.items()})
+    (tmp_path / "few").mkdir()
+    for name in ("git", "python3"):
+        (tmp_path / "few" / name).symlink_to(str(shutil.which(name)))
+    done = run_text([str(tmp_path / "repository/tools/lint")], env=os.environ | {"PATH": str(tmp_path / "few")})
+    missing = re.findall(r"^(\w+) is not installed$", done.stdout, re.MULTILINE)
+    assert {*missing} == LINTERS, done
+    assert (done.returncode, "\nlint: 0 passed, " in done.stdout) == (1, True), done
 
 
 def test_lint_of_nothing(tmp_path: Path) -> None:

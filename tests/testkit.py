@@ -2,6 +2,7 @@
 
 import os
 import re
+import runpy
 import shutil
 import subprocess
 import sys
@@ -43,10 +44,24 @@ def names_of(lines: list[str]) -> list[str]:
 def test_made(tmp_path: Path) -> None:
     pytest.importorskip("cryptography")
     shutil.copytree(TESTKIT, tmp_path / "testkit", ignore=shutil.ignore_patterns("vectors"))
-    subprocess.run([sys.executable, "-B", "testkit/make"], cwd=tmp_path, check=True)
-    made = {path.name: path.read_bytes() for path in (tmp_path / "testkit" / "vectors").iterdir()}
-    assert made.keys() == VECTORS.keys()
-    assert [name for name in made if made[name] != VECTORS[name]] == []
+    folders: dict[str, list[str]] = {"testkit/vectors": [], "other": ["other"]}
+    for folder, words in folders.items():
+        subprocess.run([sys.executable, "-B", "testkit/make", *words], cwd=tmp_path, check=True)
+        made = {path.name: path.read_bytes() for path in (tmp_path / folder).iterdir()}
+        shutil.rmtree(tmp_path / folder)
+        assert made.keys() == VECTORS.keys()
+        assert [name for name in made if made[name] != VECTORS[name]] == []
+    assert [path.name for path in tmp_path.iterdir()] == ["testkit"], "nothing else is made"
+
+
+@pytest.mark.parametrize("words", (["--help"], ["one", "two"]), ids=" ".join)
+def test_usage(tmp_path: Path, words: list[str]) -> None:
+    """Help makes no vectors, and nor does a second directory."""
+    pytest.importorskip("cryptography")
+    command = [sys.executable, "-B", str(TESTKIT / "make"), *words]
+    done = subprocess.run(command, cwd=tmp_path, capture_output=True, text=True)
+    assert (done.returncode, done.stdout) == (1, "") and "testkit/make [DIRECTORY]\n" in done.stderr, done
+    assert [*tmp_path.iterdir()] == []
 
 
 def test_answers(program: str) -> None:
@@ -71,6 +86,33 @@ def test_labels(program: str) -> None:
     assert names_of(different) == ["label-at-sign"], different
     *answers, _ = run("--all", *required, "{label}x@{password}", "{file}")
     assert [line for line in answers if ": refused, expected: " not in line] == []
+
+
+NO_SECRET = "no secret decrypts this vault"
+
+
+def test_other_refusals() -> None:
+    """With --strict, a refusal has to say what the vector expects."""
+    words = ["--kind", "tag", "--", "sh", "-c"]
+    right = f"echo ERROR! {NO_SECRET} >&2; exit 1"
+    for command, is_right in {right: True, "exit 1": False, "echo ERROR! input is damaged >&2; exit 1": False}.items():
+        refused = [name for name in ENVELOPES if name.startswith("tag-") and FIELDS[name]["expect"] == NO_SECRET]
+        *different, _ = run("--strict", *words, command)
+        assert {*refused}.isdisjoint(names_of(different)) == is_right, command
+        *different, _ = run(*words, command)
+        assert {*refused}.isdisjoint(names_of(different)), "without --strict"
+
+
+def test_no_answer(monkeypatch: pytest.MonkeyPatch, capsys: pytest.CaptureFixture[str]) -> None:
+    """A command that does not end is no refusal."""
+    namespace = runpy.run_path(str(TESTKIT / "run"))
+    main = namespace["main"]
+    monkeypatch.setitem(main.__globals__, "SECONDS", 0.1)
+    monkeypatch.setattr(sys, "argv", ["run", "--kind", "password-file", "--", "sleep", "60"])
+    assert main() == 1
+    *answers, last = capsys.readouterr().out.splitlines()
+    assert {line.partition(": ")[2].partition(",")[0] for line in answers} == {"no answer"}, answers
+    assert last == f"0 as expected, {len(answers)} not"
 
 
 def test_rules() -> None:
