@@ -34,7 +34,7 @@ PUBLIC = re.compile(
     rb"|(?:sk-)?(?:ssh|ecdsa)-"
 )
 PRIVATE = b"PRIVATE KEY-----"
-NAME_IN_EXPRESSION = re.compile(rb"\{\{\s*[A-Za-z_]")
+NAME_IN_EXPRESSION = re.compile(rb"\{\{[-+]?\s*[A-Za-z_]")
 
 
 def is_public(data: bytes) -> bool:
