@@ -1,6 +1,7 @@
 """ansible-vault-hook: what it refuses of what is staged, of named files and of commits, also with pre-commit."""
 
 import re
+from itertools import product
 from typing import NamedTuple
 
 import pytest
@@ -167,9 +168,55 @@ def test_files(place: Place) -> None:
         ended("an option", place.run(HOOK, *option, "plain.yml"), 2, "FILE cannot be used with an option")
 
 
+def test_named_links(place: Place) -> None:
+    """A named file is checked by each rule. If it is a link, that counts, and links on the way to it are followed."""
+    under_git(place, ATTRIBUTES)
+    place.put("deep/plain.yml", TEXT)
+    place.put("deep/a.vault.yml", TEXT)
+    (place.tree / "deep/b.vault.yml").symlink_to("plain.yml")
+    place.put("deep/c.yml", sealed("old")[:-99])
+    (place.tree / "way").symlink_to("deep")
+    (place.path / "way").symlink_to("tree/deep")
+    add_and_commit(place)
+    refused = {"a.vault.yml": "is not encrypted", "b.vault.yml": "is a link to a file that is not encrypted"}
+    refused["c.yml"] = "is a damaged vault"
+    wanted = [f"deep/{name} {why}" for name, why in refused.items()]
+    for folder in ("deep", "way", f"{place.path}/way"):
+        assert told(place.run(HOOK, *(f"{folder}/{name}" for name in refused))) == wanted, folder
+
+
+MODES = (0o644, 0o755)
+
+
+@pytest.mark.parametrize("before, after", product(MODES, MODES))
+def test_modes(place: Place, before: int, after: int) -> None:
+    """Whether a file may be executed makes no difference to any rule."""
+    under_git(place, ATTRIBUTES)
+    for name, content in {"gone/x": sealed("old"), "pw": block("old", name="pw"), "v": sealed("old")}.items():
+        place.put(name, content, before)
+    add_and_commit(place)
+    first = place.shell("git rev-parse HEAD").stdout[:10]
+    place.shell("git rm -q gone/x")
+    for name, content in {"m.vault.yml": TEXT, "new/x": TEXT, "pw": b"pw: plain\n", "v": TEXT}.items():
+        place.put(name, content, after)
+    place.shell("git add -A")
+    unmarked = "m.vault.yml is not encrypted"
+    wanted = [unmarked, f"new/x {GONE.format('gone/x')}", f"pw {IN_PART.format('pw')}", f"v {WHOLE}"]
+    assert told(place.run(HOOK)) == wanted, "staged"
+    place.shell("git commit -qm change")
+    last = place.shell("git rev-parse HEAD").stdout[:10]
+    in_first = [line.replace("HEAD", first) for line in wanted]
+    assert told(place.run(HOOK, "--since", first)) == [f"{last}: {line}" for line in in_first], "a later commit"
+    assert sorted(told(place.run(HOOK, "--all"))) == in_first, "the last commit"
+    committed(place, "x.txt", TEXT)
+    in_earlier = f"v {WHOLE.replace('HEAD', 'an earlier commit')}"
+    assert sorted(told(place.run(HOOK, "--all"))) == [unmarked, in_earlier], "an earlier commit"
+    assert told(place.run(HOOK, "m.vault.yml")) == [unmarked], "a file that is named"
+
+
 # Where links in a folder lead, to plaintext of the repository or not.
 TO_PLAINTEXT = ["../folder/plain.yml", "..data/../plain.yml", "chain"]
-ELSEWHERE = ["vault.yml", "nowhere.yml", "loop", "../../plain.yml", "/etc/hostname"]
+ELSEWHERE = ["vault.yml", "nowhere.yml", "loop", "../../plain.yml", "/etc/hostname", "/plain.yml"]
 
 
 def test_links(place: Place) -> None:
@@ -318,7 +365,8 @@ def test_names_of_several(place: Place) -> None:
     place.shell("git update-ref refs/remotes/origin/main HEAD")
     last = committed(place, "a.yml", TEXT)
     whole = place.shell("git rev-parse HEAD~1").stdout.strip()
-    place.shell(f"for name in origin/main {first} {whole} HEAD; do git update-ref refs/tags/$name HEAD; done")
+    names = f"origin/main {first} {whole} {whole.upper()} HEAD"
+    place.shell(f"for name in {names}; do git update-ref refs/tags/$name HEAD; done")
     for setting in ("true", "false"):
         place.shell(f"git config core.warnAmbiguousRefs {setting}")
         for name in ("origin/main", "origin/main~0", first, "HEAD~1"):
@@ -447,6 +495,72 @@ def test_every_earlier_vault(place: Place, lines: str) -> None:
     assert told(place.run(HOOK, "--all")) == [f"v.yml {WHOLE.replace('HEAD', 'an earlier commit')}"]
 
 
+def test_each_part_of_a_history(place: Place) -> None:
+    """A history is read in parts, and whichever of them has a vault, --all finds it."""
+    under_git(place, "")
+    names = [f"{number}.yml" for number in range(3)]
+    for name in names:
+        committed(place, name, sealed("old"))
+    for name in names:
+        place.put(name, TEXT)
+    add_and_commit(place)
+    committed(place, "x.txt", TEXT)
+    wanted = [f"{name} {WHOLE.replace('HEAD', 'an earlier commit')}" for name in names]
+    for size in (1, 2, 4):
+        change = f"from ansible_vault_companions.git import versions\nversions.BATCH = {size}"
+        assert sorted(told(run_changed(place, HOOK, change, ["--all"]))) == wanted, f"{size} commits at once"
+
+
+UNSHALLOW, NOT_PARTIAL = "run `git fetch --unshallow`", "if this is a partial clone, clone again without --filter"
+# What makes a clone that lacks something, and what the message says.
+LACKING = {"depth=1": UNSHALLOW, "depth=2": UNSHALLOW, "filter=blob:none": NOT_PARTIAL, "filter=tree:0": NOT_PARTIAL}
+
+
+@pytest.mark.parametrize("words", (["--all"], ["--since", "HEAD~1"]), ids=" ".join)
+@pytest.mark.parametrize("option, why", LACKING.items(), ids=LACKING)
+def test_clones_that_lack_something(place: Place, option: str, why: str, words: list[str]) -> None:
+    """What is missing is not taken for what is not there, nor fetched. The message says what to do."""
+    under_git(place, "")
+    for text in (b"1", b"2", b"3"):
+        committed(place, "a.yml", sealed("old", text))
+    clone = f"git clone -q --no-checkout --{option} file://$PWD ../clone"
+    done = place.shell(f"git config uploadpack.allowFilter true && {clone}")
+    assert done.returncode == 0, done
+    files = sorted((place.path / "clone").rglob("*"))
+    ended(option, place.run(HOOK, *words, folder="../clone"), 1, f"{HOOK}: ", why)
+    assert sorted((place.path / "clone").rglob("*")) == files, "nothing is fetched"
+
+
+# What becomes of the file that marks others, and whether it marks them then. The last state is that of all commits
+# together.
+MOVED_MARKS = [
+    ("true", True),
+    ("git mv .gitattributes notes", False),
+    ("git mv notes .gitattributes", True),
+    ("mkdir deep && git mv .gitattributes deep", False),
+    ("git mv deep/.gitattributes .", True),
+    ("git rm -q .gitattributes", False),
+    ("echo '*.vault.yml ansible-vault' > .gitattributes", True),
+    ("echo '*.vault.yml -ansible-vault' > .gitattributes", False),
+]
+
+
+def test_moved_marks(place: Place) -> None:
+    """In each commit, the attributes of that commit count, wherever they were before."""
+    under_git(place, ATTRIBUTES)
+    add_and_commit(place)
+    first, wanted = place.shell("git rev-parse HEAD").stdout.strip(), []
+    for number, (change, is_marked) in enumerate(MOVED_MARKS):
+        place.shell(change)
+        name = f"{number}.vault.yml"
+        refused = [f"{name} is not encrypted"] if is_marked else []
+        assert staged(place, {name: b"%d\n" % number}) == refused, f"{change}, staged"
+        place.shell("git commit -qm change --no-verify")
+        commit = place.shell("git rev-parse HEAD").stdout[:10]
+        wanted += [f"{commit}: {line}" for line in refused]
+    assert told(place.run(HOOK, "--since", first)) == wanted
+
+
 def test_several_merge_bases(place: Place) -> None:
     """After two branches have merged each other, what later commits change together is compared with each merge
     base."""
@@ -496,6 +610,26 @@ def test_no_longer_read(place: Place, name: str, text: bytes) -> None:
     committed(place, name, block("old", name="pw"))
     [fault] = staged(place, {name: text})
     assert fault.startswith(f"{name} had encrypted values, but can no longer be checked: "), fault
+
+
+# Names by which a file is YAML, and others.
+OF_YAML, OF_OTHERS = ["a.yml", "b.yaml", "c.json", "d.YML", "e.Yaml", "f.JSON"], ["g", "h.j2", "i.txt", "j.yml.j2"]
+
+
+def test_readable_by_name(place: Place) -> None:
+    """What is YAML by its name must be readable if it had a value, even if that stays, or if the commit removes one
+    from any file. Another file that keeps its values, or never had one, need not be."""
+    under_git(place, "")
+    value, unreadable = block("old", name="pw"), b"pw: plain\nx:\n\ty: 1\n"
+    for name in [*OF_YAML, *OF_OTHERS, "z.yml"]:
+        place.put(name, value)
+    add_and_commit(place)
+    lines = staged(place, dict.fromkeys([*OF_YAML, *OF_OTHERS], unreadable + value))
+    why = "had encrypted values, but can no longer be checked"
+    assert [line.partition(":")[0] for line in lines] == [f"{name} {why}" for name in OF_YAML], "it had a value"
+    place.shell("git reset -q --hard && git rm -q z.yml")
+    lines = staged(place, dict.fromkeys([f"new/{name}" for name in [*OF_YAML, *OF_OTHERS]], unreadable))
+    assert [line.split()[0] for line in lines] == [f"new/{name}" for name in OF_YAML], "it is new"
 
 
 @pytest.mark.parametrize("is_vault", (True, False), ids=["a vault", "a value"])

@@ -3,11 +3,10 @@
 from __future__ import annotations
 
 from ansible_vault_companions.envelopes.header import MAGIC
+from ansible_vault_companions.git.commands import NOT_PARTIAL
 from ansible_vault_companions.git.servers import Server
 from ansible_vault_companions.limits import LONGEST_LINK, LONGEST_PLAINTEXT, LONGEST_VAULT
 from ansible_vault_companions.refusals import Refused
-
-NOT_PARTIAL = "if this is a partial clone, clone again without --filter"
 
 
 class Blobs:

@@ -32,6 +32,9 @@ CUT = "git {} failed: its output is cut"
 LONGEST_MESSAGE = 1_000
 # How git, and zlib in it, say that there is no more memory. A path in a message does not count.
 OUT_OF_MEMORY = re.compile(rb"^(?:fatal|error): (?:\w+: )?out of memory|: Cannot allocate memory$", re.I | re.M)
+# What git names if it lacks an object that a partial clone has left there, and what to do then.
+PROMISOR = b"promisor remote"
+NOT_PARTIAL = "if this is a partial clone, clone again without --filter"
 
 # No transport is started, and no object counts as another one, as refs/replace might say.
 ONLY_WHAT_IS_THERE = {"GIT_NO_LAZY_FETCH": "1", "GIT_ALLOW_PROTOCOL": "none", "GIT_NO_REPLACE_OBJECTS": "1"}
@@ -115,7 +118,8 @@ def _find_limit(command: str, status: int, errors: bytes) -> str:
 
 def _describe_end(status: int, errors: bytes) -> str:
     end = f"signal {-status} ended it" if status < 0 else f"it ended with status {status}"
-    return _read_messages(errors) or end
+    why = _read_messages(errors) or end
+    return f"{why}; {NOT_PARTIAL}" if PROMISOR in errors else why
 
 
 def _read_messages(errors: bytes) -> str:
