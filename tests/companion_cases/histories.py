@@ -68,6 +68,11 @@ IN_ADVANCE = {".gitattributes": PLANTED}
 POINTER = b"version https://git-lfs.github.com/spec/v1\noid sha256:61\nsize 5\n"
 TAB = b"\tx: 1\n"
 
+# A vault of a short text, one that is damaged so that its length is unknown, and a value in what exceeds a limit.
+SHORT, DIGITLESS = sealed("old", b"short"), b"$ANSIBLE_VAULT;1.1;AES256\nno digits\n"
+DEEP = b"x: " + b"[" * 70 + b"]" * 70 + b"\n" + PW
+COPIES = {".gitattributes": b"*.dec -ansible-vault\n"}
+
 PASSING = {
     "braces and strings in an expression": Change(PW, b"pw: \"{{ {'a': {'b': x, 'c': '}}'}} }}{{ '{{' ~ y }}\"\n"),
     "an expression on several lines": Change(PW, b"pw: >-\n  {{ lookup('env',\n  'PW') }}\n"),
@@ -133,6 +138,11 @@ PASSING = {
         {"b.yml": b"db: [{name: x}]\nx: {pw: x}\n", "y": X},
     ),
     "a byte order mark": Change(PW, b"\xef\xbb\xbf" + PW2),
+    "a meant copy": Change({"a.yml": VAULT}, {"a.yml": VAULT, "a.yml.dec": TEXT, **COPIES}),
+    "a meant pointer": Change(VAULT, {"a.yml": POINTER, ".gitattributes": b"a.yml -ansible-vault\n"}),
+    "a deep fixture": Change(FIXTURES, FIXTURES | {"t/d.yml": DEEP}),
+    "an empty file beside a short vault": Change({"a.key": SHORT}, {"a.key": SHORT, "a.key.bak": b"\n"}),
+    "an empty file in place of a short vault": Change({"a/x.key": SHORT, "y": X}, {"b/x.key": b"\n", "y": X}),
     "meant damage": Change(
         X, {"a.txt": CONFLICT % (PW, CUT), ".gitattributes": b"*.txt -ansible-vault diff=ansible-vault"}
     ),
@@ -149,6 +159,8 @@ NOT_COMPARED = "cannot be checked for pw of a.yml, which was encrypted in HEAD: 
 FEWER = "has fewer envelopes than in HEAD, and cannot be compared with what it was there: "
 GONE_ROLE = f"b/vars/main.yml {GONE.format('a/vars/main.yml')}"
 LFS = "is a pointer of git-lfs, so its content cannot be checked"
+COPY = "a.yml.dec is not encrypted, and may be a decrypted copy of the vault a.yml: its text is just as long"
+TAGGED = "has plaintext with the tag `!vault` in line {}"
 TOKEN = "found character that cannot start any token"
 REFUSED = {
     "a vault of another format": Change(AES, TEXT, WHOLE),
@@ -160,6 +172,17 @@ REFUSED = {
     "another suffix of main": Change({"main.yml": VAULT}, {"main.json": TEXT}, f"main.json {GONE.format('main.yml')}"),
     "another directory, deeper": Change({"a/x.yml": VAULT}, {"b/c/x.yml": TEXT}, f"b/c/x.yml {GONE.format('a/x.yml')}"),
     "another name's pointer": Change({"a/x.yml": VAULT}, {"b/x.yml": POINTER}, f"b/x.yml {LFS}"),
+    "a copy": Change({"a.yml": VAULT}, {"a.yml": VAULT, "a.yml.dec": TEXT}, COPY),
+    "a copy exempt in advance": Change({"a.yml": VAULT, **COPIES}, {"a.yml": VAULT, "a.yml.dec": TEXT, **COPIES}, COPY),
+    "a damaged vault, elsewhere": Change(
+        {"a/x.yml": DIGITLESS, "y": X}, {"b/x.yml": TEXT, "y": X}, f"b/x.yml {GONE.format('a/x.yml')}"
+    ),
+    "beside another vault of its name that changes": Change(
+        {"a/x.yml": VAULT, "b/x.yml": OTHER},
+        {"b/x.yml": sealed("dev", b"other\n"), "c/x.yml": TEXT},
+        f"c/x.yml {GONE.format('a/x.yml')}",
+    ),
+    "the tag without its envelope": Change(PW + X, X + b"y: !vault plain\n", TAGGED.format(2)),
     "a renamed role": Change({"a/vars/main.yml": VAULT}, {"b/vars/main.yml": TEXT}, GONE_ROLE),
     "a list by another name": Change({"a.yml": VAULT}, {"a.txt": b"- " + TEXT}, f"a.txt {GONE.format('a.yml')}"),
     "a list and a mapping": Change(
@@ -247,7 +270,7 @@ REFUSED = {
         {"c.yml": b"pw: s3cret\n"},
         f"c.yml {IN_PART.format('pw of a.yml')}",
     ),
-    "plaintext with the tag": Change(PW, PW + b"x: !vault plain\n", "has plaintext with the tag `!vault` in line 8"),
+    "plaintext with the tag": Change(PW, PW + b"x: !vault plain\n", TAGGED.format(8)),
     "a repaired file": Change(TAB + PW, PLAIN, f"{FEWER}line 1: it cannot be read as YAML: {TOKEN}"),
     "a file that is still to be repaired": Change(
         TAB + PW,
