@@ -103,6 +103,7 @@ def list_advice(place: Place, *words: str) -> list[str]:
     done = place.run(HOOK, *words)
     advice = [line for line in done.stderr.splitlines() if line.startswith("  ")]
     assert len(advice) == len(told(done)), "there is an advice on each file"
+    assert done.stderr.count("\n") == 2 * len(advice), "no name begins a line"
     assert [line for line in advice if not line.isprintable()] == [], "lines with control characters"
     return advice
 
@@ -273,6 +274,37 @@ def test_no_line(place: Place) -> None:
     assert [line.endswith(later) for line in list_advice(place, "--all")] == [True] * 3
     committed(place, "x", b"")
     assert list_advice(place, "--all") == []
+
+
+def test_line_after_line(place: Place) -> None:
+    """What one line allows, a later line of the same commit for another value allows, too."""
+    under_git(place, "")
+    names = ["a", "b", "c"]
+    committed(place, "a.yml", b"".join(block("old", name=name) for name in names))
+    for name in names:
+        place.put("a.yml", place.get("a.yml").replace(block("old", name=name), f"{name}: plain\n".encode()))
+        place.shell("git add -A")
+        [advice] = list_advice(place)
+        paste(place, advice)
+        place.shell("git add -A")
+        assert list_advice(place) == [], f"the line for {name}"
+
+
+@pytest.mark.parametrize("sign", "aü日")
+def test_longest_line(place: Place, sign: str) -> None:
+    """A line is shown if it is not too long for git, which counts bytes."""
+    under_git(place, "")
+    answers = set()
+    for size in range(2_040, 2_054):
+        rest = size - len("/a.yml ansible-vault-plain=")
+        key = sign * (rest // len(sign.encode()))
+        attribute = f"ansible-vault-plain={key}".encode().ljust(size - len("/a.yml "), b"a").decode()
+        _, line = make_line(b"a.yml", attribute, ())
+        place.put(".gitattributes", f"/a.yml {attribute}\n".encode())
+        is_read = key in place.run("git", "check-attr", "ansible-vault-plain", "--", "a.yml").stdout
+        assert bool(line) == is_read, f"{size} bytes"
+        answers.add(is_read)
+    assert answers == {True, False}, "some lines are too long"
 
 
 def test_combined_change(place: Place) -> None:
