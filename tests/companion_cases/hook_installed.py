@@ -2,13 +2,15 @@
 
 import os
 import shlex
+import shutil
+from itertools import combinations
 from typing import NamedTuple
 
 import pytest
 
 from companion_cases import HOOK, MERGE, ROTATE, TEXT, TEXTCONV, Place, ended, run_changed, sealed, silent, summary
 from companion_cases import check_answer, to_new
-from companion_cases.repository import BASE, OURS, THEIRS, add_and_commit, fork, told, under_git
+from companion_cases.repository import AUTHOR, BASE, OURS, THEIRS, add_and_commit, fork, told, under_git
 from companion_cases.terminal import ask
 
 pytestmark = pytest.mark.usefixtures("git")
@@ -182,6 +184,11 @@ def test_links(place: Place) -> None:
         ended(change, place.run(HOOK, "--install", folder="project"), 0, "pre-commit: installed")
         assert sorted(os.listdir(place.tree / folder)) == NAMES
         ended(change, place.run(HOOK, "--uninstall", folder="project"), 0, "pre-commit: removed")
+    place.environment |= AUTHOR
+    worktree = "git config --unset core.hooksPath; git commit -qm one --allow-empty; git worktree add -q ../second"
+    place.shell(worktree, folder="project")
+    ended("from a worktree", place.run(HOOK, "--install", folder="second"), 0, "pre-commit: installed")
+    assert sorted(os.listdir(place.tree / "own")) == NAMES
 
 
 def test_those_of_others(place: Place) -> None:
@@ -204,6 +211,52 @@ def test_those_of_others(place: Place) -> None:
     ended("it is undone", place.run(HOOK, "--uninstall"), 0, left)
     assert os.readlink(hook) == "/nowhere/else"
     assert place.shell("git config --get-regexp ansible-vault").stdout == f"{DIFF} cat --\n{DRIVER} mine\n"
+
+
+@pytest.mark.parametrize("other", NAMES + SETTINGS)
+def test_one_of_others(place: Place, other: str) -> None:
+    """Whichever hook or setting is somebody else's, it stays, the status is 1, and all else is set up."""
+    under_git(place, ATTRIBUTES)
+    if other in NAMES:
+        place.put(f".git/hooks/{other}", b"#!/bin/sh\n", 0o755)
+    else:
+        place.run("git", "config", other, "mine")
+    done = place.run(HOOK, "--install", *place.by_file("old"))
+    hooks = {name: place.tree / ".git/hooks" / name for name in NAMES}
+    assert {name for name, hook in hooks.items() if hook.is_symlink()} == {*NAMES} - {other}
+    values = {setting: place.run("git", "config", setting).stdout for setting in SETTINGS}
+    assert {setting for setting, value in values.items() if value != "mine\n"} == {*SETTINGS} - {other}
+    assert len(told(done)) == 1 and f"{other} " in done.stderr, "it alone is named"
+
+
+def test_every_password(place: Place) -> None:
+    """Both settings have all passwords, however many there are of each kind."""
+    under_git(place, "")
+    words = [*place.by_id("dev", "dev"), *place.by_id("prod", "prod"), *place.by_file("old"), *place.by_file("new")]
+    ended("it is installed", place.run(HOOK, "--install", *words), 0)
+    for setting in SETTINGS:
+        command, _, _ = place.run("git", "config", setting).stdout.partition(" %O ")
+        assert shlex.split(command)[1:] == words, setting
+
+
+@pytest.mark.parametrize("is_alone", (False, True), ids=["with the others", "a link alone"])
+def test_awkward_folders(place: Place, is_alone: bool) -> None:
+    """git runs the companions in a directory of any name, also if only a link to the hook is installed elsewhere."""
+    under_git(place, ATTRIBUTES)
+    hook = shutil.copytree(place.companions, place.path / "it's 50% %A $(touch x)") / HOOK
+    if is_alone:
+        link = place.path / "a link" / HOOK
+        link.parent.mkdir()
+        link.symlink_to(hook)
+        hook = link
+    fork(place, *({"a.vault.yml": sealed("old", text)} for text in (BASE, OURS, THEIRS)))
+    ended("it is installed", place.run(str(hook), "--install", *place.by_file("old")), 0)
+    ended("git show", place.run("git", "show"), 0, "-one: 1\n+one: I")
+    merged = place.shell("git merge --no-edit theirs && git show --textconv HEAD:a.vault.yml")
+    ended("git merge", merged, 0, "one: I\n", "four: IV\n")
+    place.put("b.vault.yml", TEXT)
+    assert told(add_and_commit(place)) == ["b.vault.yml is not encrypted"]
+    assert [*place.path.rglob("x")] == [], "nothing within the name is run"
 
 
 @pytest.mark.parametrize("count", (1, 2, 3))
@@ -244,3 +297,26 @@ def test_installed_again(place: Place) -> None:
     assert done.returncode == 1 and "no space" in done.stderr
     assert all((place.tree / ".git/hooks" / name).exists() for name in ("pre-commit", "pre-merge-commit"))
     ended("it is installed again", place.run(HOOK, "--install"), 0, "installed")
+
+
+def test_interrupted(place: Place) -> None:
+    """What an interrupted installation has left does not keep another one from its work, and is gone then."""
+    under_git(place, "")
+    killed = "os.replace = lambda *_: os.kill(os.getpid(), 9)"
+    run_changed(place, HOOK, killed, ["--install"])
+    hooks = place.tree / ".git/hooks"
+    before = {path.name for path in hooks.iterdir() if path.is_symlink()}
+    ended("it is installed again", place.run(HOOK, "--install"), 0, *(f"{hooks}/{name}: installed\n" for name in NAMES))
+    assert before and {path.name for path in hooks.iterdir() if path.is_symlink()} == {*NAMES}
+
+
+def test_options_together(place: Place) -> None:
+    """Options that do not fit together are refused, and nothing is done."""
+    under_git(place, "")
+    options = ["--all", "--since=HEAD", "--install", "--uninstall"]
+    for words in combinations(options, 2):
+        ended(str(words), place.run(HOOK, *words), 2, "not allowed with argument")
+    for word in ("--all", "--since=HEAD", "--uninstall", "a.yml", "--"):
+        done = place.run(HOOK, "--vault-password-file=/pass", word)
+        ended(word, done, 2, "only --install takes passwords")
+    assert ".git/hooks/pre-commit" not in place.names(), "nothing is installed"

@@ -6,6 +6,7 @@ from companion_cases import (
     CHANGE,
     CHANGED,
     CHECK,
+    HOOK,
     MERGE,
     NOT_DECRYPTED,
     ROTATE,
@@ -38,7 +39,8 @@ def test_without_pyyaml(place: Place) -> None:
     base, ours, theirs = (sealed("old", text) for text in (b"a: 1\n\nb: 1\n", b"a: 2\n\nb: 1\n", b"a: 1\n\nb: 2\n"))
     silent("merge", place.run(MERGE, *old, *versions(place, "a.yml", base, ours, theirs)))
     before = place.files()
-    for words in ([CHECK, *old, "."], [ROTATE, *to_new(place), "."], [TEXTCONV, *old, "--value", "secret", "vars.yml"]):
+    needing = [[CHECK, *old, "."], [ROTATE, *to_new(place), "."], [TEXTCONV, *old, "--value", "secret", "vars.yml"]]
+    for words in [*needing, [HOOK], [HOOK, "--all"]]:
         done = place.run(*words)
         ended(words[0], done, 1, "PyYAML, which reads YAML, is missing", package)
         assert done.stdout == ""
