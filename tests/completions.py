@@ -6,6 +6,7 @@ from pathlib import Path
 import pytest
 
 from lib.needs import needs
+from lib.paths import COMPANIONS
 from shells import SHELLS, typed_in_bash
 
 FILES = {"one.pass", "one.yml", "two.yml", "with a space.pass", "te@m.pass", "-dash.yml", "folder"}
@@ -28,7 +29,12 @@ OFFERED: dict[str, set[str]] = {
     "ansible-vault-rotate ": FILES,
     "ansible-vault-check --exclude ": set(),
     "ansible-vault-check --ask-vault-pass tw": {"two.yml"},
+    "ansible-vault-hook ": FILES,
+    "ansible-vault-hook --un": {"--uninstall"},
+    "ansible-vault-hook --since ": set(),
+    "ansible-vault-hook --install --vault-id dev@one.p": {"dev@one.pass"},
 }
+OFFERED |= {f"{companion} --vers": {"--version"} for companion in COMPANIONS}
 # The aliases through which ansible-vault has the completion of ansible-vault-with, and one that changes nothing. With
 # an option, zsh does not expand an alias before it completes.
 SHORT, LONG = f"alias ansible-vault={WITH}", f"alias ansible-vault='{WITH} --vault-id one.pass'"

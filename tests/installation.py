@@ -92,10 +92,30 @@ def test_python(tmp_path: Path, make: Make, place: Path) -> None:
         assert done.returncode == 0 and done.stderr.startswith(said) and bool(done.stderr) == bool(said), done.stderr
         starts = {path.read_text().split("\n")[0] for path in (place / "lib/ansible-vault").glob("ansible-vault-*")}
         assert starts == {f"#!{python} -IBXutf8", f"#!{python} -ISBXutf8"}
-    for name in ("python3", "/two words/python3", f"{tmp_path}/none"):
-        done = make("install", f"PYTHON={name}", f"PREFIX={tmp_path}/other")
-        assert done.returncode != 0 and "PYTHON" in done.stderr, f"{name} is refused"
-        assert not (tmp_path / "other").exists(), f"nothing is installed for {name}"
+    done = make("install", f"PYTHON={tmp_path}/none", f"PREFIX={tmp_path}/other")
+    assert done.returncode != 0 and done.stderr.startswith(f"there is no {tmp_path}/none: "), done.stderr
+    assert not (tmp_path / "other").exists(), "nothing is installed for a Python that is missing"
+
+
+@pytest.mark.parametrize("path", ["", "python3", "two words/python3", "a,b/python3", "a&b/python3", 'a"b/python3'])
+def test_refused_python(tmp_path: Path, make: Make, path: str) -> None:
+    """A path that cannot be in a first line is refused, even if a Python is there, or if it is for another system."""
+    if "/" in path:
+        path = write_script(tmp_path / path, 'exec /usr/bin/python3 "$@"')
+    for folder in ("", f"DESTDIR={tmp_path}/other"):
+        done = make("install", f"PYTHON={path}", f"PREFIX={tmp_path}/prefix", *filter(None, [folder]))
+        said = f"PYTHON={path} is no plain path that begins with /\n"
+        assert done.returncode != 0 and done.stderr.startswith(said), done.stderr
+        assert not (tmp_path / "other").exists() and not (tmp_path / "prefix").exists(), "nothing is installed"
+
+
+def test_python_of_another_system(tmp_path: Path, make: Make) -> None:
+    """Below DESTDIR, the Python need not be there yet."""
+    done = make("install", f"DESTDIR={tmp_path}/other", "PREFIX=/usr", "PYTHON=/opt/none/python3")
+    assert answer_of(done) == Answer(0, "", ""), "make install"
+    library = tmp_path / "other/usr/lib/ansible-vault"
+    starts = {path.read_text().split(" ")[0] for path in library.glob("ansible-vault-*")}
+    assert starts == {"#!/opt/none/python3"}, "the first lines"
 
 
 def theirs(path: Path) -> Path:
@@ -220,6 +240,66 @@ def test_at_once(tmp_path: Path, place: Path, begin: Begin) -> None:
         assert found in ({}, whole) and bool(found) == (place / SUMS).exists(), "all files are whole, or there are none"
     assert status_and_errors(begin("install")) == (0, "")
     assert (status_and_errors(begin("uninstall")), files_below(place)) == ((0, ""), set()), "no file is left"
+
+
+def state_of(folder: Path) -> dict[str, str]:
+    """Return what each file below a directory has, and where each link leads."""
+    paths = {each: str(each.relative_to(folder)) for each in folder.rglob("*")}
+    links = {name: f"leads to {os.readlink(path)}" for path, name in paths.items() if path.is_symlink()}
+    texts = {name: path.read_text() for path, name in paths.items() if path.is_file() and name not in links}
+    return links | texts | {name: "a folder" for path, name in paths.items() if path.is_dir() and name not in links}
+
+
+# What is at a path, as shell text. Beside the prefix is a folder with a file.
+OCCUPANTS = {
+    "a file": "echo theirs > {}",
+    "a link to a file": "ln -s ../../theirs/file {}",
+    "a link to a folder": "ln -s ../../theirs {}",
+    "a link to nothing": "ln -s nowhere {}",
+    "a folder": "mkdir {}",
+}
+
+
+@pytest.mark.parametrize("name", ["share/3", "share/link"], ids=["a file of ours", "a link of ours"])
+@pytest.mark.parametrize("occupant", OCCUPANTS)
+def test_occupied(tmp_path: Path, place: Path, begin: Begin, occupant: str, name: str) -> None:
+    """Whatever is at a path stays. REPLACE=yes replaces it, but no folder, and never what a link leads to. What has
+    taken the place of ours is left by an uninstallation."""
+    path, theirs = place / name, tmp_path / "theirs"
+    path.parent.mkdir(parents=True)
+    theirs.mkdir()
+    (theirs / "file").write_text("theirs")
+    occupy = ["sh", "-c", OCCUPANTS[occupant].format(path)]
+    subprocess.run(occupy, check=True)
+    before = state_of(tmp_path)
+    status, errors = status_and_errors(begin("install"))
+    assert (status, errors.startswith(f"{path} is ")) == (1, True), "it is refused"
+    assert state_of(tmp_path) == before, "nothing is changed"
+    status, _ = status_and_errors(begin("install", "yes"))
+    if occupant == "a folder":
+        assert (status, state_of(tmp_path)) == (1, before), "a folder is not replaced"
+        path.rmdir()
+        assert status_and_errors(begin("install")) == (0, "")
+    whole = {each: (tmp_path / "sources" / source).read_text() for each, source in FEW.items()}
+    found = {each: text for each, text in state_of(place).items() if each in [*FEW, "share/link"]}
+    assert found == whole | {"share/link": "leads to 0"}, "ours are in place of it"
+    assert state_of(theirs) == {"file": "theirs"}, "what a link led to is as before"
+    path.unlink()
+    subprocess.run(occupy, check=True)
+    occupied = state_of(path.parent)[path.name]
+    assert status_and_errors(begin("uninstall")) == (0, "")
+    assert state_of(place / "share") == {path.name: occupied}, "what is there stays, and only that"
+    assert state_of(theirs) == {"file": "theirs"}, "what a link led to is as before"
+
+
+def test_folder_that_became_a_file(place: Path, begin: Begin) -> None:
+    """A file in place of a folder with ours is left, and what is not there is forgotten."""
+    assert status_and_errors(begin("install")) == (0, "")
+    shutil.rmtree(place / "share")
+    (place / "share").write_text("theirs")
+    assert status_and_errors(begin("uninstall")) == (0, "")
+    assert state_of(place).get("share") == "theirs", "the file is left"
+    assert not (place / SUMS).exists(), "nothing is remembered"
 
 
 DAMAGES: dict[str, Callable[[str], str]] = {

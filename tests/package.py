@@ -173,9 +173,9 @@ def test_beside_theirs(package: Path, tmp_path: Path, program: str) -> None:
 
 
 def test_compiled(package: Path, tmp_path: Path, program: str) -> None:
-    """Where the package is installed, every user starts companions that are compiled."""
+    """Where the package is installed, every user starts companions that are compiled. With it, all of that goes."""
     needs_root()
-    needs("py3compile")
+    needs("py3compile", "py3clean")
     root = Root(str(tmp_path / "root"), program)
     root.add_python()
     for name in ("libc6", "python3", "python3-yaml"):
@@ -184,3 +184,7 @@ def test_compiled(package: Path, tmp_path: Path, program: str) -> None:
     library = "/usr/lib/ansible-vault"
     assert compiled_modules(files_below(root.path / library.lstrip("/"))) == SHARED
     check_starts(library, "chroot", "--userspec=65534:65534", str(root.path))
+    run_dpkg(root, "-r", "ansible-vault")
+    assert [*root.path.rglob("*ansible-vault*")] == [
+        *root.path.glob("var/lib/dpkg/info/ansible-vault.*")
+    ], "what is left"

@@ -66,7 +66,7 @@ class Root:
         return run_text(["dpkg", f"--root={self.path}", *words], env=os.environ | {"LC_ALL": "C"})
 
     def add_python(self) -> None:
-        """Add this machine's Python, and what compiles the modules of a package with it."""
+        """Add this machine's Python, and what compiles the modules of a package with it and removes that."""
         python = os.path.realpath("/usr/bin/python3")
         library = f"/usr/lib/{os.path.basename(python)}"
         for folder in (library, "/usr/share/python3"):
@@ -75,8 +75,8 @@ class Root:
         programs = [python, "/usr/bin/dpkg", "/usr/bin/dpkg-query"]
         extensions = [str(path) for path in Path(library, "lib-dynload").iterdir()]
         self._copy(libraries(*programs, *extensions))
-        self._copy({*programs, "/usr/bin/python3", "/usr/bin/py3compile"})
-        # For /dev/null, to which postinst writes.
+        self._copy({*programs, "/usr/bin/python3", "/usr/bin/py3compile", "/usr/bin/py3clean"})
+        # For /dev/null, to which the maintainer scripts write.
         (self.path / "dev").mkdir()
 
     def _copy(self, paths: set[str]) -> None:
