@@ -206,7 +206,18 @@ def test_labels_of_examples(place: Place, example: bytes) -> None:
         check_answer(words[0], place.run(*words), output=None)
 
 
-@pytest.mark.parametrize("suffix", (".md", ".rst", ".adoc", ".html"))
+SUFFIXES = (".md", ".rst", ".adoc", ".html")
+
+
+@pytest.mark.parametrize("suffix", SUFFIXES)
+def test_values_in_marked_documents(place: Place, suffix: str) -> None:
+    """A document that is marked is encrypted if its values are."""
+    under_git(place, f"marked{suffix} ansible-vault\n")
+    place.put(f"marked{suffix}", block("old"))
+    check_answer("the check", place.run(CHECK, *place.by_file("old"), "."), output=None)
+
+
+@pytest.mark.parametrize("suffix", SUFFIXES)
 @pytest.mark.parametrize("example", EXAMPLES.values(), ids=EXAMPLES)
 def test_examples_in_marked_documents(place: Place, example: bytes, suffix: str) -> None:
     """What is an example in any other document is a failure in one that is marked."""

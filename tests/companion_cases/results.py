@@ -22,7 +22,7 @@ def fill(place: Place) -> None:
     place.put("a.yml", b"x:\n- y: &z !vault |\n" + b"\n".join(b"   " + line for line in sealed("old").splitlines()))
     place.put("b.yml", sealed("prod", INNER, "prod"))
     place.put("c.yml", block("new", label="new") + DAMAGED)
-    place.put("d.md", b"An example:\n\n" + DAMAGED)
+    place.put("d.md", b"An example:\n\n" + block("dev", label="old"))
     place.put("plain.yml", b"port: 1\n")
     (place.tree / "out.yml").symlink_to("../secrets/old")
     (place.tree / "folder").symlink_to("../secrets")
@@ -57,7 +57,7 @@ def test_json_of_check(place: Place) -> None:
         ("./b.yml", line + 1, '"b.c"', "dev", "other label"),
         ("./c.yml", 2, "secret", "new", "other label"),
         ("./c.yml", DAMAGED_LINE, "twice", "old", "other label"),
-        ("./d.md", 4, "twice", "old", "other label"),
+        ("./d.md", 4, None, "old", "other label"),
         ("./out.yml", None, None, None, "skipped"),
         ("./folder", None, None, None, "skipped"),
         (None, None, None, "no", "failed"),
@@ -100,7 +100,7 @@ def test_lists(place: Place) -> None:
     place.wrap_tool('[ "$1" = --version ] || touch ../started')
     done = place.run(CHECK, "--list", ".")
     wanted = ["./a.yml:3: y: default", "./b.yml: prod", "./c.yml:2: secret: new", f"./c.yml:{DAMAGED_LINE}: twice: old"]
-    assert done.stdout.splitlines() == [*wanted, "./d.md:4: twice: old", "5 listed, 0 failed"], done
+    assert done.stdout.splitlines() == [*wanted, "./d.md:4: old", "5 listed, 0 failed"], done
     assert done.returncode == 0 and not (place.path / "started").exists()
     done = place.run(CHECK, "--list", "--label", "old", ".")
     others = "2 listed, 0 failed, 3 with other labels (default 1, new 1, prod 1)"

@@ -147,11 +147,18 @@ def test_owners_that_cannot_be_kept(place: Place) -> None:
     assert place.files() == {"a.yml": sealed("old")}, "it stays, and nothing is left"
 
 
+# Those of documents.
+SUFFIXES = (".md", ".rst", ".adoc", ".html")
+
+
 def test_documents(place: Place) -> None:
     """In a document, an envelope that no password opens, or that is damaged, is an example, and stays. Any other is
     rotated. A link is a document only if its file is."""
     rotated = {"README.md": b"An example:\n\n" + block("old"), "a.RST": block("new") + block("old", name="b")}
     rotated |= {"b.adoc": b"# x\n" + block("old"), "link.md": block("old"), "vault.md": sealed("old")}
+    # As YAML, this is a key, and a text whose lines are joined.
+    indented = b"".join(b"    " + line for line in sealed("old").splitlines(keepends=True))
+    rotated |= {f"indented{suffix}": b"# Router\n\nIts password:\n\n" + indented for suffix in SUFFIXES}
     stay = {"c.md": block("dev"), "d.md": block("prod", label="prod")}
     stay["f.html"] = b"<pre>\n$ANSIBLE_VAULT;1.1;AES256\n%s\n[...]\n" % (b"61" * 40)
     place.put("vars.yml", rotated.pop("link.md"))
@@ -162,7 +169,7 @@ def test_documents(place: Place) -> None:
     check_answer("the check", done, output=None)
     done = place.run(ROTATE, *to_new(place), ".")
     check_answer("the rotation", done, output=None)
-    assert done.stdout.splitlines()[-1] == summary(5, 1, 1, " (prod 1)"), "what is counted"
+    assert done.stdout.splitlines()[-1] == summary(9, 1, 1, " (prod 1)"), "what is counted"
     assert {name: place.get(name) for name in stay} == stay, "examples stay"
     place.put("vars.yml", block("dev"))
     place.put("vault.md", sealed("dev"))

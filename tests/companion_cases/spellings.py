@@ -312,6 +312,9 @@ def check_replaced(data: bytes, parsed: ParsedText, new: dict[int, bytes]) -> No
     assert list_composed(after) == wanted, (data, after)
 
 
+PARSERS: list[Callable[[bytes], ParsedText]] = [parse_nodes, parse_envelopes, parse_envelopes]
+
+
 def test_random_yaml(monkeypatch: pytest.MonkeyPatch, pytestconfig: pytest.Config) -> None:
     counts: Counter[str] = Counter()
     for number in range(800):
@@ -319,7 +322,7 @@ def test_random_yaml(monkeypatch: pytest.MonkeyPatch, pytestconfig: pytest.Confi
         monkeypatch.setattr(yaml, "CSafeLoader", LOADERS[number % 2], raising=False)
         data = Generator(random).data()
         damaged = data[: random.randrange(999)] + random.randbytes(9) + data
-        check_places(damaged, parse_nodes if number % 3 == 0 else parse_envelopes)
+        check_places(damaged, PARSERS[number % 3])
         wanted = list_composed(data)
         if wanted is None:
             continue

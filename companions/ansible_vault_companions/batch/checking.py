@@ -36,10 +36,9 @@ class Check(Work):
         """Checks a file. It is marked if one of its paths is."""
         path = next((path for path in found.paths if path in self.marked), found.paths[0])
         is_marked = path in self.marked
-        is_prose = file_kinds.is_prose(found.target) and not (is_marked or parsed.is_vault)
         why = file_kinds.find_fault(parsed, found.names)
         try:
-            self.change_envelopes(parsed, path, report, is_prose=is_prose)
+            self.change_envelopes(parsed, path, report, is_prose=parsed.is_prose)
         except Refused as fault:
             why = why or str(fault)
         if damage.is_unmerged(parsed):

@@ -81,7 +81,9 @@ class Runner:
         """Reads a file and begins the work on it. A failure is in its report, so other files are still processed."""
         effort = Effort()
         try:
-            parsed = parse_envelopes(detection.read_envelope_file(found.target), effort)
+            data = detection.read_envelope_file(found.target)
+            is_prose = file_kinds.is_prose(found.target) and not self._is_marked(found)
+            parsed = parse_envelopes(data, effort, is_prose=is_prose)
         except (Refused, OSError) as fault:
             return Begun(Task(Outcome, found, self._report_unread(found, fault)))
         if found.refusal:

@@ -41,8 +41,7 @@ class Rotation(Work):
 
     def process_file(self, found: FoundFile, parsed: ParsedText, report: Report) -> bytes | None:
         path = found.paths[0]
-        is_prose = file_kinds.is_prose(found.target) and not parsed.is_vault
-        after = self.change_envelopes(parsed, path, report, is_prose=is_prose)
+        after = self.change_envelopes(parsed, path, report, is_prose=parsed.is_prose)
         fault = file_kinds.find_fault(parsed, found.names)
         # In what is no YAML, all that has digits was found.
         if fault and (parsed.is_too_much or not parsed.values):

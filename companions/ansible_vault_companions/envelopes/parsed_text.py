@@ -3,6 +3,9 @@
 A file that begins like a vault is one. Otherwise PyYAML reads it, and a value is a scalar with the tag `!vault` or
 below the key `__ansible_vault`, or one whose text begins with a header and digits. An envelope is a value that begins
 with a header. Whatever else has a header and digits is a stray.
+
+A document that need not be encrypted is not read as YAML, in which an indented example may be a text whose lines are
+joined: it has only strays.
 """
 
 from __future__ import annotations
@@ -32,8 +35,10 @@ VALUE_NOT_ENCRYPTED = "{} is not encrypted"
 class ParsedText:
     """The bytes of a file or of a plaintext, and what was read from them."""
 
-    def __init__(self, data: bytes, values: Iterable[Node] = (), fault: str = "") -> None:
+    def __init__(self, data: bytes, values: Iterable[Node] = (), fault: str = "", is_prose: bool = False) -> None:
         self.data = data
+        # Whether it is a document that need not be encrypted.
+        self.is_prose = is_prose
         # What parse_envelopes or parse_nodes finds.
         self.values = [*values]
         # Why it cannot be read as YAML, empty if it can or need not be; and whether it exceeds a limit.
@@ -56,7 +61,8 @@ class ParsedText:
         after = apply_replacements(self.data, replacements)
         if not self.is_vault:
             wanted = [(value.path, new.get(number, value.text).strip()) for number, value in enumerate(self.values)]
-            if [(value.path, value.text.strip()) for value in parse_envelopes(after).values] != wanted:
+            parsed = parse_envelopes(after, is_prose=self.is_prose)
+            if [(value.path, value.text.strip()) for value in parsed.values] != wanted:
                 raise Refused(NOT_REPLACEABLE)
         return after
 
@@ -81,15 +87,16 @@ class ParsedText:
         return values[0]
 
 
-def parse_envelopes(data: bytes, effort: Effort | None = None) -> ParsedText:
+def parse_envelopes(data: bytes, effort: Effort | None = None, is_prose: bool = False) -> ParsedText:
     """The envelopes of a file or of a plaintext, and the scalars that have the tag. This may be one of several texts of
     a file, which share an effort."""
     if data.startswith(MAGIC):
         return ParsedText(data, [_make_vault(data)])
-    parsed = ParsedText(data)
+    parsed = ParsedText(data, is_prose=is_prose)
     if may_have_envelope(data):
         effort = effort or Effort(len(data))
-        _read_yaml(parsed, read_envelopes, effort)
+        if not is_prose:
+            _read_yaml(parsed, read_envelopes, effort)
         with bounding.limit_work(effort):
             _add_strays(parsed)
     return parsed
