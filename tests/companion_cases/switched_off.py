@@ -9,6 +9,9 @@ HINT = (
 )
 DEV, NEW = "--vault-id dev@../secrets/dev", "--new-vault-id dev@../secrets/new"
 SETTINGS = b"[defaults]\nvault_password_file = ../secrets/old\n"
+SHOWING = f"{TEXTCONV} {DEV} a.yml"
+# Without an old password, this is no valid command line.
+INVALID = f"{ROTATE} --new-vault-password-file ../secrets/new a.yml"
 LINES = [
     f"{WITH} view {DEV} a.yml",
     f"{WITH} view {DEV} a.yml a.yml",
@@ -24,7 +27,10 @@ LINES = [
     f"{EDIT} {DEV} --any-label values.yml",
     f"{CHECK} {DEV} a.yml",
     f"{ROTATE} --vault-id ../secrets/dev --new-vault-id ../secrets/new a.yml",
-    f"{TEXTCONV} {DEV} a.yml",
+    SHOWING,
+    # These name only the new password.
+    f"{WITH} rekey {NEW} a.yml",
+    INVALID,
 ]
 
 
@@ -44,7 +50,7 @@ def test_hints(place: Place, line: str) -> None:
     text = f"exec setsid --wait {line}"
     done = place.shell(text, EDITOR="true")
     # Another companion than this one shows the file as it is, or says what is beside it.
-    status = 0 if TEXTCONV in line else 1
+    status = {SHOWING: 0, INVALID: 2}.get(line, 1)
     ended("it is said", done, status, HINT)
     done = place.shell(f'export ANSIBLE_CONFIG="$PWD/ansible.cfg"; {text}', EDITOR="true")
     assert HINT not in done.stderr, done

@@ -7,6 +7,7 @@ import argparse
 from ansible_vault_companions.passwords.loading import load_typed_password
 from ansible_vault_companions.passwords.password import Password
 from ansible_vault_companions.passwords.asking import Asking
+from ansible_vault_companions.passwords.settings import Settings
 from ansible_vault_companions.refusals import Refused
 
 # Of the alias, for an edit. The option for a user would itself name a password, and so switch off ./ansible.cfg, in
@@ -22,11 +23,14 @@ def add_ask_if_none(parser: argparse.ArgumentParser) -> None:
     parser.add_argument(ASK_IF_NONE, dest="asks_if_none", action="store_true", help=argparse.SUPPRESS)
 
 
-def ask_or_refuse(args: argparse.Namespace, asking: Asking, parser: argparse.ArgumentParser | None) -> Password:
+def ask_or_refuse(
+    args: argparse.Namespace, asking: Asking, settings: Settings, parser: argparse.ArgumentParser | None
+) -> Password:
     """The password that the user types, if a companion asks for it. Otherwise, the command line is invalid or, without
     a parser, Refused is raised."""
+    why = NO_PASSWORD + settings.describe_switched_off()
     if args.asks_if_none:
-        return load_typed_password(asking, NO_PASSWORD)
+        return load_typed_password(asking, why)
     if parser:
-        parser.error(NO_PASSWORD)
-    raise Refused(NO_PASSWORD)
+        parser.error(why)
+    raise Refused(why)

@@ -79,7 +79,7 @@ def load_named(
         # Most runs do not need this module.
         from ansible_vault_companions.passwords.no_password import ask_or_refuse
 
-        passwords = [ask_or_refuse(args, asking, parser)]
+        passwords = [ask_or_refuse(args, asking, settings, parser)]
     requires_match = getattr(args, "require_id_match", False)
     return passwords, make_policy(passwords, settings, args.any_label, requires_match)
 
