@@ -84,6 +84,7 @@ TYPED = {
     "view --vault-id dev@with": ["view", "--vault-id", "dev@with a space.pass"],
     "view --vault-id dev@~/one.p": ["view", "--vault-id", "dev@HOME/one.pass"],
     "view --vault-id=~/with": ["view", "--vault-id=HOME/with a space.pass"],
+    "view --vault-id 'dev@te@m.p": ["view", "--vault-id", "dev@te@m.pass"],
 }
 
 

@@ -5,7 +5,7 @@ import re
 from collections.abc import Iterator
 from fnmatch import fnmatchcase
 from pathlib import Path
-from typing import NamedTuple
+from typing import Any, NamedTuple
 
 import pytest
 
@@ -369,6 +369,59 @@ def test_ready_pipeline(
     shell = "\n".join(["set -e", *commands_of(name)])
     done = repository.shell(shell, "bash", "../pipeline/work", SINCE=since, **address)
     assert (done.returncode, "vault.yml is not " in done.stderr) == (status, status == 1), done
+
+
+# What a pipeline has for a pull request and for a push, where these come after the commit BASE.
+ZEROS = "0" * 40
+ON_GITHUB = [
+    {"github.event.pull_request.base.sha": "BASE", "github.event.pull_request.head.sha": "HEAD", "github.sha": "HEAD"},
+    {"github.event.before": "BASE", "github.event.after": "HEAD", "github.sha": "HEAD"},
+]
+ON_GITLAB = [
+    {
+        "CI_PIPELINE_SOURCE": "merge_request_event",
+        "CI_MERGE_REQUEST_DIFF_BASE_SHA": "BASE",
+        "CI_COMMIT_BEFORE_SHA": ZEROS,
+        "CI_COMMIT_SHA": "HEAD",
+    },
+    {
+        "CI_PIPELINE_SOURCE": "push",
+        "CI_COMMIT_BRANCH": "main",
+        "CI_DEFAULT_BRANCH": "main",
+        "CI_COMMIT_BEFORE_SHA": "BASE",
+        "CI_COMMIT_SHA": "HEAD",
+    },
+]
+
+
+def begin_on_github(job: dict[str, Any], variables: dict[str, str]) -> str:
+    """Return what SINCE becomes: the first of its alternatives that is there."""
+    names = job["jobs"]["vaults"]["env"]["SINCE"].removeprefix("${{").removesuffix("}}").split("||")
+    return next(variables[name.strip()] for name in names if name.strip() in variables)
+
+
+def begin_on_gitlab(job: dict[str, Any], variables: dict[str, str]) -> str:
+    """Return what SINCE becomes: that of the first rule whose conditions hold."""
+    for rule in job["vaults"]["rules"]:
+        pairs = [condition.split(" == ") for condition in rule["if"].split(" && ")]
+        if all(expand(left, variables) == expand(right.strip('"'), variables) for left, right in pairs):
+            return expand(rule["variables"]["SINCE"], variables)
+    return "no rule"
+
+
+def expand(text: str, variables: dict[str, str]) -> str:
+    return variables.get(text[1:], "") if text.startswith("$") else text
+
+
+def test_beginning_of_pipelines() -> None:
+    """Whatever starts a pipeline, it checks each commit from the one before, and not from the last one on."""
+    needs_pyyaml()
+    import yaml
+
+    jobs = [yaml.safe_load(ready_files()[name]) for name in FOR_PIPELINES]
+    github, gitlab = sorted(jobs, key=lambda job: "vaults" in job)
+    assert [begin_on_github(github, variables) for variables in ON_GITHUB] == ["BASE"] * 2
+    assert [begin_on_gitlab(gitlab, variables) for variables in ON_GITLAB] == ["BASE"] * 2
 
 
 def test_ready_pre_commit(repository: Repository, address: dict[str, str]) -> None:
