@@ -221,7 +221,7 @@ def test_keys_of_each_reading(place: Place, items: int, status: int) -> None:
 def test_keys_of_sides(place: Place) -> None:
     """What is between git's conflict markers and around them counts for each side."""
     place.environment["EDITOR"] = place.script('echo "# x" >> "$1"', "editor")
-    text = BLOCK + b"x: %s%s%s\n" % (b"[" * 10, b"~," * 42_500, b"]" * 10)
+    text = BLOCK + b"x: %s%s%s\n" % (b"[" * 10, b"~," * 34_000, b"]" * 10)
     place.put("a.yml", text)
     ended("the edit", place.run(EDIT, *place.by_file("old"), "a.yml"), 0)
     place.put("a.yml", b"<<<<<<< ours\ny: 1\n=======\ny: 2\n>>>>>>> theirs\n" + text)
