@@ -31,17 +31,17 @@ def read_envelopes(target: str, effort: Effort) -> ParsedText:
 
 def show_envelopes(
     companion: str, parsed: ParsedText, path: str, target: str, decrypt: Decrypt, effort: Effort
-) -> bytes:
+) -> list[bytes]:
     """The file's data with plaintext in place of its envelopes, as far as they can be decrypted and shown; for a
-    conflict of two vaults, the merged text."""
+    conflict of two vaults, the merged text. It is in pieces, since it may be long."""
     if conflicts.is_unmerged(parsed.data):
         # Most files have no conflict.
         from ansible_vault_companions.showing import vault_conflict
 
         merged = vault_conflict.merge_vaults(target, parsed.data, decrypt, effort)
         if merged is not None:
-            return merged
-    return _choose_first_line(parsed) + _show_values(companion, parsed, path, decrypt, effort)
+            return [merged]
+    return [_choose_first_line(parsed), _show_values(companion, parsed, path, decrypt, effort)]
 
 
 def _choose_first_line(parsed: ParsedText) -> bytes:

@@ -35,11 +35,12 @@ def print_plaintext(
 
 def _show(companion: str, path: str, target: str, passwords: list[Password], policy: Policy) -> None:
     try:
-        text = _decrypt_file(companion, path, target, passwords, policy)
+        pieces = _decrypt_file(companion, path, target, passwords, policy)
     except (Refused, reading.TooLong) as fault:
         _show_as_it_is(path, target, fault)
     else:
-        output.write_data(text)
+        for piece in pieces:
+            output.write_data(piece)
 
 
 def _show_as_it_is(path: str, target: str, fault: Exception) -> None:
@@ -49,11 +50,12 @@ def _show_as_it_is(path: str, target: str, fault: Exception) -> None:
     as_it_is.show_as_it_is(NAME, path, target, fault)
 
 
-def _decrypt_file(companion: str, path: str, target: str, passwords: list[Password], policy: Policy) -> bytes:
-    """What is shown of a file: plaintext in place of its envelopes, as far as they can be decrypted and shown."""
+def _decrypt_file(companion: str, path: str, target: str, passwords: list[Password], policy: Policy) -> list[bytes]:
+    """What is shown of a file: plaintext in place of its envelopes, as far as they can be decrypted and shown. It is in
+    pieces, since it may be long."""
     text = whole_vault.decrypt_whole_vault(companion, target, passwords, policy)
     if text is not None:
-        return text
+        return [text]
     # The modules for any other file take longer to import than most vaults to decrypt.
     from ansible_vault_companions.limits import Effort
     from ansible_vault_companions.showing import file_with_values
