@@ -208,8 +208,8 @@ def test_time_of_running_git(place: Place) -> None:
     place.shell("git add -A")
     done, count = run_slowed(place, "--batch", 2, "bounding.SECONDS = 9", HOOK)
     assert (done.returncode, count) == (0, 1), done
-    done, count = run_slowed(place, "--batch", 2, "bounding.SECONDS = 4; bounding.LEAST = 2", HOOK)
-    ended("the hook", done, 1, f"{TOO_SLOW.format(4)}; the last file that it read is 0.yml\n")
+    done, count = run_slowed(place, "--batch", 3, "bounding.SECONDS = 8; bounding.LEAST = 5", HOOK)
+    ended("the hook", done, 1, f"{TOO_SLOW.format(8)}; the last file that it read is 0.yml\n")
 
 
 # Notes the processor time that a git process may take when it is asked.
