@@ -166,8 +166,9 @@ bench: all bin/vault_bench
 
 # Refuse to overwrite another program's file.
 # Everybody may use what is installed, whatever the caller's umask. Below DESTDIR, it is for another system's Python.
+install: export PYTHON := $(PYTHON)
 install: all
-	@case "$(PYTHON)" in (*[" ,&"]* | [!/]* | "") echo "PYTHON=$(PYTHON) is no plain path that begins with /" >&2; exit 1; esac
+	@case $$PYTHON in (*[\"\ ,\&]* | [!/]* | "") echo "PYTHON=$$PYTHON is no plain path that begins with /" >&2; exit 1; esac
 	@$(if $(DESTDIR),,[ -x "$(PYTHON)" ] || { echo "there is no $(PYTHON): name a Python by PYTHON=PATH" >&2; exit 1; })
 	@umask 022; tools/installed install "$(TOP)" $(SUMS) "$(PYTHON)" $(REPLACE) $(INSTALLED) -- $(LINKS)
 # Compiled companions start faster. A package compiles them where it is installed. The lock is that of tools/installed.
