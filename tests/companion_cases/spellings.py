@@ -22,6 +22,7 @@ from ansible_vault_companions.envelopes.parsed_text import ParsedText, parse_env
 from ansible_vault_companions.refusals import Refused
 from companion_cases import BODY, CHECK, ROTATE, Place, block, ended, lines_of, sealed, summary, to_new
 from lib.needs import needs_pyyaml
+from model.vaults import serialized
 
 needs_pyyaml()
 import yaml
@@ -453,3 +454,15 @@ def test_unknown_block() -> None:
     value = parse_nodes(b"|\n x\n").values[0]
     with pytest.raises(Refused, match="the `|` of its block cannot be found"):
         put_plaintext(b" |\n x\n", value, b"new")
+
+
+@pytest.mark.parametrize("size", [1, 2, 3, 79, 80, 81, 1 << 20])
+def test_pieces_of_digits(monkeypatch: pytest.MonkeyPatch, size: int) -> None:
+    """However many bytes are read at once, an envelope is whole with all of its digits, and with one less it is not."""
+    monkeypatch.setattr(header, "PIECE", size)
+    for ending in (b"\n", b"\r\n"):
+        envelope = serialized(bytes(32), bytes(32), bytes(48)).replace(b"\n", ending)
+        assert header.is_whole_envelope(envelope), "all digits"
+        assert header.measure_ciphertext(envelope) == 48, "the length"
+        assert not header.is_whole_envelope(envelope.rstrip()[:-1] + ending), "a digit less"
+        assert not header.is_whole_envelope(envelope.rstrip() + b"0" + ending), "a digit more"
