@@ -307,7 +307,7 @@ def test_versions(place: Place) -> None:
         done = run_below(place, option)
         assert len(told(done)) == 1, done
         assert "rewrite the commit" in done.stderr, "the advice"
-        assert "--no-verify" not in done.stderr, "the advice for what is to be committed"
+        assert "stage this line" not in done.stderr, "the advice for what is to be committed"
     committed(place, "b.yml", TEXT)
     done = run_below(place, "--all")
     assert told(done) == [f"a.yml {WHOLE.replace('HEAD', 'an earlier commit')}"]

@@ -23,7 +23,7 @@ SETTINGS = {
 }
 # Where hooks are in git's own directory, unless core.hooksPath is set.
 HOOKS = "hooks"
-NO_PASSWORDS = "git diff and git merge are set up only with passwords: --install --vault-id dev@~/.vault/dev.pass"
+NO_PASSWORDS = "git diff and git merge stay as they are; to set them up, add passwords: --vault-id dev@~/.vault/dev.pass"
 MARKS = """\
 git diff and git merge recognize vaults by .gitattributes; for the whole team, add lines to it, such as
   vault.yml diff=ansible-vault merge=ansible-vault"""

@@ -58,7 +58,7 @@ STAGED = Words(
     before="",
     add="stage",
     restore="restore it, for example with `git checkout HEAD -- {path}` if it is whole there",
-    allow="if that is intended, commit with --no-verify, or stage this line for the same commit, {line}",
+    allow="if that is intended, stage this line for the same commit, {line}",
     allow_all="if that is intended, commit with --no-verify: {no_line}",
 )
 COMMITTED = Words(
