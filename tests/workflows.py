@@ -157,7 +157,7 @@ RECIPES = {
         {"../1": b"db_password: a\n", "../2": vault(b"db_password: b\n")},
         prepare=f"""mkdir -p group_vars/all
             for each in 1 2; do mv ../$each {VAULT}; git add .; git commit -qm $each; done""",
-        printed=f"# ansible-vault: encrypted, label prod\ndb_password: b\n{VAULT}:db_password: b\n*\n+{FIRST_LINE}\n*"
+        printed=f"*\n# ansible-vault: encrypted, label prod\ndb_password: b\n{VAULT}:db_password: b\n*\n+{FIRST_LINE}\n*"
         "\n+++ b/.gitattributes\n*",
         after=f"""exec 2> /dev/null
             git blame -s {VAULT} | sed 's/.*) //'; git log --format=%s -S 'db_password: b'
@@ -196,7 +196,7 @@ RECORDED = {
         after=f"ansible-vault-textconv --vault-id prod@prod.pass --value db_password {BLOCKS}",
         left="correct horse",
     ),
-    "Give labels to what has none": Recipe(
+    "Add missing labels": Recipe(
         {"group_vars/dev/vault.yml": vault(b"b", "old.pass", ""), "host_vars/dev1.yml": UNLABELED}
         | {VAULT: vault(b"a", "old.pass", ""), BLOCKS: UNLABELED},
         prepare="rm ~/.vault/prod.pass",
