@@ -104,7 +104,7 @@ _ansible_vault_specifications() {
             '--any-label[accept a password whose label differs from the vault'\''s]'
             '*--label=[check only what has this label, and count the rest]:LABEL: '
             '--list[only list places and labels, without a password]'
-            '--json[print each result as a JSON object in a line]'
+            '--json[print each result as a JSON object on one line]'
             '*--exclude=[skip files whose name or path matches PATTERN]:PATTERN: '
             '*:file:_ansible_vault_files'
         ) ;;
@@ -117,14 +117,14 @@ _ansible_vault_specifications() {
             '--any-label[accept a password whose label differs from the vault'\''s]'
             '--encrypt-vault-id=[the label of the password for new vaults and values]:LABEL: '
             '(--resume --value)--value=[set this value from standard input, without an editor]:KEY.PATH: '
-            '(--resume --value)--resume[reopen what the last edit could not put into FILE]'
+            '(--resume --value)--resume[reopen what the last edit could not store in FILE]'
             '--allow-empty[make a new vault even if you save nothing]'
             '*:file:_ansible_vault_files'
         ) ;;
         'ansible-vault-hook') specifications=(
             '(- *)'{-h,--help}'[print help]'
             '(- *)'{-V,--version}'[print version]'
-            '(--all --install --since --uninstall)--all[check the current commit, and every earlier vault]'
+            '(--all --install --since --uninstall)--all[check the current commit, also against every earlier vault]'
             '(--all --install --since --uninstall)--since=[check all later commits, and their combined change]:COMMIT: '
             '(--all --install --since --uninstall)--install[set up hooks]'
             '(--all --install --since --uninstall)--uninstall[undo what --install has set up]'
@@ -139,7 +139,7 @@ _ansible_vault_specifications() {
             '*'{--vault-password-file=,--vault-pass-file=}'[the source of a password]:SOURCE:_ansible_vault_files'
             '*'{-J,--ask-vault-password,--ask-vault-pass}'[ask at the terminal for a password]'
             '--any-label[accept a password whose label differs from the vault'\''s]'
-            '--encrypt-vault-id=[the label of the password to use if the sides have different ones]:LABEL: '
+            '--encrypt-vault-id=[the label to use if the sides have different labels or passwords]:LABEL: '
             '*:file:_ansible_vault_files'
         ) ;;
         'ansible-vault-rotate') specifications=(
@@ -152,7 +152,7 @@ _ansible_vault_specifications() {
             '*--new-vault-password-file=[the source of a new password]:SOURCE:_ansible_vault_files'
             '--any-label[give the new password and its label to whatever an old one decrypts]'
             '--dry-run[write nothing, and report what would be done]'
-            '--json[print each result as a JSON object in a line]'
+            '--json[print each result as a JSON object on one line]'
             '*--exclude=[skip files whose name or path matches PATTERN]:PATTERN: '
             '*:file:_ansible_vault_files'
         ) ;;
@@ -232,7 +232,7 @@ _ansible_vault_specifications() {
             '--stdin-name=[encrypt standard input, under this name]:NAME: '
             '*'{-n,--name=}'[the name of the next STRING]:NAME: '
             '(--prompt -p)'{-p,--prompt}'[ask for one more string, and for its name]'
-            '--show-input[show that string while it is typed]'
+            '--show-input[show the string of --prompt while you type it]'
             '*:text: '
         ) ;;
         'ansible-vault-with create') specifications=(
@@ -244,7 +244,7 @@ _ansible_vault_specifications() {
             '--encrypt-vault-id=[the label of the password to encrypt with, among those given]:LABEL: '
             '--any-label[accept a password whose label differs from the vault'\''s]'
             '(--resume --value)--value=[set this YAML value from standard input]:KEY.PATH: '
-            '(--resume --value)--resume[reopen what the last edit could not put into FILE]'
+            '(--resume --value)--resume[reopen what the last edit could not store in FILE]'
             '--skip-tty-check[ignored]'
             '1:file:_ansible_vault_files'
         ) ;;
@@ -257,7 +257,7 @@ _ansible_vault_specifications() {
             '--encrypt-vault-id=[the label of the password to encrypt with, among those given]:LABEL: '
             '--any-label[accept a password whose label differs from the vault'\''s]'
             '(--resume --value)--value=[set this YAML value from standard input]:KEY.PATH: '
-            '(--resume --value)--resume[reopen what the last edit could not put into FILE]'
+            '(--resume --value)--resume[reopen what the last edit could not store in FILE]'
             '*:file:_ansible_vault_files'
         ) ;;
     esac

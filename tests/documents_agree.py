@@ -170,8 +170,8 @@ SENTENCES = [
     ("hook", r"takes at most (\d+) s of processor time and (\d+) MB of memory", "SECONDS MEGABYTES"),
     ("hook", r"compares up to (\d+) removed files", "MOST_RENAMES"),
     ("hook", r"git ignores lines of ([\d,]+) bytes or more", "LINE_IGNORED"),
-    ("merge", r"versions may have (\d+) MiB together, as vaults with about (\d+) MiB", "VERSIONS_MIB PLAINTEXTS_MIB"),
-    ("edit", r"file with a conflict may have (\d+) MiB", "VERSIONS_MIB"),
+    ("merge", r"versions may be up to (\d+) MiB in total: about (\d+) MiB of plaintext", "VERSIONS_MIB PLAINTEXTS_MIB"),
+    ("edit", r"file with a conflict may be up to (\d+) MiB", "VERSIONS_MIB"),
     ("with", r"name up to (\d+) passwords", "MOST_PASSWORDS"),
 ]
 # The other numbers of limits.py: shares of the above, what pages have in MiB, and what a message or another tool names.

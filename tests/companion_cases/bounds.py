@@ -425,7 +425,7 @@ VALUES = {
 }
 MOST_VALUES = 200
 TOO_MANY = f"it has over {MOST_VALUES} values"
-TOO_MANY_RUNS = "its values take over 10 s of processor time; divide it, or name fewer passwords"
+TOO_MANY_RUNS = "its values take over 10 s of processor time; split it, or name fewer passwords"
 BY_OLD = "--vault-password-file ../secrets/old"
 # A command line of each companion, and which of these it opens or encrypts.
 OPENED = ["values", "other values", "comments", "headers"]

@@ -40,9 +40,10 @@ ENCRYPT_ID = "--encrypt-vault-id"
 SUMMARY = """\
 Runs a command of ansible-vault with the passwords that Ansible would use.
 Unlike ansible-vault, it reads ansible.cfg, runs password scripts, asks for
-passwords, and changes files in place. Options for passwords may also follow
-COMMAND. --help after COMMAND prints the help for that command. If neither you
-nor the settings name a password, you are asked for one at the terminal."""
+passwords, and changes files in place. Options for passwords may precede or
+follow COMMAND. --help after COMMAND prints the help for that command. If
+neither you nor the settings name a password, you are asked for one at the
+terminal."""
 EXAMPLE = f"""\
 Decrypt two files in place, with a password that is typed:
   $ {NAME} --vault-id prod@prompt decrypt a.yml b.yml
@@ -56,11 +57,11 @@ PASSED_ON = {
     MATCH: ((VIEW, DECRYPT, REKEY), "", "try only passwords with the label of the vault"),
     ANY_LABEL: ((REKEY, *EDITING), "", options.ANY_LABEL_HELP),
     "--output": (WRITING, "PATH", "the file to write, or - for standard output"),
-    "--salt": (SALTING, "TEXT", "the salt; never use one twice"),
+    "--salt": (SALTING, "TEXT", "the salt; never use one twice with the same password"),
     "--salt-file": (SALTING, "PATH", "the file whose first 32 bytes are the salt"),
     "--stdin-name": ((ENCRYPT_STRING,), "NAME", "encrypt standard input, under this name"),
     "--value": (EDITING, "KEY.PATH", "set this YAML value from standard input"),
-    "--resume": (EDITING, "", "reopen what the last edit could not put into FILE"),
+    "--resume": (EDITING, "", "reopen what the last edit could not store in FILE"),
 }
 # What follows some commands: how many words, what they are, and their help.
 ARGUMENTS: dict[str, tuple[int | str, str, str]] = {
@@ -138,7 +139,7 @@ def _add_options(parser: argparse.ArgumentParser, command: str) -> None:
         name = "the name of the next STRING; may be repeated"
         parser.add_argument("-n", "--name", action="append", default=[], help=name)
         parser.add_argument("-p", "--prompt", action="store_true", help="ask for one more string, and for its name")
-        parser.add_argument("--show-input", action="store_true", help="show that string while it is typed")
+        parser.add_argument("--show-input", action="store_true", help="show the string of --prompt while you type it")
     count, what, text = ARGUMENTS.get(command, ("*", "FILE", "the files, or - for standard input"))
     parser.add_argument("arguments", metavar=what, nargs=count, help=text)
 

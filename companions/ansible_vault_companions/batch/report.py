@@ -26,7 +26,7 @@ NO_POSITION: dict[str, object] = {"line": None, "key_path": None, "within": None
 
 
 def add_json(parser: argparse.ArgumentParser) -> None:
-    parser.add_argument("--json", action="store_true", help="print each result as a JSON object in a line")
+    parser.add_argument("--json", action="store_true", help="print each result as a JSON object on one line")
 
 
 class Entry(NamedTuple):

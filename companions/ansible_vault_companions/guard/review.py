@@ -25,8 +25,8 @@ from ansible_vault_companions.refusals import Refused
 
 EARLIER = "an earlier commit"
 NO_COMMIT = (
-    "--since has {} in place of a commit, as pipelines give it for a new branch: give the branch that it leaves, as in "
-    "`--since origin/main`, or use --all"
+    "--since has {} in place of a commit, as pipelines give it for a new branch: "
+    "give the branch that it began on, as in `--since origin/main`, or use --all"
 )
 
 
