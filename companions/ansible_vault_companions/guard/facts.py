@@ -2,6 +2,7 @@
 
 from __future__ import annotations
 
+import os
 import re
 from collections import Counter
 from types import MappingProxyType
@@ -33,6 +34,8 @@ from ansible_vault_companions.limits import Effort, TooMuch
 HIDDEN_BREAK = re.compile(rb"\xc2\x85|\xe2\x80[\xa8\xa9]|(?!\A)\xef\xbb\xbf")
 HAS_HIDDEN_BREAK = "line {}: it has U+0085, U+2028, U+2029 or U+FEFF, behind which a key may begin"
 HAS_UNCLEAR_KEY = "line {}: a key is or has an alias, or is a list or a mapping that merges another one"
+# How a tag such as `!!null` begins.
+STANDARD_TAGS = "tag:yaml.org,2002:"
 
 # For each text at some keys, a number that stands for it, and how often it is there.
 Texts = Mapping[Keys, "Counter[int]"]
@@ -166,8 +169,8 @@ def _read_leaves(data: bytes) -> tuple[ParsedText, list[Leaf], list[Node]]:
 
 def _list_leaves(node: Node, leaves: list[Leaf], anchors: dict[str, tuple[KeyPath, int]]) -> Iterator[Leaf]:
     """The text of a node. An alias counts as what it stands for: all that is at and below its anchor."""
-    if node.style == ALIAS:
-        base, first = anchors.get(node.anchor, ((), len(leaves)))
+    if node.style == ALIAS and node.anchor in anchors:
+        base, first = anchors[node.anchor]
         for number in range(first, len(leaves)):
             path, is_encrypted, text = leaves[number]
             if path[: len(base)] != base:
@@ -176,6 +179,15 @@ def _list_leaves(node: Node, leaves: list[Leaf], anchors: dict[str, tuple[KeyPat
                 raise TooMuch(limits.TOO_DEEP)
             yield Leaf(node.path + path[len(base) :], is_encrypted, text)
         return
-    anchors[node.anchor] = node.path, len(leaves)
-    if node.style != NO_SCALAR and not is_placeholder(node.text):
-        yield Leaf(node.path, node.is_value and node.is_envelope, hash(node.text.strip()))
+    if node.style != ALIAS:
+        anchors[node.anchor] = node.path, len(leaves)
+    own = node.text.strip() or _read_name(node)
+    if node.style != NO_SCALAR and not is_placeholder(own):
+        yield Leaf(node.path, node.is_value and node.is_envelope, hash(own))
+
+
+def _read_name(node: Node) -> bytes:
+    """The name of a tag, an anchor or a missing anchor without a text: what somebody has typed there may be a text that
+    begins with `!`, `&` or `*` and lacks quotes."""
+    tag = "" if node.tag.startswith(STANDARD_TAGS) else node.tag
+    return os.fsencode(f"{tag}{node.anchor}")
