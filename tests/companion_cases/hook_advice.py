@@ -266,7 +266,8 @@ def test_no_line(place: Place) -> None:
     place.shell("git add -A")
     no_verify = "  if that is intended, commit with --no-verify: "
     too_long = f"{no_verify}a line for it in .gitattributes would be too long for git"
-    too_early = f"{no_verify}a line in .gitattributes counts only in the commit that adds it"
+    too_early = f"{no_verify}a line in .gitattributes counts only in the commit that adds it, if no other line is "
+    too_early += "removed or moved"
     # Of a.yml, b.yml, c.yml and the long path.
     assert list_advice(place) == [too_long, too_early, too_early, too_long]
     place.shell(f"git rm -q --cached {long} && rm {long} && git commit -qm after --no-verify")
@@ -430,20 +431,46 @@ PLANTED = {
         },
         command="git rm -q roles/db/.gitattributes",
     ),
+    "a line below another": Planted(
+        attributes={
+            ".gitattributes": b"roles/** -ansible-vault ansible-vault-plain=pw\n"
+            b"# a comment\n* !ansible-vault !ansible-vault-plain\n",
+        },
+        command="sed -i 3d .gitattributes",
+    ),
+    "lines in another order": Planted(
+        attributes={
+            ".gitattributes": b"roles/** -ansible-vault ansible-vault-plain=pw\n* !ansible-vault !ansible-vault-plain\n"
+        },
+        command="tac .gitattributes > x && mv x .gitattributes",
+    ),
+    "a line that becomes a comment": Planted(
+        attributes={
+            ".gitattributes": b"roles/** -ansible-vault ansible-vault-plain=pw\n* !ansible-vault !ansible-vault-plain\n"
+        },
+        command="sed -i '2s/^/#/' .gitattributes",
+    ),
 }
+# Other lines that the same commit adds, at the end of one file or of each.
+BESIDE = ["", "# x-ansible-vault", "/sample.yml -ansible-vault ansible-vault-plain=pw", "*.txt -ansible-vault"]
 
 
 @pytest.mark.parametrize("planted", PLANTED.values(), ids=PLANTED)
 @pytest.mark.parametrize("before, after", [(VAULT, TEXT), (VALUE, b"pw: text\n")], ids=["vault", "value"])
-def test_planted_lines(place: Place, planted: Planted, before: bytes, after: bytes) -> None:
-    """A line allows nothing in a commit that does not add it, wherever it was."""
+@pytest.mark.parametrize("line", BESIDE)
+def test_planted_lines(place: Place, planted: Planted, before: bytes, after: bytes, line: str) -> None:
+    """A line allows nothing in a commit that does not add it, wherever it was, and whatever lines the commit adds."""
     under_git(place, "")
     for name, content in planted.attributes.items():
         place.put(name, content)
     place.put("roles/db/x.yml", before)
     add_and_commit(place)
     place.put("roles/db/x.yml", after)
-    done = place.shell(f"{planted.command} && git add -A && {HOOK}")
+    if line:
+        place.put("sample.yml", b"")
+        place.put("a/.gitattributes", f"{line}\n".encode())
+    added = f"for file in .gitattributes */.gitattributes */*/.gitattributes; do echo '{line}' >> $file; done"
+    done = place.shell(f"{planted.command} && ({added}) 2> /dev/null; git add -A && {HOOK}")
     assert done.returncode == 1, done
     assert "x.yml " in done.stderr, done
 

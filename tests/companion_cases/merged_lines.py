@@ -94,6 +94,7 @@ def commit(place: Place, files: Files, attributes: bytes) -> None:
 def merge(place: Place, attribute: str, cases: dict[str, Case]) -> None:
     """Commit the base and both branches, and stage the merge."""
     of_theirs = b"".join(b"/%b %b\n" % (name.encode(), attribute.encode()) for name in cases if cases[name].has_line)
+    of_theirs = NO_LINES + of_theirs
     of_merge = b"".join(b"/%b %b x\n" % (name.encode(), attribute.encode()) for name in cases if cases[name].adds_line)
     commit(place, {name: case.base for name, case in cases.items()}, NO_LINES)
     place.shell("git checkout -qb theirs")

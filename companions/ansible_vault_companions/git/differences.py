@@ -101,12 +101,21 @@ def require_once(tree: str, name: bytes, names: Container[bytes]) -> None:
         raise Refused(TWICE.format(tree[:DIGITS], escape(os.fsdecode(name))))
 
 
+def _split_attributes(difference: Difference) -> list[Difference]:
+    """A renamed .gitattributes as one that is removed and one that is new; any other difference as it is."""
+    names = (difference.old_name, difference.name)
+    if names[0] == names[1] or not any(map(is_attribute_file, names)):
+        return [difference]
+    removed = Difference(names[0], names[0], difference.old_mode, NO_MODE, difference.old_blob, "")
+    return [removed, Difference(names[1], names[1], NO_MODE, difference.mode, "", difference.blob)]
+
+
 def make_differences(commit: str, differences: Iterable[Difference], files: Container[bytes]) -> Differences:
-    """The differences of these files from a commit. A file that git calls renamed is not removed."""
-    listed = [*differences]
+    """The differences of these files from a commit. A file that git calls renamed is not removed, except a
+    .gitattributes, whose lines are for another directory then."""
+    listed = [part for difference in differences for part in _split_attributes(difference)]
     for difference in listed:
         if difference.mode == NO_MODE:
             require_once(commit, difference.name, files)
-    names = (name for difference in listed for name in (difference.old_name, difference.name))
-    has_attributes = any(map(is_attribute_file, names))
+    has_attributes = any(is_attribute_file(difference.name) for difference in listed)
     return Differences(commit[:DIGITS], [difference.file for difference in listed], commit, has_attributes)

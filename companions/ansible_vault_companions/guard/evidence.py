@@ -4,7 +4,6 @@ from __future__ import annotations
 
 import os
 from codecs import BOM_UTF8
-from collections import Counter
 from functools import cached_property
 from typing import Iterator, Sequence
 
@@ -125,21 +124,24 @@ class Evidence:
         return self.earlier.get(file.name, Attributes())
 
     def counts_lines(self, file: File) -> bool:
-        """Whether a line may exempt a file. Of several commits together, one has to add it and change the file."""
-        return self.differences.exempt is None or file.name in self.differences.exempt
+        """Whether the change may exempt a file. Of several commits together, one has to exempt it and change it."""
+        if self.differences.exempt is None:
+            return self.keeps_lines
+        return file.name in self.differences.exempt
 
     @cached_property
-    def added_lines(self) -> list[bytes]:
-        """The lines that the change adds to any .gitattributes. One that moves, even with its file, is none."""
-        counts = Counter[bytes]()
-        for file in filter(lambda file: is_attribute_file(file.name), self.now):
-            counts.update(self.blobs.read(file.blob).splitlines() if file.blob else [])
-            counts.subtract(self.blobs.read(file.before).splitlines() if file.before else [])
-        return [line for line, count in counts.items() if count > 0]
+    def keeps_lines(self) -> bool:
+        """Whether no line of a .gitattributes is removed or moved. If so, any attribute that the change gives is from a
+        line that it adds. Without a change, any line counts."""
+        files = [file for file in self.now if is_attribute_file(file.name)]
+        return not self.differences.parent or all(self._keeps_lines(file) for file in files)
 
-    def adds_attribute(self, attribute: str) -> bool:
-        """Whether the change adds a line with this attribute. Without a change, any line counts."""
-        return not self.differences.parent or any(attribute.encode() in line for line in self.added_lines)
+    def _keeps_lines(self, file: File) -> bool:
+        lines = iter(self._read_lines(file.blob))
+        return all(line in lines for line in self._read_lines(file.before))
+
+    def _read_lines(self, blob: str) -> list[bytes]:
+        return self.blobs.read(blob).splitlines() if blob else []
 
     def is_example(self, file: File) -> bool:
         """Whether a file is a document, which may have envelopes that are none."""

@@ -2,8 +2,9 @@
 
 Any line allows damage, plaintext with the tag of an envelope, and what exceeds a limit. What was encrypted may be lost
 only by a line that the change itself adds. An older one may be left over, or a stranger may have planted it, even where
-it does not concern the file until that moves. A merge adds what no parent has: a line of one parent allows only what
-this parent has already in plaintext, which is the whole file or, of a file with values, each text.
+it does not concern the file until that moves, or until another line is gone. A merge adds what no parent has: a line of
+one parent allows only what this parent has already in plaintext, which is the whole file or, of a file with values,
+each text.
 """
 
 from __future__ import annotations
@@ -20,7 +21,7 @@ from ansible_vault_companions.quoting import escape
 
 EXEMPT = f"-{VAULT}"
 UNMARKED = f"!diff !{VAULT}"
-TOO_OLD = "a line in .gitattributes counts only in the commit that adds it"
+TOO_OLD = "a line in .gitattributes counts only in the commit that adds it, if no other line is removed or moved"
 # What the line would otherwise become a part of.
 UNENDED = " (first end its last line, which has no line break)"
 
@@ -38,7 +39,7 @@ def allows_loss(evidence: Evidence, file: File) -> bool:
 def _adds_exemption(evidence: Evidence, file: File) -> bool:
     if not (evidence.attributes[file.name].is_exempt and evidence.counts_lines(file)):
         return False
-    return not evidence.find_earlier(file).is_exempt and evidence.adds_attribute(EXEMPT)
+    return not evidence.find_earlier(file).is_exempt
 
 
 def list_losable_values(evidence: Evidence, file: File) -> frozenset[str]:
@@ -55,7 +56,7 @@ def list_losable_values(evidence: Evidence, file: File) -> frozenset[str]:
 
 def _list_added_values(evidence: Evidence, file: File) -> frozenset[str]:
     given = evidence.attributes[file.name].plain_values
-    if not (given and evidence.counts_lines(file) and evidence.adds_attribute(f"{PLAIN_VALUES}=")):
+    if not (given and evidence.counts_lines(file)):
         return frozenset()
     return given - evidence.find_earlier(file).plain_values
 
