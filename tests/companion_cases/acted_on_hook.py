@@ -110,7 +110,7 @@ ROWS = {
     "no settings": Row(
         fault=written(OLD_VAULT),
         command=f"{HOOK} --install",
-        advice="only with passwords: (.*)",
+        advice="to set them up, run this with passwords:\n  (.*)",
         act=run_with_advice(rf"{HOOK} \1"),
     ),
     "another hook": Row(

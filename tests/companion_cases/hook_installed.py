@@ -213,20 +213,43 @@ def test_those_of_others(place: Place) -> None:
     assert place.shell("git config --get-regexp ansible-vault").stdout == f"{DIFF} cat --\n{DRIVER} mine\n"
 
 
+# Commands that are not ours, with the name of the companion in braces.
+OTHERS = ["mine", "mine {} --vault-id x", "/opt/not-{} x", "/opt/{}-not", "/opt/{}/mine", "'{} x", "'{} x'", "env {}"]
+
+
+@pytest.mark.parametrize("command", OTHERS)
 @pytest.mark.parametrize("other", NAMES + SETTINGS)
-def test_one_of_others(place: Place, other: str) -> None:
+def test_one_of_others(place: Place, other: str, command: str) -> None:
     """Whichever hook or setting is somebody else's, it stays, the status is 1, and all else is set up."""
     under_git(place, ATTRIBUTES)
+    mine = command.format(TEXTCONV if other == DIFF else MERGE)
     if other in NAMES:
-        place.put(f".git/hooks/{other}", b"#!/bin/sh\n", 0o755)
+        place.put(f".git/hooks/{other}", f"#!/bin/sh\n{mine}\n".encode(), 0o755)
     else:
-        place.run("git", "config", other, "mine")
+        place.run("git", "config", other, mine)
     done = place.run(HOOK, "--install", *place.by_file("old"))
     hooks = {name: place.tree / ".git/hooks" / name for name in NAMES}
     assert {name for name, hook in hooks.items() if hook.is_symlink()} == {*NAMES} - {other}
     values = {setting: place.run("git", "config", setting).stdout for setting in SETTINGS}
-    assert {setting for setting, value in values.items() if value != "mine\n"} == {*SETTINGS} - {other}
+    assert {setting for setting, value in values.items() if value != f"{mine}\n"} == {*SETTINGS} - {other}
     assert len(told(done)) == 1 and f"{other} " in done.stderr, "it alone is named"
+    ended("what is left", place.run(HOOK, "--uninstall"), 0)
+    if other not in NAMES:
+        assert place.run("git", "config", other).stdout == f"{mine}\n", "it stays"
+
+
+def test_files_beside_a_hook(place: Place) -> None:
+    """Only what an installation has left that was killed is removed."""
+    under_git(place, ATTRIBUTES)
+    files = {f".git/hooks/{name}.{suffix}": b"mine" for name in NAMES for suffix in ("new", "old", "sample")}
+    for name, content in files.items():
+        place.put(name, content)
+    place.shell(f"ln -s /nowhere/{HOOK} .git/hooks/.ansible-vault-hook.new")
+    ended("an installation", place.run(HOOK, "--install"), 0)
+    for name in NAMES:
+        assert os.readlink(place.tree / ".git/hooks" / name) == f"{place.tools}/{HOOK}"
+    assert {name: place.get(name) for name in files} == files, "they stay"
+    assert not os.path.lexists(place.tree / ".git/hooks/.ansible-vault-hook.new")
 
 
 def test_every_password(place: Place) -> None:

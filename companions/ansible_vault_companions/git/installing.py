@@ -23,7 +23,11 @@ SETTINGS = {
 }
 # Where hooks are in git's own directory, unless core.hooksPath is set.
 HOOKS = "hooks"
-NO_PASSWORDS = "git diff and git merge stay as they are; to set them up, add passwords: --vault-id dev@~/.vault/dev.pass"
+# The name of a new link until it takes the place of the old one. Nobody else uses it.
+BESIDE = ".ansible-vault-hook.new"
+NO_PASSWORDS = """\
+git diff and git merge stay as they are; to set them up, run this with passwords:
+  --install --vault-id dev@~/.vault/dev.pass"""
 MARKS = """\
 git diff and git merge recognize vaults by .gitattributes; for the whole team, add lines to it, such as
   vault.yml diff=ansible-vault merge=ansible-vault"""
@@ -52,7 +56,7 @@ def install_hook(hook: str, program: str) -> str:
     """Installs a hook, and says what was done. One that is there already works until the new one takes its place."""
     if os.path.lexists(hook) and not _is_ours(hook, program):
         raise Refused(f"exists already; add this line to it: {quote_word(program)} || exit 1")
-    beside = f"{hook}.new"
+    beside = os.path.join(os.path.dirname(hook), BESIDE)
     with suppress(FileNotFoundError):
         os.unlink(beside)
     os.symlink(program, beside)
@@ -86,9 +90,19 @@ def read_setting(setting: str, *options: str) -> str:
     return read_line("config", *options, "--default", "", "--get", setting)
 
 
+def _runs_companion(value: str, setting: str) -> bool:
+    """Whether the first word of a setting is the name or the path of its companion."""
+    try:
+        words = shlex.split(value)
+    except ValueError:
+        # It has an open quote.
+        return False
+    return [os.path.basename(word) for word in words[:1]] == [SETTINGS[setting][0]]
+
+
 def install_setting(setting: str, value: str) -> str:
     old = read_setting(setting)
-    if old and SETTINGS[setting][0] not in old:
+    if old and not _runs_companion(old, setting):
         raise Refused(f"is already `{escape(old)}`; to change it, unset it with git config and run this again")
     run_git("config", "--local", "--replace-all", setting, value)
     return f"is already {escape(value)}" if old == value else f"set to {escape(value)}"
@@ -96,7 +110,7 @@ def install_setting(setting: str, value: str) -> str:
 
 def uninstall_setting(setting: str) -> str:
     value = read_setting(setting, "--local")
-    if value and SETTINGS[setting][0] in value:
+    if value and _runs_companion(value, setting):
         run_git("config", "--local", "--unset-all", setting)
         return "removed"
     return f"left alone, since --install did not set it: {escape(value)}" if value else "not set"
