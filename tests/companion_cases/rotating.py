@@ -159,6 +159,7 @@ def test_documents(place: Place) -> None:
     # As YAML, this is a key, and a text whose lines are joined.
     indented = b"".join(b"    " + line for line in sealed("old").splitlines(keepends=True))
     rotated |= {f"indented{suffix}": b"# Router\n\nIts password:\n\n" + indented for suffix in SUFFIXES}
+    rotated |= {f"first{suffix}": lead + indented for suffix, lead in zip(SUFFIXES, (b"", b"\n", b"  \n\n", b"\r\n"))}
     stay = {"c.md": block("dev"), "d.md": block("prod", label="prod")}
     stay["f.html"] = b"<pre>\n$ANSIBLE_VAULT;1.1;AES256\n%s\n[...]\n" % (b"61" * 40)
     place.put("vars.yml", rotated.pop("link.md"))
@@ -169,7 +170,7 @@ def test_documents(place: Place) -> None:
     check_answer("the check", done, output=None)
     done = place.run(ROTATE, *to_new(place), ".")
     check_answer("the rotation", done, output=None)
-    assert done.stdout.splitlines()[-1] == summary(9, 1, 1, " (prod 1)"), "what is counted"
+    assert done.stdout.splitlines()[-1] == summary(13, 1, 1, " (prod 1)"), "what is counted"
     assert {name: place.get(name) for name in stay} == stay, "examples stay"
     place.put("vars.yml", block("dev"))
     place.put("vault.md", sealed("dev"))

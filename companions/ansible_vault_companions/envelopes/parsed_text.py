@@ -125,7 +125,7 @@ def _add_strays(parsed: ParsedText) -> None:
     if BINARY in parsed.data:
         parsed.hides_envelope = WITH_DIGITS.search(parsed.data) is not None
     else:
-        parsed.values += find_strays(parsed.data, parsed.values)
+        parsed.values += find_strays(parsed.data, parsed.values, parsed.is_prose)
         parsed.values.sort(key=lambda value: value.start)
 
 

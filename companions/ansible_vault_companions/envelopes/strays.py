@@ -24,11 +24,11 @@ class _Header(NamedTuple):
     line_start: int | None
 
 
-def find_strays(data: bytes, values: list[Node]) -> Iterator[Node]:
+def find_strays(data: bytes, values: list[Node], is_prose: bool = False) -> Iterator[Node]:
     """The envelopes outside of these values, and those within the text of one that is no envelope, but has the tag."""
     starts = [value.start for value in values]
-    # After empty lines alone, Ansible reads neither a vault nor a value.
-    first = len(data) - len(data.lstrip())
+    # After empty lines alone, Ansible reads neither a vault nor a value. A document may begin with an example.
+    first = -1 if is_prose else len(data) - len(data.lstrip())
     for header in _find_headers(data):
         place = header.match.start()
         before = bisect_right(starts, place) - 1
