@@ -195,11 +195,14 @@ def in_string(text: bytes) -> bytes:
     return block("old", b"one") + b"text: |\n" + textwrap.indent(text.decode(), "  ").encode()
 
 
+# It says nothing of what is encrypted.
+BEGUN = b"# $ANSIBLE_VAULT;1.1;AES256 0123456789abcdef\n# $ANSIBLE_VAULT;1.1;AES256\n# 0123456789abcdef\n"
 OF_JSON = '{"a": {"__ansible_vault": %s}}'
 # A file, and what becomes of it if a value is decrypted.
 DECRYPTED_VALUES = {
     "a value that keeps its tag": (block("old", b"one"), b"secret: !vault |-\n  one\n"),
     "an envelope in a string": (in_string(sealed("old")), in_string(TEXT)),
+    "a value above the beginning of one": (BEGUN + block("old", b"one"), BEGUN + b"secret: one\n"),
     "JSON": ((OF_JSON % json.dumps(sealed("old", b"one").decode())).encode(), (OF_JSON % '"one"').encode()),
 }
 
@@ -215,7 +218,7 @@ def test_decrypted_values(place: Place, what: str) -> None:
     add_and_commit(place)
     place.put("vars.yml", plain)
     done = place.run("git", "diff")
-    count = encrypted.count(b"$ANSIBLE_VAULT")
+    count = encrypted.count(b"$ANSIBLE_VAULT") - BEGUN.count(b"$ANSIBLE_VAULT") * (BEGUN in encrypted)
     after = line_of_values(count - 1) if count > 1 else NOT_ENCRYPTED
     assert f"-{line_of_values(count)}+{after}" in done.stdout, done
 

@@ -4,7 +4,7 @@ from __future__ import annotations
 
 from ansible_vault_companions.envelopes import conflicts, detection
 from ansible_vault_companions.envelopes.layout import Replacement, apply_replacements, put_plaintext
-from ansible_vault_companions.envelopes.node import Node
+from ansible_vault_companions.envelopes.node import LOOSE, STRAY, Node
 from ansible_vault_companions.envelopes.parsed_text import ParsedText, parse_envelopes
 from ansible_vault_companions.limits import Effort, require_few_values
 from ansible_vault_companions.output import write_error
@@ -48,8 +48,13 @@ def _choose_first_line(parsed: ParsedText) -> bytes:
     if parsed.is_vault:
         # One that can be decrypted is shown elsewhere.
         return first_line.AS_IT_IS
-    count = len(parsed.number_envelopes())
+    count = sum(map(_is_encrypted, parsed.number_envelopes().values()))
     return first_line.describe_values(count) if count else first_line.NOTHING
+
+
+def _is_encrypted(value: Node) -> bool:
+    """Whether the first line counts it. A comment may have the beginning of an envelope."""
+    return value.style not in (STRAY, LOOSE) or value.is_whole
 
 
 def _show_values(companion: str, parsed: ParsedText, path: str, decrypt: Decrypt, effort: Effort) -> bytes:
