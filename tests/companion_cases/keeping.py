@@ -90,6 +90,8 @@ STOPS = {
         how=SEALED,
         stays=STAYS,
     ),
+    "a failure": Stop(editor=f"{CHANGE}; exit 3", change="", why="the editor failed", how=SEALED, stays=STAYS),
+    "a signal": Stop(editor=f"{CHANGE}; kill -KILL $$", change="", why="the editor failed", how=SEALED, stays=STAYS),
     "a removal": Stop(editor=f"{CHANGE}; rm all.yml", change="", why=CHANGED_MEANWHILE, how=SEALED, stays={}),
     "an exception": Stop(editor=CHANGE, change=BROKEN, why="too deep", how=SEALED, stays=STAYS),
     "an exception of the file": Stop(

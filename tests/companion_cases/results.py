@@ -151,6 +151,7 @@ def test_missing_labels(place: Place) -> None:
     rotate = [ROTATE, *place.by_file("old"), *(f"--new-vault-id={label}@../secrets/new" for label in "dbca")]
     runs = {
         "2 decrypted, 2 failed, 1 with other labels (x 1)\n": check,
+        "2 listed, 2 failed, 1 with other labels (x 1)\n": [CHECK, "--list", *check[3:]],
         summary(2, others=1, named=" (x 1)", failed=2): rotate,
     }
     for counts, words in runs.items():

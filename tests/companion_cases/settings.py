@@ -371,7 +371,7 @@ CHOSEN = {
 # Command lines that encrypt. `random_secrets.py` has others. Without a label, rekey would ask for a password, and
 # --value takes the label from the option alone.
 SEALING = [f"{WITH} rekey --encrypt-vault-id {{}} a.yml", f"{EDIT} new.yml", f"{EDIT} values.yml"]
-SEALING.append(f"{EDIT} --value=word --encrypt-vault-id {{}} values.yml")
+SEALING += [f"{EDIT} --value=word --encrypt-vault-id {{}} values.yml", f"{WITH} encrypt plain.yml"]
 
 
 @pytest.mark.parametrize("row", CHOSEN.values(), ids=CHOSEN)
@@ -379,6 +379,7 @@ SEALING.append(f"{EDIT} --value=word --encrypt-vault-id {{}} values.yml")
 def test_missing_secrets_to_encrypt_with(place: Place, line: str, row: Chosen) -> None:
     """If the secret to encrypt with is missing, no other one encrypts in its place. Others may be missing."""
     place.put("values.yml", b"word: !vault TEXT\n")
+    place.put("plain.yml", TEXT)
     place.put("a.yml", sealed(row.there, label=row.label))
     before = place.files()
     words = line.format(row.label or "prod").split()
