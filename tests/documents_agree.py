@@ -167,7 +167,11 @@ SENTENCES = [
     ("hook", r"of over ([\d,]+) bytes; or aliases .* over ([\d,]+) texts", "LONGEST_DIRECTIVES MOST_ALIASED"),
     ("hook", r"link may lead through over (\d+) directories", "MOST_STEPS"),
     ("hook", r"commit may have over (\d+) parents", "MOST_PARENTS"),
-    ("hook", r"takes at most (\d+) s of processor time and (\d+) MB of memory", "SECONDS MEGABYTES"),
+    (
+        "hook",
+        r"takes at most (\d+) s of processor time, and each process at most (\d+) MB of memory",
+        "SECONDS MEGABYTES",
+    ),
     ("hook", r"compares up to (\d+) removed files", "MOST_RENAMES"),
     ("hook", r"git ignores lines of ([\d,]+) bytes or more", "LINE_IGNORED"),
     ("merge", r"versions may be up to (\d+) MiB in total: about (\d+) MiB of plaintext", "VERSIONS_MIB PLAINTEXTS_MIB"),

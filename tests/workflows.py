@@ -157,8 +157,8 @@ RECIPES = {
         {"../1": b"db_password: a\n", "../2": vault(b"db_password: b\n")},
         prepare=f"""mkdir -p group_vars/all
             for each in 1 2; do mv ../$each {VAULT}; git add .; git commit -qm $each; done""",
-        printed=f"*\n# ansible-vault: encrypted, label prod\ndb_password: b\n{VAULT}:db_password: b\n*\n+{FIRST_LINE}\n*"
-        "\n+++ b/.gitattributes\n*",
+        printed=f"*\n# ansible-vault: encrypted, label prod\ndb_password: b\n{VAULT}:db_password: b\n*"
+        f"\n+{FIRST_LINE}\n*\n+++ b/.gitattributes\n*",
         after=f"""exec 2> /dev/null
             git blame -s {VAULT} | sed 's/.*) //'; git log --format=%s -S 'db_password: b'
             git log -p --format= | grep '^[-+][#d]'""",
