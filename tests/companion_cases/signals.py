@@ -7,6 +7,7 @@ import signal
 import subprocess
 import time
 from collections.abc import Callable
+from contextlib import suppress
 from functools import partial
 from pathlib import Path
 from random import Random
@@ -337,7 +338,18 @@ def check_ended(place: Place, line: str, condition: Callable[[int], object], num
         status = process.wait(AT_ONCE)
         assert process.stderr and process.stderr.read() == "", "without a word"
         assert status == -number, "it ends by the signal"
+    wait_until(lambda: list_programs(place.path) == [], "the end of its programs")
     assert (os.listdir(place.temporary), place.left()) == ([], []), "nothing is left"
+
+
+def list_programs(folder: Path) -> list[str]:
+    """Return the processes that are in this directory. A program of a companion that has ended may still begin."""
+    found = []
+    for link in Path("/proc").glob("[0-9]*/cwd"):
+        with suppress(OSError):
+            if link.readlink().is_relative_to(folder):
+                found.append(link.parent.name)
+    return found
 
 
 def has_started_program(place: Place, number: int) -> bool:
