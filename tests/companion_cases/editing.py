@@ -330,6 +330,36 @@ def test_pasted_envelopes(place: Place) -> None:
     assert place.get("vars.yml") == before, "the file stays"
 
 
+# What is done to values at keys that begin with k.
+MOVES = {
+    "below another key": "sed -i -e '1i app:' -e 's/^/  /' \"$1\"",
+    "under other names": "sed -i 's/^k/name/' \"$1\"",
+    "into a list": "sed -i -e '1i items:' -e 's/^k.: /- /' \"$1\"",
+}
+LABELS_OF_MOVED = ["prod", "dev prod", "prod prod", "prod dev prod", "prod prod prod"]
+
+
+@pytest.mark.parametrize("move", MOVES)
+@pytest.mark.parametrize("labels", LABELS_OF_MOVED)
+@pytest.mark.parametrize("chosen", ["", "dev", "prod"])
+def test_moved_values(place: Place, move: str, labels: str, chosen: str) -> None:
+    """Values with one text that move together keep their envelopes, whatever label is chosen for new ones. If they have
+    several labels, it is unclear which value is which, and the edit is refused."""
+    envelopes = [sealed(label, b"same", label) for label in labels.split()]
+    values = [block(label, b"same", label, f"k{number}") for number, label in enumerate(labels.split(), 1)]
+    place.put("vars.yml", b"".join(values))
+    words = [*place.by_id("dev", "dev"), *place.by_id("prod", "prod"), "vars.yml"]
+    done = edit(place, MOVES[move], *words, ANSIBLE_VAULT_ENCRYPT_IDENTITY=chosen)
+    if len({*labels.split()}) > 1:
+        ended("it is unclear", done, 1, "may be a new value or a changed one, and the password depends on which")
+        assert place.get("vars.yml") == b"".join(values), "the file stays"
+        return
+    silent("it is clear", done)
+    after = re.sub(rb"^ +", b"", place.get("vars.yml"), flags=re.MULTILINE)
+    assert not after.startswith(values[0][:4]), "they have moved"
+    assert after.count(envelopes[0]) == len(envelopes), "each keeps its envelope"
+
+
 class Item(NamedTuple):
     """An item of a list: the name of its password, and its text."""
 

@@ -61,10 +61,16 @@ def find_matches(opened: list[DecryptedValue], typed: list[Node], choice: Choice
     _keep_moved(kept, before, {at: value for at, value in after.items() if at not in changed}, lambda _: ())
     known = {at: Match(before[at], before[at].decrypted.key) for at in changed}
     known |= {at: Match(before[kept[at]]) for at in kept}
-    return [
-        known.get(at) or Match(None, choice.choose_key(describe_name(new), describe_place(new)))
-        for at, new in after.items()
-    ]
+    gone = {before[at].decrypted.text for at in before.keys() - {*kept.values()}}
+    return [known.get(at) or _match_new(new, gone, choice) for at, new in after.items()]
+
+
+def _match_new(new: Node, gone: set[bytes], choice: Choice) -> Match:
+    """The match of a new value. With the text of several values that are gone, it may be any of them, and so may its
+    password."""
+    if new.text in gone:
+        raise Refused(UNCLEAR.format(describe_place(new)))
+    return Match(None, choice.choose_key(describe_name(new), describe_place(new)))
 
 
 def _keep_moved(
@@ -73,13 +79,14 @@ def _keep_moved(
     after: dict[NumberedPath, Node],
     group: Callable[[NumberedPath], KeyPath],
 ) -> None:
-    """Adds the typed values that have moved: a single value of the same group had their text, and its place is gone."""
+    """Adds the typed values that have moved: values of the same group had their text, all with one key, and their
+    places are gone."""
     vanished: dict[tuple[KeyPath, bytes], list[NumberedPath]] = defaultdict(list)
     for at in before.keys() - {*kept.values()}:
         vanished[group(at), before[at].decrypted.text].append(at)
     for at, value in after.items():
         sources = vanished[group(at), value.text] if at not in kept else []
-        if len(sources) == 1:
+        if len({before[source].decrypted.key for source in sources}) == 1:
             kept[at] = sources.pop()
 
 
