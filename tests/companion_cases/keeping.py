@@ -188,14 +188,14 @@ def test_late_file(place: Place) -> None:
 
 
 # Raises an exception at a line of the companion, of those that run once something is saved, and counts them. The first
-# line has the number 1, so with 0, none raises it.
+# line has the number 1, so with 0, none raises it. A message that cannot be written names nothing.
 PLANT = """
 from ansible_vault_companions import refusals
 
 count = 0
 
 def trace(frame, event, argument):
-    return plant if re.search("companions/|ansible-vault-edit$", frame.f_code.co_filename) else None
+    return plant if re.search("companions/(?!.*output.py)|ansible-vault-edit$", frame.f_code.co_filename) else None
 
 def plant(frame, event, argument):
     global count
