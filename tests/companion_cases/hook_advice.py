@@ -451,7 +451,7 @@ PLANTED = {
         command="sed -i '2s/^/#/' .gitattributes",
     ),
 }
-# Other lines that the same commit adds, at the end of one file or of each.
+# A line that the same commit adds to each file of attributes, or none.
 BESIDE = ["", "# x-ansible-vault", "/sample.yml -ansible-vault ansible-vault-plain=pw", "*.txt -ansible-vault"]
 
 
@@ -466,11 +466,13 @@ def test_planted_lines(place: Place, planted: Planted, before: bytes, after: byt
     place.put("roles/db/x.yml", before)
     add_and_commit(place)
     place.put("roles/db/x.yml", after)
+    assert place.shell(planted.command).returncode == 0, "the change"
     if line:
         place.put("sample.yml", b"")
-        place.put("a/.gitattributes", f"{line}\n".encode())
-    added = f"for file in .gitattributes */.gitattributes */*/.gitattributes; do echo '{line}' >> $file; done"
-    done = place.shell(f"{planted.command} && ({added}) 2> /dev/null; git add -A && {HOOK}")
+        place.put("a/.gitattributes", b"")
+        for path in place.tree.rglob(".gitattributes"):
+            path.write_text(path.read_text() + f"{line}\n")
+    done = place.shell(f"git add -A && {HOOK}")
     assert done.returncode == 1, done
     assert "x.yml " in done.stderr, done
 
