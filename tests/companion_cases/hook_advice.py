@@ -264,10 +264,10 @@ def test_no_line(place: Place) -> None:
     for name, content in (plain | {long: TEXT}).items():
         place.put(name, content)
     place.shell("git add -A")
-    no_verify = "  if that is intended, commit with --no-verify: "
-    too_long = f"{no_verify}a line for it in .gitattributes would be too long for git"
-    too_early = f"{no_verify}a line in .gitattributes counts only in the commit that adds it, if no other line is "
-    too_early += "removed or moved"
+    intended = "  if that is intended, "
+    too_long = f"{intended}commit with --no-verify: a line for it in .gitattributes would be too long for git"
+    too_early = f"{intended}first remove or move old lines in a commit of their own: a line in .gitattributes counts "
+    too_early += "only in the commit that adds it, if no other line is removed or moved"
     # Of a.yml, b.yml, c.yml and the long path.
     assert list_advice(place) == [too_long, too_early, too_early, too_long]
     place.shell(f"git rm -q --cached {long} && rm {long} && git commit -qm after --no-verify")
@@ -275,6 +275,25 @@ def test_no_line(place: Place) -> None:
     assert [line.endswith(later) for line in list_advice(place, "--all")] == [True] * 3
     committed(place, "x", b"")
     assert list_advice(place, "--all") == []
+
+
+@pytest.mark.parametrize("content", [VAULT, VALUE], ids=["vault", "value"])
+def test_old_line_is_removed_first(place: Place, content: bytes) -> None:
+    """The advice about an old line works: once it is removed in a commit of its own, it may be added again."""
+    under_git(place, "a.yml -ansible-vault ansible-vault-plain=pw\n")
+    committed(place, "a.yml", content)
+    place.put("a.yml", b"pw: x\n")
+    place.shell("git add -A")
+    [advice] = list_advice(place)
+    assert "first remove or move old lines in a commit of their own" in advice
+    place.shell("git reset -q --hard")
+    committed(place, ".gitattributes", b"")
+    place.put("a.yml", b"pw: x\n")
+    place.shell("git add -A")
+    [advice] = list_advice(place)
+    paste(place, advice)
+    place.shell("git add -A")
+    assert list_advice(place) == []
 
 
 def test_line_after_line(place: Place) -> None:

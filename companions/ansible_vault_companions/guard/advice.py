@@ -32,6 +32,20 @@ class Remedy(Enum):
 ALLOWABLE = (Remedy.ALLOW, Remedy.REPAIR, Remedy.RESTORE, Remedy.UNMARK)
 
 
+class Obstacle(NamedTuple):
+    """Why no line allows something, and what else somebody can do who intends it."""
+
+    why: str
+    instead: str
+
+
+TOO_LONG = Obstacle("a line for it in .gitattributes would be too long for git", "commit with --no-verify")
+TOO_OLD = Obstacle(
+    "a line in .gitattributes counts only in the commit that adds it, if no other line is removed or moved",
+    "first remove or move old lines in a commit of their own",
+)
+
+
 class Fault(NamedTuple):
     why: str
     remedy: Remedy
@@ -40,7 +54,7 @@ class Fault(NamedTuple):
     attributes: frozenset[str] = frozenset()
     # That line, after the place for it; else why none helps.
     line: str = ""
-    no_line: str = "a line for it in .gitattributes would be too long for git"
+    obstacle: Obstacle = TOO_LONG
 
 
 class Words(NamedTuple):
@@ -59,14 +73,14 @@ STAGED = Words(
     add="stage",
     restore="restore it, for example with `git checkout HEAD -- {path}` if it is whole there",
     allow="if that is intended, stage this line for the same commit, {line}",
-    allow_all="if that is intended, commit with --no-verify: {no_line}",
+    allow_all="if that is intended, {obstacle.instead}: {obstacle.why}",
 )
 COMMITTED = Words(
     before="",
     add="commit",
     restore="restore it from a commit that `git log --oneline -- {path}` lists",
     allow="if that is intended, commit this line {line}",
-    allow_all="it cannot be allowed: {no_line}",
+    allow_all="it cannot be allowed: {obstacle.why}",
 )
 # Of the last commit alone, which may still be changed.
 LAST = COMMITTED._replace(
@@ -81,7 +95,7 @@ REWRITE = "rewrite {what}, for example with `git rebase -i {base}`; if that is i
 def write_advice(fault: Fault, words: Words) -> str:
     """What to do about a fault of what is staged, or of the current commit."""
     path = make_pathspec(os.fsdecode(fault.file.name), is_below_top=True)
-    allow = words.allow.format(line=fault.line) if fault.line else words.allow_all.format(no_line=fault.no_line)
+    allow = words.allow.format(line=fault.line) if fault.line else words.allow_all.format(obstacle=fault.obstacle)
     restore = words.restore.format(path=path)
     remedy = fault.remedy.value
     if "{line}" in remedy and not fault.line:

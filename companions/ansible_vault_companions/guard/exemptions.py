@@ -14,14 +14,13 @@ from typing import Iterable
 
 from ansible_vault_companions.git.attributes import PLAIN_VALUES, VAULT, make_line
 from ansible_vault_companions.git.differences import File
-from ansible_vault_companions.guard.advice import ALLOWABLE, Fault, Remedy
+from ansible_vault_companions.guard.advice import ALLOWABLE, TOO_OLD, Fault, Remedy
 from ansible_vault_companions.guard.comparison import has_other_text
 from ansible_vault_companions.guard.evidence import Evidence
 from ansible_vault_companions.quoting import escape
 
 EXEMPT = f"-{VAULT}"
 UNMARKED = f"!diff !{VAULT}"
-TOO_OLD = "a line in .gitattributes counts only in the commit that adds it, if no other line is removed or moved"
 # What the line would otherwise become a part of.
 UNENDED = " (first end its last line, which has no line break)"
 
@@ -75,7 +74,7 @@ def make_damage(file: File, why: str, remedy: Remedy) -> Fault:
 def make_loss(evidence: Evidence, file: File, why: str, remedy: Remedy = Remedy.ALLOW) -> Fault:
     """A fault that a new line allows."""
     if evidence.attributes[file.name].is_exempt:
-        return Fault(why, remedy, file, no_line=TOO_OLD)
+        return Fault(why, remedy, file, obstacle=TOO_OLD)
     return Fault(why, remedy, file, frozenset([EXEMPT]))
 
 
@@ -83,7 +82,7 @@ def make_loss_of_values(evidence: Evidence, file: File, why: str, lost: set[str]
     """The same of values. The line keeps what another one gives already."""
     given = evidence.attributes[file.name].plain_values
     if not given.isdisjoint(lost):
-        return Fault(why, Remedy.ALLOW, file, no_line=TOO_OLD)
+        return Fault(why, Remedy.ALLOW, file, obstacle=TOO_OLD)
     return Fault(why, Remedy.ALLOW, file, frozenset([f"{PLAIN_VALUES}={','.join(sorted({*lost, *given}))}"]))
 
 
@@ -102,7 +101,7 @@ def _join_fault(fault: Fault, other: Fault) -> Fault:
     if not fault.attributes:
         return fault
     if not other.attributes:
-        return fault._replace(attributes=other.attributes, no_line=other.no_line)
+        return fault._replace(attributes=other.attributes, obstacle=other.obstacle)
     attributes = fault.attributes | other.attributes
     if EXEMPT in attributes:
         attributes -= {UNMARKED}
