@@ -57,7 +57,7 @@ class Workers:
         self.count = 0
         self.ended = Semaphore(0)
         self.waiting: SimpleQueue[Optional[Task[Any]]] = SimpleQueue()
-        self.open: set[Task[Any]] = set()
+        self.open: set[futures.Future[Any]] = set()
 
     def __enter__(self) -> Workers:
         return self
@@ -78,7 +78,7 @@ class Workers:
         """Begins some work."""
         task = Task(work, *items)
         self.open.add(task)
-        task.add_done_callback(lambda _: self.open.discard(task))
+        task.add_done_callback(self.open.discard)
         if self.count < self.most:
             self._start_thread()
         self.waiting.put(task)
