@@ -21,6 +21,7 @@ from lib.processes import SECONDS, run, run_text
 from model.vaults import apply_keystream, seal, tag_of, yaml_block
 
 COMPANIONS = ROOT / "companions"
+GIT_CONFIGURATION = str(ROOT / "tests" / "lib" / "gitconfig")
 EDIT, ROTATE, CHECK, TEXTCONV, HOOK, WITH, MERGE = (
     f"ansible-vault-{name}" for name in ("edit", "rotate", "check", "textconv", "hook", "with", "merge")
 )
@@ -99,7 +100,7 @@ class Place:
             "XDG_RUNTIME_DIR": str(self.runtime),
             "TMPDIR": str(self.temporary),
             "GIT_CONFIG_GLOBAL": "/dev/null",
-            "GIT_CONFIG_SYSTEM": "/dev/null",
+            "GIT_CONFIG_SYSTEM": GIT_CONFIGURATION,
         }
 
     def secret(self, name: str) -> str:

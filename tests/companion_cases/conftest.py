@@ -9,7 +9,7 @@ from pathlib import Path
 
 import pytest
 
-from companion_cases import COMPANIONS, Companions, Place
+from companion_cases import COMPANIONS, GIT_CONFIGURATION, Companions, Place
 from companion_cases.forks import Forks
 from companion_cases.repository import AUTHOR, repository
 from lib.ansible_runs import AnsibleRuns
@@ -61,7 +61,7 @@ def git() -> None:
 @pytest.fixture
 def own_repository(git: None, tmp_path: Path, monkeypatch: pytest.MonkeyPatch) -> Path:
     """A repository that is the current directory. git knows an author there, and none of the user's settings."""
-    for name, value in (AUTHOR | {"GIT_CONFIG_GLOBAL": "/dev/null", "GIT_CONFIG_SYSTEM": "/dev/null"}).items():
+    for name, value in (AUTHOR | {"GIT_CONFIG_GLOBAL": "/dev/null", "GIT_CONFIG_SYSTEM": GIT_CONFIGURATION}).items():
         monkeypatch.setenv(name, value)
     monkeypatch.chdir(repository(tmp_path, "merge"))
     return tmp_path
