@@ -21,7 +21,8 @@ from lib.processes import SECONDS, run, run_text
 from model.vaults import apply_keystream, seal, tag_of, yaml_block
 
 COMPANIONS = ROOT / "companions"
-GIT_CONFIGURATION = str(ROOT / "tests" / "lib" / "gitconfig")
+# git's work in the background would outlive a test, and change the directory that the test removes.
+GIT_CONFIGURATION = "[maintenance]\n\tauto = false\n[gc]\n\tauto = 0\n"
 EDIT, ROTATE, CHECK, TEXTCONV, HOOK, WITH, MERGE = (
     f"ansible-vault-{name}" for name in ("edit", "rotate", "check", "textconv", "hook", "with", "merge")
 )
@@ -94,13 +95,14 @@ class Place:
         for name, password in PASSWORDS.items():
             (self.secrets / name).write_bytes(password + b"\n")
         kept = {name: value for name, value in os.environ.items() if name in ("PATH", "LANG", "LC_ALL")}
+        (path / "gitconfig").write_text(GIT_CONFIGURATION)
         self.environment = kept | {
             "HOME": str(path),
             "PATH": f"{self.tools}{os.pathsep}{kept['PATH']}",
             "XDG_RUNTIME_DIR": str(self.runtime),
             "TMPDIR": str(self.temporary),
             "GIT_CONFIG_GLOBAL": "/dev/null",
-            "GIT_CONFIG_SYSTEM": GIT_CONFIGURATION,
+            "GIT_CONFIG_SYSTEM": str(path / "gitconfig"),
         }
 
     def secret(self, name: str) -> str:

@@ -61,7 +61,9 @@ def git() -> None:
 @pytest.fixture
 def own_repository(git: None, tmp_path: Path, monkeypatch: pytest.MonkeyPatch) -> Path:
     """A repository that is the current directory. git knows an author there, and none of the user's settings."""
-    for name, value in (AUTHOR | {"GIT_CONFIG_GLOBAL": "/dev/null", "GIT_CONFIG_SYSTEM": GIT_CONFIGURATION}).items():
+    system = tmp_path / "gitconfig"
+    system.write_text(GIT_CONFIGURATION)
+    for name, value in (AUTHOR | {"GIT_CONFIG_GLOBAL": "/dev/null", "GIT_CONFIG_SYSTEM": str(system)}).items():
         monkeypatch.setenv(name, value)
     monkeypatch.chdir(repository(tmp_path, "merge"))
     return tmp_path

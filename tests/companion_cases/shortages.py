@@ -21,8 +21,6 @@ LEAST, MOST = 8_000, 120_000
 START = f"import sys; sys.path.insert(0, {str(COMPANIONS)!r}); import ansible_vault_companions.startup"
 # Python reads the program before the first statement, and has a bit of memory left.
 READ = START + "; compile(open({!r}).read(), '', 'exec'); bytes(1 << 20)"
-
-
 # Python writes this itself, without a line end, if memory runs out while it calls sys.unraisablehook.
 NO_MEMORY_FOR_HOOK = "Exception ignored while building sys.unraisablehook arguments"
 
