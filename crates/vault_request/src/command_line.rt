@@ -16,7 +16,7 @@ use clap::{ArgMatches, Command, Error};
 use std::alloc::{AllocError, Global};
 use vault_fault::Fault;
 
-const VERSION: &str = "0.6.0";
+const VERSION: &str = "0.7.0";
 
 /// The last line of the program's help: its manual page, and its companions.
 const SEE_ALSO: &str = "See also: ansible-vault(1), \
