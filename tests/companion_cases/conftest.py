@@ -61,9 +61,11 @@ def git() -> None:
 @pytest.fixture
 def own_repository(git: None, tmp_path: Path, monkeypatch: pytest.MonkeyPatch) -> Path:
     """A repository that is the current directory. git knows an author there, and none of the user's settings."""
+    # It is not in the repository, where tests remove all files.
     system = tmp_path / "gitconfig"
     system.write_text(GIT_CONFIGURATION)
     for name, value in (AUTHOR | {"GIT_CONFIG_GLOBAL": "/dev/null", "GIT_CONFIG_SYSTEM": str(system)}).items():
         monkeypatch.setenv(name, value)
-    monkeypatch.chdir(repository(tmp_path, "merge"))
-    return tmp_path
+    folder = repository(tmp_path / "repository", "merge")
+    monkeypatch.chdir(folder)
+    return folder
