@@ -1,7 +1,7 @@
 """Matches the values of an edited text with those that the file had, and so decides which password each one gets.
 
-A value is identified by its path, and in a list first by its text. No text gets another password than before, unless
-the user has chosen that password for new values.
+A value is identified by its text first, and then by its path. So a text that moves, even to the path of another value,
+keeps its password.
 """
 
 from __future__ import annotations
@@ -57,20 +57,22 @@ def find_matches(opened: list[DecryptedValue], typed: list[Node], choice: Choice
     # The places of typed values whose envelope stays, with the places where those were.
     kept = {at: at for at, value in after.items() if at in before and before[at].decrypted.text == value.text}
     _keep_moved(kept, before, after, _list_of)
-    changed = _find_changed(kept, before, after, choice)
-    _keep_moved(kept, before, {at: value for at, value in after.items() if at not in changed}, lambda _: ())
-    known = {at: Match(before[at], before[at].decrypted.key) for at in changed}
-    known |= {at: Match(before[kept[at]]) for at in kept}
+    replaced = before.keys() - {*kept.values()}
+    _keep_moved(kept, before, after, lambda _: ())
+    changed = _find_changed(replaced, after.keys() - kept.keys(), before, after, choice)
     gone = {before[at].decrypted.text for at in before.keys() - {*kept.values()}}
-    return [known.get(at) or _match_new(new, gone, choice) for at, new in after.items()]
-
-
-def _match_new(new: Node, gone: set[bytes], choice: Choice) -> Match:
-    """The match of a new value. With the text of several values that are gone, it may be any of them, and so may its
-    password."""
-    if new.text in gone:
-        raise Refused(UNCLEAR.format(describe_place(new)))
-    return Match(None, choice.choose_key(describe_name(new), describe_place(new)))
+    matches = []
+    for at, value in after.items():
+        if at in kept:
+            matches.append(Match(before[kept[at]]))
+        elif value.text in gone:
+            # It may have been at several places, and so it may have any of their passwords.
+            raise Refused(UNCLEAR.format(describe_place(value)))
+        elif at in changed:
+            matches.append(Match(before[at], before[at].decrypted.key))
+        else:
+            matches.append(Match(None, choice.choose_key(describe_name(value), describe_place(value))))
+    return matches
 
 
 def _keep_moved(
@@ -91,15 +93,15 @@ def _keep_moved(
 
 
 def _find_changed(
-    kept: dict[NumberedPath, NumberedPath],
+    replaced: set[NumberedPath],
+    unknown: set[NumberedPath],
     before: dict[NumberedPath, DecryptedValue],
     after: dict[NumberedPath, Node],
     choice: Choice,
 ) -> set[NumberedPath]:
-    """The places of values with a new text, which keep their password. If the items of a list might get several
-    passwords, they have to be where those were that are gone."""
-    old, vanished = _group_by_list(before), _group_by_list(before.keys() - {*kept.values()})
-    typed = _group_by_list(after.keys() - kept.keys())
+    """The places of values with a new text, which get the passwords of those that they replace. If the items of a list
+    might get several passwords, they have to be where those were that are gone."""
+    old, vanished, typed = _group_by_list(before), _group_by_list(replaced), _group_by_list(unknown)
     changed: set[NumberedPath] = set()
     for group in vanished.keys() & typed.keys():
         keys = [before[at].decrypted.key for at in old[group]]
