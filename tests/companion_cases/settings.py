@@ -455,6 +455,29 @@ def test_places(place: Place) -> None:
         assert decrypted == [PLACES[path] for path in there][:1], f"{there}: {done}"
 
 
+def test_named_file_that_cannot_be_read(place: Place) -> None:
+    """It has a warning, and the next place counts, as with Ansible. A variable in its path is expanded."""
+    place.put("ansible.cfg", FILE.format("../secrets/old").encode())
+    place.put("a.yml", sealed("old"))
+    place.put("d$SHELL/my.cfg", FILE.format("../../secrets/dev").encode())
+    (place.tree / "empty").mkdir()
+    top = str(place.tree)
+    for named, path in {
+        "none": "none",
+        f"{top}/none": f"{top}/none",
+        "~/none/": f"{place.path}/none/",
+        f"{top}/d$SHELL/my.cfg": f"{top}/d/bin/dash/my.cfg",
+        "empty": "empty/ansible.cfg",
+        "a.yml/none": "a.yml/none",
+    }.items():
+        done = place.run(CHECK, "a.yml", ANSIBLE_CONFIG=named, SHELL="/bin/dash")
+        warning = f"{CHECK}: ANSIBLE_CONFIG: {path} cannot be read; it is ignored\n"
+        check_answer(named, done, output=None, errors=warning)
+    for named in ("/dev/null", "a.cfg"):
+        place.put("a.cfg", b"")
+        ended(f"{named} counts", place.run(CHECK, "a.yml", ANSIBLE_CONFIG=named), 2, "no password is given")
+
+
 def test_values_for_true(monkeypatch: pytest.MonkeyPatch) -> None:
     """Ansible reads these as true, in any case, and no others."""
     values = dict.fromkeys("y yes on 1 true t".split(), True) | dict.fromkeys("n no off 0 false f 2 tr".split(), False)

@@ -108,11 +108,14 @@ class Settings:
     def _find_file(self) -> str | None:
         """The file that ANSIBLE_CONFIG names, else the first readable one, in Ansible's order of places."""
         named = os.environ.get(CONFIG, "")
-        path = _expand_setting(named)
-        if os.path.isdir(path):
-            path = os.path.join(path, NAME)
-        if _is_readable(path) and self._may_count(named):
-            return path
+        if named and self._may_count(named):
+            path = _expand_setting(named)
+            if os.path.isdir(path):
+                path = os.path.join(path, NAME)
+            # As with Ansible, this may be any file, even /dev/null.
+            if os.access(path, os.R_OK):
+                return path
+            self.warn(f"{CONFIG}: {escape(path)} cannot be read; it is ignored")
         places = [os.path.expanduser(place) for place in USUAL_PLACES if is_absolute(place)]
         if not self.beside_options and os.path.exists(NAME):
             if os.stat(".").st_mode & stat.S_IWOTH:
