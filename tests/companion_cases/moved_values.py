@@ -1,5 +1,5 @@
-"""A text that an edit moves keeps its password, whatever key or item it moves to. Envelopes contain the digits of their
-plaintexts."""
+"""A text that an edit moves keeps its password, whatever key or item it moves to. If it is unclear which password a
+value gets, the edit is refused. In the first test, envelopes contain the digits of their plaintexts."""
 
 from __future__ import annotations
 
@@ -18,9 +18,11 @@ from ansible_vault_companions.passwords.password import Password
 from ansible_vault_companions.passwords.sources import parse_vault_id
 from ansible_vault_companions.refusals import Refused
 from ansible_vault_companions.tool import Decryption, Key
+from companion_cases import Done, Place, block, edit, ended, sealed, silent, texts
 from companion_cases.yaml_values import POLICY, Hexadecimal, envelope
 
 EXAMPLES = 700
+UNCLEAR = "may be new, changed or moved, and the password depends on which; save one change at a time"
 PASSWORDS = {label: Password(parse_vault_id(f"{label}@file"), label.encode(), -1) for label in ("dev", "prod", "test")}
 SEALED = re.compile(r"\$ANSIBLE_VAULT;1\.2;AES256;(\w+)\s+([0-9a-f]+)")
 # Few keys and texts, so that many texts move to the key of another value.
@@ -92,7 +94,7 @@ def test_passwords_stay(request: pytest.FixtureRequest) -> None:
         try:
             after = file.encrypt(Labeled(), write_yaml(typed_values, typed_items))
         except Refused as fault:
-            assert "may be a new value or a changed one" in str(fault)
+            assert UNCLEAR in str(fault)
             counts["refused"] += 1
             return
         old, new = (Counter(list_values(each)) for each in (data, after))
@@ -109,3 +111,106 @@ def test_passwords_stay(request: pytest.FixtureRequest) -> None:
 
     check()
     assert min(counts["encrypted"], counts["refused"], counts["moved"], counts["new"]) > 50, counts
+
+
+# What is done to values at keys that begin with k.
+MOVES = {
+    "below another key": "sed -i -e '1i app:' -e 's/^/  /' \"$1\"",
+    "under other names": "sed -i 's/^k/name/' \"$1\"",
+    "into a list": "sed -i -e '1i items:' -e 's/^k.: /- /' \"$1\"",
+}
+LABELS_OF_MOVED = ["prod", "dev prod", "prod prod", "prod dev prod", "prod prod prod"]
+
+
+@pytest.mark.parametrize("move", MOVES)
+@pytest.mark.parametrize("labels", LABELS_OF_MOVED)
+@pytest.mark.parametrize("chosen", ["", "dev", "prod"])
+def test_moved_values(place: Place, move: str, labels: str, chosen: str) -> None:
+    """Values with one text that move together keep their envelopes, whatever label is chosen for new ones. If they have
+    several labels, it is unclear which value is which, and the edit is refused."""
+    envelopes = [sealed(label, b"same", label) for label in labels.split()]
+    values = [block(label, b"same", label, f"k{number}") for number, label in enumerate(labels.split(), 1)]
+    place.put("vars.yml", b"".join(values))
+    words = [*place.by_id("dev", "dev"), *place.by_id("prod", "prod"), "vars.yml"]
+    done = edit(place, MOVES[move], *words, ANSIBLE_VAULT_ENCRYPT_IDENTITY=chosen)
+    if len({*labels.split()}) > 1:
+        ended("it is unclear", done, 1, UNCLEAR)
+        assert place.get("vars.yml") == b"".join(values), "the file stays"
+        return
+    silent("it is clear", done)
+    after = re.sub(rb"^ +", b"", place.get("vars.yml"), flags=re.MULTILINE)
+    assert not after.startswith(values[0][:4]), "they have moved"
+    assert after.count(envelopes[0]) == len(envelopes), "each keeps its envelope"
+
+
+class Item(NamedTuple):
+    """An item of a list: the name of its password, and its text."""
+
+    password: str
+    text: str
+
+
+class ListEdit(NamedTuple):
+    """A list, the texts that stand there afterwards, the labels of these items, and the label that is chosen for new
+    values, if one is. Without labels, it is unclear which secret an item gets."""
+
+    items: list[Item]
+    typed: list[str]
+    labels: list[str]
+    label_of_new: str = ""
+
+
+REFUSED: list[str] = []
+THREE = [Item("dev", "one"), Item("prod", "two"), Item("dev", "three")]
+SAME = [Item("dev", "same"), Item("prod", "same")]
+LISTS = {
+    "one before a changed one": ListEdit(THREE, ["neu", "eins", "two", "three"], REFUSED, label_of_new="prod"),
+    "one behind, and the first one removed": ListEdit(THREE, ["two", "three", "new"], REFUSED),
+    "one removed, and the last one changed": ListEdit(THREE, ["one", "three!"], REFUSED),
+    "two changed in their places": ListEdit(THREE, ["one!", "two!", "three"], ["dev", "prod", "dev"]),
+    "another order": ListEdit(THREE, ["three", "two", "one"], ["dev", "prod", "dev"]),
+    "one between": ListEdit(THREE, ["one", "two", "new", "three"], ["dev", "prod", "prod", "dev"], label_of_new="prod"),
+    "one before the only one, which is changed": ListEdit(
+        [Item("dev", "one")], ["neu", "eins"], REFUSED, label_of_new="prod"
+    ),
+    "one removed, and the other one changed": ListEdit([Item("prod", "one"), Item("prod2", "two")], ["two!"], REFUSED),
+    "one of two with the same text, changed": ListEdit(SAME, ["changed", "same"], ["dev", "prod"]),
+    "two before two with the same text": ListEdit(SAME, ["x", "y", "same", "same"], REFUSED, label_of_new="dev"),
+}
+
+
+def label_of(password: str) -> str:
+    """Two passwords have the label prod."""
+    return password.rstrip("2")
+
+
+def edit_list(place: Place, row: ListEdit) -> Done:
+    # Of two passwords with a label, neither is for new values.
+    passwords = ["dev", "prod"] if row.label_of_new else ["dev", "prod", "prod2"]
+    words = [word for name in passwords for word in place.by_id(label_of(name), name)]
+    if row.label_of_new:
+        words.append(f"--encrypt-vault-id={row.label_of_new}")
+    lines = "".join(f"- !vault {text}\\n" for text in row.typed)
+    return edit(place, f"printf 'l:\\n{lines}' > \"$1\"", *words, "vars.yml")
+
+
+@pytest.mark.parametrize("row", LISTS.values(), ids=LISTS)
+def test_lists(place: Place, row: ListEdit) -> None:
+    """Texts and places identify items of a list. If they do not tell which secret an item gets, it is refused."""
+    blocks = [block(item.password, item.text.encode(), label_of(item.password), "") for item in row.items]
+    before = b"l:\n- " + b"- ".join(blocks)
+    place.put("vars.yml", before)
+    done = edit_list(place, row)
+    if row.labels == REFUSED:
+        old = [item.text for item in row.items]
+        first = next(number for number, text in enumerate(row.typed, 2) if text not in old)
+        ended("it is unclear", done, 1, f"line {first}: this value {UNCLEAR}")
+        assert place.get("vars.yml") == before, "the file stays"
+        return
+    silent("it is clear", done)
+    after = place.get("vars.yml")
+    assert re.findall(r"AES256;(\w+)", after.decode()) == row.labels, "the labels"
+    for label, text, piece in zip(row.labels, row.typed, after.split(b"- !vault |")[1:]):
+        assert texts(piece, label) == [text.encode()], f"the secret of {text} is that of its label"
+        is_kept = piece.strip() in block(label, text.encode(), label, "")
+        assert is_kept == (Item(label, text) in row.items), f"only an unchanged {text} keeps its envelope"

@@ -16,7 +16,7 @@ from ansible_vault_companions.quoting import escape
 from ansible_vault_companions.refusals import Refused
 from ansible_vault_companions.tool import Decryption, Key
 
-UNCLEAR = "{} may be a new value or a changed one, and the password depends on which; save one change at a time"
+UNCLEAR = "{} may be new, changed or moved, and the password depends on which; save one change at a time"
 
 # A path, and which of the values at that path it is, since a mapping may have a key twice.
 NumberedPath = tuple[KeyPath, int]
