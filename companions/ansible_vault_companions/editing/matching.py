@@ -52,65 +52,73 @@ def describe_place(value: Node) -> str:
 
 def find_matches(opened: list[DecryptedValue], typed: list[Node], choice: Choice) -> list[Match]:
     """What each typed value was before, and its key, in order."""
-    before = dict(zip(_number_paths(old.value for old in opened), opened))
-    after = dict(zip(_number_paths(typed), typed))
-    # The places of typed values whose envelope stays, with the places where those were.
-    kept = {at: at for at, value in after.items() if at in before and before[at].decrypted.text == value.text}
-    _keep_moved(kept, before, after, _list_of)
-    replaced = before.keys() - {*kept.values()}
-    _keep_moved(kept, before, after, lambda _: ())
-    changed = _find_changed(replaced, after.keys() - kept.keys(), before, after, choice)
-    gone = {before[at].decrypted.text for at in before.keys() - {*kept.values()}}
+    edit = _Edit(opened, typed)
+    edit.keep_moved(_list_of)
+    replaced = edit.list_gone()
+    edit.keep_moved(lambda _: ())
+    changed = edit.find_changed(replaced, choice)
+    texts_gone = {edit.before[at].decrypted.text for at in edit.list_gone()}
     matches = []
-    for at, value in after.items():
-        if at in kept:
-            matches.append(Match(before[kept[at]]))
-        elif value.text in gone:
+    for at, value in edit.after.items():
+        if at in edit.kept:
+            matches.append(Match(edit.before[edit.kept[at]]))
+        elif value.text in texts_gone:
             # It may have been at several places, and so it may have any of their passwords.
             raise Refused(UNCLEAR.format(describe_place(value)))
         elif at in changed:
-            matches.append(Match(before[at], before[at].decrypted.key))
+            matches.append(Match(edit.before[at], edit.before[at].decrypted.key))
         else:
             matches.append(Match(None, choice.choose_key(describe_name(value), describe_place(value))))
     return matches
 
 
-def _keep_moved(
-    kept: dict[NumberedPath, NumberedPath],
-    before: dict[NumberedPath, DecryptedValue],
-    after: dict[NumberedPath, Node],
-    group: Callable[[NumberedPath], KeyPath],
-) -> None:
-    """Adds the typed values that have moved: values of the same group had their text, all with one key, and their
-    places are gone."""
-    vanished: dict[tuple[KeyPath, bytes], list[NumberedPath]] = defaultdict(list)
-    for at in before.keys() - {*kept.values()}:
-        vanished[group(at), before[at].decrypted.text].append(at)
-    for at, value in after.items():
-        sources = vanished[group(at), value.text] if at not in kept else []
-        if len({before[source].decrypted.key for source in sources}) == 1:
-            kept[at] = sources.pop()
+class _Edit:
+    """The values before and after an edit by place, and which of them keep their envelopes."""
 
+    def __init__(self, opened: list[DecryptedValue], typed: list[Node]) -> None:
+        self.before = dict(zip(_number_paths(old.value for old in opened), opened))
+        self.after = dict(zip(_number_paths(typed), typed))
+        # For the place of each typed value whose envelope stays, the place where that was before.
+        self.kept = {at: at for at in self.before.keys() & self.after.keys() if self._is_same(at)}
 
-def _find_changed(
-    replaced: set[NumberedPath],
-    unknown: set[NumberedPath],
-    before: dict[NumberedPath, DecryptedValue],
-    after: dict[NumberedPath, Node],
-    choice: Choice,
-) -> set[NumberedPath]:
-    """The places of values with a new text, which get the passwords of those that they replace. If the items of a list
-    might get several passwords, they have to be where those were that are gone."""
-    old, vanished, typed = _group_by_list(before), _group_by_list(replaced), _group_by_list(unknown)
-    changed: set[NumberedPath] = set()
-    for group in vanished.keys() & typed.keys():
-        keys = [before[at].decrypted.key for at in old[group]]
-        if len(typed[group]) > len(vanished[group]):
-            keys += choice.list_keys()
-        if len({key.password.content for key in keys}) > 1 and vanished[group] != typed[group]:
-            raise Refused(UNCLEAR.format(describe_place(after[min(typed[group])])))
-        changed |= typed[group] & before.keys()
-    return changed
+    def _is_same(self, at: NumberedPath) -> bool:
+        return self.before[at].decrypted.text == self.after[at].text
+
+    def list_gone(self) -> list[NumberedPath]:
+        """The places before the edit of values whose envelope does not stay, in order."""
+        stay = {*self.kept.values()}
+        return [at for at in self.before if at not in stay]
+
+    def list_unknown(self) -> list[NumberedPath]:
+        """The places of typed values that keep no envelope, in order."""
+        return [at for at in self.after if at not in self.kept]
+
+    def keep_moved(self, group: Callable[[NumberedPath], KeyPath]) -> None:
+        """Keeps the envelopes of values that have moved: those of the same group that had the text are gone from their
+        places, and all had the same key."""
+        gone: dict[tuple[KeyPath, bytes], list[NumberedPath]] = defaultdict(list)
+        for at in self.list_gone():
+            gone[group(at), self.before[at].decrypted.text].append(at)
+        for at in self.list_unknown():
+            sources = gone[group(at), self.after[at].text]
+            if len({self.before[source].decrypted.key for source in sources}) == 1:
+                self.kept[at] = sources.pop(0)
+
+    def find_changed(self, replaced: list[NumberedPath], choice: Choice) -> set[NumberedPath]:
+        """The places of values with a new text, which get the passwords of those that they replace. If the items of a
+        list might get several passwords, they have to be where those were that are gone."""
+        before, gone, typed = (_group_by_list(places) for places in (self.before, replaced, self.list_unknown()))
+        changed: set[NumberedPath] = set()
+        for group in typed:
+            if group not in gone:
+                continue
+            keys = [self.before[at].decrypted.key for at in before[group]]
+            if len(typed[group]) > len(gone[group]):
+                keys += choice.list_keys()
+            if len({key.password.content for key in keys}) > 1 and gone[group] != typed[group]:
+                raise Refused(UNCLEAR.format(describe_place(self.after[min(typed[group])])))
+            changed |= typed[group] & self.before.keys()
+        return changed
 
 
 def _number_paths(values: Iterable[Node]) -> Iterator[NumberedPath]:
