@@ -112,7 +112,7 @@ class Settings:
             path = _expand_setting(named)
             if os.path.isdir(path):
                 path = os.path.join(path, NAME)
-            # As with Ansible, this may be any file, even /dev/null.
+            # This may be any file, even /dev/null.
             if os.access(path, os.R_OK):
                 return path
             self.warn(f"{CONFIG}: {escape(path)} cannot be read; it is ignored")
