@@ -105,7 +105,7 @@ _ansible_vault_specifications() {
             '*--label=[check only what has this label, and count the rest]:LABEL: '
             '--list[only list places and labels, without a password]'
             '--json[print each result as a JSON object on one line]'
-            '*--exclude=[skip files whose name or path matches PATTERN]:PATTERN: '
+            '*--exclude=[skip files and directories whose name or path matches PATTERN]:PATTERN: '
             '*:file:_ansible_vault_files'
         ) ;;
         'ansible-vault-edit') specifications=(
@@ -153,7 +153,7 @@ _ansible_vault_specifications() {
             '--any-label[give the new password and its label to whatever an old one decrypts]'
             '--dry-run[write nothing, and report what would be done]'
             '--json[print each result as a JSON object on one line]'
-            '*--exclude=[skip files whose name or path matches PATTERN]:PATTERN: '
+            '*--exclude=[skip files and directories whose name or path matches PATTERN]:PATTERN: '
             '*:file:_ansible_vault_files'
         ) ;;
         'ansible-vault-textconv') specifications=(

@@ -187,20 +187,29 @@ PATTERNS: dict[tuple[str, ...], set[str]] = {
     ("tests/",): {"tests/a.yml", "tests/fixtures/c.yml", "roles/tests/d.yml"},
     ("./tests/fixtures",): {"tests/fixtures/c.yml"},
     ("roles/*", "b.?xt"): {"roles/tests/d.yml", "b.txt"},
-    ("A.yml", "fixture", "est", ".", ""): set(),
+    ("A.yml", "fixture", "est", ".", "..", ".*", "", "./", "t/*"): set(),
 }
 
 
 @pytest.mark.parametrize("patterns, left_out", PATTERNS.items())
 def test_excluded(place: Place, patterns: tuple[str, ...], left_out: set[str]) -> None:
-    """Files are left out below each spelling of a directory, and even if they are given as a PATH."""
+    """Files are left out below each spelling of a directory, and even if what they are in is given as a PATH. A pattern
+    with a slash matches paths as they are spelled."""
     for name in FILES:
         place.put(name, sealed("old"))
-    words = [f"--exclude={pattern}" for pattern in patterns]
-    for path in (".", str(place.tree), f"../{place.tree.name}"):
-        names = {os.path.relpath(place.tree / each, place.tree) for each in found(place, *words, path)}
-        assert names == FILES - left_out, path
-        lines = place.run(ROTATE, *to_new(place), "--dry-run", *words, path).stdout.splitlines()[:-1]
+    for folder, paths in {
+        "": ["."],
+        "./": sorted(os.listdir(place.tree)),
+        f"{place.tree}/": [str(place.tree)],
+        f"../{place.tree.name}/": [f"../{place.tree.name}/"],
+    }.items():
+        # What ends with a slash has the name before it.
+        with_slash = [pattern for pattern in patterns if "/" in os.path.normpath(pattern)]
+        words = [f"--exclude={folder if pattern in with_slash else ''}{pattern}" for pattern in patterns]
+        names = {os.path.relpath(place.tree / each, place.tree) for each in found(place, *words, *paths)}
+        assert names == FILES - left_out, paths
+        lines = place.run(ROTATE, *to_new(place), "--dry-run", *words, *paths).stdout.splitlines()[:-1]
         names = {os.path.relpath(place.tree / line.partition(": ")[0], place.tree) for line in lines}
-        assert names == FILES - left_out, f"a rotation of {path}"
+        assert names == FILES - left_out, f"a rotation of {paths}"
     assert found(place, "--exclude=tests/*", "--exclude=b.txt", "b.txt", "tests/a.yml", "a.yml") == ["a.yml"]
+    assert len(found(place, "--exclude=.*", "./")) == len(FILES), "this directory has no name"

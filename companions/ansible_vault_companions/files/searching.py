@@ -56,7 +56,7 @@ class FoundFile(NamedTuple):
 
 def add_paths(parser: argparse.ArgumentParser) -> None:
     """Adds the paths to search, and the option that leaves out files."""
-    about = "skip files whose name or path matches PATTERN; may be repeated"
+    about = "skip files and directories whose name or path matches PATTERN; may be repeated"
     parser.add_argument("--exclude", action="append", default=[], metavar="PATTERN", help=about)
     parser.add_argument("paths", metavar="PATH", nargs="+", help="a file or directory to search")
 
@@ -73,10 +73,9 @@ def limit_search() -> Iterator[None]:
 
 
 class _Folder(NamedTuple):
-    """A directory that is searched: its typed path, that from the searched one, and the real one."""
+    """A directory that is searched: its path as messages show it, and the real one."""
 
     path: str
-    below: str
     place: str
 
     def join(self, name: str) -> _Folder:
@@ -114,18 +113,21 @@ class Search:
 
     def _search(self, path: str) -> None:
         """Finds what a path of the command line leads to."""
+        name = os.path.basename(os.path.normpath(path))
+        if name not in (os.curdir, os.pardir) and self._is_excluded(path):
+            return
         is_folder = os.path.isdir(path)
         target, refusal = _resolve(path, link_bounds.resolve_folder if is_folder else link_bounds.resolve_file, path)
         if is_folder and not refusal:
             self.tops.append(target)
             self._search_folder(path, target)
-        elif not self._is_excluded(os.path.normpath(path)):
+        else:
             self._add(path, _find_place(path), target, refusal)
 
     def _search_folder(self, path: str, top: str) -> None:
         """Finds the files below a directory with this typed and this real path."""
         # Those that are left, the next one last.
-        folders = [_Folder(path, "", top)]
+        folders = [_Folder(path, top)]
         while folders:
             folder = folders.pop()
             try:
@@ -133,7 +135,7 @@ class Search:
             except OSError:
                 self._add(folder.path, folder.place, folder.place, "")
                 continue
-            left = [entry for entry in entries if not self._is_left_out(entry, folder.below)]
+            left = [entry for entry in entries if not self._is_left_out(entry, folder.path)]
             for entry in left:
                 self._add_found(entry, folder, top)
             folders += [folder.join(entry.name) for entry in reversed(left) if entry.is_dir(follow_symlinks=False)]
@@ -155,19 +157,22 @@ class Search:
         elif stat.S_ISREG(kind):
             self._add(path, entry.path, target, refusal)
 
-    def _is_left_out(self, entry: os.DirEntry[str], below: str) -> bool:
+    def _is_left_out(self, entry: os.DirEntry[str], folder: str) -> bool:
         """Whether to skip what is in a directory. A temporary file belongs to another companion, or to a crash."""
         if entry.name == link_bounds.GIT or is_leftover(entry.name) and entry.is_file(follow_symlinks=False):
             return True
-        return self._is_excluded(os.path.join(below, entry.name))
+        return self._is_excluded(os.path.join(folder, entry.name))
 
     def _add(self, path: str, place: str, target: str, refusal: str) -> None:
         self.found.setdefault(target, []).append(Way(path, place, refusal))
 
     def _is_excluded(self, path: str) -> bool:
-        """Whether a pattern matches a path below a searched directory, or just its name if the pattern has no slash."""
-        name = os.path.basename(path)
-        return any(fnmatchcase(path if "/" in pattern else name, pattern) for pattern in self.excluded)
+        """Whether a pattern matches a path as messages show it, or just its name if the pattern has no slash."""
+        for pattern in self.excluded:
+            whole = os.path.normpath(path)
+            if fnmatchcase(whole if "/" in pattern else os.path.basename(whole), pattern):
+                return True
+        return False
 
 
 def _list_folder(folder: str) -> list[os.DirEntry[str]]:
