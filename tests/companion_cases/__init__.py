@@ -28,6 +28,8 @@ EDIT, ROTATE, CHECK, TEXTCONV, HOOK, WITH, MERGE = (
 )
 # The status of a merge that leaves a conflict.
 CONFLICT = 128
+# How a message on a conflict ends.
+RESOLVE = "resolve with ansible-vault-edit, or take one side with `git checkout --ours` or `--theirs`"
 # A finished run of a companion.
 Done = subprocess.CompletedProcess[str]
 NOBODY = 65_534

@@ -11,8 +11,8 @@ import pytest
 from ansible_vault_companions.envelopes.conflicts import parse_envelopes_of_sides, parse_nodes_of_sides
 from ansible_vault_companions.envelopes.parsed_text import ParsedText
 from ansible_vault_companions.limits import LONGEST_VAULT, Effort
-from companion_cases import CHECK, CONFLICT, EDIT, HOOK, MERGE, NOT_DECRYPTED, NOT_ENCRYPTED, PASSWORDS, ROTATE
-from companion_cases import TEXTCONV, WITH, Done, Place, block, edit, ended, run_changed, sealed, to_new
+from companion_cases import CHECK, CONFLICT, EDIT, HOOK, MERGE, NOT_DECRYPTED, NOT_ENCRYPTED, PASSWORDS, RESOLVE
+from companion_cases import ROTATE, TEXTCONV, WITH, Done, Place, block, edit, ended, run_changed, sealed, to_new
 from companion_cases.repository import AUTHOR
 from lib.needs import needs
 from model.vaults import serialized, yaml_block
@@ -481,7 +481,7 @@ def test_most_values(place: Place, line: str, opened: list[str]) -> None:
 # Seven times as much for each run, so that there are fewer.
 SLOW_RUNS = "from ansible_vault_companions import limits; limits.RUN_SECONDS = 0.14"
 MOST_RUNS = 67
-CONFLICT_OF_SIDES = f"{MERGE}: a.yml: 1 conflict; resolve with {EDIT}\n"
+CONFLICT_OF_SIDES = f"{MERGE}: a.yml: 1 conflict; {RESOLVE}\n"
 
 
 def openable(count: int, salt: bytes = b"") -> bytes:
