@@ -148,9 +148,9 @@ RECIPES = {
     ),
     "Mark the files to be encrypted": Recipe(
         {".gitattributes": b""},
-        printed=f"{VAULT}: diff: ansible-vault\n*\ngroup_vars/all/vars.yml: diff: unspecified\n",
-        after="git check-attr diff group_vars/prod/vault/db.yml roles/a/vars/b.vault.yml",
-        left="*: diff: ansible-vault\n*: diff: ansible-vault\n",
+        printed="group_vars/all/vault: diff: ansible-vault\n*\ngroup_vars/all/vars.yml: diff: unspecified\n",
+        after="git check-attr diff group_vars/prod/vault/db.yml roles/a/vars/b.vault.yml a/host_vars/b/secret",
+        left="*: diff: ansible-vault\n*: diff: ansible-vault\n*: diff: ansible-vault\n",
     ),
     # At first the file is not encrypted, then it is.
     "See differences in git": Recipe(
