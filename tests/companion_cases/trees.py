@@ -186,6 +186,7 @@ PATTERNS: dict[tuple[str, ...], set[str]] = {
     ("a.yml",): {"a.yml", "tests/a.yml"},
     ("tests/",): {"tests/a.yml", "tests/fixtures/c.yml", "roles/tests/d.yml"},
     ("./tests/fixtures",): {"tests/fixtures/c.yml"},
+    ("./a.yml", "./tests/a.yml/"): {"a.yml", "tests/a.yml"},
     ("roles/*", "b.?xt"): {"roles/tests/d.yml", "b.txt"},
     ("A.yml", "fixture", "est", ".", "..", ".*", "", "./", "t/*"): set(),
 }
@@ -204,7 +205,7 @@ def test_excluded(place: Place, patterns: tuple[str, ...], left_out: set[str]) -
         f"../{place.tree.name}/": [f"../{place.tree.name}/"],
     }.items():
         # What ends with a slash has the name before it.
-        with_slash = [pattern for pattern in patterns if "/" in os.path.normpath(pattern)]
+        with_slash = [pattern for pattern in patterns if "/" in pattern.rstrip("/")]
         words = [f"--exclude={folder if pattern in with_slash else ''}{pattern}" for pattern in patterns]
         names = {os.path.relpath(place.tree / each, place.tree) for each in found(place, *words, *paths)}
         assert names == FILES - left_out, paths

@@ -83,12 +83,20 @@ class _Folder(NamedTuple):
         return _Folder(*(os.path.join(path, name) for path in self))
 
 
+class _Pattern(NamedTuple):
+    """A pattern of what to leave out, without a slash at its end."""
+
+    text: str
+    # Whether it has to match a whole path, since it has a slash, and not just a name.
+    is_path: bool
+
+
 class Search:
     """Finds each file once. A path that is no file, and a directory that cannot be read, are among the files, so that
     reading them says why."""
 
     def __init__(self, paths: list[str], excluded: Collection[str]) -> None:
-        self.excluded = [os.path.normpath(pattern) for pattern in excluded]
+        self.excluded = [_Pattern(os.path.normpath(each), "/" in each.rstrip("/")) for each in excluded]
         # The real paths of the directories that are searched.
         self.tops: list[str] = []
         # The ways that lead to each file.
@@ -167,10 +175,10 @@ class Search:
         self.found.setdefault(target, []).append(Way(path, place, refusal))
 
     def _is_excluded(self, path: str) -> bool:
-        """Whether a pattern matches a path as messages show it, or just its name if the pattern has no slash."""
+        """Whether a pattern matches a path as messages show it, or its name."""
         for pattern in self.excluded:
             whole = os.path.normpath(path)
-            if fnmatchcase(whole if "/" in pattern else os.path.basename(whole), pattern):
+            if fnmatchcase(whole if pattern.is_path else os.path.basename(whole), pattern.text):
                 return True
         return False
 
