@@ -26,6 +26,8 @@ NAMES += ["--", "-rf", "HEAD", "!a.yml", "#a.yml", '"a.yml"', ":/a.yml", ":(top)
 KEYS = [json.dumps(f"{sign}a{sign}{number}") for number, sign in enumerate(SIGNS[:-1])]
 KEYS += [f'"{number} {os.fsdecode(bytes([number]))}"' for number in (0x80, 0xC3, 0xFF)]
 KEYS += ['""', '"[]"', '"a.b"', '"a[].b"', "{a: b}", "[a]", "1", "null", "true", "2001-01-01", "!x y", "<<", '"<<"']
+# What git has names for as a whole value, and more than that.
+KEYS += ["set", "unset", "unspecified", "sets", "Set", "unsets"]
 VAULT, VALUE = sealed("old"), block("old", name="pw")
 POINTER, TAB = b"version https://git-lfs.github.com/spec/v1\noid sha256:61\nsize 5\n", b"\tx: 1\n"
 LEFTOVER = ".ansible-vault-abcdefgh.new"

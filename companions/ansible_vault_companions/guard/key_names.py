@@ -16,6 +16,8 @@ ITEM = None
 WRITTEN_ITEM = "[]"
 # What the value of an attribute cannot have, or what separates keys.
 UNWRITTEN = re.compile(r"[^\w$@/:+*-]")
+# As the whole value of an attribute, these words mean something else to git.
+STATES = frozenset(["set", "unset", "unspecified"])
 
 Keys = tuple[Optional[str], ...]
 Path = TypeVar("Path", Keys, KeyPath)
@@ -40,7 +42,8 @@ def drop_merges(path: KeyPath) -> KeyPath:
 def write_keys(keys: Keys) -> str:
     """A key path as in .gitattributes, with what cannot be written there percent-encoded: `users[].password`."""
     steps = (WRITTEN_ITEM if key is ITEM else UNWRITTEN.sub(_encode, key) for key in keys)
-    return ".".join(steps).replace(f".{WRITTEN_ITEM}", WRITTEN_ITEM) or "."
+    path = ".".join(steps).replace(f".{WRITTEN_ITEM}", WRITTEN_ITEM) or "."
+    return f"%{ord(path[0]):02X}{path[1:]}" if path in STATES else path
 
 
 def _encode(text: re.Match[str]) -> str:
