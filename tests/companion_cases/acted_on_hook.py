@@ -116,7 +116,7 @@ ROWS = {
     "another hook": Row(
         fault=put_another_hook,
         command=f"./A_FILE/{HOOK} --install",
-        advice="add this line to it: (.*)",
+        advice="add this line below its first one: (.*)",
         act=paste_into_hook,
     ),
     "no commit": Row(fault=add_origin, command=f"{HOOK} --since origin/more", advice="run `(.*)`", act=type_advice),

@@ -203,7 +203,7 @@ def test_those_of_others(place: Place) -> None:
     place.environment["GIT_CONFIG_GLOBAL"] = str(place.path / "settings")
     place.shell(f"git config {DRIVER} mine")
     done = place.run(HOOK, "--install", *place.by_file("old"))
-    why = f"{hook} exists already; add this line to it: {place.tools}/{HOOK} || exit 1\n"
+    why = f"{hook} exists already; add this line below its first one: {place.tools}/{HOOK} || exit 1\n"
     ended("an installation", done, 1, why, f"{DIFF} is already `cat --`; to change it, unset it", f"{DRIVER} is")
     assert os.readlink(other) == f"{place.tools}/{HOOK}"
     left = f"{hook}: left alone, since --install did not make it\n{other}: removed\n"

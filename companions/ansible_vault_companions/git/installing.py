@@ -55,7 +55,7 @@ def _find_folder() -> str:
 def install_hook(hook: str, program: str) -> str:
     """Installs a hook, and says what was done. One that is there already works until the new one takes its place."""
     if os.path.lexists(hook) and not _is_ours(hook, program):
-        raise Refused(f"exists already; add this line to it: {quote_word(program)} || exit 1")
+        raise Refused(f"exists already; add this line below its first one: {quote_word(program)} || exit 1")
     beside = os.path.join(os.path.dirname(hook), BESIDE)
     with suppress(FileNotFoundError):
         os.unlink(beside)
