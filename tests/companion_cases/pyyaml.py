@@ -1,6 +1,7 @@
 """Without PyYAML, everything that needs no YAML works, and the rest stops and names the missing package."""
 
 import shutil
+import sys
 
 from companion_cases import (
     CHANGE,
@@ -42,7 +43,7 @@ def test_without_pyyaml(place: Place) -> None:
     needing = [[CHECK, *old, "."], [ROTATE, *to_new(place), "."], [TEXTCONV, *old, "--value", "secret", "vars.yml"]]
     for words in [*needing, [HOOK], [HOOK, "--all"]]:
         done = place.run(*words)
-        ended(words[0], done, 1, "PyYAML, which reads YAML, is missing", package)
+        ended(words[0], done, 1, f"PyYAML, which reads YAML, is missing for {sys.executable}: ", package)
         assert done.stdout == ""
     ended("edit", edit(place, "touch started", *old, "vars.yml"), 1, "vars.yml: PyYAML, ", package)
     done = place.run(TEXTCONV, *old, "vars.yml")

@@ -27,6 +27,7 @@ from ansible_vault_companions.envelopes.node import (
     Node,
 )
 from ansible_vault_companions.limits import Effort, TooMuch
+from ansible_vault_companions.quoting import escape
 from ansible_vault_companions.refusals import Refused
 
 BYTE_ORDER_MARK = b"\xef\xbb\xbf"
@@ -54,7 +55,9 @@ BLANKS = b" \t\r\n"
 # The first word of an envelope, among characters.
 HEADER_WORD = MAGIC.decode()
 
-NO_PYYAML = "PyYAML, which reads YAML, is missing: install Debian's python3-yaml, or PyYAML with pip without --user"
+NO_PYYAML = (
+    "PyYAML, which reads YAML, is missing for {}: install Debian's python3-yaml, or PyYAML with pip without --user"
+)
 NOT_YAML = "it cannot be read as YAML: {}"
 NULL = "it has a null character"
 HALF = "it has half a character"
@@ -72,7 +75,7 @@ def require_pyyaml() -> Any:
     try:
         import yaml
     except ImportError:
-        raise Refused(NO_PYYAML) from None
+        raise Refused(NO_PYYAML.format(escape(sys.executable))) from None
     return yaml
 
 
