@@ -464,8 +464,8 @@ yaml_draft.require_nodes = require_later
 def test_time_of_an_edit(place: Place, number: int) -> None:
     """What was saved is parsed for a limited time, though signals are postponed, and so is what is to be written."""
     place.put("vars.yml", block("old") + b"x: [%s]\n" % b", ".join([b"1"] * 20_000))
-    # The editor has saved before a time limit that nothing meets applies. A fast machine would parse the text before the
-    # timer asks for the time.
+    # The editor has saved before a time limit that nothing meets applies. With the usual interval, a fast machine would
+    # have parsed the text before the timer asks for the time.
     change = f"""
 from ansible_vault_companions import bounding
 bounding.INTERVAL = 0.001
