@@ -99,7 +99,7 @@ complete -c ansible-vault-rotate -s J -l ask-vault-password -l ask-vault-pass -d
 complete -c ansible-vault-rotate -l new-vault-id -x -a '(__ansible_vault_ids)' -d 'the source of a new password'
 complete -c ansible-vault-rotate -l new-vault-password-file -x -a '(__ansible_vault_files)' -d 'the source of a new password'
 complete -c ansible-vault-rotate -l any-label -d 'give the new password and its label to whatever an old one decrypts'
-complete -c ansible-vault-rotate -l dry-run -d 'write nothing, and report what would be done'
+complete -c ansible-vault-rotate -l dry-run -d 'replace no file, and report what would be done'
 complete -c ansible-vault-rotate -l json -d 'print each result as a JSON object on one line'
 complete -c ansible-vault-rotate -l exclude -x -d 'skip files and directories whose name or path matches PATTERN'
 complete -c ansible-vault-textconv -s h -l help -d 'print help'

@@ -151,7 +151,7 @@ _ansible_vault_specifications() {
             '*--new-vault-id=[the source of a new password]:[LABEL@]SOURCE:_ansible_vault_id'
             '*--new-vault-password-file=[the source of a new password]:SOURCE:_ansible_vault_files'
             '--any-label[give the new password and its label to whatever an old one decrypts]'
-            '--dry-run[write nothing, and report what would be done]'
+            '--dry-run[replace no file, and report what would be done]'
             '--json[print each result as a JSON object on one line]'
             '*--exclude=[skip files and directories whose name or path matches PATTERN]:PATTERN: '
             '*:file:_ansible_vault_files'
