@@ -614,22 +614,25 @@ def test_deep_links(place: Place, make: Callable[[int], str]) -> None:
     place.shell("rm -r d")
 
 
-TOO_SLOW = "it takes over 1 s of processor time"
-# Since Python 3.14, its parser refuses such a line at once.
-QUICK_SINCE_14 = "line 2: it is not KEY = VALUE" if sys.version_info >= (3, 14) else TOO_SLOW
-# Files of settings for which Python's parser takes quadratic time, and what is said of each.
+# Files of settings for which Python's parser takes quadratic time.
 SETTINGS = {
-    "blanks": ("[defaults]\n" + f"x{' ' * 100_000}y\n" * 2, QUICK_SINCE_14),
-    "blanks in lines": ("[defaults]\n" + f"x{' ' * 2_000}y\n" * 100, QUICK_SINCE_14),
-    "lines that are no settings": ("[defaults]\n\N{PILE OF POO}\n" + "x\n" * 100_000, TOO_SLOW),
+    "blanks": "[defaults]\n" + f"x{' ' * 100_000}y\n" * 2,
+    "blanks in lines": "[defaults]\n" + f"x{' ' * 2_000}y\n" * 100,
+    "lines that are no settings": "[defaults]\n\N{PILE OF POO}\n" + "x\n" * 100_000,
 }
+# What may be said of them. Since Python 3.14, its parser may be quick enough to see what is wrong.
+FAULTS_OF_SETTINGS = ["it takes over 1 s of processor time"]
+if sys.version_info >= (3, 14):
+    FAULTS_OF_SETTINGS.append("line 2: it is not KEY = VALUE")
 
 
-@pytest.mark.parametrize("text, why", SETTINGS.values(), ids=SETTINGS)
-def test_settings(place: Place, text: str, why: str) -> None:
+@pytest.mark.parametrize("text", SETTINGS.values(), ids=SETTINGS)
+def test_settings(place: Place, text: str) -> None:
     """The time to read them is limited."""
     place.put("ansible.cfg", text.encode())
-    ended("the check", place.run(CHECK, "."), 1, f"{CHECK}: ansible.cfg: {why}\n")
+    done = place.run(CHECK, ".")
+    assert done.returncode == 1
+    assert done.stderr in [f"{CHECK}: ansible.cfg: {fault}\n" for fault in FAULTS_OF_SETTINGS]
 
 
 def test_sparse_gigabyte(place: Place) -> None:
