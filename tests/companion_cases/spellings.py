@@ -358,6 +358,31 @@ def test_escapes(monkeypatch: pytest.MonkeyPatch, pytestconfig: pytest.Config) -
             assert parse_nodes(data).fault.startswith("line 1: it cannot be read as YAML: "), data
 
 
+# YAML with a mistake in or near a word.
+MISTAKES = ["x: *WORD", "x: !WORD!y z", "[&WORD a, &WORD b, *WORD", "%TAG WORD", "%YAML WORD", '"\\WORD"', '"\\xWORD"']
+MISTAKES += [
+    "[WORD",
+    "{WORD: [",
+    "a: b: WORD",
+    "'WORD",
+    "a:\n\tWORD: x",
+    "a: |WORD",
+    "&WORD &x y",
+    "? WORD\n- x",
+    "!<WORD",
+]
+MISTAKES += ["- WORD\nWORD: x", "%WORD\n%WORD", "@WORD", "a: `WORD", "a: %WORD", "--- WORD\n... WORD", "*WORD : *WORD"]
+
+
+@pytest.mark.parametrize("loader", LOADERS)
+def test_words_of_mistakes(monkeypatch: pytest.MonkeyPatch, loader: type) -> None:
+    """What is wrong is said without the words of the file."""
+    monkeypatch.setattr(yaml, "CSafeLoader", loader, raising=False)
+    faults = [parse_nodes(mistake.replace("WORD", "hunter2").encode()).fault for mistake in MISTAKES]
+    assert len([*filter(None, faults)]) > 15, "most are mistakes"
+    assert [fault for fault in faults if "hunter" in fault] == []
+
+
 def read_texts(data: bytes) -> list[bytes]:
     parsed = parse_nodes(data)
     assert not parsed.fault, (data, parsed.fault)

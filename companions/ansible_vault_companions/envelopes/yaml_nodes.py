@@ -59,6 +59,7 @@ NO_PYYAML = (
     "PyYAML, which reads YAML, is missing for {}: install Debian's python3-yaml, or PyYAML with pip without --user"
 )
 NOT_YAML = "it cannot be read as YAML: {}"
+WRONG_SYNTAX = "its syntax is wrong"
 NULL = "it has a null character"
 HALF = "it has half a character"
 # The key or number of the next node in each collection; None while a key comes next.
@@ -191,12 +192,15 @@ def _find_name(event: Any) -> str:
 
 
 def _parse(yaml: Any, data: bytes) -> Iterator[Any]:
+    loader = getattr(yaml, "CSafeLoader", yaml.SafeLoader)
     try:
-        yield from yaml.parse(_Shadow(data), getattr(yaml, "CSafeLoader", yaml.SafeLoader))
+        yield from yaml.parse(_Shadow(data), loader)
     except yaml.YAMLError as fault:
         mark = getattr(fault, "problem_mark", None)
         where = f"line {mark.line + 1}: " if mark else ""
-        raise NotYaml(where + NOT_YAML.format(getattr(fault, "problem", None) or fault)) from None
+        # Without libyaml, PyYAML says what is wrong with words of the file.
+        why = WRONG_SYNTAX if loader is yaml.SafeLoader else getattr(fault, "problem", None) or fault
+        raise NotYaml(where + NOT_YAML.format(why)) from None
 
 
 def _read_quoted(yaml: Any, data: bytes, event: Any) -> str:
