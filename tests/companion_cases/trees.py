@@ -186,7 +186,7 @@ PATTERNS: dict[tuple[str, ...], set[str]] = {
     ("a.yml",): {"a.yml", "tests/a.yml"},
     ("tests/",): {"tests/a.yml", "tests/fixtures/c.yml", "roles/tests/d.yml"},
     ("./tests/fixtures",): {"tests/fixtures/c.yml"},
-    ("./a.yml", "./tests/a.yml/"): {"a.yml", "tests/a.yml"},
+    ("./a.yml", "./b.txt/"): {"a.yml", "b.txt"},
     ("roles/*", "b.?xt"): {"roles/tests/d.yml", "b.txt"},
     ("A.yml", "fixture", "est", ".", "..", ".*", "", "./", "t/*"): set(),
 }
