@@ -12,7 +12,6 @@ import pytest
 from ansible_vault_companions import OLDEST, limits
 from ansible_vault_companions.editing import private_directory
 from ansible_vault_companions.files import leftovers, searching
-from ansible_vault_companions.git import attributes, differences
 from ansible_vault_companions.limits import LONGEST_PLAINTEXT, LONGEST_VAULT
 from ansible_vault_companions.merging.line_merge import SIDES
 from contracts import CRATES, code, declared_in
@@ -162,18 +161,6 @@ SENTENCES = [
     ("check", r"counts as (\d+) ms of the time", "RUN_MILLISECONDS"),
     ("check", r"indented by over (\d+) columns", "LONGEST_MARGIN"),
     ("check", r"longer than any vault can be \(([\d,]+) bytes\)", "LONGEST_VAULT"),
-    ("hook", r"over (\d+) levels, ([\d,]+) bytes, or ([\d,]+) keys and", "DEEPEST LONGEST_PLAINTEXT MOST_KEYS"),
-    ("hook", r"key of over ([\d,]+) bytes; nested keys of over ([\d,]+) characters", "LONGEST_KEY LONGEST_PATH"),
-    ("hook", r"of over ([\d,]+) bytes; or aliases .* over ([\d,]+) texts", "LONGEST_DIRECTIVES MOST_ALIASED"),
-    ("hook", r"link may lead through over (\d+) directories", "MOST_STEPS"),
-    ("hook", r"commit may have over (\d+) parents", "MOST_PARENTS"),
-    (
-        "hook",
-        r"takes at most (\d+) s of processor time, and each process at most (\d+) MB of memory",
-        "SECONDS MEGABYTES",
-    ),
-    ("hook", r"compares up to (\d+) removed files", "MOST_RENAMES"),
-    ("hook", r"git ignores lines of ([\d,]+) bytes or more", "LINE_IGNORED"),
     ("merge", r"versions may be up to (\d+) MiB in total: about (\d+) MiB of plaintext", "VERSIONS_MIB PLAINTEXTS_MIB"),
     ("edit", r"file with a conflict may be up to (\d+) MiB", "VERSIONS_MIB"),
     ("with", r"name up to (\d+) passwords", "MOST_PASSWORDS"),
@@ -181,7 +168,7 @@ SENTENCES = [
 # The other numbers of limits.py: shares of the above, what pages have in MiB, and what a message or another tool names.
 UNNAMED = """\
     RUN_SECONDS WRONG RESERVE SETTINGS_SECONDS LONGEST_PASSWORD LONGEST_LABEL LONGEST_ANSWER LONGEST_FILE_PATH
-    LONGEST_LINK LONGEST_SETTINGS LONGEST_VERSIONS
+    LONGEST_LINK LONGEST_SETTINGS LONGEST_VERSIONS MOST_ALIASED MOST_PARENTS
 """.split()
 
 
@@ -193,8 +180,6 @@ def test_limits_of_companions() -> None:
     others = {
         "SEARCH_SECONDS": searching.SEARCH_SECONDS,
         "RUN_MILLISECONDS": 1000 * limits.RUN_SECONDS,
-        "MOST_RENAMES": int(differences.RENAMES[-1].removeprefix("-l")),
-        "LINE_IGNORED": attributes.LONGEST_LINE + 1,
         "VERSIONS_MIB": versions,
         "PLAINTEXTS_MIB": versions // (4 * len(SIDES)),
     }

@@ -5,8 +5,11 @@ import subprocess
 from collections.abc import Mapping
 from pathlib import Path
 
-from ansible_vault_companions.git.blobs import Blobs
-from ansible_vault_companions.guard.review import Review, review_staged
+from ansible_vault_companions.git.attributes import read_attributes
+from ansible_vault_companions.git.changes import list_staged
+from ansible_vault_companions.git.contents import Contents
+from ansible_vault_companions.guard.evidence import Evidence, Known
+from ansible_vault_companions.guard.rules import find_faults
 from companion_cases import HOOK, MERGE, Done, Place
 from model.vaults import SALT, serialized
 
@@ -17,9 +20,9 @@ BOTH = OURS.replace(b"four: 4", b"four: IV")
 # With each, a text has another envelope.
 SALTS = [SALT, SALT[::-1], SALT[1:] + b"s"]
 AUTHOR = {f"GIT_{who}_{what}": "a@b" for who in ("AUTHOR", "COMMITTER") for what in ("NAME", "EMAIL")}
-WHOLE = "is not a vault, but was one in HEAD"
+WHOLE = "is not encrypted, but was a vault in HEAD"
 IN_PART = "has {} in plaintext, which was encrypted in HEAD"
-GONE = "is not encrypted, and {}, which is gone, was a vault in HEAD"
+GONE = "is not encrypted, and is as long as the text of the vault {}"
 
 
 def under_git(place: Place, attributes: str) -> None:
@@ -69,10 +72,12 @@ def make_envelope(number: int) -> bytes:
 
 def find_staged_faults() -> set[str]:
     """Return what is staged here and refused, as the hook does, but without a process of its own."""
-    with Blobs() as blobs:
-        review = Review("hook", blobs)
-        review_staged(review, [])
-    return {name.decode() for name, _ in review.reported}
+    staged = list_staged()
+    attributes = read_attributes({file.name for changes in staged for file in changes.files})
+    with Contents() as contents:
+        known = Known(contents)
+        found = [find_faults(Evidence(changes, known, attributes)) for changes in staged]
+        return {file.name.decode() for faults in found for file, _ in faults}
 
 
 def told(done: Done) -> list[str]:

@@ -1,41 +1,50 @@
-"""A new file beside a vault is no plaintext copy of it."""
+"""A new file that has the length of a vault's text, and its name or place, is a copy in plaintext."""
 
 from __future__ import annotations
 
 import os
+from typing import Iterator
 
-from ansible_vault_companions.git.differences import File
-from ansible_vault_companions.guard import exemptions
-from ansible_vault_companions.guard.advice import Fault
-from ansible_vault_companions.guard.evidence import Evidence
-from ansible_vault_companions.guard.file_names import READ_ALIKE, is_read, list_stems
-from ansible_vault_companions.guard.vault_texts import may_be_text_of
+from ansible_vault_companions.envelopes.header import measure_padded
+from ansible_vault_companions.git.changes import File
+from ansible_vault_companions.guard.evidence import Evidence, Fault
 from ansible_vault_companions.quoting import escape
 
-COPY = "is not encrypted, and may be a decrypted copy of the vault {}: its text is just as long"
+COPY = "is not encrypted, and is as long as the text of the vault {}"
+REMEDY = "encrypt it, or leave it out with `git rm --cached -- {path}`"
+# How a file beside a vault may end that only shows what the vault has.
+EXAMPLES = frozenset([b".example", b".sample", b".template", b".dist", b".j2"])
 
 
 def find_fault(evidence: Evidence, file: File) -> Fault | None:
-    now = evidence.now[file]
-    # Files that Ansible reads are no copies, and for most commits, which add no others, git need not list all files.
-    if file.before or now.is_vault or now.is_empty or is_read(file.name):
+    if file not in evidence.new_plaintexts:
         return None
-    vault = _find_vault(evidence, file)
-    if vault is None or exemptions.allows_loss(evidence, file):
-        return None
-    return exemptions.make_loss(evidence, file, COPY.format(escape(os.fsdecode(vault))))
-
-
-def _find_vault(evidence: Evidence, file: File) -> bytes | None:
-    """The vault beside a new file that may have its text. Only their suffixes differ."""
-    for name in sorted(stem + alike for stem in list_stems(file.name) for alike in READ_ALIKE):
-        if _has_length_of_vault(evidence, file, name) and may_be_text_of(evidence, file, name):
-            return name
+    length = measure_padded(len(evidence.known.contents.read(file.blob)))
+    for vault in _list_vaults(evidence, file):
+        if evidence.known.measure(vault.blob) == length and not evidence.known.find_whole(file.blob).is_empty:
+            return Fault(COPY.format(escape(os.fsdecode(vault.name))), REMEDY)
     return None
 
 
-def _has_length_of_vault(evidence: Evidence, file: File, name: bytes) -> bool:
-    """Whether a file of this name is a vault, or was one before the change, whose text is as long."""
-    vaults = [blob for blob in evidence.list_versions(name) if evidence.is_vault(blob)]
-    length = evidence.measure_padded(file.blob) if vaults else 0
-    return any(evidence.measure_padded(blob) == length for blob in vaults)
+def _list_vaults(evidence: Evidence, file: File) -> Iterator[File]:
+    """The vaults that a file may be a copy of: one that is gone, from its place; or one beside it, with its name."""
+    for vault in evidence.removed_vaults:
+        if not _list_places(vault.name).isdisjoint(_list_places(file.name)):
+            yield vault
+    is_example = os.path.splitext(file.name)[1] in EXAMPLES
+    for vault in evidence.list_beside(file) if not is_example else ():
+        if not _list_names(vault.name).isdisjoint(_list_names(file.name)) and evidence.known.find(vault.blob).is_vault:
+            yield vault
+
+
+def _list_places(path: bytes) -> set[bytes]:
+    """The directory, the path without a suffix, and the name alone. Two files have one of these in common if a vault
+    `x.yml` becomes `y.yml`, `x/main.yml` or `other/x.yaml`."""
+    folder, names = os.path.dirname(path.lower()) + b"/", _list_names(path)
+    return {folder, *(folder + name + b"/" for name in names), *names}
+
+
+def _list_names(path: bytes) -> set[bytes]:
+    """The name of a file, with its suffix and without it."""
+    name = os.path.basename(path.lower()).rstrip(b"~")
+    return {name, os.path.splitext(name)[0]}

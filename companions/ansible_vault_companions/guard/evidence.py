@@ -1,152 +1,123 @@
-"""What the hook's rules know of a change: each file's facts and attributes, now and before."""
+"""What the rules know of the files that differ: what they have, had, and are by their attributes."""
 
 from __future__ import annotations
 
 import os
-from codecs import BOM_UTF8
+from collections import Counter
 from functools import cached_property
-from typing import Iterator, Sequence
+from typing import Iterator, Mapping, NamedTuple
 
-from ansible_vault_companions.envelopes import file_kinds, header
-from ansible_vault_companions.envelopes.pointers import is_pointer
-from ansible_vault_companions.git.attributes import Attributes, is_attribute_file, list_attribute_files
-from ansible_vault_companions.git.blobs import Blobs
-from ansible_vault_companions.git.differences import Differences, File
-from ansible_vault_companions.git.indexes import Index, read_attributes_of
-from ansible_vault_companions.git.snapshots import Snapshot
-from ansible_vault_companions.guard import facts
-from ansible_vault_companions.guard.facts import Facts
-from ansible_vault_companions.guard.removed_values import RemovedValues
-from ansible_vault_companions.guard.removed_vaults import RemovedVaults, Text
+from ansible_vault_companions.envelopes.file_kinds import is_prose
+from ansible_vault_companions.envelopes.header import measure_ciphertext
+from ansible_vault_companions.git.attributes import Attributes
+from ansible_vault_companions.git.changes import Changes, File, list_tree
+from ansible_vault_companions.git.contents import Contents
+from ansible_vault_companions.guard.facts import Facts, Keys, find_facts
+
+
+class Fault(NamedTuple):
+    """Why a file is refused, and what to do about that."""
+
+    why: str
+    remedy: str
+
+
+class Known:
+    """The contents of blobs, and what is known of each. It is read again if its plaintexts are needed, too."""
+
+    def __init__(self, contents: Contents) -> None:
+        self.contents = contents
+        self.facts: dict[str, Facts] = {"": Facts()}
+        self.whole_facts: dict[str, Facts] = {"": Facts()}
+        self.lengths: dict[str, int] = {}
+
+    def find(self, blob: str) -> Facts:
+        facts = self.whole_facts.get(blob) or self.facts.get(blob)
+        if facts is None:
+            facts = self.facts[blob] = find_facts(self.contents.read(blob), needs_plain=False)
+        return facts
+
+    def find_whole(self, blob: str) -> Facts:
+        if blob not in self.whole_facts:
+            self.whole_facts[blob] = find_facts(self.contents.read(blob), needs_plain=True)
+        return self.whole_facts[blob]
+
+    def measure(self, vault: str) -> int:
+        """How long the text of a vault is, with its padding."""
+        if vault not in self.lengths:
+            self.lengths[vault] = measure_ciphertext(self.contents.read(vault))
+        return self.lengths[vault]
+
+
+def may_have_variables(path: bytes) -> bool:
+    """Whether Ansible may read the variables of a file, by its suffix."""
+    return os.path.splitext(path)[1].lower() in (b"", b".yml", b".yaml", b".json")
+
+
+def _join_suffixes(files: list[File]) -> Iterator[File]:
+    """The files. To Ansible, one that is `x.yaml` now, and was `x.yml`, is the same."""
+    own = {file: os.path.splitext(file.name)[0] for file in files if may_have_variables(file.name)}
+    gone = {name: file for file, name in own.items() if not file.blob}
+    new = {file: gone[name] for file, name in own.items() if not file.before and name in gone}
+    replaced = {*new.values()}
+    for file in files:
+        if file not in replaced:
+            yield file._replace(before=new[file].before) if file in new else file
 
 
 class Evidence:
-    """It reads each content once, and again only if a plaintext may have moved."""
+    def __init__(self, changes: Changes, known: Known, attributes: Mapping[bytes, Attributes]) -> None:
+        self.changes = changes
+        self.files = [*_join_suffixes(changes.files)]
+        self.known = known
+        self.attributes = attributes
+        self.since = changes.since
+        # Files are compared with each other only in what is one commit by itself, since others have been checked so.
+        self.is_single = changes.parent != ""
 
-    def __init__(
-        self, differences: Differences, index: Index | Snapshot, blobs: Blobs, others: Sequence[Differences] = ()
-    ) -> None:
-        """`others` are the differences from the other parents of a merge."""
-        self.index = index
-        self.blobs = blobs
-        self.differences = differences
-        self.others = others
-        self.since = f" in {differences.since}" if differences.since else ""
-        self.facts_by_blob: dict[tuple[str, bool, bool], Facts] = {}
-        # By a blob, whether it is a vault, and how long its text is. Many files may be named like one vault of 100 MB.
-        self.vaults: dict[str, bool] = {}
-        self.lengths: dict[str, int] = {}
-        self.attributes = index.read_attributes([file.name for file in differences.files])
-        self.before = {file: self.find_facts(file.before, is_old=True) for file in differences.files}
-        has_values = any(before.encrypted for before in self.before.values())
-        self.now = {file: self.find_facts(file.blob, has_values) for file in differences.files}
-
-    def find_facts(self, blob: str, needs_plain: bool = False, is_old: bool = False) -> Facts:
-        """What is known of a blob, which may be there under several names."""
-        key = (blob, needs_plain, is_old)
-        if key not in self.facts_by_blob:
-            content = self.blobs.read(blob, is_old) if blob else b""
-            self.facts_by_blob[key] = facts.find_facts(content, needs_plain)
-        return self.facts_by_blob[key]
-
-    def is_vault(self, blob: str) -> bool:
-        if blob not in self.vaults:
-            self.vaults[blob] = self.blobs.read(blob, is_old=True) == header.MAGIC
-        return self.vaults[blob]
-
-    def measure_padded(self, blob: str) -> int:
-        """How long a text, encrypted or not, is with the padding of a vault; 0 if that is unknown. A plaintext has the
-        same length as its vault."""
-        if blob not in self.lengths:
-            self.lengths[blob] = self._measure_content(blob)
-        return self.lengths[blob]
-
-    def _measure_content(self, blob: str) -> int:
-        content = self.blobs.read(blob)
-        if is_pointer(content):
-            return 0
-        if content.startswith(header.MAGIC):
-            return header.measure_ciphertext(content)
-        return header.measure_padded(len(content))
-
-    @cached_property
-    def attribute_files_with_mark(self) -> list[File]:
-        """The files of attributes that concern these files and begin with a byte order mark."""
-        sources = (self.index.files.get(name) for name in list_attribute_files(self.attributes))
-        return [source for source in sources if source and self.blobs.read(source.blob).startswith(BOM_UTF8)]
-
-    @cached_property
-    def changed(self) -> dict[bytes, File]:
-        return {file.name: file for file in self.now}
-
-    def list_versions(self, name: bytes) -> list[str]:
-        """The blobs that a file of this name has now and had before, if it is there."""
-        there, changed = self.index.files.get(name), self.changed.get(name)
-        blobs = [there.blob if there else "", changed.before if changed else ""]
-        return [blob for blob in blobs if blob]
-
-    @cached_property
-    def removed_values(self) -> RemovedValues:
-        return RemovedValues(self.before, self.now)
-
-    @cached_property
-    def removed_vaults(self) -> RemovedVaults:
-        before, now = self.before, self.now
-        vaults = [file for file in before if before[file].is_vault and not file.blob]
-        if not vaults:
-            return RemovedVaults([], [], [])
-        removed = [Text(file.name, self.measure_padded(file.before)) for file in vaults]
-        new = [file.name for file in now if now[file].is_vault and not before[file].is_vault]
-        others = [file.name for file in now if file.blob and not file.before and not now[file].is_vault]
-        return RemovedVaults(removed, new, others)
-
-    @cached_property
-    def merged(self) -> list[Evidence]:
-        """What is known of a merge compared with each other parent."""
-        return [Evidence(other, self.index, self.blobs) for other in self.others]
-
-    def list_merged(self, file: File) -> Iterator[tuple[Evidence, File]]:
-        """The same for the parents from which a file differs, too."""
-        for other in self.merged:
-            if file.name in other.changed:
-                yield other, other.changed[file.name]
-
-    @cached_property
-    def earlier(self) -> dict[bytes, Attributes]:
-        """The attributes before the change."""
-        if not self.differences.parent:
-            return {}
-        if not self.differences.has_attributes:
-            return self.attributes
-        return read_attributes_of(self.differences.parent, self.attributes)
-
-    def find_earlier(self, file: File) -> Attributes:
-        return self.earlier.get(file.name, Attributes())
-
-    def counts_lines(self, file: File) -> bool:
-        """Whether the change may exempt a file. Of several commits together, one has to exempt it and change it."""
-        if self.differences.exempt is None:
-            return self.keeps_lines
-        return file.name in self.differences.exempt
-
-    @cached_property
-    def keeps_lines(self) -> bool:
-        """Whether no line of a .gitattributes is removed or moved. If so, any attribute that the change gives is from a
-        line that it adds. Without a change, any line counts."""
-        files = [file for file in self.now if is_attribute_file(file.name)]
-        return not self.differences.parent or all(self._keeps_lines(file) for file in files)
-
-    def _keeps_lines(self, file: File) -> bool:
-        lines = iter(self._read_lines(file.blob))
-        return all(line in lines for line in self._read_lines(file.before))
-
-    def _read_lines(self, blob: str) -> list[bytes]:
-        return self.blobs.read(blob).splitlines() if blob else []
+    def is_marked(self, file: File) -> bool:
+        return self.attributes[file.name].is_marked
 
     def is_example(self, file: File) -> bool:
         """Whether a file is a document, which may have envelopes that are none."""
-        return file_kinds.is_prose(os.fsdecode(file.name)) and not self.attributes[file.name].is_marked
+        return is_prose(os.fsdecode(file.name)) and not self.is_marked(file)
 
+    @cached_property
+    def removed_values(self) -> Counter[Keys]:
+        """How many values fewer there are at each place in all files together."""
+        before, now = Counter[Keys](), Counter[Keys]()
+        for file in self.files if self.is_single else ():
+            after = self.known.find(file.blob)
+            if not (after.is_vault or self.is_example(file)):
+                before.update(self.known.find(file.before).encrypted)
+                now.update(after.encrypted)
+        return before - now
 
-def is_yaml(file: File) -> bool:
-    return file_kinds.is_yaml(os.fsdecode(file.name))
+    @cached_property
+    def removed_vaults(self) -> list[File]:
+        """The vaults that are gone, as they were, unless they were just renamed."""
+        now = {file.blob for file in self.files}
+        gone = [File(file.name, file.before) for file in self.files if not file.blob]
+        return [file for file in gone if file.blob not in now and self.known.find(file.blob).is_vault]
+
+    @cached_property
+    def new_plaintexts(self) -> set[File]:
+        """The new files that are no vault, and were no file of another name."""
+        if not self.is_single:
+            return set()
+        before = {file.before for file in self.files}
+        new = [file for file in self.files if not file.before and file.blob not in before]
+        facts = {file: self.known.find(file.blob) for file in new}
+        return {file for file in new if not (facts[file].is_vault or facts[file].is_empty)}
+
+    @cached_property
+    def _files_by_folder(self) -> dict[bytes, list[File]]:
+        """What is or was in the directories of these new files."""
+        files: dict[bytes, list[File]] = {os.path.dirname(file.name): [] for file in self.new_plaintexts}
+        for file in (*list_tree(self.changes.parent, files), *self.files):
+            if file.blob:
+                files.get(os.path.dirname(file.name), []).append(file)
+        return files
+
+    def list_beside(self, file: File) -> list[File]:
+        return self._files_by_folder[os.path.dirname(file.name)]

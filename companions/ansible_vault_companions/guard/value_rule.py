@@ -1,52 +1,68 @@
-"""A value stays encrypted, or becomes nothing or Jinja, but no plaintext, here or at its key in another file."""
+"""A value that was encrypted is not in plaintext at its key: in its file, or in any file if it is gone from all.
+
+It is decrypted if there are fewer encrypted values at a place, and more plaintexts. In a path, the item of a list that
+has no name stands for any key.
+"""
 
 from __future__ import annotations
 
-import os
+from collections import Counter
+from typing import Iterator
 
-from ansible_vault_companions.git.differences import File
-from ansible_vault_companions.guard import exemptions
-from ansible_vault_companions.guard.advice import Fault
-from ansible_vault_companions.guard.comparison import find_new_texts
-from ansible_vault_companions.guard.evidence import Evidence
-from ansible_vault_companions.guard.key_names import Keys, find_at_or_above, write_keys
+from ansible_vault_companions.git.changes import File
+from ansible_vault_companions.guard.evidence import Evidence, Fault, may_have_variables
+from ansible_vault_companions.guard.facts import ITEM, Facts, Keys, write_keys
 from ansible_vault_companions.quoting import escape
 
-NOW_PLAIN = "has {} in plaintext, which {} encrypted{}"
+NOW_PLAIN = "has {} in plaintext, which {} encrypted in {}"
+FEWER = "has fewer envelopes than in {}, and its values cannot be compared: {}"
+REMEDY = "encrypt the value, for example with ansible-vault-edit"
+REPAIR = "encrypt and repair it"
 
 
 def find_fault(evidence: Evidence, file: File) -> Fault | None:
-    sources = _find_sources(evidence, file)
-    losable = exemptions.list_losable_values(evidence, file)
-    refused = {write_keys(keys): source for keys, source in sources.items() if write_keys(keys) not in losable}
-    if not refused:
+    before = evidence.known.find(file.before)
+    # What had envelopes may be neither YAML nor have any now.
+    now = evidence.known.find_whole(file.blob) if before.envelopes else evidence.known.find(file.blob)
+    if now.is_vault or now.is_empty or evidence.is_example(file):
         return None
-    names = ", ".join(name + refused[name] for name in sorted(refused))
-    why = NOW_PLAIN.format(names, "was" if len(refused) == 1 else "were", evidence.since)
-    return exemptions.make_loss_of_values(evidence, file, why, {*refused})
+    if (before.fault or now.fault) and before.envelopes > now.envelopes:
+        return Fault(FEWER.format(evidence.since, before.fault or now.fault), REPAIR)
+    if not before.encrypted and not (evidence.removed_values and may_have_variables(file.name)):
+        return None
+    before, now = evidence.known.find_whole(file.before), evidence.known.find_whole(file.blob)
+    names = sorted({*_find_in_file(before, now), *_find_elsewhere(evidence.removed_values, before, now)}, key=write_keys)
+    if not names:
+        return None
+    listed = ", ".join(escape(write_keys(keys)) for keys in names)
+    return Fault(NOW_PLAIN.format(listed, "was" if len(names) == 1 else "were", evidence.since), REMEDY)
 
 
-def _find_sources(evidence: Evidence, file: File) -> dict[Keys, str]:
-    """The keys of lost values, and of which other file they are, if any."""
-    removed = evidence.removed_values
-    sources = {}
-    for keys in _find_from_elsewhere(evidence, file):
-        others = [name for name in removed.sources[keys] if name != file.name]
-        if others:
-            sources[keys] = f" of {escape(os.fsdecode(others[-1]))}"
-    for keys in removed.find_loss(file).now_plain:
-        sources[keys] = ""
-    return sources
+def _find_in_file(before: Facts, now: Facts) -> Iterator[Keys]:
+    """The places of values of which there are fewer, with more plaintexts at, above or below them; and those without
+    any list item that have a plaintext, too."""
+    fewer, more = before.encrypted - now.encrypted, now.plain - before.plain
+    for keys in before.encrypted if more else ():
+        if keys in more and ITEM not in keys:
+            yield keys
+        elif keys in fewer and any(_may_be_same(keys, other) for other in more):
+            is_less_encrypted = _count(keys, before.encrypted) > _count(keys, now.encrypted)
+            if is_less_encrypted and _count(keys, before.plain) < _count(keys, now.plain):
+                yield keys
 
 
-def _find_from_elsewhere(evidence: Evidence, file: File) -> set[Keys]:
-    """The keys of removed values at or below which there is new plaintext. Files have nothing in common but names, so
-    the first key and the value's own are to be the same. If there are as many values elsewhere, a plaintext that was
-    there may change."""
-    tree = evidence.removed_values.tree
-    now = evidence.now[file]
-    if not find_at_or_above(tree, now.plain):
-        return set()
-    before = evidence.find_facts(file.before, needs_plain=True)
-    changeable = find_at_or_above(tree, before.plain) - evidence.removed_values.fewer.keys()
-    return find_at_or_above(tree, find_new_texts(before, now)) - changeable
+def _count(keys: Keys, texts: Counter[Keys]) -> int:
+    """How many texts are at, above or below a place."""
+    return sum(texts[other] for other in texts if _may_be_same(keys, other))
+
+
+def _find_elsewhere(removed: Counter[Keys], before: Facts, now: Facts) -> Iterator[Keys]:
+    """The places of values that are gone from all files, with more plaintexts at them here. Files have nothing in
+    common but names, so a place needs one."""
+    more = now.plain - before.plain
+    return (keys for keys in removed if keys in more and any(keys))
+
+
+def _may_be_same(keys: Keys, others: Keys) -> bool:
+    """Whether two places are the same, or one is in the other."""
+    return all(key == other or ITEM in (key, other) for key, other in zip(keys, others))

@@ -47,7 +47,7 @@ def merge_lines(versions: Versions, effort: Effort) -> MergedLines:
     words = ["merge-file", "-p", *names, *(f"/proc/self/fd/{file}" for file in files)]
     try:
         with bounding.count_programs(effort):
-            done = commands.run_git_command(*words, most=effort.left, pass_fds=files)
+            done = commands.run_git_command(*words, pass_fds=files)
     finally:
         for file in files:
             os.close(file)
