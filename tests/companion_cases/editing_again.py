@@ -262,15 +262,3 @@ def test_new_tags(place: Place, value: str) -> None:
     ended("the tag", done, 1, why)
     assert "battery" not in done.stderr, "the value is not shown"
     assert place.get("vars.yml") == before + OTHERS.encode(), "the file stays"
-
-
-@pytest.mark.parametrize("value", MISSPELT)
-def test_old_tags(place: Place, value: str) -> None:
-    """Beside such a tag, even one that the file had, only what is encrypted can be changed."""
-    needs_pyyaml()
-    before = f"o: {value}\n".encode() + block("old")
-    place.put("vars.yml", before)
-    ended("a line", append(place, "n: x\n"), 1, "vars.yml: line 1: ", "so line 4 would stay in plaintext")
-    assert place.get("vars.yml") == before, "the file stays"
-    ended("a text", edit(place, CHANGE, *place.by_file("old"), "vars.yml"), 0)
-    assert texts(place.get("vars.yml"), "old") == [CHANGED], "what is encrypted"

@@ -33,15 +33,15 @@ START |= own("files", "link_bounds") | own("passwords", "path_expansion settings
 PASSWORDS = own("passwords", "asking labels loading options password sources unusable_passwords")
 TOOL = own("", "tool") | own("files", "reading")
 # What reads YAML; and what does without PyYAML or processes if it can.
-YAML = own("", "bounding") | {"typing"}
+YAML = {"typing"}
 YAML |= own("envelopes", "detection header key_paths layout node parsed_text pointers strays yaml_nodes")
 PARSER = {"subprocess", "yaml"}
 # What runs several programs at a time.
 WORKERS = own("", "workers") | {"concurrent.futures"}
 # What shows the sides of a conflict, what merges, and what writes files.
-CONFLICTS = own("", "parallel") | own("envelopes", "conflicts") | own("git", "commands")
+CONFLICTS = own("", "bounding parallel") | own("envelopes", "conflicts") | own("git", "commands")
 CONFLICTS |= own("merging", "line_merge result_key vault_merge")
-MERGING = own("merging", "equality file_merge restoration tokens value_merge")
+MERGING = own("merging", "file_merge value_merge")
 WRITING = own("files", "leftovers replacing") | {"subprocess", "tempfile"}
 
 SHOWING_A_VAULT = (
@@ -62,17 +62,19 @@ RUNS = {
     f"{TEXTCONV} {OLD} vault.yml": SHOWING_A_VAULT | {"subprocess"},
     f"{TEXTCONV} {OLD} plain.yml": SHOWING_VALUES,
     f"{TEXTCONV} {OLD} value.yml": SHOWING_VALUES | PARSER,
-    f"{TEXTCONV} {OLD} values.yml": SHOWING_VALUES | PARSER | WORKERS,
+    f"{TEXTCONV} {OLD} values.yml": SHOWING_VALUES | PARSER | {"concurrent.futures"},
     f"{WITH} view {OLD} vault.yml": START
     | PASSWORDS
     | own("alias", "command_line file_paths password_choice standard_input takeover")
     | own("envelopes", "header pointers")
     | own("files", "reading"),
     f"{CHECK} {OLD} .": BATCH
+    | own("", "bounding")
     | own("batch", "checking")
     | own("envelopes", "conflicts damage")
     | own("git", "attributes commands pathspecs repository servers"),
     f"{ROTATE} {OLD} {NEW} .": BATCH
+    | own("", "bounding")
     | own("batch", "rotation")
     | own("git", "commands current_repository installing merge_driver repository textconv_passwords"),
     f"{EDIT} {OLD} vault.yml": START
@@ -82,7 +84,7 @@ RUNS = {
     | CONFLICTS
     | MERGING
     | WRITING
-    | own("editing", "blocks_and_quotes conflict_draft drafts editor encrypting_password matching own_folder")
+    | own("editing", "drafts editor encrypting_password matching")
     | own("editing", "private_directory rescue_copies saved_text single_value typed_tags vault_draft yaml_draft")
     | own("git", "pathspecs repository")
     | own("merging", "unmerged_file")
@@ -99,6 +101,7 @@ RUNS = {
     HOOK: START
     | YAML
     | PARSER
+    | own("", "bounding")
     | own("envelopes", "conflicts damage file_kinds")
     | own("files", "leftovers reading")
     | own("git", "attributes blobs commands current_repository differences history index_files indexes installing")

@@ -1,6 +1,5 @@
-"""ansible-vault-merge: the bounds of its work, counted and not timed."""
+"""ansible-vault-merge: what it reads once, and what is said of a git that ends."""
 
-import os
 
 import pytest
 
@@ -49,53 +48,3 @@ def test_ended_git(place: Place, kind: str, signal: str, why: str) -> None:
     place.wrap_tool(f'case " $* " in *" merge-file "*) kill -{signal} $$ ;; esac', "git")
     done = place.run(MERGE, *place.by_file("old"), *versions(place, "a.yml", *VERSIONS[kind]))
     ended("the merge", done, CONFLICT, f"both sides are whole in the file: git merge-file failed: {why}; resolve")
-
-
-# Starts the companion with runs of ansible-vault that count for so many seconds each.
-COUNT_RUNS = """
-from ansible_vault_companions import limits
-limits.RUN_SECONDS = {}
-"""
-# A git that notes the limit of its time. The companion sets it while git runs.
-NOTE_LIMIT = """case " $* " in *" merge-file "*)
-    until seconds=$(ulimit -S -t) && [ "$seconds" != unlimited ]; do :; done
-    echo "$seconds" >> ../seconds ;;
-esac"""
-
-
-@pytest.mark.parametrize("seconds", [0.2, 0.5, 0.8, 1, 2])
-@pytest.mark.parametrize("kind, runs", [("values", 2), ("vaults", 3)])
-def test_time_of_git(place: Place, kind: str, runs: int, seconds: float) -> None:
-    """git gets the whole seconds that are left of the merge. Half a second is for the start and the end."""
-    place.wrap_tool(NOTE_LIMIT, "git")
-    words = versions(place, "a.yml", *VERSIONS[kind])
-    ended("the merge", run_changed(place, MERGE, COUNT_RUNS.format(seconds), [*place.by_file("old"), *words]), 0)
-    limit = int(place.get("../seconds"))
-    assert limit >= 1 and limit + runs * seconds + 0.5 <= 10, f"git may take {limit} s"
-
-
-@pytest.mark.parametrize("left", [0.1, 0.9])
-@pytest.mark.parametrize("kind, runs", [("values", 2), ("vaults", 3)])
-def test_too_little_time(place: Place, kind: str, runs: int, left: float) -> None:
-    """git is not started if less than a second is left, which is the lowest limit that the system has."""
-    place.wrap_tool(NOTE_LIMIT, "git")
-    words = versions(place, "a.yml", *VERSIONS[kind])
-    change = COUNT_RUNS.format((9.5 - left) / runs)
-    done = run_changed(place, MERGE, change, [*place.by_file("old"), *words])
-    ended("the merge", done, CONFLICT, "both sides are whole in the file: it takes over 10 s of processor time")
-    assert not (place.path / "seconds").exists(), "git merges nothing"
-
-
-@pytest.mark.parametrize("base", [0, 1_000_000, 50_331_643])
-def test_long_versions(place: Place, base: int) -> None:
-    """Versions that are too long together are refused by name before they are read, and ours stays as it is."""
-    words = versions(place, "a.yml", b"", b"x: 1\n", b"")
-    sizes = {"base": base, "theirs": 50_331_648 - len(b"x: 1\n") + 1 - base}
-    for name, size in sizes.items():
-        os.truncate(place.path / "versions" / f"{name}-a.yml", size)
-    done = place.run(MERGE, *place.by_file("old"), *words)
-    ended("the merge", done, 2, "theirs-a.yml: the three versions have over 50,331,648 bytes")
-    assert place.get("a.yml") == b"x: 1\n"
-    os.truncate(place.path / "versions" / "theirs-a.yml", sizes["theirs"] - 1)
-    done = place.run(MERGE, *place.by_file("old"), *words)
-    assert done.returncode in (0, CONFLICT) and "the three versions" not in done.stderr, done

@@ -12,14 +12,12 @@ import pytest
 from hypothesis import strategies as st
 
 from ansible_vault_companions.editing.encrypting_password import Choice
-from ansible_vault_companions.editing.yaml_draft import YamlDraft
-from ansible_vault_companions.limits import Effort
 from ansible_vault_companions.passwords.password import Password
 from ansible_vault_companions.passwords.sources import parse_vault_id
 from ansible_vault_companions.refusals import Refused
 from ansible_vault_companions.tool import Decryption, Key
 from companion_cases import Done, Place, block, edit, ended, sealed, silent, texts
-from companion_cases.yaml_values import POLICY, Hexadecimal, envelope
+from companion_cases.yaml_values import POLICY, Hexadecimal, envelope, make_draft
 
 EXAMPLES = 700
 UNCLEAR = "may be new, changed or moved, and the password depends on which; save one change at a time"
@@ -90,7 +88,7 @@ def test_passwords_stay(request: pytest.FixtureRequest) -> None:
     ) -> None:
         sealed = {key: write_sealed(value) for key, value in values.items()}
         data = write_yaml(sealed, [write_sealed(item) for item in items])
-        file = YamlDraft("", data, data, unseal, Choice([*PASSWORDS.values()], label_of_new), Effort())
+        file = make_draft(data, unseal, Choice([*PASSWORDS.values()], label_of_new))
         try:
             after = file.encrypt(Labeled(), write_yaml(typed_values, typed_items))
         except Refused as fault:

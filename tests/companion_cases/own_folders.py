@@ -16,7 +16,7 @@ import hypothesis
 import pytest
 from hypothesis import strategies as st
 
-from ansible_vault_companions.editing.own_folder import require_own_folder
+from ansible_vault_companions.editing.private_directory import require_own_folder
 from ansible_vault_companions.editing.private_directory import FOLDER_PREFIX
 from companion_cases import CHANGE, CHANGED, EDIT, NOBODY, Place, decrypted, ended, run_changed, sealed, silent
 from lib.needs import needs, needs_root

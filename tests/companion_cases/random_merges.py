@@ -18,7 +18,6 @@ import pytest
 from hypothesis import strategies as st
 
 from ansible_vault_companions.envelopes.header import MAGIC
-from ansible_vault_companions.limits import Effort
 from ansible_vault_companions.merging.file_merge import MergedFile, merge_file
 from ansible_vault_companions.merging.line_merge import Versions
 from ansible_vault_companions.passwords.labels import Policy
@@ -165,7 +164,7 @@ class Model(Tool):
 
     def merged(self, contents: list[bytes]) -> MergedFile:
         base, ours, theirs = contents
-        return merge_file(self, self.opened, Versions(ours, base, theirs), None, Effort())
+        return merge_file(self, self.opened, Versions(ours, base, theirs), None)
 
 
 @st.composite

@@ -303,24 +303,16 @@ def test_no_home(place: Place, monkeypatch: pytest.MonkeyPatch) -> None:
 # In each file, a text that is not to be shown.
 HIDDEN = b"s3cret"
 MALFORMED = {
-    "no section": (b"# x\n%s\n" % HIDDEN, "line 2: there is no section above it"),
-    "no value": (b"[defaults]\n\n%s\n%s\n" % (HIDDEN, HIDDEN), "line 3: it is not KEY = VALUE"),
-    "a section twice": (b"[%s]\n[%s]\n" % (HIDDEN, HIDDEN), "line 2: the section is there already"),
-    "a key twice": (b"[defaults]\n%s = 1\n%s = 2\n" % (HIDDEN, HIDDEN), "line 3: the key is there already"),
+    "no section": (b"# x\n%s\n" % HIDDEN, "line 2 is no section, or no KEY = VALUE of its own"),
+    "no value": (b"[defaults]\n\n%s\n%s\n" % (HIDDEN, HIDDEN), "line 3 is no section, or no KEY = VALUE of its own"),
+    "a section twice": (b"[%s]\n[%s]\n" % (HIDDEN, HIDDEN), "line 2 is no section, or no KEY = VALUE of its own"),
+    "a key twice": (
+        b"[defaults]\n%s = 1\n%s = 2\n" % (HIDDEN, HIDDEN),
+        "line 3 is no section, or no KEY = VALUE of its own",
+    ),
     "Latin-1": (b"# \xff", "it is not UTF-8"),
     "a NUL byte": (b"#\0", "it has a NUL byte"),
-    "many lines": (b"#\n" * 200_000, "it has over 262,144 characters"),
 }
-# A path that no file can have, with as many variables as fit.
-VARIABLES = {"the directory": "{{CWD}}" * 2_000, "a brace": "${" * 5_000, "a name": "$HOME" * 1_000}
-
-
-@pytest.mark.parametrize("setting", ("vault_password_file", "vault_identity_list"))
-@pytest.mark.parametrize("path", VARIABLES.values(), ids=VARIABLES)
-def test_long_paths(place: Place, setting: str, path: str) -> None:
-    """No variables are looked for in a path that is too long for any file."""
-    place.put("ansible.cfg", f"[defaults]\n{setting} = {path}\n".encode())
-    ended("it is refused", place.run(CHECK, "."), 1, "it has over 4,096 characters")
 
 
 @pytest.mark.parametrize("content, why", MALFORMED.values(), ids=MALFORMED)

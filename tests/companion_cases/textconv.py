@@ -23,9 +23,6 @@ SHOWN = AROUND + b"secret: !vault |-\n  one\nx: !vault |-\n  two\n  three\n# end
 OTHER, MALFORMED = block("dev", label="x"), b"$ANSIBLE_VAULT 1.1\n"
 NO_SECRET = "shown as it is: no secret decrypts this vault"
 NO_VAULT = ": shown as it is: it is not a vault and has no encrypted value\n"
-DEEP, TOO_DEEP = b"x: %s!vault v%s\n" % (b"[" * 65, b"]" * 65), "it is nested over 64 levels\n"
-# Half a character, for which a file is first read as JSON.
-DEEP_JSON = b"[" * 100_000 + b'"!vault \\ud83d"'
 SIDES = b"<<<<<<< a\n%s=======\n%s>>>>>>> b\n" % (sealed("old", b"1\n2\n"), sealed("new", b"1\n3\n"))
 SIDES_SHOWN = b"<<<<<<< a\n1\n2\n=======\n1\n3\n>>>>>>> b\n"
 TAGGED = b"secret: !vault plain\n"
@@ -103,16 +100,6 @@ CONTENTS = {
     "plaintext": Content(content=TEXT, line=NOT_ENCRYPTED, shown=TEXT, told=NO_VAULT),
     "no YAML": Content(content=NO_YAML, line=NOT_ENCRYPTED, shown=NO_YAML, told=NO_VAULT),
     "a tagged plaintext": Content(content=TAGGED, line=NOT_ENCRYPTED, shown=TAGGED, told=""),
-    "what is too deep": Content(content=DEEP, line=NOT_DECRYPTED, shown=DEEP, told=f": shown as it is: {TOO_DEEP}"),
-    "JSON that is too deep": Content(
-        content=DEEP_JSON, line=NOT_DECRYPTED, shown=DEEP_JSON, told=f": shown as it is: {TOO_DEEP}"
-    ),
-    "a block above it": Content(
-        content=block("old", b"one") + DEEP,
-        line=line_of_values(1),
-        shown=b"secret: !vault |\n          one\n" + DEEP,
-        told=f": some of its values may be shown as they are: {TOO_DEEP}",
-    ),
     "nothing": Content(content=b"", line=NOT_ENCRYPTED, shown=b"", told=NO_VAULT),
 }
 
@@ -137,7 +124,6 @@ def test_forged_line(place: Place, forged: str) -> None:
         first_line("dev"): sealed("old", forged.encode() + TEXT, "dev"),
         line_of_values(1): forged.encode() + block("old"),
         NOT_ENCRYPTED: forged.encode() + TEXT,
-        NOT_DECRYPTED: forged.encode() + DEEP,
     }
     for line, content in kinds.items():
         place.put("a.yml", content)

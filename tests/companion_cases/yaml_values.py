@@ -11,18 +11,17 @@ from collections import Counter
 import pytest
 import yaml
 
-from ansible_vault_companions.editing.blocks_and_quotes import require_nodes
 from ansible_vault_companions.editing.encrypting_password import Choice
-from ansible_vault_companions.editing.yaml_draft import YamlDraft
+from ansible_vault_companions.editing.yaml_draft import YamlDraft, YamlText
 from ansible_vault_companions.envelopes.header import LINE_END
 from ansible_vault_companions.envelopes.key_paths import KeyPath
 from ansible_vault_companions.envelopes.layout import Replacement, apply_replacements, find_column
-from ansible_vault_companions.limits import Effort
+from ansible_vault_companions.envelopes.parsed_text import require_nodes
 from ansible_vault_companions.passwords.labels import Policy
 from ansible_vault_companions.passwords.password import Password
 from ansible_vault_companions.passwords.sources import make_path_source
 from ansible_vault_companions.refusals import Refused
-from ansible_vault_companions.tool import Decryption, Key, Tool
+from ansible_vault_companions.tool import Decrypt, Decryption, Key, Tool
 from companion_cases.spellings import LOADERS, Generator, composed
 
 SECRET = Password(make_path_source(""), b"", -1)
@@ -54,6 +53,11 @@ class Hexadecimal(Tool):
         return envelope(plaintext)
 
 
+def make_draft(data: bytes, opens: Decrypt = decrypt, choice: Choice = Choice([SECRET], None)) -> YamlDraft:
+    side = YamlText(data, opens)
+    return YamlDraft("", data, [side], side.shown.data, choice)
+
+
 class Plaintexts(Generator):
     """Its envelopes contain the digits of plaintexts."""
 
@@ -78,9 +82,9 @@ def test_edits(monkeypatch: pytest.MonkeyPatch) -> None:
             continue
         if b"%TAG" in data:
             with pytest.raises(Refused, match="^line 1: `%TAG`"):
-                YamlDraft("", data, data, decrypt, Choice([SECRET], None), Effort())
+                make_draft(data)
             continue
-        file = YamlDraft("", data, data, decrypt, Choice([SECRET], None), Effort())
+        file = make_draft(data)
         plain = [(path, shown_text(text)) for path, text in wanted]
         assert tagged(file.plaintext) == plain, data
         counts.update(values=len(wanted), shown=len(file.opened), **Counter(repr(text) for _, text in plain))
@@ -108,7 +112,7 @@ def shown_text(envelope: str) -> str:
 def check_changed(file: YamlDraft, generator: random.Random) -> bool:
     """Change a value of the shown text. Return whether there is one that PyYAML can still read."""
     text = file.plaintext
-    shown = [value for value in require_nodes(text, Effort()).values if value.is_tagged and not value.is_envelope]
+    shown = [value for value in require_nodes(text).values if value.is_tagged and not value.is_envelope]
     if not shown:
         return False
     value, typed = generator.choice(shown), generator.choice(TYPED)
@@ -120,7 +124,8 @@ def check_changed(file: YamlDraft, generator: random.Random) -> bool:
     read = tagged(edited)
     if read is None:
         return False
-    if typed == "neu" and is_followed(edited, value.begin + len(lines)):
+    is_below = LINE_END.search(edited, edited.rfind(b"!", 0, value.begin), value.begin)
+    if typed == "neu" and (is_below or is_followed(edited, value.begin + len(lines))):
         with pytest.raises(Refused, match="a text without quotes ends within the line"):
             file.encrypt(Hexadecimal(), edited)
         return True
@@ -140,6 +145,6 @@ def check_after(file: YamlDraft, edited: bytes, after: bytes, read: list[tuple[K
     envelopes = [text if text.startswith("$ANSIBLE") else envelope(text.encode()).decode() for _, text in read]
     wanted = [(path, text.split()) for (path, _), text in zip(read, envelopes)]
     assert [(path, text.split()) for path, text in tagged(after) or []] == wanted, (edited, after)
-    scalars_before = Counter(file.edited[old.value.begin : old.value.end] for old in file.opened.values())
-    lost = scalars_before - Counter(after[value.begin : value.end] for value in require_nodes(after, Effort()).values)
+    scalars_before = Counter(old.scalar for old in file.opened)
+    lost = scalars_before - Counter(after[value.begin : value.end] for value in require_nodes(after).values)
     assert sum(lost.values()) <= 1, (edited, after)

@@ -83,7 +83,7 @@ class Runner:
         try:
             data = detection.read_envelope_file(found.target)
             is_prose = file_kinds.is_prose(found.target) and not self._is_marked(found)
-            parsed = parse_envelopes(data, effort, is_prose=is_prose)
+            parsed = parse_envelopes(data, is_prose=is_prose)
         except (Refused, OSError) as fault:
             return Begun(Task(Outcome, found, self._report_unread(found, fault)))
         if found.refusal:

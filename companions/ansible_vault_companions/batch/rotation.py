@@ -44,7 +44,7 @@ class Rotation(Work):
         after = self.change_envelopes(parsed, path, report, is_prose=parsed.is_prose)
         fault = file_kinds.find_fault(parsed, found.names)
         # In what is no YAML, all that has digits was found.
-        if fault and (parsed.is_too_much or not parsed.values):
+        if fault and not parsed.values:
             report.add_file(FAILED, path, fault)
         return after if after != parsed.data else None
 

@@ -1,25 +1,22 @@
-"""What can be edited: a vault, YAML with values, a conflict of two vaults, or a single value of YAML."""
+"""What can be edited: a vault, YAML with values, a conflict of either, or a single value of YAML."""
 
 from __future__ import annotations
 
 from functools import partial
 from typing import Protocol, Union
 
-from ansible_vault_companions.editing.conflict_draft import ConflictDraft
 from ansible_vault_companions.editing.encrypting_password import Choice, keep_key
 from ansible_vault_companions.editing.matching import describe_place
 from ansible_vault_companions.editing.single_value import SingleValue
-from ansible_vault_companions.editing.typed_tags import refuse_directive
-from ansible_vault_companions.editing.vault_draft import VaultDraft
-from ansible_vault_companions.editing.yaml_draft import YamlDraft
+from ansible_vault_companions.editing.vault_draft import ConflictDraft, VaultDraft
+from ansible_vault_companions.editing.yaml_draft import YamlDraft, YamlText
 from ansible_vault_companions.envelopes import conflicts, detection
 from ansible_vault_companions.envelopes.header import MAGIC
 from ansible_vault_companions.envelopes.pointers import refuse_pointer
 from ansible_vault_companions.files import link_bounds, reading
 from ansible_vault_companions.git.pathspecs import make_pathspec
-from ansible_vault_companions.limits import LONGEST_PLAINTEXT, TOO_LONG, Effort, TooMuch
-from ansible_vault_companions.merging.file_merge import KINDS_DIFFER, merge_file
-from ansible_vault_companions.merging.line_merge import Versions
+from ansible_vault_companions.merging.file_merge import KINDS_DIFFER
+from ansible_vault_companions.merging.line_merge import Versions, merge_lines
 from ansible_vault_companions.merging.unmerged_file import find_versions
 from ansible_vault_companions.merging.vault_merge import VaultMerge
 from ansible_vault_companions.passwords.labels import Policy
@@ -82,43 +79,51 @@ class Loader:
         if content is None:
             link_bounds.require_folder(target)
             return VaultDraft(target, None, [self.choice.choose_key("the new vault", "the vault")])
-        sides = find_versions(target, content)
-        if sides:
-            return self._load_conflict(target, content, sides)
-        if not content.startswith(MAGIC):
-            if conflicts.is_unmerged(content):
-                raise Refused(conflicts.LONG)
-            return self._load_values(target, content, content, Effort())
-        decrypted = self.decrypt(content)
-        return VaultDraft(target, content, [keep_key(decrypted)], decrypted.text)
+        versions = find_versions(target, content)
+        if versions:
+            return self._load_conflict(target, content, versions)
+        if content.startswith(MAGIC):
+            decrypted = self.decrypt(content)
+            return VaultDraft(target, content, [keep_key(decrypted)], decrypted.text)
+        if conflicts.is_unmerged(content):
+            raise Refused(conflicts.LONG)
+        return self._load_values(target, content)
 
-    def _load_conflict(self, target: str, content: bytes, sides: Versions) -> Draft:
-        key = self.chosen.find_key()
-        effort = Effort()
-        are_vaults = [side.startswith(MAGIC) for side in (sides.ours, sides.theirs)]
+    def _load_conflict(self, target: str, content: bytes, versions: Versions) -> Draft:
+        are_vaults = [side.startswith(MAGIC) for side in (versions.ours, versions.theirs)]
         if all(are_vaults):
-            vaults = VaultMerge(self.decrypt, sides, effort)
-            return ConflictDraft(target, content, vaults, vaults.choose_key(key))
+            vaults = VaultMerge(self.decrypt, versions)
+            return ConflictDraft(target, content, vaults, vaults.choose_key(self.chosen.find_key()))
         if any(are_vaults):
             raise Refused(ONE_SIDE.format(make_pathspec(target)))
-        if not (sides.ours and sides.theirs):
-            return self._load_values(target, content, content, effort)
-        # Before the merge, which takes long.
-        if max(map(len, sides)) > LONGEST_PLAINTEXT:
-            raise TooMuch(TOO_LONG)
-        refuse_directive(content)
-        # Where git has merged the digits of values, only whole ones are between the markers of the merged text.
-        merged = merge_file(self.tool, partial(self.decrypt, effort=effort), sides, key, effort)
-        effort.require_third()
-        return self._load_values(target, content, merged.content, effort)
+        ours, theirs = YamlText(versions.ours, self.decrypt), YamlText(versions.theirs, self.decrypt)
+        shown = Versions(ours.shown.data, self._show_base(versions.base), theirs.shown.data)
+        if shown.ours and shown.theirs:
+            text = merge_lines(shown).text
+        else:
+            text = conflicts.join_sides(shown.ours, shown.theirs)
+        draft = YamlDraft(target, content, [ours, theirs], text, self.choice)
+        # Where both sides have a text, one that has changed its envelope comes first.
+        draft.opened.sort(key=lambda old: old.scalar in versions.base)
+        return self._require_values(draft)
 
-    def _load_values(self, target: str, content: bytes, edited: bytes, effort: Effort) -> YamlDraft:
-        if not detection.may_have_envelope(edited):
+    def _show_base(self, base: bytes) -> bytes:
+        """The base as the sides are shown. One that cannot be read counts as none."""
+        try:
+            return YamlText(base, self.decrypt).shown.data if not base.startswith(MAGIC) else b""
+        except Refused:
+            return b""
+
+    def _load_values(self, target: str, content: bytes) -> Draft:
+        if not detection.may_have_envelope(content):
             raise Refused(NOTHING_TO_EDIT)
-        draft = YamlDraft(target, content, edited, partial(self.decrypt, effort=effort), self.choice, effort)
+        side = YamlText(content, self.decrypt)
+        return self._require_values(YamlDraft(target, content, [side], side.shown.data, self.choice))
+
+    def _require_values(self, draft: YamlDraft) -> YamlDraft:
         if not draft.tagged:
             raise Refused(NOTHING_TO_EDIT)
-        for old in draft.opened.values():
+        for old in draft.opened:
             keep_key(old.decrypted, f"{describe_place(old.value)}: ")
         if len(draft.faults) == len(draft.tagged) and self.choice.label is None:
             value, why = draft.faults[0]

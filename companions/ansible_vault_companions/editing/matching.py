@@ -1,13 +1,13 @@
-"""Matches the values of an edited text with those that the file had, and so decides which password each one gets.
+"""Matches the values of a saved text with those that the file had, and so decides which password each one gets.
 
-A value is identified by its text first, and then by its path. So a text that moves, even to the path of another value,
-keeps its password.
+A value keeps its envelope if its text is at the same keys as before, or has moved. A new text at the keys of a value
+gets that value's password. Anything else is new. If that leaves several passwords to choose from, it is refused.
 """
 
 from __future__ import annotations
 
-from collections import Counter, defaultdict
-from typing import Callable, Iterable, Iterator, NamedTuple
+from collections import defaultdict
+from typing import Callable, NamedTuple
 
 from ansible_vault_companions.editing.encrypting_password import Choice
 from ansible_vault_companions.envelopes.key_paths import KeyPath
@@ -18,27 +18,25 @@ from ansible_vault_companions.tool import Decryption, Key
 
 UNCLEAR = "{} may be new, changed or moved, and the password depends on which; save one change at a time"
 
-# A path, and which of the values at that path it is, since a mapping may have a key twice.
-NumberedPath = tuple[KeyPath, int]
-
 
 class DecryptedValue(NamedTuple):
-    """A value of the file, and its plaintext."""
+    """A value of the file, its plaintext, and its scalar as the file has it, with the column of its key."""
 
     value: Node
     decrypted: Decryption
+    scalar: bytes
+    column: int
+
+    @property
+    def text(self) -> bytes:
+        return self.decrypted.text
 
 
 class Match(NamedTuple):
-    """What a typed value was before, if anything, and the key that encrypts it; None if it keeps its envelope."""
+    """The value whose envelope a typed one keeps, or else the key that encrypts it."""
 
-    before: DecryptedValue | None
+    kept: DecryptedValue | None
     key: Key | None = None
-
-    @property
-    def kept_value(self) -> Node | None:
-        """The value of the file whose envelope stays, if it does."""
-        return self.before.value if self.before and not self.key else None
 
 
 def describe_name(value: Node) -> str:
@@ -51,90 +49,62 @@ def describe_place(value: Node) -> str:
 
 
 def find_matches(opened: list[DecryptedValue], typed: list[Node], choice: Choice) -> list[Match]:
-    """What each typed value was before, and its key, in order."""
-    edit = _Edit(opened, typed)
-    edit.keep_moved(_list_of)
-    replaced = edit.list_gone()
-    edit.keep_moved(lambda _: ())
-    changed = edit.find_changed(replaced, choice)
-    texts_gone = {edit.before[at].decrypted.text for at in edit.list_gone()}
+    """What each typed value was before, or its key, in order."""
+    kept: dict[int, DecryptedValue] = {}
+    gone = _keep(kept, opened, typed, lambda value: value.path)
+    # An item of a list may be at the place of another. So what has left its list was replaced, if its place was taken.
+    replaced = _keep(kept, gone, typed, lambda value: _list_of(value.path))
+    gone = _keep(kept, replaced, typed, lambda _: ())
+    texts_gone = {old.text for old in gone}
+    unknown = [value for number, value in enumerate(typed) if number not in kept]
     matches = []
-    for at, value in edit.after.items():
-        if at in edit.kept:
-            matches.append(Match(edit.before[edit.kept[at]]))
-        elif value.text in texts_gone:
-            # It may have been at several places, and so it may have any of their passwords.
+    for number, value in enumerate(typed):
+        if number in kept:
+            matches.append(Match(kept[number]))
+            continue
+        keys = _list_keys(value, opened, replaced, unknown, choice)
+        if len(keys) > 1 or value.text in texts_gone:
             raise Refused(UNCLEAR.format(describe_place(value)))
-        elif at in changed:
-            matches.append(Match(edit.before[at], edit.before[at].decrypted.key))
-        else:
-            matches.append(Match(None, choice.choose_key(describe_name(value), describe_place(value))))
+        key = keys.pop() if keys else choice.choose_key(describe_name(value), describe_place(value))
+        matches.append(Match(None, key))
     return matches
 
 
-class _Edit:
-    """The values before and after an edit by place, and which of them keep their envelopes."""
-
-    def __init__(self, opened: list[DecryptedValue], typed: list[Node]) -> None:
-        self.before = dict(zip(_number_paths(old.value for old in opened), opened))
-        self.after = dict(zip(_number_paths(typed), typed))
-        # For the place of each typed value whose envelope stays, the place where that was before.
-        self.kept = {at: at for at in self.before.keys() & self.after.keys() if self._is_same(at)}
-
-    def _is_same(self, at: NumberedPath) -> bool:
-        return self.before[at].decrypted.text == self.after[at].text
-
-    def list_gone(self) -> list[NumberedPath]:
-        """The places before the edit of values whose envelope does not stay, in order."""
-        stay = {*self.kept.values()}
-        return [at for at in self.before if at not in stay]
-
-    def list_unknown(self) -> list[NumberedPath]:
-        """The places of typed values that keep no envelope, in order."""
-        return [at for at in self.after if at not in self.kept]
-
-    def keep_moved(self, group: Callable[[NumberedPath], KeyPath]) -> None:
-        """Keeps the envelopes of values that have moved: those of the same group that had the text are gone from their
-        places, and all had the same key."""
-        gone: dict[tuple[KeyPath, bytes], list[NumberedPath]] = defaultdict(list)
-        for at in self.list_gone():
-            gone[group(at), self.before[at].decrypted.text].append(at)
-        for at in self.list_unknown():
-            sources = gone[group(at), self.after[at].text]
-            if len({self.before[source].decrypted.key for source in sources}) == 1:
-                self.kept[at] = sources.pop(0)
-
-    def find_changed(self, replaced: list[NumberedPath], choice: Choice) -> set[NumberedPath]:
-        """The places of values with a new text, which get the passwords of those that they replace. If the items of a
-        list might get several passwords, they have to be where those were that are gone."""
-        before, gone, typed = (_group_by_list(places) for places in (self.before, replaced, self.list_unknown()))
-        changed: set[NumberedPath] = set()
-        for group in typed:
-            if group not in gone:
-                continue
-            keys = [self.before[at].decrypted.key for at in before[group]]
-            if len(typed[group]) > len(gone[group]):
-                keys += choice.list_keys()
-            if len({key.password.content for key in keys}) > 1 and gone[group] != typed[group]:
-                raise Refused(UNCLEAR.format(describe_place(self.after[min(typed[group])])))
-            changed |= typed[group] & self.before.keys()
-        return changed
+def _keep(
+    kept: dict[int, DecryptedValue],
+    gone: list[DecryptedValue],
+    typed: list[Node],
+    group: Callable[[Node], KeyPath],
+) -> list[DecryptedValue]:
+    """Adds the typed values that keep their envelopes: they have the text of one that is gone from the same group. If
+    they have moved, all that have it there must have the same key. Returns those that are still gone."""
+    sources: dict[tuple[KeyPath, bytes], list[DecryptedValue]] = defaultdict(list)
+    for old in gone:
+        sources[group(old.value), old.text].append(old)
+    for number, value in enumerate(typed):
+        same = sources[group(value), value.text]
+        is_clear = same and same[0].value.path == value.path or len({old.decrypted.key for old in same}) == 1
+        if number not in kept and is_clear:
+            kept[number] = same.pop(0)
+    return [old for olds in sources.values() for old in olds]
 
 
-def _number_paths(values: Iterable[Node]) -> Iterator[NumberedPath]:
-    seen: Counter[KeyPath] = Counter()
-    for value in values:
-        seen[value.path] += 1
-        yield value.path, seen[value.path]
+def _list_keys(
+    value: Node, opened: list[DecryptedValue], replaced: list[DecryptedValue], unknown: list[Node], choice: Choice
+) -> set[Key]:
+    """The keys that a new text may get for what it replaces; none if it replaces nothing."""
+    group = _list_of(value.path)
+    before = {old.value.path for old in replaced if _list_of(old.value.path) == group}
+    after = {each.path for each in unknown if _list_of(each.path) == group}
+    if before and before != after:
+        keys = {old.decrypted.key for old in opened if _list_of(old.value.path) == group}
+        if len(after) > len(before):
+            keys |= {*choice.list_keys()}
+        if len({key.password.content for key in keys}) > 1:
+            return keys
+    return {old.decrypted.key for old in replaced if old.value.path == value.path}
 
 
-def _group_by_list(paths: Iterable[NumberedPath]) -> dict[KeyPath, set[NumberedPath]]:
-    groups: dict[KeyPath, set[NumberedPath]] = defaultdict(set)
-    for at in paths:
-        groups[_list_of(at)].add(at)
-    return groups
-
-
-def _list_of(at: NumberedPath) -> KeyPath:
+def _list_of(path: KeyPath) -> KeyPath:
     """The path without the numbers of items."""
-    return tuple(-1 if isinstance(step, int) else step for step in at[0])
+    return tuple(-1 if isinstance(step, int) else step for step in path)

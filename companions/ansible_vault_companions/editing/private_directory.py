@@ -1,14 +1,16 @@
-"""The private directory of an edit, which has the plaintext while the editor runs."""
+"""The user's own directories: that of an edit, which has the plaintext while the editor runs, and that of copies."""
 
 from __future__ import annotations
 
+import errno
 import os
+import stat
 import tempfile
 from contextlib import suppress
-from typing import Iterable
+from pathlib import PurePath
 
 from ansible_vault_companions import refusals, signals
-from ansible_vault_companions.editing.own_folder import require_own_folder
+from ansible_vault_companions.editing.editor import describe_signal
 from ansible_vault_companions.files import reading
 from ansible_vault_companions.quoting import escape
 from ansible_vault_companions.refusals import Refused
@@ -22,38 +24,39 @@ IN_PLAINTEXT = "{}; what you saved is left in plaintext in {}"
 LEFT = "{} is left, with {} in it; save what you need, which may be plaintext, and remove it yourself"
 
 
-class PrivateDirectory:
-    """A directory of the user's own with a file, in memory if possible. It stays if it may have what is nowhere else.
-    If not, each file in it is removed at the end that has a text of this one: a backup, too. Any other has something
-    that somebody typed, and stays."""
+def require_own_folder(path: str) -> None:
+    """Refuses a directory, by its real path, unless it is the user's own, and nobody else can put another one in its
+    place: each directory above it belongs to the user or to root, and is closed to other writers, or sticky."""
+    for above in reversed(PurePath(path).parents):
+        about = os.lstat(above)
+        if about.st_uid not in (os.geteuid(), 0):
+            raise PermissionError(errno.EPERM, f"{escape(str(above))} belongs to another user")
+        if about.st_mode & (stat.S_IWGRP | stat.S_IWOTH) and not about.st_mode & stat.S_ISVTX:
+            raise PermissionError(errno.EPERM, f"others can write to {escape(str(above))}")
+    about = os.lstat(path)
+    if about.st_uid != os.geteuid() or about.st_mode & 0o077:
+        raise PermissionError(errno.EPERM, f"{escape(path)} is not a directory that only you can open")
 
-    def __init__(self, name: str, path: str, text: bytes) -> None:
-        self.name = name
+
+class PrivateDirectory:
+    """A directory of the user's own with a file, in memory if possible. At the end, each file in it is removed whose
+    text is elsewhere: that which the edit began with, or one that was stored. Any other has something that somebody
+    typed, so it stays, and the directory is named."""
+
+    def __init__(self, path: str, text: bytes) -> None:
         # The file that is edited, as on the command line.
         self.edited = path
-        # Whether an editor may have saved something that is nowhere else; and what came of the edit.
-        self.is_needed = False
-        self.outcome = ""
-        # What was read last, and all texts that the companion has written to the file or read from it; and none at all.
-        self.saved: bytes | None = None
+        # The texts that are elsewhere; and what came of the edit.
         self.texts = {text, b""}
-        self.path = _make(name, text)
+        self.outcome = ""
+        self.path = _make(os.path.basename(path), text)
+        self.file = os.path.join(self.path, os.path.basename(path))
 
-    @property
-    def file(self) -> str:
-        return os.path.join(self.path, self.name)
-
-    def read(self) -> bytes | None:
-        """What an editor has saved; None if the file is gone."""
-        self.saved = reading.read(self.file)
-        if self.saved is not None:
-            self.texts.add(self.saved)
-        return self.saved
-
-    def release(self, outcome: str) -> None:
-        """Lets the directory go: what was saved is elsewhere, or nothing was. The outcome is what a message says."""
+    def release(self, text: bytes | None, outcome: str) -> None:
+        """What was saved is elsewhere, or nothing was. The outcome is what a message says."""
         self.outcome = outcome
-        self.is_needed = False
+        if text is not None:
+            self.texts.add(text)
 
     def __enter__(self) -> PrivateDirectory:
         return self
@@ -61,23 +64,19 @@ class PrivateDirectory:
     def __exit__(self, _kind: object, fault: BaseException | None, _trace: object) -> None:
         """Whatever ended the edit, a message says where the text is, or what became of it."""
         why = describe_failure(fault, self.edited) if fault else self.outcome
-        if self.is_needed:
-            if self.saved is not None and not os.path.lexists(self.file):
-                self.path = _make(self.name, self.saved)
+        if not _is_in(self.file, self.texts):
             raise Refused(IN_PLAINTEXT.format(why, self.path)) from None
-        _remove(self.path, filter(self._may_go, _list_files(self.path)), why)
+        for path in _list_files(self.path):
+            if _is_in(path, self.texts):
+                with suppress(OSError):
+                    os.unlink(path)
+        with suppress(OSError):
+            os.rmdir(self.path)
+        if os.path.lexists(self.path):
+            left = ", ".join(escape(os.path.basename(path)) for path in _list_files(self.path))
+            raise Refused(f"{why}; {LEFT.format(self.path, left or 'nothing')}") from None
         if fault and self.outcome not in why:
             raise Refused(f"{why}; {self.outcome}") from None
-
-    def _may_go(self, path: str) -> bool:
-        """Whether nobody has typed what is here: a file with one of the texts, or what has none, such as a link. What
-        cannot be read stays."""
-        try:
-            return reading.read(path) in self.texts
-        except Refused:
-            return True
-        except Exception:
-            return False
 
 
 def describe_failure(failed: BaseException, path: str) -> str:
@@ -87,8 +86,15 @@ def describe_failure(failed: BaseException, path: str) -> str:
     return refusals.describe_fault(failed, path) or type(failed).__name__
 
 
-def describe_signal() -> str:
-    return f"signal {signals.find_postponed_signal()} ended the edit"
+def _is_in(path: str, texts: set[bytes]) -> bool:
+    """Whether a file has one of these texts, or none, such as a link, or is gone. What cannot be read has another."""
+    try:
+        text = reading.read(path)
+    except Refused:
+        return True
+    except Exception:
+        return False
+    return text is None or text in texts
 
 
 def _make(name: str, text: bytes) -> str:
@@ -103,53 +109,24 @@ def _make(name: str, text: bytes) -> str:
 
 
 def _list_places() -> list[str]:
-    """The directories in which to try it. A relative path may lead to a stranger's."""
-    in_memory = [os.environ.get("XDG_RUNTIME_DIR", ""), "/dev/shm"]
-    on_disk = [os.environ.get("TMPDIR", ""), "/tmp"]
-    return [os.path.realpath(place) for place in in_memory + on_disk if os.path.isabs(place)]
+    """The directories in which to try it, those in memory first. A relative path may lead to a stranger's."""
+    places = [os.environ.get("XDG_RUNTIME_DIR", ""), "/dev/shm", os.environ.get("TMPDIR", ""), "/tmp"]
+    return [os.path.realpath(place) for place in places if os.path.isabs(place)]
 
 
 def _make_in(place: str, name: str, text: bytes) -> str:
-    folder = _make_own_folder(place)
+    folder = tempfile.mkdtemp(prefix=FOLDER_PREFIX, dir=place)
     path = os.path.join(folder, name)
     try:
-        with open(path, "xb", opener=_open_private) as file:
-            file.write(text)
-    except OSError as fault:
-        _remove(folder, [path], refusals.describe_fault(fault, path))
-        raise
-    return folder
-
-
-def _make_own_folder(place: str) -> str:
-    try:
-        folder = tempfile.mkdtemp(prefix=FOLDER_PREFIX, dir=place)
-    except OSError as fault:
-        raise OSError(fault.errno, fault.strerror, place) from None
-    try:
         require_own_folder(folder)
+        with open(path, "xb", opener=lambda file, flags: os.open(file, flags, 0o600)) as file:
+            file.write(text)
     except OSError:
-        os.rmdir(folder)
-        raise
-    return folder
-
-
-def _open_private(path: str, flags: int) -> int:
-    return os.open(path, flags, 0o600)
-
-
-def _remove(folder: str, paths: Iterable[str], why: str) -> None:
-    """Removes files of a directory, and the directory. If anything is left, raises Refused, with what was to be said
-    anyway."""
-    for path in paths:
         with suppress(OSError):
             os.unlink(path)
-    with suppress(OSError):
         os.rmdir(folder)
-    if os.path.lexists(folder):
-        names = ", ".join(escape(os.path.basename(path)) for path in _list_files(folder))
-        left = LEFT.format(folder, names or "nothing")
-        raise Refused(f"{why}; {left}") from None
+        raise
+    return folder
 
 
 def _list_files(folder: str) -> list[str]:

@@ -11,7 +11,7 @@ import hashlib
 import os
 
 from ansible_vault_companions import refusals
-from ansible_vault_companions.editing.own_folder import require_own_folder
+from ansible_vault_companions.editing.private_directory import require_own_folder
 from ansible_vault_companions.envelopes.header import read_label
 from ansible_vault_companions.files import reading, replacing
 from ansible_vault_companions.quoting import escape
@@ -26,17 +26,18 @@ NEWEST, OLDER = "--resume reopens it", "`ansible-vault-textconv` shows it"
 NO_FOLDER = "no copies can be kept in {} ({}); set XDG_STATE_HOME to a directory that only you can open"
 
 
-def find_folder() -> str:
-    """The directory of copies, which may be missing. Refuses one that is not the user's own."""
+def find_folder(is_made: bool = False) -> str:
+    """The directory of copies, which may be missing unless it is to be made. Refuses one that is not the user's own."""
     state = os.environ.get("XDG_STATE_HOME", "")
     state = state if os.path.isabs(state) else os.path.expanduser("~/.local/state")
     if not os.path.isabs(state):
         raise Refused(f"{escape(state)} is relative; set XDG_STATE_HOME to an absolute path")
     path = os.path.join(os.path.realpath(state), "ansible-vault")
     try:
-        require_own_folder(path)
-    except FileNotFoundError:
-        pass
+        if is_made:
+            _make_folders(path)
+        if os.path.lexists(path):
+            require_own_folder(path)
     except OSError as fault:
         raise _make_refusal(path, fault) from None
     return path
@@ -71,14 +72,11 @@ def choose_copy(target: str, is_resumed: bool) -> tuple[str | None, list[str]]:
 def save_copy(tool: Tool, key: Key, target: str, base: bytes, text: bytes) -> str:
     """Writes the copy of a text, and returns its path. The edit began with `base`."""
     envelope = tool.encrypt(_make_head(base) + text, key)
-    path = find_folder()
+    folder = find_folder(is_made=True)
     try:
-        _make_folders(path)
-        # Nothing of the path is missing any more.
-        require_own_folder(path)
-        return replacing.write_new(path, envelope, prefix=_make_prefix(target))
+        return replacing.write_new(folder, envelope, prefix=_make_prefix(target))
     except OSError as fault:
-        raise _make_refusal(path, fault) from None
+        raise _make_refusal(folder, fault) from None
 
 
 def _make_folders(path: str) -> None:

@@ -10,12 +10,12 @@ import os
 from ansible_vault_companions import refusals, signals
 from ansible_vault_companions.editing.drafts import Draft
 from ansible_vault_companions.editing.editor import run_editor
-from ansible_vault_companions.editing.private_directory import PrivateDirectory, describe_failure, describe_signal
+from ansible_vault_companions.editing.private_directory import PrivateDirectory, describe_failure
 from ansible_vault_companions.editing.rescue_copies import save_copy
 from ansible_vault_companions.editing.single_value import A_VAULT
 from ansible_vault_companions.envelopes import conflicts
 from ansible_vault_companions.envelopes.header import MAGIC
-from ansible_vault_companions.files import replacing
+from ansible_vault_companions.files import reading, replacing
 from ansible_vault_companions.passwords import prompts
 from ansible_vault_companions.quoting import escape
 from ansible_vault_companions.refusals import Refused
@@ -25,93 +25,22 @@ from ansible_vault_companions.tool import Tool
 TO_WAIT = "if the editor returned at once, give it an option to wait, such as `code --wait`"
 AS_BEFORE, EMPTY = f"nothing was changed; {TO_WAIT}", f"the new vault is empty; {TO_WAIT}"
 UNCHANGED, WRITTEN = "nothing was changed", "what you saved is in the file"
+NO_FILE = "the editor left no file"
 NO_COPY = "an encrypted copy cannot be kept"
 SEVERAL = "its text has several passwords, and none of them may read all of it"
 RESCUED = "{}; what you saved is encrypted in {}\n--resume reopens it, unless the file has changed."
 
 
-class Edit:
-    """An edit of a draft: its text is in a private directory, under the name of the file. Whatever ends the edit, even
-    an exception that nobody has foreseen, leaves the text there until it is elsewhere."""
-
-    def __init__(self, tool: Tool, draft: Draft, path: str, folder: PrivateDirectory) -> None:
-        self.tool = tool
-        self.draft = draft
-        # As on the command line.
-        self.path = path
-        self.folder = folder
-
-    def run(self) -> bool:
-        """Runs the editor until its text is put back. False if nothing is to be changed."""
-        while True:
-            saved = run_editor(self.folder)
-            if signals.find_postponed_signal() is not None:
-                saved = saved._replace(fault=describe_signal())
-            if saved.text is None or self.draft.is_as_it_was(saved.text):
-                break
-            if self.put_back(saved.text, saved.fault):
-                return True
-        self.folder.release(UNCHANGED)
-        if saved.fault:
-            raise Refused(f"{saved.fault}; {UNCHANGED}")
-        return False
-
-    def put_back(self, text: bytes, fault: str) -> bool:
-        """Encrypts a text into the file or, if that fails, a copy. False if the user wants to edit it again."""
-        if fault:
-            raise self._rescue(text, fault)
-        try:
-            if text.startswith(MAGIC):
-                raise Refused(A_VAULT)
-            content = self.draft.encrypt(self.tool, text)
-        except Exception as failed:
-            if isinstance(failed, Refused) and self._opens_again(failed):
-                return False
-            raise self._rescue(text, describe_failure(failed, self.path)) from None
-        try:
-            self._replace(content)
-        except replacing.NotSynced as fault:
-            self.folder.release(str(fault))
-            raise
-        except Exception as failed:
-            raise self._rescue(text, describe_failure(failed, self.path)) from None
-        self.folder.release(WRITTEN)
-        return True
-
-    def _replace(self, content: bytes) -> None:
-        if content != self.draft.content:
-            replacing.replace(self.draft.target, content, self.draft.content)
-
-    def _opens_again(self, why: Refused) -> bool:
-        """Whether the user, asked at the terminal, wants to correct the saved text."""
-        try:
-            return prompts.ask_consent(f"{escape(self.path)}: {why}. Open the editor again?")
-        # A signal arrived, or the terminal is gone.
-        except (signals.Stopped, Refused, OSError):
-            return False
-
-    def _rescue(self, text: bytes, why: str) -> Refused:
-        """Keeps a text that is not put back. Returns the exception that says where it is, and how to go on; if no copy
-        is possible, why."""
-        try:
-            copy = self._save_copy(text)
-        except Exception as failed:
-            return Refused(f"{why}; {NO_COPY}: {describe_failure(failed, self.path)}")
-        rescued = RESCUED.format(why, escape(copy))
-        self.folder.release(rescued)
-        return Refused(rescued)
-
-    def _save_copy(self, text: bytes) -> str:
-        keys = self.draft.keys
-        if len(keys) > 1:
-            raise Refused(SEVERAL)
-        return save_copy(self.tool, keys[0], self.draft.target, self.draft.plaintext, text)
-
-
 def change_draft(tool: Tool, draft: Draft, path: str, text: bytes | None, copy: str | None, allows_empty: bool) -> str:
-    """Edits a draft, and makes an empty vault if that is allowed and nothing was saved. Returns what is to be said;
-    nothing if the text was changed."""
-    if edit_draft(tool, draft, path, text, copy):
+    """Edits a draft, starting with a text if one is given, which is that of a copy, and makes an empty vault if that is
+    allowed and nothing was saved. Returns what is to be said; nothing if the text was changed. Signals must be
+    postponed, until a message has said what became of what was saved."""
+    with PrivateDirectory(path, draft.plaintext if text is None else text) as folder:
+        is_changed = _edit(tool, draft, path, folder)
+        # First, since the end of this context may refuse what the editor has left there.
+        if is_changed and copy:
+            _remove_copy(copy)
+    if is_changed:
         return ""
     if conflicts.is_unmerged(draft.plaintext):
         raise Refused(conflicts.STILL)
@@ -121,16 +50,65 @@ def change_draft(tool: Tool, draft: Draft, path: str, text: bytes | None, copy: 
     return EMPTY
 
 
-def edit_draft(tool: Tool, draft: Draft, path: str, text: bytes | None, copy: str | None) -> bool:
-    """Edits the plaintext, starting with `text` if given, which is that of a copy. Once the file is written, the copy
-    is removed. Returns whether anything was changed. Signals must be postponed, until a message has said what became of
-    what was saved."""
-    with PrivateDirectory(os.path.basename(path), path, draft.plaintext if text is None else text) as folder:
-        is_changed = Edit(tool, draft, path, folder).run()
-        # First, since the end of this context may refuse what the editor has left there.
-        if is_changed and copy:
-            _remove_copy(copy)
-    return is_changed
+def _edit(tool: Tool, draft: Draft, path: str, folder: PrivateDirectory) -> bool:
+    """Runs the editor until its text is put back. False if nothing is to be changed. Whatever else ends the edit leaves
+    the text in the directory until it is elsewhere."""
+    while True:
+        fault = run_editor(folder.file)
+        text = reading.read(folder.file)
+        if text is None or draft.is_as_it_was(text):
+            folder.release(text, UNCHANGED)
+            # Even the directory may be gone: logging out removes files in memory.
+            fault = fault or (NO_FILE if text is None else "")
+            if fault:
+                raise Refused(f"{fault}; {UNCHANGED}")
+            return False
+        try:
+            if not fault:
+                _put_back(tool, draft, text)
+        except replacing.NotSynced as failed:
+            folder.release(text, str(failed))
+            raise
+        except Exception as failed:
+            fault = describe_failure(failed, path)
+            if isinstance(failed, Refused) and _opens_again(path, fault):
+                continue
+        if not fault:
+            folder.release(text, WRITTEN)
+            return True
+        raise _rescue(tool, draft, path, text, fault, folder)
+
+
+def _put_back(tool: Tool, draft: Draft, text: bytes) -> None:
+    """Encrypts a text into the file."""
+    if text.startswith(MAGIC):
+        raise Refused(A_VAULT)
+    content = draft.encrypt(tool, text)
+    if content != draft.content:
+        replacing.replace(draft.target, content, draft.content)
+
+
+def _opens_again(path: str, why: str) -> bool:
+    """Whether the user, asked at the terminal, wants to correct the saved text."""
+    try:
+        return prompts.ask_consent(f"{escape(path)}: {why}. Open the editor again?")
+    # A signal arrived, or the terminal is gone.
+    except (signals.Stopped, Refused, OSError):
+        return False
+
+
+def _rescue(tool: Tool, draft: Draft, path: str, text: bytes, why: str, folder: PrivateDirectory) -> Refused:
+    """Keeps a text that is not put back. Returns the exception that says where it is, and how to go on; if no copy is
+    possible, why."""
+    try:
+        if len(draft.keys) > 1:
+            raise Refused(SEVERAL)
+        copy = save_copy(tool, draft.keys[0], draft.target, draft.plaintext, text)
+    except Exception as failed:
+        return Refused(f"{why}; {NO_COPY}: {describe_failure(failed, path)}")
+    rescued = RESCUED.format(why, escape(copy))
+    folder.release(text, rescued)
+    return Refused(rescued)
 
 
 def _remove_copy(copy: str) -> None:

@@ -6,16 +6,22 @@ import errno
 import os
 import re
 
-from ansible_vault_companions.editing.blocks_and_quotes import make_sealed_block, require_nodes, write_values
 from ansible_vault_companions.editing.encrypting_password import Choice, keep_key
+from ansible_vault_companions.editing.yaml_draft import rewrite
 from ansible_vault_companions.envelopes import conflicts
 from ansible_vault_companions.envelopes.header import MAGIC
 from ansible_vault_companions.envelopes.key_paths import KeyPath, parse_path, quote_key
-from ansible_vault_companions.envelopes.layout import Replacement, apply_replacements
+from ansible_vault_companions.envelopes.layout import Replacement, put_envelope
 from ansible_vault_companions.envelopes.node import ALIAS, NO_SCALAR, Node
-from ansible_vault_companions.envelopes.parsed_text import NO_SCALAR_THERE, VALUE_NOT_ENCRYPTED, ParsedText, parse_nodes
+from ansible_vault_companions.envelopes.parsed_text import (
+    NO_SCALAR_THERE,
+    VALUE_NOT_ENCRYPTED,
+    ParsedText,
+    parse_nodes,
+    require_nodes,
+)
 from ansible_vault_companions.files import reading, replacing
-from ansible_vault_companions.limits import LONGEST_PLAINTEXT, Effort, TooMuch
+from ansible_vault_companions.limits import LONGEST_PLAINTEXT
 from ansible_vault_companions.quoting import escape
 from ansible_vault_companions.refusals import Refused
 from ansible_vault_companions.tool import Decrypt, Tool
@@ -39,10 +45,13 @@ class SingleValue:
         is_chosen = choice.label is not None
         if content is None and not is_chosen:
             raise FileNotFoundError(errno.ENOENT, os.strerror(errno.ENOENT), target)
-        self.effort = Effort()
-        # The file, with the tag before the value.
-        self.parsed = _tag(content or b"", path, is_chosen, self.effort)
+        # The file, with the key of a new value.
+        self.parsed = _parse(content or b"", path, is_chosen)
         self.value = self.parsed.find_value_at(path)
+        if self.value.style in (NO_SCALAR, ALIAS):
+            raise Refused(NO_SCALAR_THERE.format(escape(path)))
+        if not (is_chosen or self.value.is_tagged and self.value.is_envelope):
+            raise Refused(VALUE_NOT_ENCRYPTED.format(escape(path)) + HOW_TO_ENCRYPT)
         # The old text, if the password that opens it is to encrypt the new one.
         self.before: bytes | None = None
         if is_chosen:
@@ -56,71 +65,54 @@ class SingleValue:
         """Sets it to standard input."""
         text = _read_input()
         if text != self.before:
-            replacing.replace(self.target, self._encrypt(tool, text), self.content)
+            replacing.replace(self.target, self._encrypt(tool.encrypt(text, self.key)), self.content)
 
-    def _encrypt(self, tool: Tool, text: bytes) -> bytes:
+    def _encrypt(self, envelope: bytes) -> bytes:
         """The file with the value encrypted."""
-        number, envelope = self.parsed.values.index(self.value), tool.encrypt(text, self.key)
-        old = self.value if self.value.is_envelope else None
-        block = make_sealed_block(self.parsed.data, self.value, envelope, old)
+        changes = put_envelope(self.parsed.data, self.value, envelope)
+        if not self.value.is_tagged:
+            changes = _add_tag(changes, self.value)
         try:
-            return write_values(self.parsed, {number: envelope}, {number: block} if block else {}, self.effort).data
-        except TooMuch:
-            raise
+            return rewrite(self.parsed, changes, {self.value: envelope}).data
         except Refused:
             raise Refused(NO_PLACE_IN_YAML.format(escape(self.path))) from None
 
 
-def _tag(data: bytes, path: str, is_chosen: bool, effort: Effort) -> ParsedText:
-    """The nodes of a file, with the tag before the value, which may be a new one if its password is chosen."""
+def _parse(data: bytes, path: str, is_chosen: bool) -> ParsedText:
+    """The nodes of a file. If the password is chosen, a single key that is missing is added at the end, with an empty
+    value, unless that would change others."""
     if data.startswith(MAGIC):
         raise Refused("the whole file is a vault; edit it without --value")
     if conflicts.is_unmerged(data):
         raise Refused(f"it {conflicts.UNMERGED}")
-    parsed = require_nodes(data, effort)
-    effort.require_third()
+    parsed = require_nodes(data)
     steps = parse_path(path)
-    is_new = is_chosen and len(steps) == 1 and not parsed.list_values_at(path)
-    if is_new and isinstance(steps[0], str):
-        tag = _add_key(data, steps[0])
-    else:
-        value = parsed.find_value_at(path)
-        if value.is_tagged and value.is_envelope:
-            return parsed
-        if not is_chosen:
-            raise Refused(VALUE_NOT_ENCRYPTED.format(escape(path)) + HOW_TO_ENCRYPT)
-        tag = _add_tag(value, path)
-    effort.begin_version()
-    after = parse_nodes(apply_replacements(data, [tag]), effort)
-    if after.is_too_much:
-        raise TooMuch(after.fault)
-    if after.fault or _list_others(after, path) != _list_others(parsed, path):
+    if not (is_chosen and len(steps) == 1 and isinstance(steps[0], str)) or parsed.list_values_at(path):
+        return parsed
+    after = parse_nodes(_add_key(data, steps[0]))
+    if after.fault or _list_texts(after) != [*_list_texts(parsed), (steps, b"")]:
         raise Refused(NO_PLACE_IN_YAML.format(escape(path)))
     return after
 
 
-def _add_key(data: bytes, key: str) -> Replacement:
-    """The change that adds a key at the end of a file, with an empty value."""
+def _list_texts(parsed: ParsedText) -> list[tuple[KeyPath, bytes]]:
+    """All nodes, except the empty one of a file without any."""
+    return [(value.path, value.text) for value in parsed.values if value.path or value.text]
+
+
+def _add_key(data: bytes, key: str) -> bytes:
+    """The file with a key at its end that has an empty value."""
     spelled = key if SIMPLE_KEY.fullmatch(key) else quote_key(key)
     end = b"\r\n" if b"\r\n" in data else b"\n"
     before = b"" if data.endswith(b"\n") or not data else end
-    line = b'%s: !vault ""%s' % (spelled.encode(errors="surrogateescape"), end)
-    return Replacement(len(data), len(data), before + line)
+    return data + before + b'%s: !vault ""%s' % (spelled.encode(errors="surrogateescape"), end)
 
 
-def _add_tag(value: Node, path: str) -> Replacement:
-    """The change that adds the tag before a text that is there, or before an empty one."""
-    if value.style in (NO_SCALAR, ALIAS):
-        raise Refused(NO_SCALAR_THERE.format(escape(path)))
-    text = b"!vault " if value.end > value.begin else b' !vault ""'
-    return Replacement(value.begin, value.begin, b"" if value.is_tagged else text)
-
-
-def _list_others(parsed: ParsedText, path: str) -> list[tuple[KeyPath, str, bytes]]:
-    """All nodes except the value, and except the empty one of a file without any."""
-    here = parsed.list_values_at(path)
-    others = [value for value in parsed.values if (value.path or value.text) and value not in here]
-    return [(value.path, value.tag, value.text) for value in others]
+def _add_tag(changes: list[Replacement], value: Node) -> list[Replacement]:
+    """The changes with the tag before the value, which may be empty after its key."""
+    first, *others = changes
+    tag = b"!vault " if value.end > value.begin else b" !vault "
+    return [first._replace(text=tag + first.text), *others]
 
 
 def _read_input() -> bytes:

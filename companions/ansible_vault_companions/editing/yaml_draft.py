@@ -1,25 +1,30 @@
-"""A YAML file whose encrypted values an edit shows in plaintext, and encrypts again."""
+"""A YAML file whose encrypted values an edit shows in plaintext, and encrypts again.
+
+What is saved is read once. Values are found again by their keys, and all else is the user's own plaintext.
+"""
 
 from __future__ import annotations
 
-import copy
+from collections.abc import Iterable
 from contextlib import suppress
 
-from ansible_vault_companions.editing.blocks_and_quotes import (
-    make_plain_block,
-    make_sealed_block,
-    require_nodes,
-    write_values,
-)
 from ansible_vault_companions.editing.encrypting_password import Choice
-from ansible_vault_companions.editing.matching import Match, DecryptedValue, describe_place, find_matches
+from ansible_vault_companions.editing.matching import DecryptedValue, Match, describe_place, find_matches
 from ansible_vault_companions.editing.typed_tags import check_tags, refuse_directive
 from ansible_vault_companions.envelopes import conflicts
 from ansible_vault_companions.envelopes.header import MAGIC
-from ansible_vault_companions.envelopes.layout import NOT_UTF_8, Replacement
-from ansible_vault_companions.envelopes.node import ALIAS, NO_SCALAR, PLAIN, Node
-from ansible_vault_companions.envelopes.parsed_text import ParsedText
-from ansible_vault_companions.limits import Effort, require_few_values
+from ansible_vault_companions.envelopes.layout import (
+    NOT_UTF_8,
+    Replacement,
+    apply_replacements,
+    find_column,
+    find_line_end,
+    put_envelope,
+    put_in_quotes,
+    put_plaintext,
+)
+from ansible_vault_companions.envelopes.node import ALIAS, LITERAL, NO_SCALAR, PLAIN, Node
+from ansible_vault_companions.envelopes.parsed_text import ParsedText, parse_nodes, require_nodes
 from ansible_vault_companions.parallel import work_at_once
 from ansible_vault_companions.refusals import Refused
 from ansible_vault_companions.tool import Decrypt, Key, Tool
@@ -27,37 +32,50 @@ from ansible_vault_companions.tool import Decrypt, Key, Tool
 NOT_A_STRING = "is a list, a mapping or a key, not a string; put quotes around a text"
 NOTHING_TYPED = 'is missing after `!vault`; write `""` for an empty one'
 LIKE_A_VAULT = "begins like a vault ($ANSIBLE_VAULT), but is not one, so ansible-vault does not encrypt it"
+NOT_WRITABLE = "its values cannot be written where they are; write each as `NAME: !vault |`"
+
+
+class YamlText:
+    """The text of a file, or of a side of a conflict, with plaintext in place of the values that can be opened."""
+
+    def __init__(self, data: bytes, decrypt: Decrypt) -> None:
+        refuse_directive(data)
+        parsed = require_nodes(data)
+        self.data = data
+        self.tagged = [value for value in parsed.values if value.is_tagged]
+        results = work_at_once(lambda value: _try_to_open(data, value, decrypt), self.tagged)
+        # The values that are shown in plaintext; and those that stay encrypted, and why.
+        self.opened = [each for each in results if isinstance(each, DecryptedValue)]
+        self.faults = [(value, why) for value, why in zip(self.tagged, results) if isinstance(why, Refused)]
+        self.shown = self._show(parsed)
+
+    def _show(self, parsed: ParsedText) -> ParsedText:
+        """The text with blocks where they can be, or else, if a comment below one would be part of it, without any."""
+        texts = {old.value: old.text for old in self.opened}
+        quotes = [put_in_quotes(old.value, old.text.decode()) for old in self.opened]
+        try:
+            return rewrite(parsed, [change for old in self.opened for change in _make_block(self.data, old)], texts)
+        except Refused:
+            return rewrite(parsed, quotes, texts)
 
 
 class YamlDraft:
-    """A file with values that are encrypted or will be. What is edited is its content, or what was merged of a conflict
-    in it."""
+    """A file with values that are encrypted or will be; or the sides of a conflict in it, which are merged as they are
+    shown."""
 
-    def __init__(
-        self, target: str, content: bytes, edited: bytes, decrypt: Decrypt, choice: Choice, effort: Effort
-    ) -> None:
-        refuse_directive(edited)
+    def __init__(self, target: str, content: bytes, sides: list[YamlText], plaintext: bytes, choice: Choice) -> None:
         self.target, self.choice = target, choice
         self.content: bytes | None = content
-        self.edited = edited
-        self.effort = effort
-        parsed = require_nodes(edited, self.effort)
-        self.tagged = {number: value for number, value in enumerate(parsed.values) if value.is_tagged}
-        # The values that are shown in plaintext; and those that stay encrypted, and why.
-        self.opened: dict[int, DecryptedValue] = {}
-        self.faults: list[tuple[Node, Refused]] = []
-        self._open(decrypt)
-        self.shown = self._show(parsed)
-        self.effort.require_third()
-
-    @property
-    def plaintext(self) -> bytes:
-        return self.shown.data
+        self.sides = sides
+        self.plaintext = plaintext
+        self.tagged = [value for side in sides for value in side.tagged]
+        self.opened = [old for side in sides for old in side.opened]
+        self.faults = [fault for side in sides for fault in side.faults]
 
     @property
     def keys(self) -> list[Key]:
         """One key of each password that a value has, or that a new one may get."""
-        keys = [old.decrypted.key for old in self.opened.values()]
+        keys = [old.decrypted.key for old in self.opened]
         if not keys:
             keys = self.choice.list_keys()
         elif self.choice.label is not None:
@@ -67,58 +85,33 @@ class YamlDraft:
         return list({key.password.content: key for key in reversed(keys)}.values())
 
     def is_as_it_was(self, text: bytes) -> bool:
-        is_done = self.content == self.edited and all(value.is_envelope for value in self.tagged.values())
+        is_done = len(self.sides) == 1 and all(value.is_envelope for value in self.tagged)
         return text == self.plaintext and (is_done or conflicts.is_unmerged(text))
 
     def encrypt(self, tool: Tool, text: bytes) -> bytes:
-        if _is_utf_8(self.plaintext) and not _is_utf_8(text):
-            raise Refused("it is no longer UTF-8; save it as UTF-8")
         if conflicts.is_unmerged(text):
             raise Refused(conflicts.STILL)
         refuse_directive(text)
-        # A text before this one may have been refused.
-        effort = copy.copy(self.effort)
-        after = require_nodes(text, effort)
+        after = require_nodes(text)
         closed = {value.text for value, _ in self.faults}
-        typed = {number: value for number, value in enumerate(after.values) if _is_to_be_encrypted(value, closed)}
-        check_tags(self.shown, after)
-        found = find_matches([*self.opened.values()], [*typed.values()], self.choice)
-        matches = dict(zip(typed, found))
-        require_few_values(len(typed))
-        # The others were counted when they were opened.
-        effort.add_runs(max(0, len(typed) - len(self.tagged)))
-        sealed = work_at_once(lambda number: _seal(tool, typed[number], matches[number]), typed, effort)
-        envelopes = dict(zip(typed, sealed))
-        blocks = {number: self._block(text, typed[number], envelopes[number], matches[number]) for number in typed}
-        blocks = {number: block for number, block in blocks.items() if block}
-        return write_values(after, envelopes, blocks, effort).data
-
-    def _open(self, decrypt: Decrypt) -> None:
-        self.effort.add_values(len(self.tagged))
-        results = work_at_once(lambda value: _try_to_open(value, decrypt), self.tagged.values(), self.effort)
-        for (number, value), result in zip(self.tagged.items(), results):
-            if isinstance(result, DecryptedValue):
-                self.opened[number] = result
-            elif result:
-                self.faults.append((value, result))
-
-    def _show(self, parsed: ParsedText) -> ParsedText:
-        """The text with plaintexts in place of the values that were opened, and its tagged values: with all nodes, an
-        edit would need much memory."""
-        texts = {number: old.decrypted.text for number, old in self.opened.items()}
-        blocks = {number: make_plain_block(parsed.data, self.tagged[number], texts[number]) for number in texts}
-        shown = write_values(parsed, texts, {number: block for number, block in blocks.items() if block}, self.effort)
-        return ParsedText(shown.data, [value for value in shown.values if value.is_tagged])
-
-    def _block(self, text: bytes, value: Node, envelope: bytes, match: Match) -> list[Replacement]:
-        """The changes that write an envelope as a block. One that stays is written as it was."""
-        kept = match.kept_value
-        if kept:
-            return [Replacement(value.begin, value.end, self.edited[kept.begin : kept.end])]
-        return make_sealed_block(text, value, envelope, match.before.value if match.before else None)
+        typed = [value for value in after.values if _is_to_be_encrypted(value, closed)]
+        check_tags([side.shown for side in self.sides], after)
+        matches = find_matches(self.opened, typed, self.choice)
+        envelopes = work_at_once(lambda pair: _seal(tool, *pair), zip(typed, matches))
+        changes = [change for pair in zip(typed, matches, envelopes) for change in _write(text, *pair)]
+        return rewrite(after, changes, dict(zip(typed, envelopes))).data
 
 
-def _try_to_open(value: Node, decrypt: Decrypt) -> DecryptedValue | Refused | None:
+def rewrite(parsed: ParsedText, changes: Iterable[Replacement], texts: dict[Node, bytes]) -> ParsedText:
+    """The text with these changes. It is read again: these nodes have the new texts, and all others stay."""
+    after = parse_nodes(apply_replacements(parsed.data, changes))
+    wanted = [(value.path, texts.get(value, value.text)) for value in parsed.values]
+    if after.fault or [(value.path, value.text) for value in after.values] != wanted:
+        raise Refused(NOT_WRITABLE)
+    return after
+
+
+def _try_to_open(data: bytes, value: Node, decrypt: Decrypt) -> DecryptedValue | Refused | None:
     """A value in plaintext, or why it stays encrypted; None if it is not encrypted yet."""
     if not value.is_envelope:
         return None
@@ -131,15 +124,32 @@ def _try_to_open(value: Node, decrypt: Decrypt) -> DecryptedValue | Refused | No
         return fault
     if decrypted.text.strip().startswith(MAGIC):
         return Refused("its plaintext is itself a vault")
-    return DecryptedValue(value, decrypted)
+    return DecryptedValue(value, decrypted, data[value.begin : value.end], find_column(data, value.begin))
+
+
+def _make_block(data: bytes, old: DecryptedValue) -> list[Replacement]:
+    """A block becomes a block if its last line tells where it ends. Any other value gets double quotes."""
+    has_end = old.text.strip() and old.text.rstrip() == old.text.removesuffix(b"\n")
+    if old.value.style == LITERAL and has_end:
+        return put_plaintext(data, old.value, old.text)
+    return [put_in_quotes(old.value, old.text.decode())]
 
 
 def _seal(tool: Tool, value: Node, match: Match) -> bytes:
     """The envelope of a typed value: the one that it had, or a new one."""
-    if match.kept_value:
-        return match.kept_value.text
+    if match.kept:
+        return match.kept.value.text
     assert match.key
     return tool.encrypt(value.text, match.key)
+
+
+def _write(data: bytes, value: Node, match: Match, envelope: bytes) -> list[Replacement]:
+    """Writes an envelope. One that stays where it was is written as it was, if nothing follows in its line."""
+    kept = match.kept
+    if kept and (value.is_flow, find_column(data, value.begin)) == (kept.value.is_flow, kept.column):
+        if value.is_flow or not data[value.end : find_line_end(data, value.end)].strip():
+            return [Replacement(value.begin, value.end, kept.scalar)]
+    return put_envelope(data, value, envelope)
 
 
 def _is_to_be_encrypted(value: Node, closed: set[bytes]) -> bool:
@@ -154,11 +164,3 @@ def _is_to_be_encrypted(value: Node, closed: set[bytes]) -> bool:
     if is_like_a_vault:
         raise Refused(f"{describe_place(value)} {LIKE_A_VAULT}")
     return True
-
-
-def _is_utf_8(text: bytes) -> bool:
-    """Whether it is UTF-8 without null characters, which UTF-16 leaves."""
-    try:
-        return "\0" not in text.decode()
-    except UnicodeDecodeError:
-        return False

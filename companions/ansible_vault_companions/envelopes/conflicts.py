@@ -1,14 +1,10 @@
-"""Git's conflict markers: the sides of a text that has them, their envelopes, and two whole files between them."""
+"""Git's conflict markers: the sides of a text that has them, and two whole files between them."""
 
 from __future__ import annotations
 
 import re
 from collections import Counter
-from collections.abc import Callable, Hashable, Iterator
-
-from ansible_vault_companions.envelopes.node import Node
-from ansible_vault_companions.envelopes.parsed_text import ParsedText, parse_envelopes, parse_nodes
-from ansible_vault_companions.limits import Effort
+from collections.abc import Iterator
 
 # How each marker begins, before each side and at the end.
 OURS_MARKER = b"<" * 7
@@ -55,26 +51,16 @@ def split_parts(text: bytes, is_unmerged: bool = True) -> Iterator[tuple[bytes, 
         yield side, text[place:]
 
 
-def split_sides(text: bytes, is_masked: bool = False) -> dict[bytes, bytes]:
-    """The text of each side, by its marker; empty if there is no whole conflict. If they are masked, the bytes of other
-    lines become newlines, so that all places stay."""
+def split_sides(text: bytes) -> dict[bytes, bytes]:
+    """The text of each side, by its marker; empty if there is no whole conflict."""
     if OURS_MARKER not in text:
         return {}
-    sides = {marker: bytearray() for marker in (OURS_MARKER, BASE_MARKER, THEIRS_MARKER)}
-    markers: set[bytes] = set()
-    last = b""
-    for kind, part in split_parts(text):
-        if kind == IS_MARKER:
-            last = part[: len(END_MARKER)]
-            markers.add(last)
-        for marker, side in sides.items():
-            if kind in (NO_SIDE, marker):
-                side += part
-            elif is_masked:
-                side += b"\n" * len(part)
-    if not markers >= {OURS_MARKER, THEIRS_MARKER, END_MARKER} or last != END_MARKER:
+    parts = [*split_parts(text)]
+    markers = [part[: len(END_MARKER)] for kind, part in parts if kind == IS_MARKER]
+    if not {*markers} >= {OURS_MARKER, THEIRS_MARKER, END_MARKER} or markers[-1] != END_MARKER:
         return {}
-    return {marker: bytes(side) for marker, side in sides.items() if marker in markers}
+    sides = sorted({*markers} - {END_MARKER})
+    return {side: b"".join(part for kind, part in parts if kind in (NO_SIDE, side)) for side in sides}
 
 
 def join_sides(ours: bytes, theirs: bytes) -> bytes:
@@ -82,41 +68,3 @@ def join_sides(ours: bytes, theirs: bytes) -> bytes:
     end = b"\r\n" if b"\r\n" in ours else b"\n"
     texts = [text if not text or text.endswith(b"\n") else text + end for text in (ours, theirs)]
     return OURS_MARKER + b" ours" + end + texts[0] + THEIRS_MARKER + end + texts[1] + END_MARKER + b" theirs" + end
-
-
-def parse_envelopes_of_sides(data: bytes, effort: Effort) -> ParsedText:
-    """The envelopes of a file on all sides. If one of its sides is no YAML, nor is the file."""
-    # A line of several sides may be part of a longer text on one of them.
-    return _parse_sides(data, parse_envelopes, lambda value: value.end, effort)
-
-
-def parse_nodes_of_sides(data: bytes, effort: Effort) -> ParsedText:
-    """The same of every node."""
-    return _parse_sides(data, parse_nodes, lambda value: (value.end, value.start), effort)
-
-
-def _parse_sides(
-    data: bytes, parse: Callable[[bytes, Effort], ParsedText], identify: Callable[[Node], Hashable], effort: Effort
-) -> ParsedText:
-    """The values of all sides, those that are the same once."""
-    effort.begin_version()
-    texts = split_sides(data, is_masked=True).values()
-    if not texts:
-        return parse(data, effort)
-    values: dict[Hashable, Node] = {}
-    for parsed in (parse(text, effort) for text in texts):
-        if parsed.fault:
-            return parse(data, effort)
-        for value in parsed.values:
-            values.setdefault(identify(value), value)
-    ordered = sorted(values.values(), key=lambda value: (value.start, value.end))
-    return ParsedText(data, [*_number_lines(data, ordered)])
-
-
-def _number_lines(data: bytes, values: list[Node]) -> Iterator[Node]:
-    """The values with their lines in the whole text, since each byte of another side was a line."""
-    line, place = 1, 0
-    for value in values:
-        line += data.count(b"\n", place, value.start)
-        place = value.start
-        yield value._replace(line=line)

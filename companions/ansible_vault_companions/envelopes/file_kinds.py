@@ -4,7 +4,6 @@ from __future__ import annotations
 
 from collections.abc import Iterable
 
-from ansible_vault_companions.envelopes.detection import count_headers
 from ansible_vault_companions.envelopes.parsed_text import ParsedText
 from ansible_vault_companions.envelopes.yaml_nodes import BINARY
 
@@ -22,10 +21,8 @@ def is_yaml(path: str) -> bool:
 
 
 def find_fault(parsed: ParsedText, paths: Iterable[str]) -> str:
-    """Why a file that may have an envelope cannot be read: it exceeds a limit, or is no YAML, but one of its paths has
-    the name of it; else empty."""
-    if parsed.is_too_much:
-        return parsed.fault if count_headers(parsed.data) else ""
+    """Why a file that may have an envelope cannot be read: it is no YAML, but one of its paths has the name of it; else
+    empty."""
     if not any(map(is_yaml, paths)):
         return ""
     return parsed.fault if parsed.values or BINARY in parsed.data else ""

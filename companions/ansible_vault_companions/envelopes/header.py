@@ -25,8 +25,6 @@ LONGEST_HEADER = 256
 LONGEST_SALT = 256
 TAG_LENGTH = 32
 CIPHER_BLOCK = 16
-# How many bytes of an envelope are read at once.
-PIECE = 1 << 20
 
 
 def read_label(text: bytes) -> str | None:
@@ -58,28 +56,13 @@ def measure_padded(length: int) -> int:
 
 
 def _read_digits(text: bytes) -> tuple[bytes, ...]:
-    """The salt, tag and ciphertext; empty if the digits have another form."""
+    """The salt, tag and ciphertext; empty if the digits below the first line have another form."""
+    digits = text[len(_read_first_line(text)) :].translate(None, b"\r\n")
     try:
-        inner = _read_body(text)
-        parts = inner.split(b"\n", 2)
-        del inner
-        salt, tag, ciphertext = map(binascii.unhexlify, parts)
+        salt, tag, ciphertext = map(binascii.unhexlify, binascii.unhexlify(digits).split(b"\n", 2))
     except ValueError:
         return b"", b"", b""
     return salt, tag, ciphertext
-
-
-def _read_body(text: bytes) -> bytearray:
-    """What the digits below the first line stand for. A long vault takes much memory, so they are read in pieces."""
-    inner, rest = bytearray(), b""
-    for place in range(len(_read_first_line(text)), len(text), PIECE):
-        digits = rest + text[place : place + PIECE].translate(None, b"\r\n")
-        end = len(digits) - len(digits) % 2
-        inner += binascii.unhexlify(digits[:end])
-        rest = digits[end:]
-    if rest:
-        raise ValueError("the number of digits is odd")
-    return inner
 
 
 def _read_first_line(text: bytes) -> bytes:

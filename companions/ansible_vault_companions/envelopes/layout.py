@@ -6,7 +6,6 @@ import re
 from typing import Iterable, NamedTuple
 
 from ansible_vault_companions.envelopes.node import LITERAL, STRAY, WHOLE, Node
-from ansible_vault_companions.limits import LONGEST_MARGIN, MARGIN_TOO_LONG, TooMuch
 from ansible_vault_companions.refusals import Refused
 
 # What YAML does not allow, or takes for the end of a line. Python compiles it slowly, and a set of all others ten times
@@ -30,7 +29,7 @@ class Replacement(NamedTuple):
 
 def apply_replacements(data: bytes, changes: Iterable[Replacement]) -> bytes:
     pieces, place = [], 0
-    for change in sorted(changes):
+    for change in sorted(changes, key=lambda change: change.start):
         pieces += [data[place : change.start], change.text]
         place = change.end
     return b"".join([*pieces, data[place:]])
@@ -38,8 +37,6 @@ def apply_replacements(data: bytes, changes: Iterable[Replacement]) -> bytes:
 
 def indent_lines(text: bytes, margin: bytes, end: bytes) -> bytes:
     """The text with this line ending, and with a margin before each line that is not empty."""
-    if len(margin) > LONGEST_MARGIN:
-        raise TooMuch(MARGIN_TOO_LONG)
     return end.join(margin + line if line else b"" for line in text.split(b"\n"))
 
 
@@ -70,6 +67,21 @@ def put_plaintext(data: bytes, value: Node, text: bytes) -> list[Replacement]:
 def _can_be_shown(text: str) -> bool:
     """Whether a literal can have a text. If all of it is printable, the pattern is not even compiled."""
     return text.replace("\n", "").isprintable() or not re.search(UNSHOWN, text)
+
+
+def put_envelope(data: bytes, value: Node, envelope: bytes) -> list[Replacement]:
+    """Puts an envelope in place of a text: as a block, as Ansible's tool writes it, or within brackets in double quotes.
+    What follows a block's header in its line stays."""
+    if value.is_flow:
+        return [Replacement(value.begin, value.end, b'"%s"' % envelope.replace(b"\n", b"\\n"))]
+    # Ansible's tool indents by ten.
+    margin = b" " * (find_column(data, value.begin) + 10)
+    lines = indent_lines(envelope.rstrip(b"\n"), margin, value.ending)
+    header = BLOCK_HEADER.match(data, value.begin)
+    # Empty lines above a typed text go with it: Ansible reads no envelope below one.
+    end = header.end() if header else value.end
+    place = find_line_end(data, end)
+    return [Replacement(value.begin, end, b"|"), Replacement(place, max(place, value.end), value.ending + lines)]
 
 
 def put_in_quotes(value: Node, text: str) -> Replacement:

@@ -61,8 +61,9 @@ class Node(NamedTuple):
     tag: str = ""
     # The name of its anchor, or of the one that an alias stands for; empty if there is none.
     anchor: str = ""
-    # Whether it is a key, or part of one.
+    # Whether it is a key, or part of one; and whether it is within brackets, where no block can be.
     is_key: bool = False
+    is_flow: bool = False
 
     @property
     def typed_path(self) -> str:

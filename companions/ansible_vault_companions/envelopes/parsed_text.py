@@ -12,7 +12,6 @@ from __future__ import annotations
 
 from collections.abc import Callable, Iterable, Iterator
 
-from ansible_vault_companions import bounding
 from ansible_vault_companions.envelopes.detection import may_have_envelope
 from ansible_vault_companions.envelopes.header import MAGIC
 from ansible_vault_companions.envelopes.key_paths import leads_to, parse_path
@@ -20,7 +19,6 @@ from ansible_vault_companions.envelopes.layout import apply_replacements, replac
 from ansible_vault_companions.envelopes.node import WHOLE, WITH_DIGITS, Node
 from ansible_vault_companions.envelopes.strays import find_strays
 from ansible_vault_companions.envelopes.yaml_nodes import BINARY, NotYaml, read_envelopes, read_nodes
-from ansible_vault_companions.limits import Effort, TooMuch
 from ansible_vault_companions.quoting import escape
 from ansible_vault_companions.refusals import Refused
 
@@ -41,15 +39,17 @@ class ParsedText:
         self.is_prose = is_prose
         # What parse_envelopes or parse_nodes finds.
         self.values = [*values]
-        # Why it cannot be read as YAML, empty if it can or need not be; and whether it exceeds a limit.
+        # Why it cannot be read as YAML, empty if it can or need not be.
         self.fault = fault
-        self.is_too_much = False
-        # Whether a null character keeps an envelope that is mentioned elsewhere from being found.
-        self.hides_envelope = False
 
     @property
     def is_vault(self) -> bool:
         return self.data.startswith(MAGIC)
+
+    @property
+    def hides_envelope(self) -> bool:
+        """Whether a null character keeps an envelope that is mentioned elsewhere from being found."""
+        return not self.is_vault and BINARY in self.data and WITH_DIGITS.search(self.data) is not None
 
     def number_envelopes(self) -> dict[int, Node]:
         """The envelopes by their numbers. A value that only has the tag is none."""
@@ -87,49 +87,40 @@ class ParsedText:
         return values[0]
 
 
-def parse_envelopes(data: bytes, effort: Effort | None = None, is_prose: bool = False) -> ParsedText:
-    """The envelopes of a file or of a plaintext, and the scalars that have the tag. This may be one of several texts of
-    a file, which share an effort."""
-    if data.startswith(MAGIC):
-        return ParsedText(data, [_make_vault(data)])
-    parsed = ParsedText(data, is_prose=is_prose)
-    if may_have_envelope(data):
-        effort = effort or Effort(len(data))
-        if not is_prose:
-            _read_yaml(parsed, read_envelopes, effort)
-        with bounding.limit_work(effort):
-            _add_strays(parsed)
-    return parsed
-
-
-def parse_nodes(data: bytes, effort: Effort | None = None) -> ParsedText:
-    """Every node of a text in YAML, which may be one of several texts of a file, which share an effort."""
-    if data.startswith(MAGIC):
-        return ParsedText(data, [_make_vault(data)])
-    parsed = ParsedText(data)
-    _read_yaml(parsed, read_nodes, effort or Effort(len(data)))
-    return parsed
-
-
-def _read_yaml(parsed: ParsedText, read: Callable[[bytes, Effort], Iterator[Node]], effort: Effort) -> None:
-    try:
-        with bounding.limit_work(effort):
-            parsed.values = list(read(parsed.data, effort))
-    except (NotYaml, TooMuch) as fault:
-        parsed.fault = str(fault)
-        parsed.is_too_much = isinstance(fault, TooMuch)
-
-
-def _add_strays(parsed: ParsedText) -> None:
-    """Adds the envelopes outside of YAML values, unless the data is no text."""
-    if BINARY in parsed.data:
-        parsed.hides_envelope = WITH_DIGITS.search(parsed.data) is not None
-    else:
-        parsed.values += find_strays(parsed.data, parsed.values, parsed.is_prose)
+def parse_envelopes(data: bytes, is_prose: bool = False) -> ParsedText:
+    """The envelopes of a file or of a plaintext, and the scalars that have the tag."""
+    if data.startswith(MAGIC) or not may_have_envelope(data):
+        return ParsedText(data, _list_vault(data), is_prose=is_prose)
+    parsed = ParsedText(data, is_prose=True) if is_prose else _read_yaml(data, read_envelopes)
+    if BINARY not in data:
+        parsed.values += find_strays(data, parsed.values, is_prose)
         parsed.values.sort(key=lambda value: value.start)
+    return parsed
 
 
-def _make_vault(data: bytes) -> Node:
-    """The whole of a file as an envelope."""
+def parse_nodes(data: bytes) -> ParsedText:
+    """Every node of a text in YAML."""
+    return ParsedText(data, _list_vault(data)) if data.startswith(MAGIC) else _read_yaml(data, read_nodes)
+
+
+def require_nodes(data: bytes) -> ParsedText:
+    """Every node of a text, which must be YAML."""
+    parsed = parse_nodes(data)
+    if parsed.fault:
+        raise Refused(parsed.fault)
+    return parsed
+
+
+def _read_yaml(data: bytes, read: Callable[[bytes], Iterator[Node]]) -> ParsedText:
+    try:
+        return ParsedText(data, read(data))
+    except NotYaml as fault:
+        return ParsedText(data, fault=str(fault))
+
+
+def _list_vault(data: bytes) -> list[Node]:
+    """The whole of a file as an envelope, if it is one."""
+    if not data.startswith(MAGIC):
+        return []
     ending = b"\r\n" if b"\r\n" in data else b"\n"
-    return Node(path=(), style=WHOLE, line=0, begin=0, start=0, end=len(data), margin=b"", ending=ending, text=data)
+    return [Node(path=(), style=WHOLE, line=0, begin=0, start=0, end=len(data), margin=b"", ending=ending, text=data)]

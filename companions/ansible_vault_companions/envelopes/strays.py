@@ -4,7 +4,7 @@ from __future__ import annotations
 
 import re
 from bisect import bisect_right
-from typing import Iterator, NamedTuple
+from collections.abc import Iterator
 
 from ansible_vault_companions.envelopes.node import LOOSE, STRAY, WITH_DIGITS, Node
 
@@ -15,78 +15,33 @@ LINES_OF_STRAY = (
 )
 
 
-class _Header(NamedTuple):
-    """A header with digits, and the line that it is in."""
-
-    match: re.Match[bytes]
-    number: int
-    # Where the line begins; None if another header precedes this one in it.
-    line_start: int | None
-
-
 def find_strays(data: bytes, values: list[Node], is_prose: bool = False) -> Iterator[Node]:
     """The envelopes outside of these values, and those within the text of one that is no envelope, but has the tag."""
     starts = [value.start for value in values]
     # After empty lines alone, Ansible reads neither a vault nor a value. A document may begin with an example.
     first = -1 if is_prose else len(data) - len(data.lstrip())
-    for header in _find_headers(data):
-        place = header.match.start()
-        before = bisect_right(starts, place) - 1
-        value = values[before] if before >= 0 and place < values[before].end else None
-        if value and value.is_envelope:
-            continue
-        lines = None if value or place == first else _match_lines(data, header)
-        if lines:
-            yield _make_stray(header.number, place, lines)
-        else:
-            yield _make_loose(header.number, header.match)
-
-
-def _find_headers(data: bytes) -> Iterator[_Header]:
     number, place = 1, 0
-    line_start: int | None = 0
-    for match in WITH_DIGITS.finditer(data):
-        line_ends = data.count(b"\n", place, match.start())
-        number += line_ends
-        if line_ends:
-            line_start = data.rfind(b"\n", place, match.start()) + 1
-        yield _Header(match, number, line_start)
-        place, line_start = match.start(), None
+    for header in WITH_DIGITS.finditer(data):
+        begin = header.start()
+        is_first_of_line = place == 0 or b"\n" in data[place:begin]
+        number += data.count(b"\n", place, begin)
+        place = begin
+        before = bisect_right(starts, begin) - 1
+        value = values[before] if before >= 0 and begin < values[before].end else None
+        if not (value and value.is_envelope):
+            # Only the first header in a line can have lines, so each line is read once.
+            can_have_lines = is_first_of_line and not value and begin != first
+            yield _make_stray(data, header, number, can_have_lines)
 
 
-def _match_lines(data: bytes, header: _Header) -> re.Match[bytes] | None:
-    """The lines of an envelope that has this header, if a margin alone precedes it and each line has this margin. So
-    only the first header in a line can have them, and each line is read once."""
-    if header.line_start is None:
-        return None
-    lines = re.compile(LINES_OF_STRAY).match(data, header.line_start)
-    return lines if lines and lines.end("margin") == header.match.start() else None
-
-
-def _make_stray(number: int, place: int, lines: re.Match[bytes]) -> Node:
+def _make_stray(data: bytes, header: re.Match[bytes], number: int, can_have_lines: bool) -> Node:
+    """An envelope whose lines have one margin, or a loose one."""
+    begin = header.start()
+    line_start = data.rfind(b"\n", 0, begin) + 1
+    lines = re.compile(LINES_OF_STRAY).match(data, line_start) if can_have_lines else None
+    if not lines or lines.end("margin") != begin:
+        return Node((), LOOSE, number, begin, begin, header.end(), b"", b"\n", header[0])
     margin = lines["margin"]
-    return Node(
-        path=(),
-        style=STRAY,
-        line=number,
-        begin=place,
-        start=lines.start(),
-        end=lines.end(),
-        margin=margin,
-        ending=b"\r\n" if b"\r\n" in lines[0] else b"\n",
-        text=b"".join(line[len(margin) :] + b"\n" for line in lines[0].splitlines()),
-    )
-
-
-def _make_loose(number: int, header: re.Match[bytes]) -> Node:
-    return Node(
-        path=(),
-        style=LOOSE,
-        line=number,
-        begin=header.start(),
-        start=header.start(),
-        end=header.end(),
-        margin=b"",
-        ending=b"\n",
-        text=header[0],
-    )
+    text = b"".join(line[len(margin) :] + b"\n" for line in lines[0].splitlines())
+    ending = b"\r\n" if b"\r\n" in lines[0] else b"\n"
+    return Node((), STRAY, number, begin, lines.start(), lines.end(), margin, ending, text)

@@ -1,20 +1,15 @@
-"""The nodes of a YAML file, as PyYAML reads them. Ansible uses PyYAML as well.
-
-PyYAML gets one character for each byte, so that a mark counts bytes, and so that no byte keeps it from reading a file.
-"""
+"""The nodes of a YAML file, as PyYAML reads them. Ansible uses PyYAML as well."""
 
 from __future__ import annotations
 
-import codecs
-import io
 import re
 import sys
+from collections.abc import Callable, Iterator
 from functools import lru_cache
-from typing import Any, Callable, Iterator, Union
+from typing import Any, Union
 
-from ansible_vault_companions import limits
 from ansible_vault_companions.envelopes.header import LINE_END, MAGIC
-from ansible_vault_companions.envelopes.key_paths import MERGE, MERGE_TAG, KeyPath
+from ansible_vault_companions.envelopes.key_paths import MERGE, MERGE_TAG
 from ansible_vault_companions.envelopes.node import (
     ALIAS,
     FOLDED,
@@ -26,27 +21,12 @@ from ansible_vault_companions.envelopes.node import (
     WITH_DIGITS,
     Node,
 )
-from ansible_vault_companions.limits import Effort, TooMuch
 from ansible_vault_companions.quoting import escape
 from ansible_vault_companions.refusals import Refused
 
 BYTE_ORDER_MARK = b"\xef\xbb\xbf"
 # YAML has no such character, but other files do, in which escapes mean nothing.
 BINARY = b"\0"
-# A line that may make a tag another one. Most files have none, so this is compiled when it is needed, and so are the
-# patterns for escapes.
-DIRECTIVE = rb"(?:\A(?:\xef\xbb\xbf)?|[\r\n])%TAG[^\r\n]*"
-
-# YAML allows each of these characters, and a name gets its bytes back.
-SHADOW = "".join(chr(byte) if 0x20 <= byte < 0x7F or byte in b"\t\n\r" else chr(0xE000 + byte) for byte in range(256))
-# Half of a character, as JSON has it and libyaml refuses it: within JSON, another character takes its place at first.
-SURROGATE = rb"(?<!\\)((?:\\\\)*\\u)[dD](?=[89a-fA-F][0-9a-fA-F]{2})"
-# Any escape in double quotes. The first ones are of two halves, of half a character, and of what stands for a byte.
-ESCAPE = (
-    rb"(?s)(?P<pair>\\u[dD][89abAB][0-9a-fA-F]{2}\\u[dD][c-fC-F][0-9a-fA-F]{2})"
-    rb"|(?P<half>\\(?:u|U0000)[dD][89a-fA-F])|\\(?:u|U0000)(?P<shadow>[eE]0[0-9a-fA-F]{2})|\\."
-)
-MAY_BE_MISREAD = rb"\\(?:u|U0000)(?:[dD][89a-fA-F]|[eE]0)"
 # What precedes the text of a scalar: tag, anchor, comments. A tag, as `!<a,b>`, ends at white space or with the scalar.
 PROPERTIES = re.compile(rb"(?:(?:![^ \t\r\n]*|&[-\w]*)(?:[ \t\r\n]|(?<=[ \t\r\n])#[^\r\n]*)*)*")
 # The first line of a block with text.
@@ -60,8 +40,9 @@ NO_PYYAML = (
 )
 NOT_YAML = "it cannot be read as YAML: {}"
 WRONG_SYNTAX = "its syntax is wrong"
-NULL = "it has a null character"
+NULL = "it has a null character; save it as UTF-8"
 HALF = "it has half a character"
+NOT_UTF_8 = "it is not UTF-8; save it as UTF-8"
 # The key or number of the next node in each collection; None while a key comes next.
 Steps = list[Union[str, int, None]]
 
@@ -80,110 +61,72 @@ def require_pyyaml() -> Any:
     return yaml
 
 
-def read_envelopes(data: bytes, effort: Effort | None = None) -> Iterator[Node]:
-    """The values among the scalars: those that have the tag or an envelope. Raises NotYaml, or TooMuch. This may be one
-    of several texts of a file, which share an effort."""
-    return _read_wanted(data, effort, lambda path, _is_key, event: _is_value(path, event))
+def read_envelopes(data: bytes) -> Iterator[Node]:
+    """The values among the scalars: those that have the tag or an envelope. Raises NotYaml."""
+    return _read_wanted(data, lambda steps, event: _is_value(steps, event))
 
 
-def read_nodes(data: bytes, effort: Effort | None = None) -> Iterator[Node]:
-    """Every node, but of the scalars that are keys only values. Otherwise like read_envelopes."""
-    return _read_wanted(data, effort, _is_node)
+def read_nodes(data: bytes) -> Iterator[Node]:
+    """Every node, but of the scalars that are keys only values. Raises NotYaml."""
+    return _read_wanted(data, _is_node)
 
 
-def _is_node(path: Steps, is_key: bool, event: Any) -> bool:
-    return not (is_key and hasattr(event, "value")) or _is_value(path, event)
+def _is_node(steps: Steps, event: Any) -> bool:
+    is_plain_key = steps[-1:] == [None] and hasattr(event, "value")
+    return not is_plain_key or _is_value(steps, event)
 
 
-def _read_wanted(data: bytes, effort: Effort | None, is_wanted: Callable[[Steps, bool, Any], bool]) -> Iterator[Node]:
-    _require_readable(data)
-    effort = effort or Effort()
+def _read_wanted(data: bytes, is_wanted: Callable[[Steps, Any], bool]) -> Iterator[Node]:
     skipped = len(BYTE_ORDER_MARK) if data.startswith(BYTE_ORDER_MARK) else 0
+    text = _decode(data[skipped:])
+    places = _Places(text, skipped)
     ending = b"\r\n" if b"\r\n" in data else b"\n"
-    for path, is_key, event in _walk(require_pyyaml(), data[skipped:]):
-        if is_wanted(path, is_key, event):
-            effort.add(1 + len(path))
-            yield _make_node(data, skipped, ending, path, event)
-        else:
-            effort.add(1)
+    for steps, is_flow, event in _walk(text):
+        if is_wanted(steps, event):
+            yield _make_node(data, places, ending, steps, is_flow, event)
 
 
-def _require_readable(data: bytes) -> None:
+def _decode(data: bytes) -> str:
     if BINARY in data:
         raise NotYaml(NOT_YAML.format(NULL))
-    if len(data) > limits.LONGEST_PLAINTEXT:
-        raise TooMuch(limits.TOO_LONG)
-    directives = re.finditer(DIRECTIVE, data) if b"%TAG" in data else ()
-    if sum(len(directive[0]) for directive in directives) > limits.LONGEST_DIRECTIVES:
-        raise TooMuch(limits.DIRECTIVES_TOO_LONG)
-
-
-class _Shadow(io.RawIOBase):
-    """The characters, in pieces, since libyaml copies what it gets."""
-
-    def __init__(self, data: bytes) -> None:
-        self.data = data
-        if _may_be_misread(data) and re.search(SURROGATE, data) and _is_json(data):
-            self.data = re.sub(SURROGATE, rb"\1e", data)
-        self.place = 0
-
-    def read(self, size: int = -1) -> str:  # type: ignore[override]
-        piece = self.data[self.place : self.place + size]
-        self.place += size
-        return codecs.charmap_decode(piece, "strict", SHADOW)[0]  # type: ignore[arg-type]
-
-
-def _may_be_misread(data: bytes) -> bool:
-    """Whether a text may have an escape of half a character, or of what stands for a byte."""
-    return b"\\" in data and re.search(MAY_BE_MISREAD, data) is not None
-
-
-def _is_json(data: bytes) -> bool:
-    # Most files have no escapes.
-    import json
-
     try:
-        json.loads(data)
-    except (ValueError, RecursionError):
-        return False
-    return True
+        return data.decode()
+    except UnicodeDecodeError:
+        raise NotYaml(NOT_YAML.format(NOT_UTF_8)) from None
 
 
-class _BytesOfCharacters(dict[int, bytes]):
-    def __missing__(self, code: int) -> bytes:
-        self[code] = bytes([code - 0xE000]) if 0xE000 <= code <= 0xE0FF else chr(code).encode(errors="replace")
-        return self[code]
+class _Places:
+    """Finds the bytes at which characters of a text begin. Nearly all are asked for in order."""
+
+    def __init__(self, text: str, skipped: int) -> None:
+        self.text = text
+        self.character, self.byte = 0, skipped
+
+    def find(self, character: int) -> int:
+        if character < self.character:
+            return self.byte - len(self.text[character : self.character].encode())
+        self.byte += len(self.text[self.character : character].encode())
+        self.character = character
+        return self.byte
 
 
-def _remove_shadow(text: str) -> bytes:
-    characters: Any = _BytesOfCharacters()
-    return text.encode() if text.isascii() else codecs.charmap_encode(text, "strict", characters)[0]
-
-
-def _walk(yaml: Any, data: bytes) -> Iterator[tuple[Steps, bool, Any]]:
-    """Each scalar, alias and beginning of a collection, the steps to it, and whether it is a key."""
+def _walk(text: str) -> Iterator[tuple[Steps, bool, Any]]:
+    """Each scalar, alias and beginning of a collection, the steps to it, and whether it is within brackets."""
+    yaml = require_pyyaml()
     steps: Steps = []
-    mapping = yaml.MappingStartEvent
-    scalar = yaml.ScalarEvent
-    starts = (mapping, yaml.SequenceStartEvent)
-    ends = (yaml.MappingEndEvent, yaml.SequenceEndEvent)
-    nodes = (scalar, yaml.AliasEvent, *starts)
-    may_be_misread = _may_be_misread(data)
-    for event in _parse(yaml, data):
-        kind = type(event)
-        if may_be_misread and kind is scalar and event.style == '"':
-            event.value = _read_quoted(yaml, data, event)
-        if kind in nodes:
-            yield steps, steps[-1:] == [None], event
-        if kind in starts:
-            steps.append(None if kind is mapping else 0)
-            if len(steps) > limits.DEEPEST:
-                raise TooMuch(limits.TOO_DEEP)
-        elif kind in ends:
+    are_flow = [False]
+    for event in _parse(yaml, text):
+        if isinstance(event, yaml.CollectionEndEvent):
             steps.pop()
+            are_flow.pop()
             _pass_node(steps, "")
-        elif kind in nodes:
-            _pass_node(steps, _find_name(event))
+        elif isinstance(event, yaml.NodeEvent):
+            yield steps, are_flow[-1], event
+            if isinstance(event, yaml.CollectionStartEvent):
+                steps.append(None if isinstance(event, yaml.MappingStartEvent) else 0)
+                are_flow.append(bool(event.flow_style))
+            else:
+                _pass_node(steps, _find_name(event))
 
 
 def _find_name(event: Any) -> str:
@@ -191,64 +134,36 @@ def _find_name(event: Any) -> str:
     return MERGE if getattr(event, "tag", None) == MERGE_TAG else getattr(event, "value", "")
 
 
-def _parse(yaml: Any, data: bytes) -> Iterator[Any]:
+def _parse(yaml: Any, text: str) -> Iterator[Any]:
     loader = getattr(yaml, "CSafeLoader", yaml.SafeLoader)
     try:
-        yield from yaml.parse(_Shadow(data), loader)
+        yield from yaml.parse(text, loader)
     except yaml.YAMLError as fault:
         mark = getattr(fault, "problem_mark", None)
         where = f"line {mark.line + 1}: " if mark else ""
         # Without libyaml, PyYAML says what is wrong with words of the file.
-        why = WRONG_SYNTAX if loader is yaml.SafeLoader else getattr(fault, "problem", None) or fault
+        why = WRONG_SYNTAX if loader is yaml.SafeLoader else getattr(fault, "problem", None) or WRONG_SYNTAX
         raise NotYaml(where + NOT_YAML.format(why)) from None
 
 
-def _read_quoted(yaml: Any, data: bytes, event: Any) -> str:
-    """The text in double quotes, read with characters in place of escapes that would be taken for bytes."""
-    properties = PROPERTIES.match(data, event.start_mark.index, event.end_mark.index)
-    assert properties
-    source = data[properties.end() : event.end_mark.index]
-    if not _may_be_misread(source):
-        return str(event.value)
-    source = re.sub(ESCAPE, lambda escape: _write_character(escape, event), source)
-    return "".join(event.value for event in _parse(yaml, source) if hasattr(event, "value"))
-
-
-def _write_character(escape: re.Match[bytes], event: Any) -> bytes:
-    """The character of an escape, as UTF-8, if it would be misread."""
-    if escape["half"]:
-        raise NotYaml(f"line {event.start_mark.line + 1}: " + NOT_YAML.format(HALF))
-    digits = escape["shadow"] or (escape["pair"] or b"").replace(b"\\u", b"")
-    return bytes.fromhex(digits.decode()).decode("utf-16-be").encode() or escape[0]
-
-
 def _pass_node(steps: Steps, key: str) -> None:
-    """Goes on after a node of the innermost collection. If the node is a key, its value comes next. Equal keys are one
-    string, which takes memory once, however many nodes are below."""
-    if not steps:
-        return
-    step = steps[-1]
-    if isinstance(step, int):
-        steps[-1] = step + 1
-    elif step is None:
-        if len(key) > limits.LONGEST_KEY:
-            raise TooMuch(limits.KEY_TOO_LONG)
-        steps[-1] = sys.intern(_remove_shadow(key).decode(errors="replace"))
-    else:
-        steps[-1] = None
+    """Goes on after a node of the innermost collection. If the node is a key, its value comes next."""
+    if steps:
+        step = steps[-1]
+        steps[-1] = step + 1 if isinstance(step, int) else key if step is None else None
 
 
 def _is_value(steps: Steps, event: Any) -> bool:
     text = getattr(event, "value", None)
     if text is None:
         return False
-    is_tagged = event.tag in TAGS or JSON_KEY in steps[-1:]
-    return is_tagged or text.startswith(HEADER_WORD) and bool(WITH_DIGITS.match(_remove_shadow(text)))
+    is_tagged = event.tag in TAGS or steps[-1:] == [JSON_KEY]
+    return is_tagged or text.startswith(HEADER_WORD) and bool(WITH_DIGITS.match(text.encode(errors="replace")))
 
 
-def _make_node(data: bytes, skipped: int, ending: bytes, steps: Steps, event: Any) -> Node:
-    first = event.start_mark.index + skipped
-    end = event.end_mark.index + skipped
+def _make_node(data: bytes, places: _Places, ending: bytes, steps: Steps, is_flow: bool, event: Any) -> Node:
+    first = places.find(event.start_mark.index)
+    end = places.find(event.end_mark.index)
     properties = PROPERTIES.match(data, first, end)
     assert properties
     begin = properties.end()
@@ -259,7 +174,7 @@ def _make_node(data: bytes, skipped: int, ending: bytes, steps: Steps, event: An
     line = FIRST_LINE.match(data, begin, end) if style == LITERAL else None
     start = line.start("margin") if line else begin
     return Node(
-        path=_make_path(steps),
+        path=tuple("" if step is None else step for step in steps),
         style=style,
         line=event.start_mark.line + 1 + len(LINE_END.findall(data, first, start)),
         begin=begin,
@@ -271,6 +186,7 @@ def _make_node(data: bytes, skipped: int, ending: bytes, steps: Steps, event: An
         tag=getattr(event, "tag", None) or "",
         anchor=event.anchor or "",
         is_key=None in steps,
+        is_flow=is_flow,
     )
 
 
@@ -282,12 +198,8 @@ def _find_style(event: Any) -> str:
 
 def _read_text(steps: Steps, event: Any) -> bytes:
     """The text of a scalar. White space around an envelope does not count."""
-    text = _remove_shadow(getattr(event, "value", ""))
+    try:
+        text: bytes = getattr(event, "value", "").encode()
+    except UnicodeEncodeError:
+        raise NotYaml(f"line {event.start_mark.line + 1}: " + NOT_YAML.format(HALF)) from None
     return text.strip() + b"\n" if _is_value(steps, event) and text.strip().startswith(MAGIC) else text
-
-
-def _make_path(steps: Steps) -> KeyPath:
-    path = tuple("" if step is None else step for step in steps)
-    if sum(len(step) for step in path if isinstance(step, str)) > limits.LONGEST_PATH:
-        raise TooMuch(limits.PATH_TOO_LONG)
-    return path

@@ -10,7 +10,6 @@ from typing import NamedTuple
 from ansible_vault_companions.envelopes import conflicts
 from ansible_vault_companions.envelopes.header import MAGIC
 from ansible_vault_companions.envelopes.pointers import refuse_pointer
-from ansible_vault_companions.limits import Effort
 from ansible_vault_companions.merging.line_merge import MOST_CONFLICTS, Versions
 from ansible_vault_companions.merging.value_merge import ValueMerge
 from ansible_vault_companions.merging.vault_merge import VaultMerge
@@ -27,7 +26,7 @@ class MergedFile(NamedTuple):
     why: str = ""
 
 
-def merge_file(tool: Tool, decrypt: Decrypt, versions: Versions, chosen: Key | None, effort: Effort) -> MergedFile:
+def merge_file(tool: Tool, decrypt: Decrypt, versions: Versions, chosen: Key | None) -> MergedFile:
     """The merged file, with markers around what could not be merged. The chosen key counts only if it is unclear which
     password a text gets."""
     ours, base, theirs = versions
@@ -39,27 +38,27 @@ def merge_file(tool: Tool, decrypt: Decrypt, versions: Versions, chosen: Key | N
             refuse_pointer(text)
         are_vaults = [text.startswith(MAGIC) for text in (ours, theirs)]
         if all(are_vaults):
-            return MergedFile(_merge_vaults(tool, decrypt, versions, chosen, effort))
+            return MergedFile(_merge_vaults(tool, decrypt, versions, chosen))
         if any(are_vaults):
             raise Refused(KINDS_DIFFER)
-        return _merge_values(tool, decrypt, versions, chosen, effort)
+        return _merge_values(tool, decrypt, versions, chosen)
     except Refused as fault:
         return MergedFile(conflicts.join_sides(ours, theirs), NOT_MERGED.format(fault))
 
 
-def _merge_vaults(tool: Tool, decrypt: Decrypt, versions: Versions, chosen: Key | None, effort: Effort) -> bytes:
-    vaults = VaultMerge(decrypt, versions, effort)
+def _merge_vaults(tool: Tool, decrypt: Decrypt, versions: Versions, chosen: Key | None) -> bytes:
+    vaults = VaultMerge(decrypt, versions)
     key = vaults.choose_key(chosen)
     if vaults.merged_lines.conflicts:
         raise Refused(vaults.why)
     return vaults.encrypt(tool, vaults.merged_lines.text, key)
 
 
-def _merge_values(tool: Tool, decrypt: Decrypt, versions: Versions, chosen: Key | None, effort: Effort) -> MergedFile:
+def _merge_values(tool: Tool, decrypt: Decrypt, versions: Versions, chosen: Key | None) -> MergedFile:
     if versions.base.startswith(MAGIC) or conflicts.is_unmerged(versions.base):
         # A base that was a vault has no lines for a conflict. One that is a conflict, as in a crossed history, is none.
         versions = versions._replace(base=b"")
-    content, count = ValueMerge(decrypt, versions, chosen, effort).merge(tool)
+    content, count = ValueMerge(decrypt, versions, chosen).merge(tool)
     if count == 0:
         return MergedFile(content)
     return MergedFile(content, _describe_conflicts(count))

@@ -5,10 +5,8 @@ from __future__ import annotations
 import os
 from typing import NamedTuple
 
-from ansible_vault_companions import bounding
 from ansible_vault_companions.envelopes.conflicts import END_MARKER
 from ansible_vault_companions.git import commands
-from ansible_vault_companions.limits import Effort
 from ansible_vault_companions.refusals import Refused
 
 # The names of the sides in git's conflict markers.
@@ -36,9 +34,8 @@ class MergedLines(NamedTuple):
     conflicts: int
 
 
-def merge_lines(versions: Versions, effort: Effort) -> MergedLines:
-    """The result of git's merge, which has the time that is left. The texts are passed in memory, never on disk."""
-    effort.begin_version()
+def merge_lines(versions: Versions) -> MergedLines:
+    """The result of git's merge. The texts are passed in memory, never on disk."""
     files = [os.memfd_create("version") for _ in versions]
     for file, text in zip(files, versions):
         with open(file, "wb", closefd=False) as writer:
@@ -46,8 +43,7 @@ def merge_lines(versions: Versions, effort: Effort) -> MergedLines:
     names = [word for side in SIDES for word in ("-L", side)]
     words = ["merge-file", "-p", *names, *(f"/proc/self/fd/{file}" for file in files)]
     try:
-        with bounding.count_programs(effort):
-            done = commands.run_git_command(*words, pass_fds=files)
+        done = commands.run_git_command(*words, pass_fds=files)
     finally:
         for file in files:
             os.close(file)

@@ -1,73 +1,155 @@
-"""Merges three versions of a file with envelopes that is no vault."""
+"""Merges three versions of a file with envelopes that is no vault.
+
+A token stands for each envelope while git merges the lines. It is the same for values that mean the same and are laid
+out alike. One that a password decrypts means its text under the key that it has in the result. Any other means itself.
+"""
 
 from __future__ import annotations
 
-from collections import Counter
+import os
+import re
+from collections import Counter, defaultdict
+from collections.abc import Hashable
+from functools import partial
+from typing import NamedTuple
 
 from ansible_vault_companions.envelopes import conflicts
-from ansible_vault_companions.envelopes.layout import apply_replacements
-from ansible_vault_companions.envelopes.node import LOOSE, Node
+from ansible_vault_companions.envelopes.layout import Replacement, apply_replacements, replace_envelope
+from ansible_vault_companions.envelopes.node import LITERAL, LOOSE, STRAY, Node
 from ansible_vault_companions.envelopes.parsed_text import ParsedText, parse_envelopes
-from ansible_vault_companions.limits import Effort, require_few_values
-from ansible_vault_companions.merging.equality import Meanings
-from ansible_vault_companions.merging.line_merge import OURS, SIDES, THEIRS, MergedLines, Versions, merge_lines
-from ansible_vault_companions.merging.restoration import Restoration
-from ansible_vault_companions.merging.tokens import Tokens
+from ansible_vault_companions.merging.line_merge import BASE, OURS, SIDES, THEIRS, MergedLines, Versions, merge_lines
+from ansible_vault_companions.merging.result_key import choose_value_key
+from ansible_vault_companions.parallel import work_at_once
 from ansible_vault_companions.refusals import Refused
-from ansible_vault_companions.tool import Decrypt, Key, Tool
+from ansible_vault_companions.tool import Decrypt, Decryption, Key, Tool
 
 MERGED_NOT_YAML = "git can merge its lines, but then {}"
 HAS_MARKERS = "it has lines that look like git's conflict markers"
 NEW_VALUE = "git can merge its lines, but the result has a value that neither side has"
+SIDE_BY_MARKER = {conflicts.OURS_MARKER: OURS, conflicts.BASE_MARKER: BASE, conflicts.THEIRS_MARKER: THEIRS}
+
+
+class Use(NamedTuple):
+    """A value of a version, and its bytes there, with those before the envelope."""
+
+    value: Node
+    scalar: bytes
 
 
 class ValueMerge:
     """Three versions of a file, and what their envelopes mean."""
 
-    def __init__(self, decrypt: Decrypt, versions: Versions, chosen: Key | None, effort: Effort) -> None:
-        self.effort = effort
-        self.parsed_versions = {side: _parse_version(data, effort) for side, data in zip(SIDES, versions)}
-        self.values = {side: [*filter(_has_token, self.parsed_versions[side].values)] for side in SIDES}
-        for values in self.values.values():
-            require_few_values(len(values))
-        self.meanings = Meanings(decrypt, self.values, chosen, effort)
+    def __init__(self, decrypt: Decrypt, versions: Versions, chosen: Key | None) -> None:
+        self.parsed = {side: parse_envelopes(data) for side, data in zip(SIDES, versions)}
+        self.values = {side: _list_values(parsed) for side, parsed in self.parsed.items()}
+        texts = [{value.text for value in values} for values in self.values.values()]
+        # Those that not all versions have, if a password decrypts them that their labels allow.
+        differing = sorted(set[bytes]().union(*texts).difference(set.intersection(*texts)))
+        results = work_at_once(partial(_try_to_decrypt, decrypt), differing)
+        self.decrypted = {each.envelope: each for each in results if each}
+        self.keys = self._choose_keys(chosen)
+        self.mark = b"ansible-vault-%s" % os.urandom(12).hex().encode()
+        self.numbers: dict[Hashable, int] = {}
+        # The values of each side with a token, in order, until all but the last are used.
+        self.uses: dict[tuple[str, int], list[Use]] = defaultdict(list)
+        self.envelopes: list[bytes] = []
 
     def merge(self, tool: Tool) -> MergedLines:
         """The merged file."""
-        tokens = Tokens()
-        shadows = Versions(*(self._shadow(side, tokens) for side in SIDES))
-        text, count = merge_lines(shadows, self.effort)
-        if count and any(conflicts.count_markers(self.parsed_versions[side].data) for side in SIDES):
+        text, count = merge_lines(Versions(*(self._shadow(side) for side in SIDES)))
+        if count and any(conflicts.count_markers(parsed.data) for parsed in self.parsed.values()):
             raise Refused(HAS_MARKERS)
-        restoration = Restoration(tokens, self.meanings.decryptions, tool, self.effort)
-        content = restoration.restore(text, has_conflict=count > 0)
-        self._check(content, restoration.envelopes, has_conflict=count > 0)
+        # Lines that keep values apart; at the end of a file without a last line end, with the line end above them.
+        line = rb"%s/[^\n]*" % self.mark
+        text = re.sub(rb"(?m)^%s\n|\r?\n(?:%s\n)*%s\Z" % (line, line, line), b"", text)
+        parts = conflicts.split_parts(text, count > 0)
+        content = b"".join(self._restore(part, SIDE_BY_MARKER.get(kind, ""), tool) for kind, part in parts)
+        self._check(content, count > 0)
         return MergedLines(content, count)
 
-    def _shadow(self, side: str, tokens: Tokens) -> bytes:
-        """The data of a side, with tokens in place of its envelopes."""
-        data = self.parsed_versions[side].data
-        changes = []
-        for value in self.values[side]:
-            meaning = self.meanings.find_meaning(value.text)
-            changes.append(tokens.replace(side, data, value, meaning))
-        return apply_replacements(data, changes)
+    def _choose_keys(self, chosen: Key | None) -> dict[str, Key | None]:
+        """The key of the result for the values with each label; None if each keeps its own."""
+        keys: dict[str, dict[str | None, set[Key | None]]] = {side: defaultdict(set) for side in SIDES}
+        for side, values in self.values.items():
+            for value in values:
+                found = self.decrypted.get(value.text)
+                keys[side][value.label].add(found.key if found else None)
+        labels = {each.key.label for each in self.decrypted.values()}
+        ours, base, theirs = (keys[side] for side in SIDES)
+        return {label: choose_value_key(label, ours[label], base[label], theirs[label], chosen) for label in labels}
 
-    def _check(self, content: bytes, envelopes: list[bytes], has_conflict: bool) -> None:
+    def _find_key(self, found: Decryption) -> Key:
+        return self.keys[found.key.label] or found.key
+
+    def _shadow(self, side: str) -> bytes:
+        """The data of a side, with tokens in place of its envelopes."""
+        data = self.parsed[side].data
+        return apply_replacements(data, [self._make_token(side, data, value) for value in self.values[side]])
+
+    def _make_token(self, side: str, data: bytes, value: Node) -> Replacement:
+        begin = value.start if value.style == STRAY else value.begin
+        found = self.decrypted.get(value.text)
+        meaning = (self._find_key(found), found.text) if found else value.text
+        identity = (meaning, value.style, data[begin : value.start], value.margin, value.ending)
+        number = self.numbers.setdefault(identity, len(self.numbers))
+        self.uses[side, number].append(Use(value, data[begin : value.end]))
+        token = b"%s-%d" % (self.mark, number)
+        if value.style in (LITERAL, STRAY):
+            # A line of its own below it keeps the lines of two values apart.
+            token += b"%s%s/%s" % (value.ending, self.mark, value.name.encode().hex().encode())
+        return Replacement(begin, value.end, token)
+
+    def _restore(self, part: bytes, side: str, tool: Tool) -> bytes:
+        """The lines of a side of a conflict, or of the merged text if no side is given, with envelopes in place of
+        tokens."""
+        return re.sub(rb"%s-(\d+)" % self.mark, lambda token: self._choose(int(token[1]), side, tool), part)
+
+    def _choose(self, number: int, side: str, tool: Tool) -> bytes:
+        """The bytes in place of a token: as the side has them, or else that which changed them. Copies stay copies, and
+        other envelopes with the same text differ."""
+        ours, base, theirs = (self.uses[each, number] for each in SIDES)
+        is_same = [use.value.text for use in ours] == [use.value.text for use in base]
+        order = [self.uses[side, number]] if side else [theirs, ours, base] if is_same else [ours, theirs, base]
+        candidates = [uses[0] for uses in order if uses]
+        for uses in order:
+            del uses[: len(uses) > 1]
+        # Outside of a conflict, the one under the key of the result counts.
+        use = next((use for use in candidates if side or self._has_key(use)), None)
+        if use:
+            self.envelopes.append(use.value.text)
+            return use.scalar
+        value, scalar = candidates[0]
+        found = self.decrypted[value.text]
+        envelope = tool.encrypt_again(value.text, found.text, self._find_key(found))
+        self.envelopes.append(envelope)
+        head = scalar[: value.start - (value.start if value.style == STRAY else value.begin)]
+        return head + replace_envelope(value, envelope).text
+
+    def _has_key(self, use: Use) -> bool:
+        """Whether a value is under the key of the result."""
+        found = self.decrypted.get(use.value.text)
+        return found is None or found.key == self._find_key(found)
+
+    def _check(self, content: bytes, has_conflict: bool) -> None:
         """Refuses a result that is no YAML though both sides are, or that has other envelopes than these."""
-        parsed = conflicts.parse_envelopes_of_sides(content, self.effort)
-        are_yaml = not any(self.parsed_versions[side].fault for side in (OURS, THEIRS))
-        if parsed.fault and are_yaml and not has_conflict:
-            raise Refused(MERGED_NOT_YAML.format(parsed.fault))
-        found = Counter(value.text.strip() for value in parsed.values if _has_token(value))
-        if found != Counter(envelope.strip() for envelope in envelopes):
+        sides = conflicts.split_sides(content).values() if has_conflict else [content]
+        parsed = [parse_envelopes(side) for side in sides]
+        if not has_conflict and parsed[0].fault and not any(self.parsed[side].fault for side in (OURS, THEIRS)):
+            raise Refused(MERGED_NOT_YAML.format(parsed[0].fault))
+        found = Counter(value.text.strip() for each in parsed for value in _list_values(each))
+        wanted = Counter(envelope.strip() for envelope in self.envelopes)
+        if found.keys() != wanted.keys() or not has_conflict and found != wanted:
             raise Refused(NEW_VALUE)
 
 
-def _parse_version(data: bytes, effort: Effort) -> ParsedText:
-    effort.begin_version()
-    return parse_envelopes(data, effort)
+def _list_values(parsed: ParsedText) -> list[Node]:
+    return [value for value in parsed.values if value.is_envelope and value.style != LOOSE]
 
 
-def _has_token(value: Node) -> bool:
-    return value.is_envelope and value.style != LOOSE
+def _try_to_decrypt(decrypt: Decrypt, text: bytes) -> Decryption | None:
+    try:
+        decrypted = decrypt(text)
+        decrypted.require_label()
+    except Refused:
+        return None
+    return decrypted

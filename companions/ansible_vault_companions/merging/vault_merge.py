@@ -4,7 +4,6 @@ from __future__ import annotations
 
 from ansible_vault_companions.envelopes import conflicts
 from ansible_vault_companions.envelopes.header import MAGIC
-from ansible_vault_companions.limits import Effort
 from ansible_vault_companions.merging.line_merge import OURS, THEIRS, Versions, merge_lines
 from ansible_vault_companions.merging.result_key import VersionKeys, choose_vault_key
 from ansible_vault_companions.refusals import Refused
@@ -14,14 +13,14 @@ from ansible_vault_companions.tool import Decrypt, Decryption, Key, NotDecrypted
 class VaultMerge:
     """The vaults of two sides, and the text of their base, which need not be a vault."""
 
-    def __init__(self, decrypt: Decrypt, versions: Versions, effort: Effort) -> None:
+    def __init__(self, decrypt: Decrypt, versions: Versions) -> None:
         # Why their merge may have a conflict.
         self.why = "both sides changed the same lines"
         self.ours = _decrypt_side(OURS, decrypt, versions.ours)
         self.theirs = _decrypt_side(THEIRS, decrypt, versions.theirs)
         text, self.base_keys = self._decrypt_base(decrypt, versions.base)
         texts = Versions(self.ours.text, text, self.theirs.text)
-        self.merged_lines = merge_lines(texts, effort)
+        self.merged_lines = merge_lines(texts)
 
     def choose_key(self, chosen: Key | None) -> Key:
         return choose_vault_key(self.ours.key, self.base_keys, self.theirs.key, chosen)

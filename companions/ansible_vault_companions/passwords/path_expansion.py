@@ -4,7 +4,6 @@ from __future__ import annotations
 
 import os
 
-from ansible_vault_companions.limits import LONGEST_FILE_PATH
 from ansible_vault_companions.refusals import Refused
 
 HOME = "~"
@@ -22,10 +21,7 @@ def is_absolute(place: str, folder: str = "") -> bool:
 
 def expand_path(path: str, folder: str = "") -> str:
     """A path as Ansible reads it. A relative one starts from this directory, or else from the current one. Refuses a
-    home directory that there is not: as a relative path, it could be one of a stranger's repository. Refuses a path
-    that no file can have, too, since Python takes quadratic time to look for variables."""
-    if len(path) > LONGEST_FILE_PATH:
-        raise Refused(f"it has over {LONGEST_FILE_PATH:,} characters")
+    home directory that there is not: as a relative path, it could be one of a stranger's repository."""
     expanded = os.path.expanduser(os.path.expandvars(path))
     if expanded.startswith(HOME):
         raise Refused(NO_HOME)

@@ -8,12 +8,9 @@ from __future__ import annotations
 
 import os
 import termios
-from collections.abc import Iterator
-from contextlib import contextmanager
 from io import FileIO
 
 from ansible_vault_companions import signals
-from ansible_vault_companions.limits import LONGEST_ANSWER
 from ansible_vault_companions.output import write_error, write_when_possible
 from ansible_vault_companions.passwords.asking import Asking, NoAnswer
 from ansible_vault_companions.passwords.settings import ASK, PROMPT
@@ -115,8 +112,20 @@ def _ask_shown(terminal: FileIO, question: str) -> bytes:
 
 
 def _ask_hidden(terminal: FileIO, question: str) -> bytes:
-    with signals.postpone_signals(), _switch_echo_off(terminal):
-        text = _ask_shown(terminal, question).replace(SUSPEND, b"")
+    """The answer, which is not shown. Ctrl-Z has no effect: after `fg`, a shell would show what is typed. A terminal
+    that is gone is an OSError."""
+    try:
+        with signals.postpone_signals():
+            shown = termios.tcgetattr(terminal)
+            hidden = [*shown[:3], shown[3] & ~termios.ECHO, *shown[4:6], [*shown[6]]]
+            hidden[6][termios.VSUSP] = NO_KEY
+            termios.tcsetattr(terminal, termios.TCSAFLUSH, hidden)
+            try:
+                text = _ask_shown(terminal, question).replace(SUSPEND, b"")
+            finally:
+                termios.tcsetattr(terminal, termios.TCSAFLUSH, shown)
+    except termios.error as fault:
+        raise OSError(*fault.args) from None
     write_when_possible(terminal.fileno(), b"\n")
     return text
 
@@ -139,8 +148,6 @@ def _read_line(stream: FileIO) -> bytes:
     """The next line, byte by byte, so that what follows is left to others."""
     text = bytearray()
     while not text.endswith(b"\n"):
-        if len(text) > LONGEST_ANSWER:
-            raise Refused(f"what you typed has over {LONGEST_ANSWER:,} bytes")
         signals.wait_for_input(stream.fileno())
         typed = stream.read(1)
         # Ctrl-D ends the line, too.
@@ -157,28 +164,3 @@ def _require_utf8(text: bytes) -> bytes:
     except UnicodeError:
         raise Refused("what you typed is not valid UTF-8; set the terminal to UTF-8") from None
     return text
-
-
-@contextmanager
-def _switch_echo_off(terminal: FileIO) -> Iterator[None]:
-    """A context without echo. Ctrl-Z has no effect in it: after Ctrl-Z and `fg`, a shell would show what is typed."""
-    with _name_terminal_faults():
-        shown = termios.tcgetattr(terminal)
-    keys = [*shown[6]]
-    keys[termios.VSUSP] = NO_KEY
-    with _name_terminal_faults():
-        termios.tcsetattr(terminal, termios.TCSAFLUSH, [*shown[:3], shown[3] & ~termios.ECHO, *shown[4:6], keys])
-    try:
-        yield
-    finally:
-        with _name_terminal_faults():
-            termios.tcsetattr(terminal, termios.TCSAFLUSH, shown)
-
-
-@contextmanager
-def _name_terminal_faults() -> Iterator[None]:
-    """A context in which a terminal that is gone is an OSError."""
-    try:
-        yield
-    except termios.error as fault:
-        raise OSError(*fault.args) from None

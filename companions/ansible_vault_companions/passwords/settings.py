@@ -13,7 +13,6 @@ import stat
 from collections.abc import Callable
 
 from ansible_vault_companions.files import link_bounds
-from ansible_vault_companions.limits import LONGEST_SETTINGS, SETTINGS_SECONDS, Effort, TooMuch
 from ansible_vault_companions.passwords.path_expansion import CURRENT, expand_path, is_absolute
 from ansible_vault_companions.quoting import escape
 from ansible_vault_companions.refusals import Refused, describe_refusal
@@ -35,15 +34,6 @@ TRUE = ("1", "on", "t", "true", "y", "yes")
 RELATIVE = (
     "beside options, a path in the settings counts only if it begins with / or a home directory's ~; it is ignored"
 )
-# What the parser's errors mean, without its own text, which quotes the file.
-SYNTAX_FAULTS = {
-    "MissingSectionHeaderError": "there is no section above it",
-    "DuplicateSectionError": "the section is there already",
-    "DuplicateOptionError": "the key is there already in this section",
-}
-NOT_A_KEY = "it is not KEY = VALUE"
-
-
 # For a message if no password fits.
 SWITCHED_OFF = (
     '; ./ansible.cfg is ignored beside options that name a password, unless you set ANSIBLE_CONFIG="$PWD/ansible.cfg"'
@@ -145,37 +135,22 @@ def _read_section(path: str) -> dict[str, str]:
     # Imported here, since most runs of ansible-vault-with need no file.
     import configparser
 
-    from ansible_vault_companions import bounding
-
     parser = configparser.RawConfigParser(inline_comment_prefixes=(";",))
     try:
         with open(path, encoding="utf-8") as file:
-            text = file.read(LONGEST_SETTINGS + 1)
-        _require_short(text)
-        # Python's parser takes quadratic time for blanks, and for lines that are no settings.
-        with bounding.limit_run(SETTINGS_SECONDS), bounding.limit_work(Effort(len(text))):
-            parser.read_string(text)
+            text = file.read()
+        if "\0" in text:
+            raise Refused(f"{escape(path)}: it has a NUL byte")
+        parser.read_string(text)
     except UnicodeError:
         raise Refused(f"{escape(path)}: it is not UTF-8") from None
     except configparser.Error as fault:
-        raise Refused(f"{escape(path)}: {_describe_syntax(fault)}") from None
-    except (Refused, OSError) as fault:
+        # Its text quotes the file.
+        lines = [number for number, _ in getattr(fault, "errors", [])] or [getattr(fault, "lineno")]
+        raise Refused(f"{escape(path)}: line {lines[0]} is no section, or no KEY = VALUE of its own") from None
+    except OSError as fault:
         raise Refused(describe_refusal(path, fault)) from None
     return dict(parser[SECTION]) if SECTION in parser else {}
-
-
-def _describe_syntax(fault: Exception) -> str:
-    """The line of a parser's error, or the first of several, and what is wrong there."""
-    lines = [number for number, _ in getattr(fault, "errors", [])] or [getattr(fault, "lineno")]
-    return f"line {lines[0]}: {SYNTAX_FAULTS.get(type(fault).__name__, NOT_A_KEY)}"
-
-
-def _require_short(text: str) -> None:
-    """Refuses a text that no program writes."""
-    if "\0" in text:
-        raise Refused("it has a NUL byte")
-    if len(text) > LONGEST_SETTINGS:
-        raise TooMuch(f"it has over {LONGEST_SETTINGS:,} characters")
 
 
 def _unquote(text: str) -> str:

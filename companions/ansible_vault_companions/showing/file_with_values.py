@@ -6,42 +6,35 @@ from ansible_vault_companions.envelopes import conflicts, detection
 from ansible_vault_companions.envelopes.layout import Replacement, apply_replacements, put_plaintext
 from ansible_vault_companions.envelopes.node import LOOSE, STRAY, Node
 from ansible_vault_companions.envelopes.parsed_text import ParsedText, parse_envelopes
-from ansible_vault_companions.limits import Effort, require_few_values
 from ansible_vault_companions.output import write_error
 from ansible_vault_companions.parallel import work_at_once
-from ansible_vault_companions.quoting import escape
 from ansible_vault_companions.refusals import Refused
 from ansible_vault_companions.showing import first_line
 from ansible_vault_companions.showing.as_it_is import NoEnvelope
 from ansible_vault_companions.tool import Decrypt
 
 NO_ENVELOPE = "it is not a vault and has no encrypted value"
-MAY_LACK = "some of its values may be shown as they are: {}"
 
 
-def read_envelopes(target: str, effort: Effort) -> ParsedText:
+def read_envelopes(target: str) -> ParsedText:
     """A file and its envelopes. Refuses one without any."""
-    parsed = parse_envelopes(detection.read_envelope_file(target), effort)
+    parsed = parse_envelopes(detection.read_envelope_file(target))
     if not parsed.values:
-        if parsed.is_too_much:
-            raise Refused(parsed.fault)
         raise NoEnvelope(NO_ENVELOPE)
     return parsed
 
 
-def show_envelopes(
-    companion: str, parsed: ParsedText, path: str, target: str, decrypt: Decrypt, effort: Effort
-) -> list[bytes]:
+def show_envelopes(companion: str, parsed: ParsedText, path: str, target: str, decrypt: Decrypt) -> list[bytes]:
     """The file's data with plaintext in place of its envelopes, as far as they can be decrypted and shown; for a
     conflict of two vaults, the merged text. It is in pieces, since it may be long."""
     if conflicts.is_unmerged(parsed.data):
         # Most files have no conflict.
         from ansible_vault_companions.showing import vault_conflict
 
-        merged = vault_conflict.merge_vaults(target, parsed.data, decrypt, effort)
+        merged = vault_conflict.merge_vaults(target, parsed.data, decrypt)
         if merged is not None:
             return [merged]
-    return [_choose_first_line(parsed), _show_values(companion, parsed, path, decrypt, effort)]
+    return [_choose_first_line(parsed), _show_values(companion, parsed, path, decrypt)]
 
 
 def _choose_first_line(parsed: ParsedText) -> bytes:
@@ -57,12 +50,9 @@ def _is_encrypted(value: Node) -> bool:
     return value.style not in (STRAY, LOOSE) or value.is_whole
 
 
-def _show_values(companion: str, parsed: ParsedText, path: str, decrypt: Decrypt, effort: Effort) -> bytes:
-    if parsed.is_too_much:
-        write_error(f"{companion}: {escape(path)}: {MAY_LACK.format(parsed.fault)}")
+def _show_values(companion: str, parsed: ParsedText, path: str, decrypt: Decrypt) -> bytes:
     values = [*parsed.number_envelopes().values()]
-    require_few_values(len(values))
-    results = work_at_once(lambda value: _try_to_show(parsed.data, value, decrypt), values, effort)
+    results = work_at_once(lambda value: _try_to_show(parsed.data, value, decrypt), values)
     changes: list[Replacement] = []
     for result, value in zip(results, values):
         if isinstance(result, Refused):

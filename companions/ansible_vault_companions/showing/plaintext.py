@@ -57,14 +57,12 @@ def _decrypt_file(companion: str, path: str, target: str, passwords: list[Passwo
     if text is not None:
         return [text]
     # The modules for any other file take longer to import than most vaults to decrypt.
-    from ansible_vault_companions.limits import Effort
     from ansible_vault_companions.showing import file_with_values
 
-    effort = Effort()
-    parsed = file_with_values.read_envelopes(target, effort)
+    parsed = file_with_values.read_envelopes(target)
     tool = Tool(companion, only_shows=True)
-    decrypt = partial(tool.decrypt, passwords=passwords, policy=policy, effort=effort)
-    return file_with_values.show_envelopes(NAME, parsed, path, target, decrypt, effort)
+    decrypt = partial(tool.decrypt, passwords=passwords, policy=policy)
+    return file_with_values.show_envelopes(NAME, parsed, path, target, decrypt)
 
 
 def _print_value(companion: str, path: str, target: str, passwords: list[Password], policy: Policy) -> None:
