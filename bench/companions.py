@@ -18,7 +18,6 @@ from statistics import median
 ROOT = Path(__file__).resolve().parent.parent
 sys.path[:0] = [str(ROOT / "tests"), str(ROOT / "companions")]
 
-from ansible_vault_companions.limits import MOST_VALUES
 from lib.ansible import ansible_vault
 from measured import CLOCK, PROCESSOR, Task, Times, describe_processor, measure_in_turn, options, spread
 from model.vaults import seal, yaml_block
@@ -102,9 +101,7 @@ def print_table(times: dict[str, Times], count: int) -> None:
 def main() -> None:
     parser = options(__doc__)
     parser.add_argument("program", type=Path)
-    parser.add_argument(
-        "--vaults", type=int, default=MOST_VALUES, metavar="N", help="no more than a file may have values"
-    )
+    parser.add_argument("--vaults", type=int, default=200, metavar="N", help="how many vaults, and values of a file")
     parser.add_argument("--runs", type=int, default=5, metavar="N")
     args = parser.parse_args()
     if args.quick:

@@ -78,7 +78,7 @@ complete -c ansible-vault-edit -l resume -d 'reopen what the last edit could not
 complete -c ansible-vault-edit -l allow-empty -d 'make a new vault even if you save nothing'
 complete -c ansible-vault-hook -s h -l help -d 'print help'
 complete -c ansible-vault-hook -s V -l version -d 'print version'
-complete -c ansible-vault-hook -l all -d 'check the current commit, and all former vaults'
+complete -c ansible-vault-hook -l all -d 'check all files, and what was a vault in any commit'
 complete -c ansible-vault-hook -l since -x -d 'check all later commits, and their combined change'
 complete -c ansible-vault-hook -l install -d 'set up hooks'
 complete -c ansible-vault-hook -l uninstall -d 'undo what --install has set up'

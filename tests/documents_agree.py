@@ -9,11 +9,10 @@ from pathlib import Path
 
 import pytest
 
-from ansible_vault_companions import OLDEST, limits
+from ansible_vault_companions import OLDEST, memory
 from ansible_vault_companions.editing import private_directory
-from ansible_vault_companions.files import leftovers, searching
-from ansible_vault_companions.limits import LONGEST_PLAINTEXT, LONGEST_VAULT
-from ansible_vault_companions.merging.line_merge import SIDES
+from ansible_vault_companions.files import leftovers
+from ansible_vault_companions.limits import LONGEST_PLAINTEXT, LONGEST_VAULT, MOST_PASSWORDS
 from contracts import CRATES, code, declared_in
 from documents import FORMATS, PAGE as VERIFICATION, REFERENCE, WRITTEN, definition_files
 from lib.links import dead_links
@@ -148,49 +147,21 @@ def test_limits() -> None:
     assert {int(each.replace(",", "")) for each in re.findall(r"\d+,\d{3},\d{3}", TEXT)} <= {*limits.values()}
 
 
-# The sentences of the companions' pages that name a limit, and the constants in the order of their numbers.
+# The sentences of the companions' pages that name a limit, and the limit.
 SENTENCES = [
-    ("check", r"leads through over (\d+) directories", "MOST_STEPS"),
-    ("check", r"search itself may take (\d+) s .* git may take (\d+) s ", "SEARCH_SECONDS ATTRIBUTE_SECONDS"),
-    ("check", r"Together they may take (\d+) MB of memory", "MEGABYTES"),
-    ("check", r"(\d+) levels, ([\d,]+) bytes, and ([\d,]+) keys and", "DEEPEST LONGEST_PLAINTEXT MOST_KEYS"),
-    ("check", r"([\d,]+) bytes for a key, and ([\d,]+) characters for nested keys", "LONGEST_KEY LONGEST_PATH"),
-    ("check", r"([\d,]+) bytes for the directives", "LONGEST_DIRECTIVES"),
-    ("check", r"(\d+) s of processor time, and (\d+) MB of memory", "SECONDS MEGABYTES"),
-    ("check", r"file with over (\d+) values", "MOST_VALUES"),
-    ("check", r"counts as (\d+) ms of the time", "RUN_MILLISECONDS"),
-    ("check", r"indented by over (\d+) columns", "LONGEST_MARGIN"),
-    ("check", r"longer than any vault can be \(([\d,]+) bytes\)", "LONGEST_VAULT"),
-    ("merge", r"versions may be up to (\d+) MiB in total: about (\d+) MiB of plaintext", "VERSIONS_MIB PLAINTEXTS_MIB"),
-    ("edit", r"file with a conflict may be up to (\d+) MiB", "VERSIONS_MIB"),
-    ("with", r"name up to (\d+) passwords", "MOST_PASSWORDS"),
+    ("check", r"longer than any vault can be \(([\d,]+) bytes\)", LONGEST_VAULT),
+    ("check", r"may take (\d) GiB of memory", memory.MOST >> 30),
+    ("hook", r"may take (\d) GiB of memory", memory.MOST >> 30),
+    ("with", r"name up to (\d+) passwords", MOST_PASSWORDS),
 ]
-# The other numbers of limits.py: shares of the above, what pages have in MiB, and what a message or another tool names.
-UNNAMED = """\
-    RUN_SECONDS WRONG RESERVE SETTINGS_SECONDS LONGEST_PASSWORD LONGEST_LABEL LONGEST_ANSWER LONGEST_FILE_PATH
-    LONGEST_LINK LONGEST_SETTINGS LONGEST_VERSIONS MOST_ALIASED MOST_PARENTS
-""".split()
 
 
 def test_limits_of_companions() -> None:
-    """The pages of the companions have the numbers of the code, and name each limit except those in UNNAMED."""
-    own = {name: value for name, value in vars(limits).items() if isinstance(value, (int, float)) and name.isupper()}
-    # A vault has four digits for each byte of its text.
-    versions = limits.LONGEST_VERSIONS >> 20
-    others = {
-        "SEARCH_SECONDS": searching.SEARCH_SECONDS,
-        "RUN_MILLISECONDS": 1000 * limits.RUN_SECONDS,
-        "VERSIONS_MIB": versions,
-        "PLAINTEXTS_MIB": versions // (4 * len(SIDES)),
-    }
+    """The pages of the companions have the numbers of the code."""
     texts = {path.stem: " ".join(path.read_text().split()) for path in PAGE.parent.glob("*.1")}
-    named = set[str]()
-    for name, sentence, constants in SENTENCES:
-        found = [[*match.groups()] for match in re.finditer(sentence, texts[f"{PROGRAM}-{name}"])]
-        wanted = [f"{int((own | others)[each]):,}" for each in constants.split()]
-        assert found == [wanted], f"the numbers of ansible-vault-{name}(1) in {sentence}"
-        named.update(constants.split())
-    assert own.keys() - named == {*UNNAMED}, "the limits that no page names"
+    for name, sentence, number in SENTENCES:
+        found = re.findall(sentence, texts[f"{PROGRAM}-{name}"])
+        assert found == [f"{number:,}"], f"the numbers of ansible-vault-{name}(1) in {sentence}"
 
 
 def test_files_of_companions() -> None:

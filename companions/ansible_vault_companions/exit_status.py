@@ -6,21 +6,27 @@ import resource
 import sys
 from collections.abc import Callable
 
+from ansible_vault_companions import memory, signals
 from ansible_vault_companions.output import LOST, flush_streams, open_streams, write_data, write_error
-from ansible_vault_companions.refusals import Refused, describe_fault, describe_refusal
+from ansible_vault_companions.refusals import Refused, describe_fault, describe_refusal, name_file
 
 
 def attempt_work(companion: str, path: str, work: Callable[[], int | None]) -> int:
     """Works on a file. Returns the exit status that the work returns, if any, or that of a failure, after a message."""
     try:
         return work() or 0
+    except (MemoryError, RecursionError) as fault:
+        name_file(path, fault)
+        raise
     except (Refused, OSError) as fault:
         write_error(f"{companion}: {describe_refusal(path, fault)}")
+        signals.end_by_signal()
         return fault.status if isinstance(fault, Refused) else 1
 
 
 def run_companion(name: str, main: Callable[[list[str]], int]) -> None:
     """Runs a companion with the command line's words, and exits with its status."""
+    memory.limit_memory()
     open_streams()
     # A core dump would contain plaintext and passwords.
     resource.setrlimit(resource.RLIMIT_CORE, (0, resource.getrlimit(resource.RLIMIT_CORE)[1]))
@@ -43,4 +49,5 @@ def _attempt_all(name: str, main: Callable[[list[str]], int]) -> int:
         return status
     except (Refused, OSError) as fault:
         write_error(f"{name}: {describe_fault(fault)}")
+        signals.end_by_signal()
         return fault.status if isinstance(fault, Refused) else 1

@@ -5,7 +5,7 @@ from __future__ import annotations
 import io
 import os
 import sys
-from select import PIPE_BUF
+from select import PIPE_BUF, POLLOUT, poll
 
 from ansible_vault_companions import signals
 from ansible_vault_companions.quoting import escape_lines
@@ -45,23 +45,28 @@ def write_line(text: str) -> None:
 
 
 def write_error(text: str) -> None:
-    """Prints a message on standard error, in one write unless it is long. If that fails, or a signal arrives first,
-    work goes on."""
+    """Prints a message on standard error, in one write unless it is long. If that fails, work goes on."""
     data = f"{escape_lines(text)}\n".encode(sys.stderr.encoding, "backslashreplace")
     try:
         sys.stderr.flush()
         write_when_possible(sys.stderr.fileno(), data)
-    except (OSError, signals.Stopped):
+    except OSError:
         LOST.append(text)
 
 
 def write_when_possible(descriptor: int, data: bytes) -> None:
-    """Writes to what may not take it at once, in pieces that do not wait for its reader, since a write cannot be ended
-    by a signal that is postponed. Raises Stopped if there is one."""
-    place = 0
-    while place < len(data):
-        signals.wait_for_output(descriptor)
-        place += os.write(descriptor, data[place : place + PIPE_BUF])
+    """Writes to what may not take it at once: a pipe may be full, and a terminal be stopped. Once a signal has ended
+    the companion, nobody waits for that."""
+    # `select` refuses descriptors over 1,023.
+    waiting = poll()
+    waiting.register(descriptor, POLLOUT)
+    while data:
+        if not waiting.poll(0):
+            if signals.received:
+                raise BlockingIOError
+            with signals.Arrival():
+                waiting.poll()
+        data = data[os.write(descriptor, data[:PIPE_BUF]) :]
 
 
 def flush_streams() -> bool:

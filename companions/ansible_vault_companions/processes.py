@@ -1,7 +1,7 @@
 """Finds programs and runs them.
 
 git and ansible-vault end by themselves when a signal ends the companion, since that closes their pipes. An editor and a
-password script may wait for a person, so a signal is passed on to them.
+password script may wait for a person, so a signal is passed on to them, and they have as much memory as they want.
 """
 
 from __future__ import annotations
@@ -11,7 +11,7 @@ import _signal  # type: ignore
 import os
 from collections.abc import Iterable
 
-from ansible_vault_companions import signals
+from ansible_vault_companions import memory, signals
 from ansible_vault_companions.quoting import escape
 from ansible_vault_companions.refusals import Refused
 
@@ -42,32 +42,38 @@ def run_script(words: list[str], **streams: Any) -> CompletedProcess[bytes]:
     from subprocess import DEVNULL, PIPE, CompletedProcess, Popen
 
     options: dict[str, Any] = {"stdin": DEVNULL, "stdout": PIPE, "stderr": PIPE, **streams}
-    with signals.postpone_signals():
-        program = Popen(words, preexec_fn=signals.let_signals_through, **options)
-        output, errors = _communicate(program)
+    program = Popen(words, preexec_fn=memory.lift_limit, **options)
+    try:
+        output, errors = program.communicate()
+    except signals.Stopped:
+        _pass_signal_on(program)
+        raise
     return CompletedProcess(words, program.returncode, output, errors)
 
 
-def _communicate(program: Popen[bytes]) -> tuple[bytes, bytes]:
-    from subprocess import TimeoutExpired
-
-    while True:
-        try:
-            return program.communicate(timeout=signals.INTERVAL)
-        except TimeoutExpired:
-            number = signals.find_postponed_signal()
-            if number is not None:
-                signals.pass_signal_on(number, program)
-                raise signals.Stopped from None
-
-
 def run_on_terminal(words: list[str]) -> int:
-    """Runs a program that owns the terminal, and waits for it, whatever arrives. Signals must be postponed. Raises
-    Stopped if one has arrived before."""
-    signals.check_for_signal()
-    program = start_program(words, preexec_fn=signals.let_signals_through)
-    signals.pass_signals_on_until_end(program)
-    return program.returncode
+    """Runs a program that owns the terminal, and so gets the signals of keys itself. Another signal is passed on to it,
+    and raises Stopped once it has ended."""
+    keys = signals.KeysForOthers()
+
+    def prepare() -> None:
+        memory.lift_limit()
+        keys.use_default_actions()
+
+    with keys:
+        program = start_program(words, preexec_fn=prepare)
+        try:
+            return program.wait()
+        except signals.Stopped:
+            _pass_signal_on(program)
+            program.wait()
+            raise
+
+
+def _pass_signal_on(program: Popen[bytes]) -> None:
+    """Sends the signal to a program, even if it is stopped. What it has started is its own concern."""
+    program.send_signal(signals.received)
+    program.send_signal(_signal.SIGCONT)
 
 
 def start_program(words: list[str], **options: Any) -> Popen[bytes]:
@@ -102,6 +108,7 @@ def take_over(path: str, words: list[str], kept: Iterable[int]) -> NoReturn:
     """Replaces this process with a program, which inherits its streams and these descriptors."""
     for descriptor in kept:
         os.set_inheritable(descriptor, True)
+    memory.lift_limit()
     # Python ignores these signals, and the program would inherit that.
     for number in (_signal.SIGPIPE, _signal.SIGXFSZ):
         _signal.signal(number, _signal.SIG_DFL)

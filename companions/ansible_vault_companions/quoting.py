@@ -7,15 +7,10 @@ import re
 
 # What bash and zsh read by number within `$'..'`.
 ESCAPED = r"[^ -&(-\[\]-~]"
-# The characters of a name that a message quotes whole, as many as a path has in Linux. git takes names of any length.
-LONGEST_QUOTE = 4_096
 
 
 def escape(name: str) -> str:
-    """A printable name as it is, and any other as Python writes it: in quotes, with escapes. Of one that no file system
-    can have, only the beginning."""
-    if len(name) > LONGEST_QUOTE:
-        return f"{escape(name[:LONGEST_QUOTE])}[...]"
+    """A printable name as it is, and any other as Python writes it: in quotes, with escapes."""
     return name if name.isprintable() else ascii(name)
 
 

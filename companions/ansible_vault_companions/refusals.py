@@ -33,6 +33,12 @@ def _describe_alone(fault: BaseException, path: str) -> str:
     return f"{escape(os.fsdecode(fault.filename))}: {fault.strerror}"
 
 
+def name_file(path: str, fault: Exception) -> None:
+    """Gives a lack of memory, or too deep a recursion, the file that has led to it. It ends the companion, with what it
+    came after."""
+    fault.args = (f"{escape(path)}: {str(fault) or 'out of memory'}",)
+
+
 def describe_refusal(path: str, fault: Exception) -> str:
     """The path of a refused file, with the reason."""
     return f"{escape(path)}: {describe_fault(fault, path)}"

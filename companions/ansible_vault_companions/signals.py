@@ -1,8 +1,6 @@
-"""A signal ends a companion at once, or when what has to be finished or cleaned up is done.
+"""A signal that asks a companion to end raises an exception, so that what has to be cleaned up or kept is.
 
-It ends it by its default action, for which nothing of Python has to run. Code that has something to finish postpones
-signals, but while it waits for a person or a program, it looks whether one has arrived. Only the main thread takes
-signals, so it does all that has to postpone them.
+Then it ends the companion by its default action. Further ones are ignored meanwhile.
 """
 
 from __future__ import annotations
@@ -10,110 +8,85 @@ from __future__ import annotations
 # The module `signal` makes an enumeration of each number, which takes long.
 import _signal  # type: ignore
 import os
-from select import POLLIN, POLLOUT, poll
 
-# The module `typing` takes long to import, and so does `subprocess`, which most runs of ansible-vault-with do not need.
+# The module `typing` takes long to import.
 TYPE_CHECKING = False
 if TYPE_CHECKING:
-    from subprocess import Popen
+    from typing import NoReturn
 
-# Signals that cannot be blocked, that do not end a program by default, or that a crash of Python itself would raise.
-NOT_POSTPONED = ("KILL", "STOP", "CHLD", "CONT", "URG", "WINCH", "TSTP", "TTIN", "TTOU", "SEGV", "BUS", "FPE", "ILL")
-# All others that this process does not ignore, including real-time signals. The system would keep one that is ignored,
-# too, if it were blocked.
-ENDING: set[int] = {
-    number
-    for number in _signal.valid_signals() - {getattr(_signal, f"SIG{name}") for name in NOT_POSTPONED}
-    if _signal.getsignal(number) != _signal.SIG_IGN
-}
-# Those that keys of a terminal send to all its programs.
+# Those that keys of a terminal send to all its programs; and all.
 OF_KEYS = {_signal.SIGINT, _signal.SIGQUIT}
-# Seconds after which a wait looks whether a signal has arrived.
-INTERVAL = 0.1
+ENDING = {_signal.SIGHUP, _signal.SIGTERM, *OF_KEYS}
+# The signal that ends this companion; 0 if there is none yet.
+received = 0
 
 
-class Stopped(Exception):
+class Stopped(BaseException):
     """A signal has asked the companion to end."""
 
 
-def use_default_actions() -> None:
-    """Gives signals their default actions, except those that are ignored, and lets all through."""
-    # Python's own handler would raise an exception, wherever it is.
-    if _signal.getsignal(_signal.SIGINT) != _signal.SIG_IGN:
-        _signal.signal(_signal.SIGINT, _signal.SIG_DFL)
+def handle_signals() -> None:
+    """Lets signals through, and raises Stopped for those that are not ignored."""
+    for number in ENDING:
+        if _signal.getsignal(number) != _signal.SIG_IGN:
+            _signal.signal(number, _stop)
     # If it is ignored, the system keeps no exit statuses of child processes.
     _signal.signal(_signal.SIGCHLD, _signal.SIG_DFL)
     _signal.pthread_sigmask(_signal.SIG_SETMASK, ())
 
 
-def let_signals_through() -> None:
-    """Undoes what a program inherits if it is started where signals are postponed."""
-    _signal.pthread_sigmask(_signal.SIG_UNBLOCK, ENDING)
+def _stop(number: int, frame: object) -> NoReturn:
+    global received
+    received = number
+    _set_actions(ENDING, _signal.SIG_IGN)
+    raise Stopped
+
+
+def _set_actions(numbers: set[int], action: object) -> None:
+    """Sets the action of each of these signals that is not ignored."""
+    for number in numbers:
+        if _signal.getsignal(number) != _signal.SIG_IGN:
+            _signal.signal(number, action)
+
+
+def end_by_signal() -> None:
+    """Ends the companion, if a signal has asked it to."""
+    if received:
+        _signal.signal(received, _signal.SIG_DFL)
+        os.kill(os.getpid(), received)
 
 
 class Postponement:
-    """What `postpone_signals` returns. The module `contextlib` takes long to import, and this comes first of all."""
+    """A context at whose end signals arrive. The module `contextlib` takes long to import."""
+
+    action = _signal.SIG_BLOCK
 
     def __enter__(self) -> None:
-        self.mask = _signal.pthread_sigmask(_signal.SIG_BLOCK, ENDING)
+        self.mask = _signal.pthread_sigmask(self.action, ENDING)
 
     def __exit__(self, *_: object) -> None:
         _signal.pthread_sigmask(_signal.SIG_SETMASK, self.mask)
 
 
-def postpone_signals() -> Postponement:
-    """A context at whose end signals arrive. Programs and threads that are started in it block them for good."""
-    return Postponement()
+class Arrival(Postponement):
+    """A context within that one, in which they arrive."""
+
+    action = _signal.SIG_UNBLOCK
 
 
-def find_postponed_signal() -> int | None:
-    """A signal that has asked the companion to end, and will end it."""
-    return min(ENDING.intersection(_signal.sigpending()), default=None)
+class KeysForOthers:
+    """A context in which the signals of keys are for another program alone."""
 
+    def __enter__(self) -> None:
+        self.numbers = {number for number in OF_KEYS if _signal.getsignal(number) == _stop}
+        _set_actions(self.numbers, _signal.SIG_IGN)
 
-def check_for_signal() -> None:
-    """Raises Stopped if a signal has been postponed."""
-    if find_postponed_signal() is not None:
-        raise Stopped
+    def __exit__(self, *_: object) -> None:
+        if not received:
+            for number in self.numbers:
+                _signal.signal(number, _stop)
 
-
-def wait_for_input(descriptor: int) -> None:
-    """Waits until there is something to read."""
-    _wait_for(descriptor, POLLIN)
-
-
-def wait_for_output(descriptor: int) -> None:
-    """Waits until something can be written: a pipe may be full, and a terminal be stopped."""
-    _wait_for(descriptor, POLLOUT)
-
-
-def _wait_for(descriptor: int, event: int) -> None:
-    # `select` refuses descriptors over 1,023.
-    waiting = poll()
-    waiting.register(descriptor, event)
-    while not waiting.poll(INTERVAL * 1000):
-        check_for_signal()
-
-
-def pass_signal_on(number: int, program: Popen[bytes]) -> None:
-    """Sends a signal to a program, even if it is stopped. What it has started is its own concern."""
-    program.send_signal(number)
-    program.send_signal(_signal.SIGCONT)
-
-
-def pass_signals_on_until_end(program: Popen[bytes]) -> None:
-    """Waits for a program that owns the terminal, and so gets the signals of keys itself. Others are passed on to it,
-    and remain postponed."""
-    received = set()
-    # A signal that is not blocked cannot be waited for.
-    mask = _signal.pthread_sigmask(_signal.SIG_BLOCK, {_signal.SIGCHLD})
-    while program.poll() is None:
-        number = _signal.sigwait(ENDING | {_signal.SIGCHLD})
-        if number in ENDING - OF_KEYS:
-            pass_signal_on(number, program)
-            received.add(number)
-    while _signal.sigtimedwait(OF_KEYS, 0):
-        pass
-    for number in received:
-        os.kill(os.getpid(), number)
-    _signal.pthread_sigmask(_signal.SIG_SETMASK, mask)
+    def use_default_actions(self) -> None:
+        """For the other program, before it begins."""
+        for number in self.numbers:
+            _signal.signal(number, _signal.SIG_DFL)

@@ -19,13 +19,17 @@ def prepare_process() -> None:
     # This may lack memory, too.
     from ansible_vault_companions import signals
 
-    signals.use_default_actions()
+    signals.handle_signals()
 
 
 def report_failure(kind: type[BaseException], fault: BaseException, trace: TracebackType | None) -> None:
-    """Says in one line what the system refused, such as memory. Anything else is a bug, with a traceback to report."""
-    # Python's import of a module may end in a SystemError if there is too little memory.
-    if issubclass(kind, (MemoryError, RecursionError, SystemError, ImportError, OSError)):
+    """Says in one line what the system refused, such as memory. A signal ends the process without a word. Anything else
+    is a bug, with a traceback to report."""
+    from ansible_vault_companions import signals
+
+    signals.end_by_signal()
+    # Such as a lack of memory, or of threads. Python's import of a module may end in a SystemError then.
+    if issubclass(kind, (MemoryError, RuntimeError, SystemError, ImportError, OSError)):
         # It may have come while another one was reported, which may say where a text is kept.
         reasons = [str(fault) or "out of memory", str(fault.__context__ or "")]
         sys.stderr.write(f"{os.path.basename(sys.argv[0])}: {'; '.join(filter(None, reasons))}\n")

@@ -20,7 +20,6 @@ from ansible_vault_companions.envelopes.header import (
     measure_padded,
     read_label,
 )
-from ansible_vault_companions.limits import WRONG, Effort
 from ansible_vault_companions.passwords.labels import Policy, describe_attempts, order_to_try, require_label
 from ansible_vault_companions.passwords.password import Password
 from ansible_vault_companions.refusals import Refused
@@ -159,25 +158,19 @@ class Tool:
         words = ["view", password.make_option()]
         return self.remember((envelope, password), len(envelope), lambda: self.run(words, envelope, [password]))
 
-    def decrypt(
-        self, envelope: bytes, passwords: list[Password], policy: Policy, effort: Effort | None = None
-    ) -> Decryption:
-        """Tries passwords one at a time, those with the envelope's label first, so it is certain which one works. This
-        may be one of several envelopes of a file, which share an effort."""
+    def decrypt(self, envelope: bytes, passwords: list[Password], policy: Policy) -> Decryption:
+        """Tries passwords one at a time, those with the envelope's label first, so it is certain which one works."""
         try:
-            return self._try_passwords(envelope, passwords, policy, effort or Effort())
+            return self._try_passwords(envelope, passwords, policy)
         except Refused as fault:
             raise _name_damage(envelope, fault) from None
 
-    def _try_passwords(self, envelope: bytes, passwords: list[Password], policy: Policy, effort: Effort) -> Decryption:
+    def _try_passwords(self, envelope: bytes, passwords: list[Password], policy: Policy) -> Decryption:
         label = read_label(envelope)
         tried = order_to_try(passwords, label, policy)
         for password in tried:
-            # A run counts even if its result is remembered from another file.
-            effort.add_runs(WRONG)
             with suppress(NotDecrypted):
                 plaintext = self.view(envelope, password)
-                effort.add_runs(1 - WRONG)
                 password.trust()
                 return Decryption(envelope, password, plaintext, policy)
         raise NotDecrypted(f"{NOT_DECRYPTED} {describe_attempts(label, tried, policy)}")

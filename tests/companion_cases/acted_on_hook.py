@@ -10,28 +10,18 @@ from companion_cases.acted_on import merged, run_with_advice, staged, type_advic
 from companion_cases.repository import BASE, OURS, THEIRS
 
 VAULTS = [sealed("old", text) for text in (BASE, OURS, THEIRS)]
-LEFTOVER = ".d/.ansible-vault-abcdefgh.new"
 MARKED = "*.yml diff=ansible-vault\n"
 # Values whose paths need escapes, and the same in plaintext.
 KEY = '"a b,%=.c[]": '
 VALUES = KEY.encode() + block("old", name="").lstrip(b": ") + b"x:\n- " + block("old", name="pw") + b"y: 1\n"
 PLAIN = f"{KEY}plain\nx: [pw: plain]\ny: 1\n".encode()
 TAGGED = block("old") + b"b: !vault x\ny: 1\n"
-ORIGIN = "git clone -q . ../other && git -C ../other branch more && git remote add origin $PWD/../other"
 SHALLOW = """git commit -q --allow-empty -m second && git clone -q --bare . ../all && rm -rf .git
 git clone -q --depth 1 file://$PWD/../all ../one && mv ../one/.git .git && git reset -q"""
 
 
-def stage_leftover(case: Case) -> None:
-    case.stage(TEXT, case.name + LEFTOVER)
-
-
 def use_shallow_clone(case: Case) -> None:
     case.shell(SHALLOW, ".")
-
-
-def add_origin(case: Case) -> None:
-    case.shell(ORIGIN, ".")
 
 
 def put_another_hook(case: Case) -> None:
@@ -67,15 +57,17 @@ def restore_and_add(case: Case, advice: re.Match[str]) -> None:
 
 ROWS = {
     "damage": Row(
-        fault=staged(OLD_VAULT, OLD_VAULT[:-99]), command=HOOK, advice="`(git .*)` if it is whole", act=type_advice
+        fault=staged(OLD_VAULT, OLD_VAULT[:-99]),
+        command=HOOK,
+        advice="for example with `(git .*)`; to allow",
+        act=type_advice,
     ),
     "a damaged value": Row(
         fault=staged(block("old"), block("old")[:-99]),
         command=HOOK,
-        advice="`(git .*)` if it is whole",
+        advice="for example with `(git .*)`; to allow",
         act=type_advice,
     ),
-    "a leftover": Row(fault=stage_leftover, command=HOOK, advice="remove it with `(.*)`", act=type_advice),
     "plaintext": Row(
         fault=staged(OLD_VAULT, TEXT), command=HOOK, advice="at the end of (.*)", act=paste, plaintexts=[]
     ),
@@ -85,7 +77,7 @@ ROWS = {
     "a tag": Row(
         fault=staged(block("old"), TAGGED),
         command=HOOK,
-        advice="change with (.*?) does",
+        advice="encrypt the text with (.*?),",
         act=resolve,
         plaintexts=[TEXT, b"x"],
         editor="sed -i 's/y: 1/y: 2/' \"$1\"",
@@ -101,7 +93,7 @@ ROWS = {
     "markers": Row(
         fault=merged(*VAULTS, is_added=True),
         command=HOOK,
-        advice="conflict with (.*)",
+        advice="conflict, for example with (.*?);",
         act=resolve,
         plaintexts=[THEIRS],
         editor=TAKE_THEIRS,
@@ -119,7 +111,6 @@ ROWS = {
         advice="add this line below its first one: (.*)",
         act=paste_into_hook,
     ),
-    "no commit": Row(fault=add_origin, command=f"{HOOK} --since origin/more", advice="run `(.*)`", act=type_advice),
     "a shallow clone": Row(fault=use_shallow_clone, command=f"{HOOK} --all", advice="run `(.*?)`, or", act=type_advice),
 }
 

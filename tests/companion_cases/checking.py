@@ -18,7 +18,7 @@ def test_labels_and_secrets(place: Place) -> None:
     """Of two secrets with the same password, the one with the label of the envelope is tried first."""
     place.put("a.yml", sealed("old"))
     place.put("b.yml", sealed("prod", label="prod"))
-    place.put("c.yml", b"x: 1\n" + block("dev", label="dev") + block("prod", name='"\x1b[2J"'))
+    place.put("c.yml", b"x: 1\n" + block("dev", label="dev") + block("prod", name=r'"\e[2J"'))
     place.put("d.yml", sealed("old", label="default"))
     place.put("e.yml", block("new", label="stage"))
     place.put("f.json", b'{"x": {"__ansible_vault": "%s"}}' % sealed("old").replace(b"\n", b"\\n"))

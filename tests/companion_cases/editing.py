@@ -233,7 +233,7 @@ LOOKALIKES = [
 
 @pytest.mark.parametrize("text", LOOKALIKES)
 def test_lookalikes(place: Place, text: str) -> None:
-    """The line below a `!vault` that encrypts nothing does not change, but values with the tag may, and lines may come."""
+    """The line below a `!vault` that encrypts nothing does not change, but values with the tag may, and lines come."""
     content = block("old", b"x", name="b")
     shown = "b: !vault |-\n  x\n" + text
     changed = shown.replace("changeme", "S3cret")

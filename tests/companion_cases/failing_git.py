@@ -109,7 +109,7 @@ LINES = b"".join(b"line%d: %d\n" % (number, number) for number in range(40))
 # Names that begin with m have to be encrypted, and old.yml need not be.
 MARKS: Files = {".gitattributes": b"m*.yml diff=ansible-vault\nold.yml -ansible-vault\n"}
 # Files, and what takes their place: plaintext in the same file, in a renamed one, in one that is marked, and in one
-# that an older line of .gitattributes exempts.
+# that a line of .gitattributes exempts.
 ENCRYPTED: Files = {**MARKS, "a.yml": VAULT, "b.yml": PW, "c.yml": LINES + PW, "old.yml": VAULT}
 PLAINTEXT: Files = {
     "a.yml": TEXT,
@@ -119,9 +119,9 @@ PLAINTEXT: Files = {
     "old.yml": TEXT,
     "m.yml": TEXT,
 }
-LINK, COMMIT = "ln -s a.yml mark.yml && git add mark.yml", "git commit -qm change --no-verify"
-LEAKS: Steps = [PLAINTEXT, LINK]
-REMOVAL: Files = dict.fromkeys((*PLAINTEXT, "mark.yml"))
+COMMIT = "git commit -qm change --no-verify"
+LEAKS: Steps = [PLAINTEXT]
+REMOVAL: Files = dict.fromkeys(PLAINTEXT)
 BRANCHES: Steps = [
     {"a.yml": TEXT, "b.yml": PLAIN},
     COMMIT,
@@ -153,7 +153,7 @@ class Scenario(NamedTuple):
 
 
 SCENARIOS = {
-    "staged": Scenario([ENCRYPTED, COMMIT, *LEAKS], HOOK, 1, "a.yml b.yml d.yml m.yml mark.yml old.yml"),
+    "staged": Scenario([ENCRYPTED, COMMIT, *LEAKS], HOOK, 1, "a.yml b.yml d.yml m.yml"),
     "first commit": Scenario([MARKS, {"m.yml": TEXT}], HOOK, 1, "m.yml"),
     "named file": Scenario([MARKS, {"m.yml": TEXT}, COMMIT], f"{HOOK} m.yml", 1, "m.yml"),
     "merge": Scenario([*BRANCHES, MERGE], HOOK, 1, "a.yml b.yml"),
@@ -165,7 +165,7 @@ SCENARIOS = {
     ),
     "leaks of a merge": Scenario([*BRANCHES, MERGE, COMMIT], f"{HOOK} --since HEAD~1", 1, "a.yml b.yml"),
     "leaks of the last commit, and of an earlier one": Scenario(
-        [ENCRYPTED, COMMIT, {"a.yml": TEXT}, COMMIT, *LEAKS, COMMIT], f"{HOOK} --all", 1, "a.yml b.yml d.yml m.yml"
+        [ENCRYPTED, COMMIT, {"a.yml": TEXT}, COMMIT, *LEAKS, COMMIT], f"{HOOK} --all", 1, "a.yml m.yml"
     ),
     "shallow clone": Scenario([ENCRYPTED, COMMIT, *LEAKS, COMMIT, SHALLOW], f"{HOOK} --all", 1, "are missing"),
     "check": Scenario([MARKS, {"m.yml": TEXT}], f"{CHECK} {OLD} .", 1, "m.yml"),

@@ -6,13 +6,12 @@ from typing import NamedTuple
 
 import pytest
 
-from companion_cases import HOOK, TEXT, WITH, Done, Place, block, ended, run_changed, sealed, silent
+from companion_cases import HOOK, TEXT, Done, Place, block, ended, sealed, silent
 from companion_cases.repository import GONE, IN_PART, WHOLE, add_and_commit, committed, fork, staged, told, under_git
 from companion_cases.repository import with_hooks
 from lib.needs import needs
 from lib.paths import COMPANIONS, ROOT
 from lib.processes import run_text
-from model.vaults import serialized
 
 pytestmark = pytest.mark.usefixtures("git")
 
@@ -23,7 +22,9 @@ def test_help_names_each_rule() -> None:
     """Of each file `*_rule.py`, the help has a line with the word of the file's name and "must"."""
     files = (ROOT / "companions" / "ansible_vault_companions" / "guard").glob("*_rule.py")
     names = {file.stem.removesuffix("_rule") for file in files}
-    rules = re.findall("^  - (.*must(?:.|\n    )*)[;.]$", run_text([str(COMPANIONS[HOOK]), "--help"]).stdout, re.MULTILINE)
+    rules = re.findall(
+        "^  - (.*must(?:.|\n    )*)[;.]$", run_text([str(COMPANIONS[HOOK]), "--help"]).stdout, re.MULTILINE
+    )
     assert [name for name in names if not any(re.search(rf"\b{name}", rule) for rule in rules)] == []
     assert len(rules) == len(names), "an item for each rule"
 
@@ -94,7 +95,7 @@ def test_git_that_fails(place: Place) -> None:
 
 
 def test_pre_commit(place: Place) -> None:
-    """The framework runs it in the top directory, with the files of the commit that are no links."""
+    """The framework runs it in the top directory, with the files of the commit."""
     needs("pre-commit")
     under_git(place, ATTRIBUTES)
     place.put("a.yml", sealed("old"))
@@ -102,14 +103,12 @@ def test_pre_commit(place: Place) -> None:
     source = place.path / "source"
     place.shell(f"mkdir {source} && cp -r {ROOT}/companions {ROOT}/.pre-commit-hooks.yaml {source}")
     place.shell(f"cd {source} && git init -q && git add -A && git commit -qm one")
-    (place.tree / "secrets.vault.yml").symlink_to("a.yml")
     place.put("a.yml", TEXT)
     place.put("--all", block("old"))
     place.shell("git add -A")
     framework = ["pre-commit", "try-repo", str(source), "ansible-vault"]
     done = place.run(*framework, PRE_COMMIT_HOME=str(place.path / "pre-commit"))
-    link = "secrets.vault.yml is a link to a file that is not encrypted"
-    ended("plaintext", done, 1, f"{HOOK}: a.yml {WHOLE}\n", f"{HOOK}: {link}\n")
+    ended("plaintext", done, 1, f"{HOOK}: a.yml {WHOLE}\n")
 
 
 def test_files(place: Place) -> None:
@@ -376,3 +375,24 @@ def test_replaced_objects(place: Place) -> None:
     place.shell("git replace HEAD $(git commit-tree -p HEAD~1 -m x HEAD~1^{tree})")
     for words in (["--since", first], ["--all"]):
         assert any("was a vault" in line for line in told(place.run(HOOK, *words))), words
+
+
+def test_octopus(place: Place) -> None:
+    """A merge of several branches is compared with each of them."""
+    with_hooks(place)
+    committed(place, "a.txt", TEXT)
+    for name in ("one", "two"):
+        place.shell(f"git checkout -q -b {name} HEAD")
+        committed(place, f"{name}.yml", sealed("old"))
+        place.shell("git checkout -q -")
+    place.shell("git checkout -q -b three HEAD")
+    committed(place, "three.yml", TEXT)
+    merge = "git merge --no-edit one two > ../merged"
+    silent("vaults", place.shell(f"{merge} && {HOOK} --since HEAD^ && git reset -q --hard HEAD^"))
+    place.shell(merge.replace("--no-edit", "--no-commit"))
+    wanted = []
+    for name in ("one", "two"):
+        commit = place.shell(f"git rev-parse {name}").stdout[:10]
+        wanted.append(f"{name}.yml {WHOLE.replace('HEAD', commit)}")
+    files = {"one.yml": TEXT, "two.yml": TEXT}
+    assert sorted(staged(place, files)) == wanted

@@ -27,7 +27,7 @@ def own(package: str, names: str) -> set[str]:
 
 
 # What every companion imports.
-START = own("", "exit_status limits output parsers processes quoting refusals signals startup")
+START = own("", "exit_status limits memory output parsers processes quoting refusals signals startup")
 START |= own("files", "link_bounds") | own("passwords", "path_expansion settings") | {"argparse"}
 # What takes passwords, and what gives them to the program.
 PASSWORDS = own("passwords", "asking labels loading options password sources unusable_passwords")
@@ -37,9 +37,9 @@ YAML = {"typing"}
 YAML |= own("envelopes", "detection header key_paths layout node parsed_text pointers strays yaml_nodes")
 PARSER = {"subprocess", "yaml"}
 # What runs several programs at a time.
-WORKERS = own("", "workers") | {"concurrent.futures"}
+WORKERS = own("", "parallel") | {"concurrent.futures"}
 # What shows the sides of a conflict, what merges, and what writes files.
-CONFLICTS = own("", "bounding parallel") | own("envelopes", "conflicts") | own("git", "commands")
+CONFLICTS = own("", "parallel") | own("envelopes", "conflicts") | own("git", "commands")
 CONFLICTS |= own("merging", "line_merge result_key vault_merge")
 MERGING = own("merging", "file_merge value_merge")
 WRITING = own("files", "leftovers replacing") | {"subprocess", "tempfile"}
@@ -69,12 +69,10 @@ RUNS = {
     | own("envelopes", "header pointers")
     | own("files", "reading"),
     f"{CHECK} {OLD} .": BATCH
-    | own("", "bounding")
     | own("batch", "checking")
     | own("envelopes", "conflicts damage")
-    | own("git", "attributes commands pathspecs repository servers"),
+    | own("git", "attributes commands pathspecs repository"),
     f"{ROTATE} {OLD} {NEW} .": BATCH
-    | own("", "bounding")
     | own("batch", "rotation")
     | own("git", "commands current_repository installing merge_driver repository textconv_passwords"),
     f"{EDIT} {OLD} vault.yml": START
@@ -101,15 +99,10 @@ RUNS = {
     HOOK: START
     | YAML
     | PARSER
-    | own("", "bounding")
     | own("envelopes", "conflicts damage file_kinds")
-    | own("files", "leftovers reading")
-    | own("git", "attributes blobs commands current_repository differences history index_files indexes installing")
-    | own("git", "links merge_driver pathspecs repository servers snapshots trees versions")
-    | own("guard", "advice byte_order_mark_rule comparison copy_rule damage_rule evidence exemptions facts file_names")
-    | own("guard", "followed_links key_names leftover_rule list_items marked_file_rule placeholders pointer_rule")
-    | own("guard", "removed_values removed_vaults review rules successor_rule tag_rule unreadable_rule")
-    | own("guard", "value_rule vault_rule vault_texts"),
+    | own("files", "reading")
+    | own("git", "attributes changes commands contents current_repository installing merge_driver pathspecs repository")
+    | own("guard", "copy_rule envelope_rule evidence facts file_rule review rules value_rule"),
 }
 
 
@@ -117,7 +110,7 @@ def test_names_of_modules() -> None:
     """A name leads to one module, whatever its package is."""
     modules = (ROOT / "companions").rglob("[!_]*.py")
     numbers = Counter(module.stem for module in modules)
-    assert len(numbers) > 100, "the modules are found"
+    assert len(numbers) > 90, "the modules are found"
     assert [name for name, number in numbers.items() if number > 1] == []
 
 

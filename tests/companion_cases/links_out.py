@@ -237,22 +237,18 @@ def run_hook(place: Place, kind: Kind, outside: bytes) -> Answer:
 
 
 @pytest.mark.usefixtures("git")
-@pytest.mark.parametrize("target", ("clone/a.yml", "clone"))
-def test_nested_repository(place: Place, target: str) -> None:
-    """A repository below another one is not the same: none leads into the other, but each into itself."""
+def test_nested_repository(place: Place) -> None:
+    """In a repository below another one, a link into itself is followed, and one into that one is not."""
     place.shell("git init -q project; git init -q project/clone; ln -s a.yml project/clone/own.yml")
-    (place.tree / "project/l").symlink_to(target)
     (place.tree / "project/clone/l").symlink_to("../a.yml")
-    path = "l/a.yml" if target == "clone" else "l"
     for command, (_, content, _, status) in COMMANDS.items():
         place.put("project/a.yml", content)
         place.put("project/clone/a.yml", content)
-        for link, bound, file in ((path, "project", "clone/a.yml"), ("clone/l", "project/clone", "a.yml")):
-            outcome = try_command(place, command, link)
-            why = f": {link}: a link leads out of {place.tree}/{bound}; name {place.tree}/project/{file} instead\n"
-            assert why in outcome.message, f"{command} of {link} is refused"
-            assert outcome.status == (status or 1), f"{command} of {link}: the status of a refusal"
-            assert outcome.changed == [], f"{command} of {link}: no file changes"
+        outcome = try_command(place, command, "clone/l")
+        why = f": clone/l: a link leads out of {place.tree}/project/clone; name {place.tree}/project/a.yml instead\n"
+        assert why in outcome.message, f"{command} is refused"
+        assert outcome.status == (status or 1), f"{command}: the status of a refusal"
+        assert outcome.changed == [], f"{command}: no file changes"
     place.put("project/clone/a.yml", VAULT)
     done = place.run(TEXTCONV, *place.by_file("old"), "clone/own.yml", folder="project")
     check_answer("a repository within it", done, output=first_line() + TEXT.decode())
@@ -333,18 +329,6 @@ def test_unread_targets(place: Place, unread: Unread) -> None:
         ended(words[0], done, failed, counts)
         assert ("./l.yml: " in done.stderr) == unread.is_named, done
         assert "git-lfs" not in done.stderr, done
-
-
-@pytest.mark.usefixtures("git")
-def test_long_links(place: Place) -> None:
-    """A link that leads through too many directories is a failure wherever it leads, since it is not followed."""
-    place.put("d/a.yml", sealed("old"))
-    for number, target in enumerate(("d/a.yml", "d", "nowhere")):
-        (place.tree / f"{number}").symlink_to("d/../" * 60 + target)
-    done = place.run(CHECK, *place.by_file("old"), ".")
-    lines = [f"{CHECK}: ./{number}: a link leads through over 100 directories" for number in range(3)]
-    assert done.stderr.splitlines() == lines
-    ended("the check", done, 1, "1 decrypted, 3 failed\n")
 
 
 @pytest.mark.usefixtures("git")

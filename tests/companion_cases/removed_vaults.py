@@ -79,7 +79,9 @@ def test_leaks(own_repository: Path) -> None:
 
 
 # Where a vault may be and, by its length, its plaintext.
-MOVES = [("a/x.yml", name) for name in ("b/x.yml", "b/X.YML", "a/x.yml.bak", "a/x.txt", "a/y.yml", "a/x/y.yml", "b/c/x")]
+MOVES = [
+    ("a/x.yml", name) for name in ("b/x.yml", "b/X.YML", "a/x.yml.bak", "a/x.txt", "a/y.yml", "a/x/y.yml", "b/c/x")
+]
 MOVES += [("b/x/y.yml", "b/x.yaml"), ("b/x/y.yml", "b/x"), ("files/x.key", "files/x.pem"), ("c/main.yml", "d/main.yml")]
 # The same, whatever its length.
 READ_INSTEAD = [("a/x.yml", name) for name in ("a/x.yaml", "a/x.JSON", "a/x")] + [("a/x", "a/x.yml")]

@@ -191,28 +191,11 @@ def test_failures_in_documents(place: Place, failure: str, why: str) -> None:
         ended(words[0], place.run(*words, "a.md"), 1, f"{words[0]}: a.md:4: ", f"{why}\n", "1 failed")
 
 
-# A value that cannot be replaced, since each of its lines is indented too far.
-FAR = b"k: !vault |\n" + b"".join(b" " * 513 + line + b"\n" for line in sealed("old").splitlines())
-TOO_FAR = "it has a value that is indented by over 512 columns\n"
-
-
-def test_what_cannot_be_replaced(place: Place) -> None:
-    """The check fails if a rotation would, wherever the value is, and what is beside it stays as well."""
-    for content in (FAR, FAR + block("old"), sealed("old", FAR), sealed("old", block("new") + block("old") + FAR)):
-        place.put("a.yml", content)
-        for words in ([CHECK, *place.by_file("old"), *place.by_file("new")], [ROTATE, *to_new(place)]):
-            done = place.run(*words, "a.yml")
-            ended(words[0], done, 1, f"{words[0]}: a.yml: ", TOO_FAR)
-        assert done.stdout == f"{summary(0, failed=1)}\n", "nothing is counted that is not written"
-        assert place.get("a.yml") == content, "it stays"
-
-
 def test_dry_run(place: Place) -> None:
     """It says what the rotation does then, in the same order, and that alone is status 1."""
     place.put("a.yml", block("old"))
     place.put("b.yml", block("old") + block("new", name="b") + block("old", name="c"))
     place.put("c.yml", sealed("new", block("old") + block("old", name="b")))
-    place.put("d.yml", sealed("old", block("new") + block("old") + FAR))
     place.put("e.yml", sealed("dev", label="dev"))
     (place.tree / "link.yml").symlink_to("a.yml")
     before = place.files()
@@ -221,10 +204,9 @@ def test_dry_run(place: Place) -> None:
     assert place.files() == before, "nothing is written"
     done = place.run(*words)
     lines = [f"link.yml ({place.tree}/a.yml): rotated", "./b.yml: 2 rotated", "./c.yml: 2 rotated"]
-    assert done.stdout.splitlines() == [*lines, summary(5, 2, 1, " (dev 1)", 1)], "the rotation"
+    assert done.stdout.splitlines() == [*lines, summary(5, 2, 1, " (dev 1)")], "the rotation"
     said = dry.stdout.replace("would be rotated", "rotated").replace(" to be rotated", " rotated")
     assert (said, dry.stderr, dry.returncode) == (done.stdout, done.stderr, 1)
-    (place.tree / "d.yml").unlink()
     ended("nothing is left to do", place.run(*words, "--dry-run"), 0, "0 to be rotated, 7 already under")
     place.put("a.yml", block("old"))
     ended("something is", place.run(*words, "--dry-run"), 1, "1 to be rotated, 6 already under", " 0 failed\n")

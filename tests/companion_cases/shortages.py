@@ -85,60 +85,6 @@ def test_memory(cases: Companions, git: None, pytestconfig: pytest.Config, name:
             check(place, name, place.run("timeout", "30", *limiting, *words), limit)
 
 
-# The part of a new thread that lacks memory: what begins it, or its wait for work.
-LACKS = {
-    "at the start": "threading.Thread._set_native_id",
-    "at work": "concurrent.futures.Future.set_running_or_notify_cancel",
-}
-
-
-@pytest.mark.parametrize("name", [CHECK, ROTATE, TEXTCONV])
-@pytest.mark.parametrize("where", LACKS.values(), ids=LACKS)
-def test_memory_of_threads(place: Place, name: str, where: str) -> None:
-    """Nobody waits for a thread that lacks the memory to begin or to go on."""
-    for number in range(3):
-        place.put(f"folder/{number}.yml", block("old") + block("old", CHANGED, name="other"))
-    lines = {
-        CHECK: [*place.by_file("old"), "."],
-        ROTATE: [*to_new(place), "."],
-        TEXTCONV: [*place.by_file("old"), "folder/0.yml"],
-    }
-    change = f"""
-import concurrent.futures, threading
-signal.alarm(60)
-whole = {where}
-def lack(*words):
-    if threading.get_ident() != threading.main_thread().ident:
-        raise MemoryError
-    return whole(*words)
-{where} = lack
-"""
-    done = run_changed(place, name, change, lines[name])
-    assert (done.returncode, done.stderr) == (0, ""), done
-
-
-@pytest.mark.parametrize("kind, is_said", [("MemoryError", False), ("SystemError", False), ("ValueError", True)])
-def test_ignored_exceptions(place: Place, kind: str, is_said: bool) -> None:
-    """Nothing is said of a lack of memory that Python ignores, since the run goes on. A bug is still reported."""
-    code = f"""
-{START} as it
-it.prepare_process()
-from ansible_vault_companions.workers import Workers
-with Workers() as workers:
-    workers.share(abs, [1, 2])
-
-class Fails:
-    def __del__(self):
-        raise {kind}
-
-Fails()
-print("goes on")
-"""
-    done = place.run("python3", "-IBc", code)
-    assert (done.returncode, done.stdout) == (0, "goes on\n"), done
-    assert (kind in done.stderr) == is_said == bool(done.stderr), done
-
-
 def test_recursion(place: Place) -> None:
     """What recurses in a library too deeply, for all that is done to prevent it, ends a run in a line."""
     code = f"{START} as it; it.prepare_process(); recurse = lambda: recurse(); recurse()"
@@ -164,15 +110,6 @@ def test_input_that_does_not_wait(place: Place) -> None:
     done = place.shell(f"(sleep 0.3; printf abc; sleep 0.3; printf def) | {words}")
     check_answer("the edit", done)
     assert texts(place.get("a.yml"), "old") == [b"abcdef"], "all of the input"
-
-
-def test_no_proc(place: Place) -> None:
-    """What is needed to limit the work on a file is named. The file is there."""
-    needs("unshare")
-    place.put("a.yml", block("old"))
-    words = " ".join([CHECK, *place.by_file("old"), "."])
-    done = place.run("unshare", "-m", "sh", "-c", f"mount -t tmpfs none /proc && exec {words}")
-    assert done.returncode == 1 and "/proc" in done.stderr, done
 
 
 # Two more runs.

@@ -20,7 +20,6 @@ from companion_cases import (
     block,
     decrypted,
     edit,
-    ended,
     run_changed,
     sealed,
     silent,
@@ -96,7 +95,7 @@ def stepping(call):
         return done
     return made
 files = (tempfile, "mkdtemp mkstemp"), (os, "replace unlink open rmdir")
-for owner, names in (*files, (_signal, "pthread_sigmask sigwait")):
+for owner, names in (*files, (_signal, "pthread_sigmask")):
     for name in names.split():
         setattr(owner, name, stepping(getattr(owner, name)))
 subprocess.Popen.communicate = stepping(subprocess.Popen.communicate)
@@ -145,27 +144,6 @@ def blocked(status: Path) -> set[int]:
     """Return the signals that a thread blocks, from its status or a copy of that."""
     bits = int(status.read_text().split("SigBlk:")[1].split()[0], 16)
     return {number for number in signal.valid_signals() if bits >> (number - 1) & 1}
-
-
-def test_postponed_signals(place: Place) -> None:
-    """Every signal that would end a program is postponed, but not for the editor, to which a terminal's keys belong."""
-    # Other shells let the signals through themselves.
-    needs("bash")
-    (place.tools / "sh").symlink_to("/bin/bash")
-    # Some cannot be blocked, a crash of Python itself would raise others again, and Python ignores the last two.
-    others = "CHLD CONT URG WINCH TSTP TTIN TTOU KILL STOP SEGV BUS FPE ILL PIPE XFSZ"
-    wanted = signal.valid_signals() - {getattr(signal, f"SIG{name}") for name in others.split()}
-    prepare_runs(place)
-    # The companion starts a program with all signals blocked, and then waits in poll.
-    waits = "until grep -q '^7 ' /proc/$PPID/syscall; do :; done"
-    place.wrap_tool(f'[ "$1" != encrypt ] || {{ {waits}; cat /proc/$PPID/status > ../encrypting; }}')
-    keys = "kill -INT $PPID; kill -QUIT $PPID"
-    editor = f"cat /proc/self/status > ../editing; {keys}; sed -i s/correct/wrong/"
-    silent("the edit", place.run(EDIT, *place.by_file("old"), "a.yml", EDITOR=editor))
-    assert blocked(place.path / "encrypting") == wanted, "what is postponed while the text is encrypted"
-    assert blocked(place.path / "editing") == set(), "what is postponed for the editor"
-    assert decrypted("old", place.get("a.yml")) == CHANGED, "it is edited"
-    check_whole(place)
 
 
 IGNORED = ("HUP", "INT", "QUIT", "TERM", "USR1")
@@ -434,55 +412,26 @@ def test_later_edits(place: Place) -> None:
 
 
 def test_long_encryption(place: Place) -> None:
-    """A signal ends the work on what was saved, though signals are postponed. What was saved is kept."""
+    """A signal ends the work on what was saved. What was saved is kept."""
     place.put("vars.yml", block("old"))
-    # What is saved is read for as long as it takes: until the limit of time, unless the signal ends it.
+    # What is saved is read until the signal ends that.
     change = """
 from ansible_vault_companions.editing import yaml_draft
 require_nodes = yaml_draft.require_nodes
 
-def require_later(text, effort):
+def require_later(text):
     if os.path.exists("../saved"):
         os.kill(os.getpid(), signal.SIGTERM)
-        with bounding.limit_work(effort):
-            while True:
-                pass
-    return require_nodes(text, effort)
+        while True:
+            pass
+    return require_nodes(text)
 
-from ansible_vault_companions import bounding
 yaml_draft.require_nodes = require_later
 """
     editor = place.script('echo "a: !vault more" >> "$1"; : > ../saved', "editor")
     done = run_changed(place, EDIT, change, [*place.by_file("old"), "vars.yml"], EDITOR=editor)
     assert done.returncode == -signal.SIGTERM, done
     assert "signal 15 ended the edit; what you saved is " in done.stderr, "the reason"
-    assert "processor time" not in done.stderr, "it is not the limit"
-    assert len(place.kept()) == 1, "what was saved is kept"
-
-
-@pytest.mark.parametrize("number", (1, 2))
-def test_time_of_an_edit(place: Place, number: int) -> None:
-    """What was saved is parsed for a limited time, though signals are postponed, and so is what is to be written."""
-    place.put("vars.yml", block("old") + b"x: [%s]\n" % b", ".join([b"1"] * 20_000))
-    # The editor has saved before a time limit that nothing meets applies. With the usual interval, a fast machine would
-    # have parsed the text before the timer asks for the time.
-    change = f"""
-from ansible_vault_companions import bounding
-bounding.INTERVAL = 0.001
-limited = bounding._limit_time
-number = 0
-
-def limit_less(measure, seconds, text):
-    global number
-    number += os.path.exists("../saved")
-    return limited(measure, 1e-6 if number == {number} else seconds, text)
-
-bounding._limit_time = limit_less
-"""
-    editor = place.script('echo "a: !vault more" >> "$1"; : > ../saved', "editor")
-    done = run_changed(place, EDIT, change, [*place.by_file("old"), "vars.yml"], EDITOR=editor)
-    assert done.returncode == 1, done
-    assert "it takes over 10 s of processor time; what you saved is " in done.stderr, "the reason"
     assert len(place.kept()) == 1, "what was saved is kept"
 
 
@@ -560,23 +509,3 @@ def test_early_interrupts(cases: Companions, git: None, pytestconfig: pytest.Con
         check_end(place, name, signal.SIGINT, done.returncode, done.stderr)
         statuses.add(done.returncode)
     assert -signal.SIGINT in statuses, "a signal ends a run"
-
-
-def test_time_of_threads(place: Place) -> None:
-    """The limit of time is that of a file: other threads, which work on other files, may have used any amount."""
-    place.put("vars.yml", block("old"))
-    # The timer ends as soon as it is set, as if they had.
-    change = """
-from ansible_vault_companions.bounding import _signal
-start = _signal.setitimer
-
-def start_and_end(timer, seconds, *interval):
-    before = start(timer, seconds, *interval)
-    if seconds:
-        os.kill(os.getpid(), signal.SIGPROF)
-    return before
-
-_signal.setitimer = start_and_end
-"""
-    done = run_changed(place, CHECK, change, [*place.by_file("old"), "vars.yml"])
-    ended("the check", done, 0, "1 decrypted, 0 failed")

@@ -2,20 +2,18 @@
 
 from __future__ import annotations
 
-import copy
-from dataclasses import dataclass, field
+from concurrent.futures import Executor
+from dataclasses import dataclass
 
 from ansible_vault_companions.batch.places import Place, find_place
 from ansible_vault_companions.batch.report import FAILED, KEPT, ROTATED, TO_BE_ROTATED, Report
 from ansible_vault_companions.envelopes.node import Node
 from ansible_vault_companions.envelopes.parsed_text import ParsedText
 from ansible_vault_companions.files.searching import FoundFile
-from ansible_vault_companions.limits import Effort
 from ansible_vault_companions.passwords.labels import Policy
 from ansible_vault_companions.passwords.password import Password
 from ansible_vault_companions.refusals import Refused
 from ansible_vault_companions.tool import Decryption, NotDecrypted, Tool
-from ansible_vault_companions.workers import Workers
 
 
 @dataclass
@@ -23,26 +21,19 @@ class Work:
     """What is done with each envelope of a file, and with those in its plaintext."""
 
     tool: Tool
-    workers: Workers
+    # What takes the envelopes of a file.
+    pool: Executor
     # What labels mean to the passwords.
     policy: Policy
-    # What the file has taken.
-    effort: Effort = field(default_factory=Effort, init=False)
     # Whether messages name values and labels.
     names_values = False
-
-    def begin_file(self, effort: Effort) -> Work:
-        """The same for a file that has taken this."""
-        work = copy.copy(self)
-        work.effort = effort
-        return work
 
     def process_file(self, found: FoundFile, parsed: ParsedText, report: Report) -> bytes | None:
         """Works on a file, in a thread. Returns its new content; None if it stays."""
         raise NotImplementedError
 
     def write_file(self, found: FoundFile, after: bytes, before: bytes) -> None:
-        """Writes new content to a file, in the main thread, where signals can be postponed."""
+        """Writes new content to a file, in the main thread, so one after another."""
         raise NotImplementedError
 
     def list_lines(self, found: FoundFile, report: Report) -> list[str]:
@@ -56,7 +47,7 @@ class Work:
     def decrypt(self, value: Node, passwords: list[Password], may_fail: bool) -> Decryption | None:
         """An envelope in plaintext. If that may fail, None for one that is damaged or that nothing decrypts."""
         try:
-            return self.tool.decrypt(value.require_readable(), passwords, self.policy, self.effort)
+            return self.tool.decrypt(value.require_readable(), passwords, self.policy)
         except Refused as fault:
             if may_fail and (isinstance(fault, NotDecrypted) or not value.is_whole):
                 return None
@@ -75,9 +66,9 @@ class Work:
             return self._report_on(value, find_place(value, path, outer), is_prose)
 
         envelopes = parsed.number_envelopes()
-        self.effort.add_values(len(envelopes))
-        results = self.workers.share(process, [*envelopes.values()])
-        self.effort.require_time()
+        # Those of a plaintext are taken where it is: a thread of the pool that waits for others might wait for itself.
+        values = envelopes.values()
+        results = map(process, values) if outer else self.pool.map(process, values)
         new: dict[int, bytes] = {}
         for number, (text, own) in zip(envelopes, results):
             report.add(own)

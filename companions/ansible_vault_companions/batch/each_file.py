@@ -4,10 +4,11 @@ from __future__ import annotations
 
 import os
 from collections import deque
+from concurrent.futures import Future
 from dataclasses import dataclass, field
-from typing import Collection, NamedTuple
+from typing import Collection
 
-from ansible_vault_companions import refusals
+from ansible_vault_companions import parallel, refusals
 from ansible_vault_companions.batch.each_envelope import Work
 from ansible_vault_companions.batch.report import FAILED, ROTATED, SKIPPED, TO_BE_ROTATED, Entry, Report, Total
 from ansible_vault_companions.envelopes import detection, file_kinds
@@ -15,15 +16,12 @@ from ansible_vault_companions.envelopes.parsed_text import ParsedText, parse_env
 from ansible_vault_companions.envelopes.pointers import Pointer
 from ansible_vault_companions.files import replacing
 from ansible_vault_companions.files.searching import FoundFile, Search
-from ansible_vault_companions.limits import Effort
 from ansible_vault_companions.output import write_error, write_line
 from ansible_vault_companions.quoting import escape
 from ansible_vault_companions.refusals import Refused
-from ansible_vault_companions.workers import Task
 
-# How many files are read ahead of the work on them, and how many bytes they take, with their values.
-AHEAD, AHEAD_BYTES = 32, 1 << 25
-BYTES_OF_VALUE = 512
+# How many files may be done before the next one is reported.
+AHEAD = 32
 LABEL_NOT_FOUND = "no vault or value has the label {}{}"
 
 
@@ -43,13 +41,6 @@ class Outcome:
         self.report.add_file(FAILED, self.file.paths[0], refusals.describe_fault(fault, self.file.target))
 
 
-class Begun(NamedTuple):
-    """The work on a file, and the bytes that are kept until it is done."""
-
-    task: Task[Outcome]
-    size: int = 0
-
-
 class Runner:
     """Has a companion's work done on files, and adds the reports up."""
 
@@ -67,29 +58,38 @@ class Runner:
         self.total = Total()
 
     def process_files(self, files: list[FoundFile]) -> None:
-        """Works on each file, and reports on it. The files are read here, in the main thread, where the limit of time
-        holds."""
-        begun: deque[Begun] = deque()
-        for found in files:
-            begun.append(self._begin(found))
-            while len(begun) > AHEAD or sum(each.size for each in begun) > AHEAD_BYTES:
-                self._finish(begun.popleft().task.take())
-        while begun:
-            self._finish(begun.popleft().task.take())
+        """Works on each file, and reports on them in order."""
+        begun: deque[Future[Outcome]] = deque()
+        with parallel.open_pool() as pool:
+            for found in files:
+                begun.append(pool.submit(self._try_to_process, found))
+                if len(begun) > AHEAD:
+                    self._finish(begun.popleft().result())
+            while begun:
+                self._finish(begun.popleft().result())
 
-    def _begin(self, found: FoundFile) -> Begun:
-        """Reads a file and begins the work on it. A failure is in its report, so other files are still processed."""
-        effort = Effort()
+    def _try_to_process(self, found: FoundFile) -> Outcome:
+        try:
+            return self._process(found)
+        except (MemoryError, RecursionError) as fault:
+            refusals.name_file(found.paths[0], fault)
+            raise
+
+    def _process(self, found: FoundFile) -> Outcome:
+        """Works on a file, in a thread. A failure is in its report, so other files are still processed."""
         try:
             data = detection.read_envelope_file(found.target)
-            is_prose = file_kinds.is_prose(found.target) and not self._is_marked(found)
-            parsed = parse_envelopes(data, is_prose=is_prose)
         except (Refused, OSError) as fault:
-            return Begun(Task(Outcome, found, self._report_unread(found, fault)))
+            return Outcome(found, self._report_unread(found, fault))
+        parsed = parse_envelopes(data, is_prose=file_kinds.is_prose(found.target) and not self._is_marked(found))
         if found.refusal:
-            return Begun(Task(Outcome, found, self._report_refused(found, parsed)))
-        task = self.work.workers.begin(_do_work, found, parsed, self.work.begin_file(effort))
-        return Begun(task, len(parsed.data) + BYTES_OF_VALUE * len(parsed.values))
+            return Outcome(found, self._report_refused(found, parsed))
+        outcome = Outcome(found, before=data)
+        try:
+            outcome.after = self.work.process_file(found, parsed, outcome.report)
+        except (Refused, OSError) as fault:
+            outcome.fail(fault)
+        return outcome
 
     def _report_unread(self, found: FoundFile, fault: Exception) -> Report:
         """The report on a file that cannot be read."""
@@ -157,12 +157,3 @@ class Runner:
 def _is_gone(path: str, fault: Exception) -> bool:
     """Whether a file is no longer there, or a file is in the place of a directory above it."""
     return isinstance(fault, FileNotFoundError) or isinstance(fault, NotADirectoryError) and not os.path.lexists(path)
-
-
-def _do_work(found: FoundFile, parsed: ParsedText, work: Work) -> Outcome:
-    outcome = Outcome(found, before=parsed.data)
-    try:
-        outcome.after = work.process_file(found, parsed, outcome.report)
-    except (Refused, OSError) as fault:
-        outcome.fail(fault)
-    return outcome

@@ -15,13 +15,13 @@ def run_editor(path: str) -> str:
     """Runs the editor on a file. Returns why what it leaves must not be used; nothing if it may be."""
     editor = next(filter(None, map(os.environ.get, VARIABLES)), DEFAULT)
     status = 0
-    # A signal may have come before the editor is opened again. What was saved first is still there.
-    with suppress(signals.Stopped):
+    # What was saved first is still there.
+    with suppress(signals.Stopped), signals.Arrival():
         status = processes.run_on_terminal(["sh", "-c", f'{editor} "$@"', editor, path])
-    if signals.find_postponed_signal() is not None:
+    if signals.received:
         return describe_signal()
     return f"the editor failed ({editor}, status {status})" if status else ""
 
 
 def describe_signal() -> str:
-    return f"signal {signals.find_postponed_signal()} ended the edit"
+    return f"signal {signals.received} ended the edit"

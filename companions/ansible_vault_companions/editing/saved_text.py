@@ -69,7 +69,7 @@ def _edit(tool: Tool, draft: Draft, path: str, folder: PrivateDirectory) -> bool
         except replacing.NotSynced as failed:
             folder.release(text, str(failed))
             raise
-        except Exception as failed:
+        except BaseException as failed:
             fault = describe_failure(failed, path)
             if isinstance(failed, Refused) and _opens_again(path, fault):
                 continue
@@ -83,7 +83,8 @@ def _put_back(tool: Tool, draft: Draft, text: bytes) -> None:
     """Encrypts a text into the file."""
     if text.startswith(MAGIC):
         raise Refused(A_VAULT)
-    content = draft.encrypt(tool, text)
+    with signals.Arrival():
+        content = draft.encrypt(tool, text)
     if content != draft.content:
         replacing.replace(draft.target, content, draft.content)
 
@@ -91,7 +92,8 @@ def _put_back(tool: Tool, draft: Draft, text: bytes) -> None:
 def _opens_again(path: str, why: str) -> bool:
     """Whether the user, asked at the terminal, wants to correct the saved text."""
     try:
-        return prompts.ask_consent(f"{escape(path)}: {why}. Open the editor again?")
+        with signals.Arrival():
+            return prompts.ask_consent(f"{escape(path)}: {why}. Open the editor again?")
     # A signal arrived, or the terminal is gone.
     except (signals.Stopped, Refused, OSError):
         return False

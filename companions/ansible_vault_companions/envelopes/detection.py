@@ -2,7 +2,6 @@
 
 from __future__ import annotations
 
-from ansible_vault_companions.envelopes.header import HEADER
 from ansible_vault_companions.envelopes.pointers import refuse_pointer
 from ansible_vault_companions.files.reading import open_regular, read_parts, read_whole
 
@@ -14,11 +13,6 @@ OVERLAP = max(map(len, WORDS)) - 1
 def may_have_envelope(data: bytes) -> bool:
     """Whether the data may have an envelope. It may be a piece of a file."""
     return any(word in data for word in WORDS)
-
-
-def count_headers(data: bytes) -> int:
-    """How often the data has the beginning of a header."""
-    return data.count(HEADER)
 
 
 def read_envelope_file(path: str) -> bytes:

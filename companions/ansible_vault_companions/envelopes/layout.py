@@ -70,7 +70,7 @@ def _can_be_shown(text: str) -> bool:
 
 
 def put_envelope(data: bytes, value: Node, envelope: bytes) -> list[Replacement]:
-    """Puts an envelope in place of a text: as a block, as Ansible's tool writes it, or within brackets in double quotes.
+    """Puts an envelope in place of a text: as a block, as Ansible's tool does, or within brackets in double quotes.
     What follows a block's header in its line stays."""
     if value.is_flow:
         return [Replacement(value.begin, value.end, b'"%s"' % envelope.replace(b"\n", b"\\n"))]

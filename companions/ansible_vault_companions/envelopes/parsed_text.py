@@ -88,9 +88,12 @@ class ParsedText:
 
 
 def parse_envelopes(data: bytes, is_prose: bool = False) -> ParsedText:
-    """The envelopes of a file or of a plaintext, and the scalars that have the tag."""
-    if data.startswith(MAGIC) or not may_have_envelope(data):
-        return ParsedText(data, _list_vault(data), is_prose=is_prose)
+    """The envelopes of a file or of a plaintext, and the scalars that have the tag. A vault is no document,
+    whatever its name."""
+    if data.startswith(MAGIC):
+        return ParsedText(data, _list_vault(data))
+    if not may_have_envelope(data):
+        return ParsedText(data, is_prose=is_prose)
     parsed = ParsedText(data, is_prose=True) if is_prose else _read_yaml(data, read_envelopes)
     if BINARY not in data:
         parsed.values += find_strays(data, parsed.values, is_prose)
@@ -119,8 +122,6 @@ def _read_yaml(data: bytes, read: Callable[[bytes], Iterator[Node]]) -> ParsedTe
 
 
 def _list_vault(data: bytes) -> list[Node]:
-    """The whole of a file as an envelope, if it is one."""
-    if not data.startswith(MAGIC):
-        return []
+    """The whole of a file as an envelope."""
     ending = b"\r\n" if b"\r\n" in data else b"\n"
     return [Node(path=(), style=WHOLE, line=0, begin=0, start=0, end=len(data), margin=b"", ending=ending, text=data)]

@@ -11,8 +11,3 @@ NAME = re.compile(f"{re.escape(PREFIX)}[a-z0-9_]{{8}}{re.escape(SUFFIX)}")
 def is_leftover(name: str) -> bool:
     """Whether a companion gives such a name. Only then, a search skips the file: no vault is to hide there."""
     return NAME.fullmatch(name) is not None
-
-
-def may_be_leftover(name: str) -> bool:
-    """Whether a name is like that of such a file, so that the hook refuses it."""
-    return name.startswith(PREFIX) and name.endswith(SUFFIX)

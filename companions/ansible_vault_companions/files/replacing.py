@@ -31,7 +31,7 @@ def replace(target: str, content: bytes, before: bytes | None, is_private: bool 
     """Replaces the content of a file with this real path. Refuses if the content is no longer `before`, or if a link is
     in its path by now. A private file is readable only by its owner, whatever its mode was. Raises NotSynced if the old
     content may come back after a power failure."""
-    with signals.postpone_signals(), _open_old(target) as old:
+    with signals.Postponement(), _open_old(target) as old:
         # What has taken the place of the file gets no say in who may read the new one.
         _require_same(target, old, before)
         beside = write_new(os.path.dirname(target), content, old, is_private)
@@ -49,7 +49,7 @@ def replace(target: str, content: bytes, before: bytes | None, is_private: bool 
 
 def check_replaceable(target: str) -> None:
     """Refuses in advance a file that `replace` could not replace."""
-    with signals.postpone_signals(), _open_old(target) as old:
+    with signals.Postponement(), _open_old(target) as old:
         os.unlink(write_new(os.path.dirname(target), b"", old))
 
 

@@ -6,20 +6,14 @@ import argparse
 import errno
 import os
 import stat
-from contextlib import contextmanager
 from fnmatch import fnmatchcase
-from typing import Callable, Collection, Iterator, NamedTuple
+from typing import Callable, Collection, NamedTuple
 
-from ansible_vault_companions import bounding
 from ansible_vault_companions.files import link_bounds
 from ansible_vault_companions.files.leftovers import is_leftover
-from ansible_vault_companions.limits import ATTRIBUTE_SECONDS, SECONDS, Effort, TooMuch
 from ansible_vault_companions.quoting import quote_word
-from ansible_vault_companions.refusals import Refused, describe_fault
+from ansible_vault_companions.refusals import describe_fault
 
-# Of processor time. What is left of that for a file is for the attributes of what is found.
-SEARCH_SECONDS = SECONDS - ATTRIBUTE_SECONDS
-TOO_MUCH_TO_SEARCH = "the search for files: {}; name fewer directories, or leave some out with --exclude"
 NOT_SEARCHED = "it is a link to a directory, which is not searched; name {} as well"
 
 
@@ -61,17 +55,6 @@ def add_paths(parser: argparse.ArgumentParser) -> None:
     parser.add_argument("paths", metavar="PATH", nargs="+", help="a file or directory to search")
 
 
-@contextmanager
-def limit_search() -> Iterator[None]:
-    """A context for a search, and for the attributes of what it finds, which together take no more memory than the work
-    on one file. In git, directories that are the same take a few bytes, however many files and links they are."""
-    try:
-        with bounding.limit_work(Effort()):
-            yield
-    except TooMuch as fault:
-        raise Refused(TOO_MUCH_TO_SEARCH.format(fault)) from None
-
-
 class _Folder(NamedTuple):
     """A directory that is searched: its path as messages show it, and the real one."""
 
@@ -103,9 +86,8 @@ class Search:
         self.found: dict[str, list[Way]] = {}
         # Links to directories, and where they lead.
         self.folders: dict[str, str] = {}
-        with bounding.limit_run(SEARCH_SECONDS):
-            for path in paths:
-                self._search(path)
+        for path in paths:
+            self._search(path)
 
     def list_files(self) -> list[FoundFile]:
         """Each file, once."""
@@ -157,9 +139,9 @@ class Search:
             self._add(path, entry.path, entry.path, "")
 
     def _add_link(self, path: str, entry: os.DirEntry[str], folder: str, top: str) -> None:
-        """Adds a link. It is followed here first, since the system has no limit of names."""
+        """Adds a link."""
         target, refusal = _resolve(entry.path, link_bounds.resolve_link, entry.name, folder, top)
-        kind = stat.S_IFREG if refusal == link_bounds.TOO_MANY_STEPS else _find_kind(entry.path)
+        kind = _find_kind(entry.path)
         if stat.S_ISDIR(kind):
             self.folders[path] = target
         elif stat.S_ISREG(kind):
@@ -192,10 +174,9 @@ def _list_folder(folder: str) -> list[os.DirEntry[str]]:
 def _find_place(path: str) -> str:
     """Where a typed path is; empty if it leads nowhere."""
     folder, name = os.path.split(path)
-    try:
-        return os.path.normpath(os.path.join(link_bounds.find_target(folder), name))
-    except (TooMuch, OSError):
+    if not os.path.isdir(folder or os.curdir):
         return ""
+    return os.path.normpath(os.path.join(os.path.realpath(folder), name))
 
 
 def _resolve(path: str, resolve: Callable[..., str], *words: str) -> tuple[str, str]:
@@ -205,7 +186,7 @@ def _resolve(path: str, resolve: Callable[..., str], *words: str) -> tuple[str, 
         return resolve(*words), ""
     except link_bounds.LeadsOut as fault:
         return fault.target, str(fault)
-    except (TooMuch, OSError) as fault:
+    except OSError as fault:
         return path, describe_fault(fault, words[0])
 
 

@@ -7,7 +7,7 @@ import re
 from typing import Collection, Iterable, NamedTuple
 
 from ansible_vault_companions.files import reading
-from ansible_vault_companions.git.commands import CUT, list_records
+from ansible_vault_companions.git.commands import CUT, make_refusal, run_git_command
 from ansible_vault_companions.git.repository import find_repository
 from ansible_vault_companions.refusals import Refused, describe_refusal
 
@@ -29,8 +29,12 @@ def read_attributes(names: Collection[bytes], folder: str | None = None) -> dict
     """The attributes of files by what is staged or, if a directory is given, by the files there."""
     data = b"".join(name + b"\0" for name in names)
     options = [] if folder else ["--cached"]
-    fields = list_records("check-attr", *options, "-z", "--stdin", *ATTRIBUTES, data=data, folder=folder)
-    if fields[::6] != [*names] or fields[3::6] != [*names]:
+    done = run_git_command("check-attr", *options, "-z", "--stdin", *ATTRIBUTES, data=data, folder=folder)
+    # git only warns of a line or a file that it does not read, which may have them.
+    if done.returncode or done.stderr:
+        raise make_refusal("check-attr", done.returncode, done.stderr)
+    *fields, rest = done.stdout.split(b"\0")
+    if rest or fields[::6] != [*names] or fields[3::6] != [*names]:
         raise Refused(CUT.format("check-attr"))
     return {name: _make_attributes(diff, vault) for name, diff, vault in zip(names, fields[2::6], fields[5::6])}
 

@@ -5,6 +5,7 @@ from __future__ import annotations
 import os
 from typing import Collection, Iterable, Iterator, NamedTuple
 
+from ansible_vault_companions.files import reading
 from ansible_vault_companions.git.commands import CUT, list_records, read_line, run_git
 from ansible_vault_companions.git.pathspecs import make_pathspec
 from ansible_vault_companions.quoting import escape
@@ -48,7 +49,8 @@ def list_staged() -> list[Changes]:
     parents = [read_line("hash-object", "-t", "tree", "--stdin")]
     if _has_commit():
         merged = {name.removeprefix(MERGED) for name in os.environ if name.startswith(MERGED)}
-        merged.update(read_line("rev-parse", "--verify", "--quiet", "MERGE_HEAD", may_be_none=True).split())
+        # `git rev-parse MERGE_HEAD` gives only the first commit.
+        merged.update((reading.read(read_line("rev-parse", "--git-path", "MERGE_HEAD")) or b"").decode().split())
         parents = ["HEAD", *sorted(merged)]
     single = parents[0] if len(parents) == 1 else ""
     return [

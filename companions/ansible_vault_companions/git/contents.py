@@ -5,9 +5,12 @@ from __future__ import annotations
 import subprocess
 
 from ansible_vault_companions.git.commands import CUT, start_git
+from ansible_vault_companions.limits import LONGEST_VAULT
 from ansible_vault_companions.refusals import Refused
 
 COMMAND = "cat-file"
+# How many bytes of the rest of a long content are read at once.
+PART = 1 << 20
 
 
 class Contents:
@@ -23,6 +26,7 @@ class Contents:
         self.git.communicate()
 
     def read(self, blob: str) -> bytes:
+        """The content of a blob; of one that is longer than any vault, only the beginning."""
         assert self.git.stdin and self.git.stdout
         try:
             self.git.stdin.write(blob.encode() + b"\n")
@@ -32,7 +36,12 @@ class Contents:
         words = self.git.stdout.readline().split()
         if len(words) != 3:
             raise Refused(f"git {COMMAND} failed: it does not give {blob}; in a partial clone, fetch it first")
-        content = self.git.stdout.read(int(words[2]) + 1)
-        if len(content) != int(words[2]) + 1:
-            raise Refused(CUT.format(COMMAND))
-        return content[:-1]
+        content = self.git.stdout.read(min(int(words[2]), LONGEST_VAULT + 1))
+        # There is a line end, too.
+        left = int(words[2]) + 1 - len(content)
+        while left:
+            part = self.git.stdout.read(min(left, PART))
+            if not part:
+                raise Refused(CUT.format(COMMAND))
+            left -= len(part)
+        return content

@@ -40,7 +40,7 @@ def _list_vaults(evidence: Evidence, file: File) -> Iterator[File]:
 def _list_places(path: bytes) -> set[bytes]:
     """The directory, the path without a suffix, and the name alone. Two files have one of these in common if a vault
     `x.yml` becomes `y.yml`, `x/main.yml` or `other/x.yaml`."""
-    folder, names = os.path.dirname(path.lower()) + b"/", _list_names(path)
+    folder, names = os.path.join(os.path.dirname(path.lower()), b""), _list_names(path)
     return {folder, *(folder + name + b"/" for name in names), *names}
 
 

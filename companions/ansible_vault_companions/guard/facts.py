@@ -14,12 +14,15 @@ from ansible_vault_companions.envelopes.node import ALIAS, JSON_KEY, NO_SCALAR, 
 from ansible_vault_companions.envelopes.parsed_text import ParsedText, parse_nodes
 from ansible_vault_companions.envelopes.strays import find_strays
 from ansible_vault_companions.envelopes.yaml_nodes import BINARY
+from ansible_vault_companions.limits import LONGEST_PLAINTEXT
 
 # The keys that lead to a text. A list item has its name for a key, like that of a mapping, or else one that all such
 # items have, so that their order does not matter.
 Keys = tuple[Optional[str], ...]
 ITEM = None
 NAME = "name"
+# YAML that takes minutes to read is longer than what anybody writes.
+TOO_LONG = f"it has over {LONGEST_PLAINTEXT:,} bytes"
 # How a tag such as `!!null` begins.
 STANDARD_TAGS = "tag:yaml.org,2002:"
 # What may replace a secret: nothing, a locked account's password, or only Jinja expressions.
@@ -56,7 +59,7 @@ def find_facts(data: bytes, needs_plain: bool) -> Facts:
         return Facts(is_vault=True, damage=find_damage(parsed), is_unmerged=is_unmerged(parsed), unencrypted="")
     if not (needs_plain or may_have_envelope(data)):
         return Facts()
-    parsed = parse_nodes(data)
+    parsed = parse_nodes(data) if len(data) <= LONGEST_PLAINTEXT else ParsedText(data, fault=TOO_LONG)
     encrypted, plain = _count_texts(parsed)
     parsed.values = [node for node in parsed.values if node.is_value]
     if BINARY not in data:
@@ -81,16 +84,19 @@ def _count_texts(parsed: ParsedText) -> tuple[Counter[Keys], Counter[Keys]]:
         for node in parsed.values
         if node.path[-1:] == (NAME,) and not node.is_envelope
     }
+    anchors = {node.anchor for node in parsed.values if node.style != ALIAS}
     for node in parsed.values:
         if node.is_envelope:
             encrypted[_make_keys(node.path, names)] += 1
-        elif node.style not in (NO_SCALAR, ALIAS) and not is_placeholder(node.text.strip() or _read_name(node)):
+        elif node.style == NO_SCALAR or node.style == ALIAS and node.anchor in anchors:
+            continue
+        elif not is_placeholder(node.text.strip() or _read_name(node)):
             plain[_make_keys(node.path, names)] += 1
     return encrypted, plain
 
 
 def _read_name(node: Node) -> bytes:
-    """The tag and the anchor of what has no text: somebody may have typed a text that begins with `!` or `&`."""
+    """The tag and the anchor of what has no text: somebody may have typed a text that begins with `!`, `&` or `*`."""
     return os.fsencode(f"{'' if node.tag.startswith(STANDARD_TAGS) else node.tag}{node.anchor}")
 
 

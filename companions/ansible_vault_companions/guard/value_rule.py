@@ -31,7 +31,9 @@ def find_fault(evidence: Evidence, file: File) -> Fault | None:
     if not before.encrypted and not (evidence.removed_values and may_have_variables(file.name)):
         return None
     before, now = evidence.known.find_whole(file.before), evidence.known.find_whole(file.blob)
-    names = sorted({*_find_in_file(before, now), *_find_elsewhere(evidence.removed_values, before, now)}, key=write_keys)
+    names = sorted(
+        {*_find_in_file(before, now), *_find_elsewhere(evidence.removed_values, before, now)}, key=write_keys
+    )
     if not names:
         return None
     listed = ", ".join(escape(write_keys(keys)) for keys in names)

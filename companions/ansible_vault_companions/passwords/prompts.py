@@ -9,8 +9,8 @@ from __future__ import annotations
 import os
 import termios
 from io import FileIO
+from select import select
 
-from ansible_vault_companions import signals
 from ansible_vault_companions.output import write_error, write_when_possible
 from ansible_vault_companions.passwords.asking import Asking, NoAnswer
 from ansible_vault_companions.passwords.settings import ASK, PROMPT
@@ -115,15 +115,14 @@ def _ask_hidden(terminal: FileIO, question: str) -> bytes:
     """The answer, which is not shown. Ctrl-Z has no effect: after `fg`, a shell would show what is typed. A terminal
     that is gone is an OSError."""
     try:
-        with signals.postpone_signals():
-            shown = termios.tcgetattr(terminal)
-            hidden = [*shown[:3], shown[3] & ~termios.ECHO, *shown[4:6], [*shown[6]]]
-            hidden[6][termios.VSUSP] = NO_KEY
+        shown = termios.tcgetattr(terminal)
+        hidden = [*shown[:3], shown[3] & ~termios.ECHO, *shown[4:6], [*shown[6]]]
+        hidden[6][termios.VSUSP] = NO_KEY
+        try:
             termios.tcsetattr(terminal, termios.TCSAFLUSH, hidden)
-            try:
-                text = _ask_shown(terminal, question).replace(SUSPEND, b"")
-            finally:
-                termios.tcsetattr(terminal, termios.TCSAFLUSH, shown)
+            text = _ask_shown(terminal, question).replace(SUSPEND, b"")
+        finally:
+            termios.tcsetattr(terminal, termios.TCSAFLUSH, shown)
     except termios.error as fault:
         raise OSError(*fault.args) from None
     write_when_possible(terminal.fileno(), b"\n")
@@ -148,13 +147,21 @@ def _read_line(stream: FileIO) -> bytes:
     """The next line, byte by byte, so that what follows is left to others."""
     text = bytearray()
     while not text.endswith(b"\n"):
-        signals.wait_for_input(stream.fileno())
-        typed = stream.read(1)
+        typed = _read_byte(stream)
         # Ctrl-D ends the line, too.
         if not typed:
             break
         text += typed
     return bytes(text)
+
+
+def _read_byte(stream: FileIO) -> bytes:
+    typed = stream.read(1)
+    while typed is None:
+        # Another program has set it not to wait.
+        select([stream], [], [])
+        typed = stream.read(1)
+    return typed
 
 
 def _require_utf8(text: bytes) -> bytes:
