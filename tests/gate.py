@@ -98,7 +98,8 @@ def test_missing_packages(program: str, tmp_path: Path) -> None:
 
 
 # What tools/lint runs, besides other programs.
-LINT = ("tools/lint", "tools/references.py", "tools/dead_names", "companions/ansible_vault_companions/__init__.py")
+LINT = [f"tools/{name}" for name in ("lint", "import_order.py", "references.py", "dead_names")]
+LINT.append("companions/ansible_vault_companions/__init__.py")
 QUOTES = '"' * 3
 # Files in which every lint finds a fault, and what it says of each.
 FAULTY = {
@@ -118,6 +119,15 @@ FAULTY |= {
     "tests/planted/faults.toml": (
         '[[fault]]\nfile = "man/a.1"\nold = "gone"\n',
         "faults.toml: not once in man/a.1: gone",
+    ),
+}
+ORDER = "## The companions\n\n| `files` | read files |\n| `git` | asks git |\n"
+FAULTY |= {
+    "docs/architecture.md": (f"# A page\n\n{ORDER}", ""),
+    "companions/shared/other.py": ("NUMBER = 1\n", "shared/other.py: other is in no line of docs/architecture.md"),
+    "companions/shared/files/up.py": (
+        "def up() -> None:\n    import ansible_vault_companions.git.up\n",
+        "companions/shared/files/up.py:2: it imports git, which is below files in docs/architecture.md",
     ),
 }
 DEAD = ": there is no "

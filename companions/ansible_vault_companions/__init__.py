@@ -1,13 +1,7 @@
 """The modules that ansible-vault's companions share. They are tested, not proved.
 
-`startup` comes before all else, `parsers` reads the command line, and `exit_status` runs the work. `signals` turns
-what would end it too early into an exception, `memory` has its only limit, and `processes` runs programs. `refusals`,
-`quoting` and `output` word and print its messages. `files` finds, reads and replaces files, and `envelopes` finds the
-envelopes in them. `passwords` gets passwords, `tool` runs ansible-vault with them, and with `parallel` for several
-envelopes at once. `git` asks git, and `guard` has the rules of the hook. Above these are `merging`,
-`editing`, `showing` (textconv) and `batch` (check and rotate); `alias` takes the command lines of Ansible's tool.
-
-A run imports what it needs, since git starts textconv twice for each version of a file.
+docs/architecture.md says what they do, and which may import which. A run imports what it needs, since git starts
+textconv twice for each version of a file.
 """
 
 import os

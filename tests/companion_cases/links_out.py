@@ -107,8 +107,7 @@ def expected(kind: Kind, is_repository: bool, tree: Path) -> str:
     if not is_repository and not kind.path.endswith("/l.yml"):
         return ""
     bound = "project" if is_repository else "project/vars"
-    crosses = [link for link, target in kind.links.items() if target in ("../..", "../../outside")]
-    leads_out = not kind.file.startswith(f"{bound}/") or "/.git/" in kind.file or crosses
+    leads_out = not kind.file.startswith(f"{bound}/") or "/.git/" in kind.file
     target = kind.file if kind.file.startswith("/") else f"{tree}/{kind.file}"
     return f"a link leads out of {tree}/{bound}; name {target}" if leads_out else ""
 

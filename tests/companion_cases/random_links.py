@@ -10,7 +10,7 @@ import pytest
 from hypothesis import strategies as st
 
 from ansible_vault_companions.files.searching import Search
-from ansible_vault_companions.git.repository import find_repository
+from ansible_vault_companions.files.link_bounds import find_repository
 
 # Names that are likely to meet, of directories, of a file in each, and of links.
 FOLDERS, FILE, LINKS = ("p", "q"), "f", ("k", "l", "m")

@@ -18,7 +18,7 @@ from ansible_vault_companions.envelopes.node import Node
 from ansible_vault_companions.envelopes.parsed_text import ParsedText, parse_envelopes
 from ansible_vault_companions.files import replacing
 from ansible_vault_companions.files.searching import FoundFile
-from ansible_vault_companions.git.textconv_passwords import textconv_lacks
+from ansible_vault_companions.batch.textconv_passwords import textconv_lacks
 from ansible_vault_companions.passwords.password import Password
 from ansible_vault_companions.quoting import escape
 from ansible_vault_companions.refusals import Refused

@@ -9,6 +9,7 @@ from __future__ import annotations
 import errno
 import os
 import re
+from functools import lru_cache
 
 from ansible_vault_companions.quoting import escape, quote_word
 from ansible_vault_companions.refusals import Refused
@@ -24,7 +25,6 @@ class LeadsOut(Refused):
 
     def __init__(self, bound: str, target: str) -> None:
         super().__init__(f"a link leads out of {escape(bound)}; name {quote_word(target)} instead")
-        self.bound = bound
         self.target = target
 
 
@@ -36,64 +36,69 @@ def find_current_folder() -> str:
         raise Refused(f"the current directory: {fault.strerror}") from None
 
 
+@lru_cache(maxsize=None)
+def find_repository(folder: str) -> str | None:
+    """The top directory of the repository that contains this directory, if any. git would take a process for each."""
+    above = os.path.dirname(folder)
+    while not os.path.lexists(os.path.join(folder, GIT)):
+        if above == folder:
+            return None
+        folder, above = above, os.path.dirname(above)
+    return folder
+
+
 def is_within(path: str, folder: str) -> bool:
     """Whether a real path is that of a directory or below it, but not in git's own directory."""
     below = os.path.join(folder, "")
     return path == folder or path.startswith(below) and WITHIN_GIT not in f"/{path[len(below) :]}/"
 
 
-def resolve_folder(path: str) -> str:
-    """The real path of a typed directory. Refuses a link that leads out of its repository."""
-    return _resolve(path, path, "")
-
-
 def resolve_file(path: str) -> str:
-    """The real path of a typed file. Refuses a link that leads out of its repository or, outside of git, out of its
+    """The real path of a typed file, whose links must not lead out of a repository or, outside of git, out of its
     directory. A name of an open file or of a device stays as it is."""
-    return _resolve(path, *os.path.split(path))
+    folder = os.path.realpath(os.path.dirname(_make_absolute(path)))
+    return path if OF_OPEN_FILES.fullmatch(folder) else resolve_path(path, folder)
 
 
-def _resolve(path: str, folder: str, name: str) -> str:
-    """The real path of what has this name in a directory, or of the directory. Messages are on the whole path."""
-    here = os.sep if os.path.isabs(folder) else find_current_folder()
-    try:
-        for step in folder.split(os.sep):
-            here = resolve_link(step, here)
-        return path if name and OF_OPEN_FILES.fullmatch(here) else resolve_link(name, here, here)
-    except LeadsOut as fault:
-        raise LeadsOut(fault.bound, os.path.realpath(path)) from None
-    except OSError as fault:
-        raise OSError(fault.errno, fault.strerror, path) from None
-
-
-def resolve_link(name: str, folder: str, bound: str = "") -> str:
-    """The real path of what has this name in a directory with this real path. Refuses a link that leads out of its
-    repository or, outside of git, out of the bound, if there is one."""
-    path = os.path.normpath(os.path.join(folder, name))
-    if not os.path.islink(path):
-        return path
-    try:
-        os.stat(path)
-    except OSError as fault:
-        # os.path.realpath would follow any number of links, even if the system does not.
-        if fault.errno == errno.ELOOP:
-            raise
-    target = os.path.realpath(path)
-    for top in _list_bounds(os.path.dirname(path), bound):
+def resolve_path(path: str, bound: str = "") -> str:
+    """The real path to which a path leads. Refuses one whose links lead out of a repository that it enters or, if none
+    of these is the user's own, out of the bound."""
+    _refuse_loop(path)
+    path = _make_absolute(path)
+    target, typed = os.path.realpath(path), os.path.normpath(path)
+    for top in _list_bounds(typed, bound) if target != typed else ():
         if not is_within(target, top):
             raise LeadsOut(top, target)
     return target
 
 
-def _list_bounds(folder: str, bound: str) -> list[str]:
-    """The directories out of which a link in this one must not lead."""
-    # Most paths have no links.
-    from ansible_vault_companions.git.repository import find_repository, is_own_repository
+def _make_absolute(path: str) -> str:
+    return path if os.path.isabs(path) else os.path.join(find_current_folder(), path)
 
-    repository = find_repository(folder)
-    # One of another user, perhaps above all of this, does not widen the bound.
-    is_own = repository and is_own_repository(repository)
-    return [top for top in ("" if is_own else bound, repository) if top]
+
+def _refuse_loop(path: str) -> None:
+    """Refuses a path that the system does not follow. Python's realpath would leave links in it."""
+    try:
+        os.stat(path)
+    except OSError as fault:
+        if fault.errno == errno.ELOOP:
+            raise
+
+
+def _list_bounds(path: str, bound: str) -> list[str]:
+    """The real paths of the directories out of which the links of an absolute path must not lead. The real path alone
+    would not tell: that of `repository/link/file` may have no repository, or another one."""
+    steps = path.split(os.sep)
+    above = [os.sep.join(steps[:count]) or os.sep for count in range(len(steps) - 1, 0, -1)]
+    repositories = [folder for folder in above if os.path.lexists(os.path.join(folder, GIT))]
+    is_bounded = bound and not any(map(_is_own_repository, repositories))
+    return [os.path.realpath(top) for top in ([bound, *repositories] if is_bounded else repositories)]
+
+
+def _is_own_repository(repository: str) -> bool:
+    """Whether a repository is the user's or root's. Anybody may put a `.git` into a directory such as /tmp, which does
+    not widen the bound."""
+    return os.lstat(os.path.join(repository, GIT)).st_uid in (os.geteuid(), 0)
 
 
 def require_folder(target: str) -> None:

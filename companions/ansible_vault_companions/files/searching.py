@@ -106,13 +106,15 @@ class Search:
         name = os.path.basename(os.path.normpath(path))
         if name not in (os.curdir, os.pardir) and self._is_excluded(path):
             return
-        is_folder = os.path.isdir(path)
-        target, refusal = _resolve(path, link_bounds.resolve_folder if is_folder else link_bounds.resolve_file, path)
-        if is_folder and not refusal:
+        if not os.path.isdir(path):
+            self._add(path, _find_place(path), *_resolve(path, link_bounds.resolve_file, path))
+            return
+        target, refusal = _resolve(path, link_bounds.resolve_path, path)
+        if refusal:
+            self._add(path, _find_place(path), target, refusal)
+        else:
             self.tops.append(target)
             self._search_folder(path, target)
-        else:
-            self._add(path, _find_place(path), target, refusal)
 
     def _search_folder(self, path: str, top: str) -> None:
         """Finds the files below a directory with this typed and this real path."""
@@ -134,13 +136,13 @@ class Search:
         """Adds what is in a directory, if it is a file or a link to one or to a directory."""
         path = os.path.join(folder.path, entry.name)
         if entry.is_symlink():
-            self._add_link(path, entry, folder.place, top)
+            self._add_link(path, entry, top)
         elif stat.S_ISREG(_find_kind(entry.path)):
             self._add(path, entry.path, entry.path, "")
 
-    def _add_link(self, path: str, entry: os.DirEntry[str], folder: str, top: str) -> None:
+    def _add_link(self, path: str, entry: os.DirEntry[str], top: str) -> None:
         """Adds a link."""
-        target, refusal = _resolve(entry.path, link_bounds.resolve_link, entry.name, folder, top)
+        target, refusal = _resolve(entry.path, link_bounds.resolve_path, entry.path, top)
         kind = _find_kind(entry.path)
         if stat.S_ISDIR(kind):
             self.folders[path] = target

@@ -7,8 +7,8 @@ import re
 from typing import Collection, Iterable, NamedTuple
 
 from ansible_vault_companions.files import reading
+from ansible_vault_companions.files.link_bounds import find_repository
 from ansible_vault_companions.git.commands import CUT, make_refusal, run_git_command
-from ansible_vault_companions.git.repository import find_repository
 from ansible_vault_companions.refusals import Refused, describe_refusal
 
 # The first attribute marks a file if it has this value, the second if it is set. Unset, the second exempts a file.

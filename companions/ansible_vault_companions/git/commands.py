@@ -5,6 +5,7 @@ from __future__ import annotations
 import os
 
 from ansible_vault_companions import processes
+from ansible_vault_companions.files.link_bounds import find_current_folder, find_repository
 from ansible_vault_companions.refusals import Refused
 
 # The module `typing` takes long to import.
@@ -87,3 +88,12 @@ def list_records(*words: str, data: bytes = b"", folder: str | None = None) -> l
     if rest:
         raise Refused(CUT.format(words[0]))
     return records
+
+
+def find_top() -> str:
+    """The top directory of the current repository. Only git's variables may name one without `.git`."""
+    here = find_current_folder()
+    folder = read_line("rev-parse", "--show-toplevel") if "GIT_DIR" in os.environ else find_repository(here)
+    if not folder:
+        raise Refused("the current directory is not in a git repository")
+    return folder

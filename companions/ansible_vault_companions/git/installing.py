@@ -10,16 +10,22 @@ import shlex
 from contextlib import suppress
 
 from ansible_vault_companions.files import link_bounds
-from ansible_vault_companions.git import merge_driver
 from ansible_vault_companions.git.commands import read_line, run_git
 from ansible_vault_companions.quoting import escape, quote_word
 from ansible_vault_companions.refusals import Refused
 
+# The status of the merge driver if both sides are in the file, with conflict markers. It is git's greatest one for a
+# conflict, and neither Python nor a shell ends with it otherwise.
+CONFLICT = 128
+# If the driver could not write to the file at all. Settings of earlier versions, too, then run git's own merge.
+NOTHING_WRITTEN = 2
+# However else the driver ends, git's own merge leaves a conflict; git itself would keep ours without a word.
+OR_ELSE = f' || {{ [ "$?" -eq {CONFLICT} ] || git merge-file -q %A %O %B; exit 1; }}'
 TEXTCONV = "diff.ansible-vault.textconv"
 # The git settings, each with the companion that it runs and the arguments after the passwords.
 SETTINGS = {
     TEXTCONV: ("ansible-vault-textconv", ""),
-    "merge.ansible-vault.driver": ("ansible-vault-merge", merge_driver.ARGUMENTS),
+    "merge.ansible-vault.driver": ("ansible-vault-merge", f" %O %A %B %P{OR_ELSE}"),
 }
 # Where hooks are in git's own directory, unless core.hooksPath is set.
 HOOKS = "hooks"
@@ -47,7 +53,7 @@ def _find_folder() -> str:
     if folder == os.path.join(own, HOOKS):
         return os.path.abspath(folder)
     try:
-        return link_bounds.resolve_folder(folder)
+        return link_bounds.resolve_path(folder)
     except Refused as fault:
         raise Refused(f"core.hooksPath: {fault}") from None
 

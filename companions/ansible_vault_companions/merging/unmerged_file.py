@@ -5,7 +5,8 @@ from __future__ import annotations
 import os
 
 from ansible_vault_companions.envelopes import conflicts
-from ansible_vault_companions.git import commands, repository
+from ansible_vault_companions.files.link_bounds import find_repository
+from ansible_vault_companions.git import commands
 from ansible_vault_companions.merging.line_merge import Versions
 
 
@@ -23,7 +24,7 @@ def find_versions(target: str, data: bytes) -> Versions | None:
 
 def _read_stages(target: str) -> list[bytes]:
     """Base, ours and theirs of a file in the index, each empty if the index has none."""
-    folder = repository.find_repository(os.path.dirname(target))
+    folder = find_repository(os.path.dirname(target))
     if not folder:
         return [b"", b"", b""]
     name = os.path.relpath(target, folder)
