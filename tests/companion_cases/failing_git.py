@@ -4,8 +4,7 @@ A stand-in for git passes on each call but one, or but those of a kind. That cal
 or the whole, and then ends with some status or by a signal. A run is fine if its result is what it is without a failure
 (the answer was not needed), or if it names the failed call and has the status 1.
 
-git ends with status 0 only after it has written its whole answer. A cut answer with this status is refused all the same
-if it has another form than a whole one; `looks_whole` has those that have not.
+git ends with status 0 only after it has written its whole answer, so an answer with this status is believed.
 """
 
 import os
@@ -26,14 +25,12 @@ from companion_cases.repository import under_git
 pytestmark = [pytest.mark.usefixtures("git"), pytest.mark.faults]
 
 NOTHING = "nothing"
-RECORD = "the first record"
 HALF = "half"
-SHORT = "all but the last byte"
 ALL = "all"
 # The line before each content in the answer of `cat-file --batch`.
 BATCH = re.compile(rb"^[0-9a-f]{40} blob \d+\n", re.MULTILINE)
 # A call with a status reads its input first.
-ENDS = {f"status {status}": f"cat > /dev/null; exit {status}" for status in (0, 1, 128)} | {"a signal": "kill -KILL $$"}
+ENDS = {f"status {status}": f"cat > /dev/null; exit {status}" for status in (1, 128)} | {"a signal": "kill -KILL $$"}
 
 
 class Way(NamedTuple):
@@ -44,28 +41,12 @@ class Way(NamedTuple):
 
 
 WAYS = [
-    Way(NOTHING, "status 0"),
-    Way(RECORD, "status 0"),
-    Way(HALF, "status 0"),
-    Way(SHORT, "status 0"),
     Way(NOTHING, "status 1"),
     Way(NOTHING, "status 128"),
     Way(HALF, "a signal"),
     Way(ALL, "status 1"),
     Way(ALL, "a signal"),
 ]
-WHOLE = Way(ALL, "status 0")
-# Kinds of calls whose answer would also be whole, and say something else, without its last records; and those whose
-# answer is a text, which has no form.
-FEWER_RECORDS = {
-    "diff-index --cached": "nothing differs",
-    "diff-tree --stdin": "no commit changes a file",
-    "ls-files -s": "there is no other file",
-    "ls-tree -r": "there is no other file",
-    "rev-list": "there is no earlier commit",
-    "rev-list --reverse": "there is no later commit",
-}
-TEXTS = ("merge-file -p",)
 # The kind of a call is its command and the first option; calls of a kind are numbered. Without FAILS, git answers, and
 # its answers are noted. A call that fails prints so many BYTES of the noted answer.
 STAND_IN = """
@@ -203,13 +184,23 @@ class Call(NamedTuple):
     answer: bytes
 
     def length(self, part: str) -> int:
-        """Return how many bytes this part of the answer has. A record ends with a null character or with its line. Of
-        the answers to a batch, half are all but the last content."""
-        whole, end = len(self.answer), b"\0" if b"\0" in self.answer else b"\n"
+        """Return how many bytes this part of the answer has. Of the answers to a batch, half are all but the last
+        content."""
         headers = [header.end() for header in BATCH.finditer(self.answer)]
-        half = headers[-1] if headers else whole // 2
-        lengths = {NOTHING: 0, RECORD: self.answer.find(end) + 1, HALF: half, SHORT: max(0, whole - 1), ALL: whole}
-        return lengths[part]
+        half = headers[-1] if headers else len(self.answer) // 2
+        return {NOTHING: 0, HALF: half, ALL: len(self.answer)}[part]
+
+
+class Failure(NamedTuple):
+    """A call, or all of its kind, and how it fails."""
+
+    call: Call
+    way: Way
+    is_of_kind: bool
+
+    def __str__(self) -> str:
+        which = "each call" if self.is_of_kind else f"call {self.call.number}"
+        return f"{which} of git {self.call.kind} prints {self.way.part} and ends with {self.way.end}"
 
 
 class Result(NamedTuple):
@@ -240,12 +231,13 @@ class Failing(NamedTuple):
     forks: Forks
     line: str
 
-    def run(self, call: Call | None = None, way: Way = WHOLE, is_of_kind: bool = False) -> Attempt:
-        """Run the line in the prepared repository. The call fails, or all of its kind."""
+    def run(self, failure: Failure | None = None) -> Attempt:
+        """Run the line in the prepared repository."""
         for name in ("kinds", "failed"):
             (self.place.path / name).write_text("")
         fails = {}
-        if call:
+        if failure:
+            call, way, is_of_kind = failure
             name = call.kind if is_of_kind else f"{call.kind} {call.number}"
             fails = {"FAILS": name, "BYTES": str(call.length(way.part)), "END": ENDS[way.end]}
         changes = EDIT in self.line or "--install" in self.line
@@ -283,51 +275,15 @@ def names_call(result: Result, call: Call) -> bool:
     return result.status == 1 and any(message in result.errors for message in messages)
 
 
-def is_failure(call: Call, way: Way) -> bool:
-    return way.end != "status 0" or call.length(way.part) < len(call.answer)
-
-
-def looks_whole(result: Result, call: Call, way: Way) -> bool:
-    """Return whether there is a result because a companion cannot tell that the answer is cut."""
-    cut = call.answer[: call.length(way.part)]
-    has_records = call.kind in FEWER_RECORDS and cut[-1:] in (b"", b"\0", b"\n")
-    return way.end == "status 0" and (has_records or call.kind in TEXTS) and "Traceback" not in result.errors
-
-
-class Failure(NamedTuple):
-    """A call, or all of its kind, and how it fails."""
-
-    call: Call
-    way: Way
-    is_of_kind: bool
-
-    def __str__(self) -> str:
-        which = "each call" if self.is_of_kind else f"call {self.call.number}"
-        return f"{which} of git {self.call.kind} prints {self.way.part} and ends with {self.way.end}"
-
-
 def choose_failures(calls: list[Call], share: int, random: Random) -> Iterator[Failure]:
     """Yield one in so many failures of these calls, and at least one of each kind and way."""
-    every = list_failures(calls)
+    every = [*product(calls, WAYS)]
     chosen = set[tuple[str, Way]]()
     for call, way in random.sample(every, len(every)):
         if (call.kind, way) in chosen and random.randrange(share) > 0:
             continue
         chosen.add((call.kind, way))
         yield Failure(call, way, is_of_kind=random.random() < 0.3)
-
-
-def list_failures(calls: list[Call]) -> list[tuple[Call, Way]]:
-    """Return each way in which each call can fail."""
-    return [(call, way) for call, way in product(calls, WAYS) if is_failure(call, way)]
-
-
-def is_fine(result: Result, whole: Result, failure: Failure) -> bool:
-    """Return whether the answer of the failed call was not needed, is known to be missing, or cannot be told from a
-    whole one."""
-    if result == whole or names_call(result, failure.call):
-        return True
-    return looks_whole(result, failure.call, failure.way)
 
 
 @pytest.mark.parametrize("scenario", SCENARIOS.values(), ids=SCENARIOS)
@@ -350,12 +306,12 @@ def test_failures(
     reached = 0
     wrong = []
     for failure in choose_failures(calls, share, random):
-        attempt = failing.run(failure.call, failure.way, failure.is_of_kind)
+        attempt = failing.run(failure)
         if attempt.has_failed:
             reached += 1
         else:
             wrong.append(f"{scenario.line} never comes to where {failure}")
-        if not is_fine(attempt.result, whole, failure):
+        if attempt.result != whole and not names_call(attempt.result, failure.call):
             wrong.append(f"If {failure}, {scenario.line} has {attempt.result}")
     assert not wrong, "\n".join(wrong)
-    record_property("failing calls of git", (reached, len(list_failures(calls))))
+    record_property("failing calls of git", (reached, len(calls) * len(WAYS)))

@@ -8,7 +8,7 @@ from typing import Collection, Iterable, NamedTuple
 
 from ansible_vault_companions.files import reading
 from ansible_vault_companions.files.link_bounds import find_repository
-from ansible_vault_companions.git.commands import CUT, make_refusal, run_git_command
+from ansible_vault_companions.git.commands import make_refusal, run_git_command
 from ansible_vault_companions.refusals import Refused, describe_refusal
 
 # The first attribute marks a file if it has this value, the second if it is set. Unset, the second exempts a file.
@@ -33,9 +33,8 @@ def read_attributes(names: Collection[bytes], folder: str | None = None) -> dict
     # git only warns of a line or a file that it does not read, which may have them.
     if done.returncode or done.stderr:
         raise make_refusal("check-attr", done.returncode, done.stderr)
-    *fields, rest = done.stdout.split(b"\0")
-    if rest or fields[::6] != [*names] or fields[3::6] != [*names]:
-        raise Refused(CUT.format("check-attr"))
+    # The name, the attribute and its value, for each attribute.
+    fields = done.stdout.split(b"\0")
     return {name: _make_attributes(diff, vault) for name, diff, vault in zip(names, fields[2::6], fields[5::6])}
 
 

@@ -6,7 +6,7 @@ import os
 from typing import Collection, Iterable, Iterator, NamedTuple
 
 from ansible_vault_companions.files import reading
-from ansible_vault_companions.git.commands import CUT, list_records, read_line, run_git
+from ansible_vault_companions.git.commands import list_records, read_line, run_git
 from ansible_vault_companions.git.pathspecs import make_pathspec
 from ansible_vault_companions.quoting import escape
 from ansible_vault_companions.refusals import Refused
@@ -103,10 +103,8 @@ def list_since(first: str, last: str) -> Iterator[Changes]:
         base = f"{commit}~1" if own else "--root"
         yield Changes(files, " or ".join(id[:DIGITS] for id in own), own[0] if len(own) == 1 else "", commit, base)
     # `git merge-base` has the same status if there are none and if it fails; this prints both commits first.
-    ids = [line.decode().removeprefix("^") for line in list_records("rev-parse", f"{first}...{last}")]
-    if len(ids) < 2:
-        raise Refused(CUT.format("rev-parse"))
-    for base in ids[2:]:
+    _, _, *bases = [line.decode().removeprefix("^") for line in list_records("rev-parse", f"{first}...{last}")]
+    for base in bases:
         yield Changes([*_list_files("diff-tree", "-r", *RAW, base, last, "--")], base[:DIGITS], "", last, base)
 
 
@@ -126,7 +124,7 @@ def _list_commits(commits: list[str]) -> Iterator[tuple[str, list[File]]]:
     fields = iter(list_records(*COMMITS, data=b"".join(f"{commit}\n".encode() for commit in commits)))
     for field in fields:
         if field.startswith(b":"):
-            files += _read_file(field, next(fields, b""))
+            files += _read_file(field, next(fields))
             continue
         if files:
             yield commit, files
@@ -138,13 +136,11 @@ def _list_commits(commits: list[str]) -> Iterator[tuple[str, list[File]]]:
 def _list_files(*words: str) -> Iterator[File]:
     fields = iter(list_records(*words))
     for about in fields:
-        yield from _read_file(about, next(fields, b""))
+        yield from _read_file(about, next(fields))
 
 
 def _read_file(about: bytes, name: bytes) -> list[File]:
     """The file of an entry, unless it was and is none."""
-    if not (about.startswith(b":") and name):
-        raise Refused(CUT.format("diff"))
     old_mode, mode, before, blob, status = about[1:].decode().split()
     if status == "U":
         path = os.fsdecode(name)

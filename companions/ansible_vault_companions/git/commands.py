@@ -23,7 +23,6 @@ NO_HOOKS = f"core.hooksPath={os.devnull}"
 # These commands run no hook, and need the real setting to say where the hooks are.
 OF_HOOKS = ("rev-parse", "config")
 ONLY_WHAT_IS_THERE = {"GIT_NO_LAZY_FETCH": "1", "GIT_ALLOW_PROTOCOL": "none", "GIT_NO_REPLACE_OBJECTS": "1"}
-CUT = "git {} failed: its output is cut"
 
 
 def build_command(words: tuple[str, ...]) -> list[str]:
@@ -76,18 +75,12 @@ def make_refusal(command: str, status: int, errors: bytes) -> Refused:
 
 def read_line(*words: str, may_be_none: bool = False) -> str:
     """The line that a git command prints; empty if there is none. A path may contain line ends of its own."""
-    output = run_git(*words, may_be_none=may_be_none)
-    if not (output.endswith(b"\n") or may_be_none and not output):
-        raise Refused(CUT.format(words[0]))
-    return os.fsdecode(output[:-1])
+    return os.fsdecode(run_git(*words, may_be_none=may_be_none).removesuffix(b"\n"))
 
 
 def list_records(*words: str, data: bytes = b"", folder: str | None = None) -> list[bytes]:
     """The records that a git command prints: with -z, each ends with a null character; otherwise, it is a line."""
-    *records, rest = run_git(*words, data=data, folder=folder).split(b"\0" if "-z" in words else b"\n")
-    if rest:
-        raise Refused(CUT.format(words[0]))
-    return records
+    return run_git(*words, data=data, folder=folder).split(b"\0" if "-z" in words else b"\n")[:-1]
 
 
 def find_top() -> str:

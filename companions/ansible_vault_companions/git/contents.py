@@ -4,11 +4,12 @@ from __future__ import annotations
 
 import subprocess
 
-from ansible_vault_companions.git.commands import CUT, start_git
+from ansible_vault_companions.git.commands import start_git
 from ansible_vault_companions.limits import LONGEST_VAULT
 from ansible_vault_companions.refusals import Refused
 
 COMMAND = "cat-file"
+ENDED = f"git {COMMAND} failed: it ended too early"
 # How many bytes of the rest of a long content are read at once.
 PART = 1 << 20
 
@@ -32,7 +33,7 @@ class Contents:
             self.git.stdin.write(blob.encode() + b"\n")
             self.git.stdin.flush()
         except BrokenPipeError:
-            raise Refused(CUT.format(COMMAND)) from None
+            raise Refused(ENDED) from None
         words = self.git.stdout.readline().split()
         if len(words) != 3:
             raise Refused(f"git {COMMAND} failed: it does not give {blob}; in a partial clone, fetch it first")
@@ -42,6 +43,6 @@ class Contents:
         while left:
             part = self.git.stdout.read(min(left, PART))
             if not part:
-                raise Refused(CUT.format(COMMAND))
+                raise Refused(ENDED)
             left -= len(part)
         return content
