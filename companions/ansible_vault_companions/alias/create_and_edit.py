@@ -9,28 +9,23 @@ from ansible_vault_companions import processes
 from ansible_vault_companions.alias import command_line
 from ansible_vault_companions.alias.command_line import CREATE, EDIT
 from ansible_vault_companions.alias.file_paths import require_readable, resolve_new
-from ansible_vault_companions.passwords import no_password, options
+from ansible_vault_companions.passwords import options
 from ansible_vault_companions.quoting import escape
 from ansible_vault_companions.refusals import Refused
-
-# The module `typing` takes long to import.
-TYPE_CHECKING = False
-if TYPE_CHECKING:
-    from typing import NoReturn
 
 EDIT_PROGRAM = "ansible-vault-edit"
 # With it, a new vault may be empty.
 ALLOW_EMPTY = "--allow-empty"
 
 
-def run_edit_program(companion: str, args: Namespace) -> NoReturn:
+def run_edit_program(companion: str, args: Namespace) -> int:
     """Runs ansible-vault-edit, which obtains the passwords itself, for `create` and `edit`."""
     path = processes.find_beside(companion, EDIT_PROGRAM)
     if path is None:
         raise Refused(f"there is no {EDIT_PROGRAM} beside this program; install it")
     for file in args.arguments:
         _require_fitting(args.command, file)
-    words = [no_password.ASK_IF_NONE, *options.repeat_options(args), *command_line.list_passed_on(args)]
+    words = [options.ASK_IF_NONE, *options.repeat_options(args), *command_line.list_passed_on(args)]
     if args.command == CREATE:
         words.append(ALLOW_EMPTY)
     # To ansible-vault-edit, a word that begins with a dash may be an option.

@@ -16,7 +16,7 @@ from ansible_vault_companions.alias.standard_input import takes_input
 from ansible_vault_companions.passwords import loading, options
 from ansible_vault_companions.passwords.labels import ANY_LABEL, NONE_HAS_LABEL, choose_to_encrypt
 from ansible_vault_companions.passwords.password import Password
-from ansible_vault_companions.passwords.asking import Asking
+from ansible_vault_companions.passwords.sources import Asking
 from ansible_vault_companions.quoting import escape
 from ansible_vault_companions.refusals import Refused
 

@@ -10,7 +10,7 @@ from contextlib import suppress
 from ansible_vault_companions.git import installing
 from ansible_vault_companions.git.commands import find_top
 from ansible_vault_companions.passwords import options
-from ansible_vault_companions.passwords.path_expansion import expand_path
+from ansible_vault_companions.passwords.settings import expand_path
 from ansible_vault_companions.refusals import Refused
 
 

@@ -16,11 +16,6 @@ from ansible_vault_companions.passwords.settings import Settings
 from ansible_vault_companions.quoting import escape
 from ansible_vault_companions.refusals import Refused
 
-# The module `typing` takes long to import.
-TYPE_CHECKING = False
-if TYPE_CHECKING:
-    from typing import Final
-
 ANY_LABEL = "--any-label"
 RELABEL = f"ansible-vault-rotate {ANY_LABEL}"
 NONE_HAS_LABEL = "no secret has the label of --encrypt-vault-id"
@@ -31,13 +26,13 @@ class Policy:
 
     def __init__(self, requires_match: bool, any_label: bool, usual_label: str | None, switched_off: str = "") -> None:
         # Whether a password may decrypt only envelopes with its label.
-        self.requires_match: Final = requires_match
+        self.requires_match = requires_match
         # Whether a password may encrypt again what has another label.
-        self.any_label: Final = any_label
+        self.any_label = any_label
         # The label that the settings choose for encryption.
-        self.usual_label: Final = usual_label
+        self.usual_label = usual_label
         # What a message adds if no password fits: that options have switched off settings, if they have.
-        self.switched_off: Final = switched_off
+        self.switched_off = switched_off
 
 
 # For what is not decrypted.

@@ -1,4 +1,7 @@
-"""Reads passwords, from files, from scripts and at the terminal, and says which of them the tool would refuse."""
+"""Reads passwords, from files, from scripts and at the terminal, and says which of them the tool would refuse.
+
+A password that cannot be used ends the run, but one of the settings is ignored if there is another.
+"""
 
 from __future__ import annotations
 
@@ -7,16 +10,39 @@ import stat
 
 from ansible_vault_companions.envelopes.header import MAGIC
 from ansible_vault_companions.limits import LONGEST_PASSWORD
-from ansible_vault_companions.passwords.asking import Asking, NoAnswer
+from ansible_vault_companions.output import write_error
 from ansible_vault_companions.passwords.labels import is_allowed
 from ansible_vault_companions.passwords.password import Password
-from ansible_vault_companions.passwords.path_expansion import expand_path
-from ansible_vault_companions.passwords.sources import ASK_ID, Source, parse_vault_id
+from ansible_vault_companions.passwords.settings import expand_path
+from ansible_vault_companions.passwords.sources import ASK_ID, Asking, NoAnswer, Source, parse_vault_id
+from ansible_vault_companions.quoting import escape
 from ansible_vault_companions.refusals import Refused, describe_fault
 
 NO_DESCRIPTORS = (
     "ansible-vault gets passwords through /dev/fd, which leads nowhere; mount /proc, or link /dev/fd to /proc/self/fd"
 )
+
+
+def read_passwords(companion: str, sources: list[Source], asking: Asking, skips: bool = False) -> list[Password]:
+    """Reads the passwords. Those that are ignored stay in the list, since the one to encrypt with is chosen among all
+    that are named."""
+    passwords = [read_password(source, asking) for source in sources]
+    ignored = _list_ignored(passwords, skips)
+    for password in ignored:
+        write_error(f"{companion}: {escape(password.source.text)}: {password.fault}; it is ignored")
+    for password in passwords:
+        if password.fault and password not in ignored:
+            raise password.make_refusal(password.fault)
+    return passwords
+
+
+def _list_ignored(passwords: list[Password], skips: bool) -> list[Password]:
+    """Those of the settings that cannot be used, if any other is left; with `skips`, all that cannot be used."""
+    faulty = [password for password in passwords if password.fault]
+    if skips:
+        return faulty
+    ignored = [password for password in faulty if password.source.is_setting]
+    return ignored if len(ignored) < len(passwords) else []
 
 
 def load_password(source: Source, asking: Asking) -> Password:

@@ -9,18 +9,25 @@ from ansible_vault_companions.output import write_error
 from ansible_vault_companions.passwords import loading
 from ansible_vault_companions.passwords.labels import ANY_LABEL, Policy, make_policy
 from ansible_vault_companions.passwords.password import Password
-from ansible_vault_companions.passwords.asking import Asking
 from ansible_vault_companions.passwords.settings import Settings
 from ansible_vault_companions.passwords.sources import (
     ASK_ID,
     ASK_OPTIONS,
+    Asking,
     Source,
     list_sources,
     make_path_source,
     parse_vault_id,
 )
-from ansible_vault_companions.passwords.unusable_passwords import read_passwords
+from ansible_vault_companions.refusals import Refused
 
+# Of the alias, for an edit: if nothing names a password, it asks for one. The option for a user would itself name a
+# password, and so switch off ./ansible.cfg, in which the label to encrypt with may be.
+ASK_IF_NONE = "--ask-if-none-is-named"
+NO_PASSWORD = (
+    "no password is given: name one with --vault-id or --vault-password-file, in ANSIBLE_VAULT_PASSWORD_FILE or "
+    "in ansible.cfg, or type one with --ask-vault-password"
+)
 ANY_LABEL_HELP = "accept a password whose label differs from the vault's"
 
 
@@ -44,6 +51,10 @@ def add_new_options(parser: argparse.ArgumentParser) -> None:
 
 def _add_source(parser: argparse.ArgumentParser, names: list[str], dest: str, metavar: str, text: str) -> None:
     parser.add_argument(*names, dest=dest, action="append", default=[], metavar=metavar, help=text)
+
+
+def add_ask_if_none(parser: argparse.ArgumentParser) -> None:
+    parser.add_argument(ASK_IF_NONE, dest="asks_if_none", action="store_true", help=argparse.SUPPRESS)
 
 
 def add_any_label(parser: argparse.ArgumentParser, text: str = ANY_LABEL_HELP) -> None:
@@ -74,14 +85,24 @@ def load_named(
     settings = read_settings(args, lambda text: write_error(f"{companion}: {text}"))
     sources = list_sources(args.vault_id, args.vault_password_file, settings)
     if sources:
-        passwords = read_passwords(companion, sources, asking, skips)
+        passwords = loading.read_passwords(companion, sources, asking, skips)
     else:
-        # Most runs do not need this module.
-        from ansible_vault_companions.passwords.no_password import ask_or_refuse
-
-        passwords = [ask_or_refuse(args, asking, settings, parser)]
+        passwords = [_ask_or_refuse(args, asking, settings, parser)]
     requires_match = getattr(args, "require_id_match", False)
     return passwords, make_policy(passwords, settings, args.any_label, requires_match)
+
+
+def _ask_or_refuse(
+    args: argparse.Namespace, asking: Asking, settings: Settings, parser: argparse.ArgumentParser | None
+) -> Password:
+    """The password that the user types, if a companion asks for it. Otherwise, the command line is invalid or, without
+    a parser, Refused is raised."""
+    why = NO_PASSWORD + settings.describe_switched_off()
+    if args.asks_if_none:
+        return loading.load_typed_password(asking, why)
+    if parser:
+        parser.error(why)
+    raise Refused(why)
 
 
 def load_new_passwords(args: argparse.Namespace, reads_lines: bool = False) -> list[Password]:

@@ -2,15 +2,9 @@
 
 from __future__ import annotations
 
-from ansible_vault_companions.passwords.asking import Asking
-from ansible_vault_companions.passwords.sources import Source
+from ansible_vault_companions.passwords.sources import Asking, Source
 from ansible_vault_companions.quoting import escape
 from ansible_vault_companions.refusals import Refused
-
-# The module `typing` takes long to import.
-TYPE_CHECKING = False
-if TYPE_CHECKING:
-    from typing import Final
 
 
 class Password:
@@ -25,15 +19,15 @@ class Password:
         doubt: Asking | None = None,
         is_unanswered: bool = False,
     ) -> None:
-        self.source: Final = source
-        self.label: Final = source.label
+        self.source = source
+        self.label = source.label
         # What the tool takes for the password, and the file in memory that contains it.
-        self.content: Final = content
-        self.descriptor: Final = descriptor
+        self.content = content
+        self.descriptor = descriptor
         # Why it cannot be used; empty if it can.
-        self.fault: Final = fault
+        self.fault = fault
         # Whether that is so since nobody has answered the question for it.
-        self.is_unanswered: Final = is_unanswered
+        self.is_unanswered = is_unanswered
         # How to ask again, if it was typed once and has decrypted nothing yet, so that it may be mistyped.
         self._doubt = doubt
 

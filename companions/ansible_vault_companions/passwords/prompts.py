@@ -12,8 +12,8 @@ from io import FileIO
 from select import select
 
 from ansible_vault_companions.output import write_error, write_when_possible
-from ansible_vault_companions.passwords.asking import Asking, NoAnswer
 from ansible_vault_companions.passwords.settings import ASK, PROMPT
+from ansible_vault_companions.passwords.sources import Asking, NoAnswer
 from ansible_vault_companions.quoting import escape
 from ansible_vault_companions.refusals import Refused
 

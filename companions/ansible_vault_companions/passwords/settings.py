@@ -13,7 +13,6 @@ import stat
 from collections.abc import Callable
 
 from ansible_vault_companions.files import link_bounds
-from ansible_vault_companions.passwords.path_expansion import CURRENT, expand_path, is_absolute
 from ansible_vault_companions.quoting import escape
 from ansible_vault_companions.refusals import Refused, describe_refusal
 
@@ -29,6 +28,10 @@ ENCRYPT_IDENTITY = "ANSIBLE_VAULT_ENCRYPT_IDENTITY", "vault_encrypt_identity"
 ID_MATCH = "ANSIBLE_VAULT_ID_MATCH", "vault_id_match"
 # These, in place of a path, ask for a password.
 PROMPT, ASK = "prompt", "prompt_ask_vault_pass"
+HOME = "~"
+# In a path of the settings, this means the current directory.
+CURRENT = "{{CWD}}"
+NO_HOME = "~ leads to no home directory; to mean a file of this name, begin with ./"
 # Values that Ansible reads as true.
 TRUE = ("1", "on", "t", "true", "y", "yes")
 RELATIVE = (
@@ -38,6 +41,22 @@ RELATIVE = (
 SWITCHED_OFF = (
     '; ./ansible.cfg is ignored beside options that name a password, unless you set ANSIBLE_CONFIG="$PWD/ansible.cfg"'
 )
+
+
+def is_absolute(place: str, folder: str = "") -> bool:
+    """Whether a path leads to the same place, whatever the current directory is, which a variable may name. A relative
+    path starts from `folder`."""
+    path = os.path.expanduser(place)
+    return os.path.isabs(path) or os.path.isabs(folder) and not path.startswith((HOME, "$", CURRENT))
+
+
+def expand_path(path: str, folder: str = "") -> str:
+    """A path as Ansible reads it. A relative one starts from this directory, or else from the current one. Refuses a
+    home directory that there is not: as a relative path, it could be one of a stranger's repository."""
+    expanded = os.path.expanduser(os.path.expandvars(path))
+    if expanded.startswith(HOME):
+        raise Refused(NO_HOME)
+    return os.path.join(folder, expanded)
 
 
 def split_vault_id(text: str) -> tuple[str, str]:

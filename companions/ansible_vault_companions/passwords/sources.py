@@ -1,4 +1,5 @@
-"""Where passwords come from: what was written on the command line or in Ansible's settings, in Ansible's order."""
+"""Where passwords come from, and how they are asked for: what the command line or Ansible's settings name, in Ansible's
+order."""
 
 from __future__ import annotations
 
@@ -7,14 +8,23 @@ from ansible_vault_companions.limits import MOST_PASSWORDS
 from ansible_vault_companions.passwords.settings import ASK, PROMPT, Settings, split_vault_id
 from ansible_vault_companions.refusals import Refused
 
-# The module `typing` takes long to import.
-TYPE_CHECKING = False
-if TYPE_CHECKING:
-    from typing import Final
-
 # The options that ask for a password without a label, and the word for them in place of [LABEL@]SOURCE.
 ASK_OPTIONS = ("-J", "--ask-vault-password", "--ask-vault-pass")
 ASK_ID = f"{DEFAULT_LABEL}@{ASK}"
+
+
+class NoAnswer(Refused):
+    """There is nobody to ask, or nobody answers."""
+
+
+class Asking:
+    """How passwords are asked for."""
+
+    def __init__(self, encrypts: bool, reads_lines: bool) -> None:
+        # Whether they are to encrypt, so that each is typed twice.
+        self.encrypts = encrypts
+        # Whether lines of standard input answer if there is no terminal.
+        self.reads_lines = reads_lines
 
 
 class Source:
@@ -22,15 +32,15 @@ class Source:
 
     def __init__(self, label: str, place: str, text: str, is_prompt: bool, is_setting: bool) -> None:
         # The label that was written, which a script gets; empty if there is none.
-        self.written_label: Final = label
-        self.label: Final = label or DEFAULT_LABEL
+        self.written_label = label
+        self.label = label or DEFAULT_LABEL
         # A path as it was written or, for a prompt, PROMPT or ASK.
-        self.place: Final = place
+        self.place = place
         # How messages name it: as it was written.
-        self.text: Final = text
-        self.is_prompt: Final = is_prompt
+        self.text = text
+        self.is_prompt = is_prompt
         # Whether a setting names it. If it cannot be used, it may be ignored.
-        self.is_setting: Final = is_setting
+        self.is_setting = is_setting
 
 
 def parse_vault_id(text: str, is_setting: bool = False) -> Source:
