@@ -5,17 +5,16 @@ from __future__ import annotations
 import os
 from collections.abc import Callable, Iterable, Iterator
 from contextlib import contextmanager
+from typing import TYPE_CHECKING, TypeVar
 
 from ansible_vault_companions import signals
 
-# The module `typing` takes long to import, and so do threads, while most files have a single envelope.
-TYPE_CHECKING = False
+# This takes long to import, while most files have a single envelope.
 if TYPE_CHECKING:
     from concurrent.futures import ThreadPoolExecutor
-    from typing import TypeVar
 
-    Item = TypeVar("Item")
-    Result = TypeVar("Result")
+Item = TypeVar("Item")
+Result = TypeVar("Result")
 
 
 @contextmanager

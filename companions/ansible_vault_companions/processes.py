@@ -6,9 +6,8 @@ password script may wait for a person, so a signal is passed on to them, and the
 
 from __future__ import annotations
 
-# The module `signal` makes an enumeration of each number, which takes long.
-import _signal  # type: ignore
 import os
+import signal
 from collections.abc import Iterable
 
 from ansible_vault_companions import memory, signals
@@ -20,10 +19,6 @@ TYPE_CHECKING = False
 if TYPE_CHECKING:
     from subprocess import CompletedProcess, Popen
     from typing import Any, NoReturn
-
-
-class NotStarted(Refused):
-    """A program cannot be started."""
 
 
 def run_program(words: list[str], data: bytes = b"", **options: Any) -> CompletedProcess[bytes]:
@@ -73,7 +68,7 @@ def run_on_terminal(words: list[str]) -> int:
 def _pass_signal_on(program: Popen[bytes]) -> None:
     """Sends the signal to a program, even if it is stopped. What it has started is its own concern."""
     program.send_signal(signals.received)
-    program.send_signal(_signal.SIGCONT)
+    program.send_signal(signal.SIGCONT)
 
 
 def start_program(words: list[str], **options: Any) -> Popen[bytes]:
@@ -82,7 +77,7 @@ def start_program(words: list[str], **options: Any) -> Popen[bytes]:
     try:
         return Popen(words, **options)
     except OSError as fault:
-        raise NotStarted(describe_start(fault, words[0])) from None
+        raise Refused(describe_start(fault, words[0])) from None
 
 
 def describe_start(fault: OSError, program: str) -> str:
@@ -110,8 +105,8 @@ def take_over(path: str, words: list[str], kept: Iterable[int]) -> NoReturn:
         os.set_inheritable(descriptor, True)
     memory.lift_limit()
     # Python ignores these signals, and the program would inherit that.
-    for number in (_signal.SIGPIPE, _signal.SIGXFSZ):
-        _signal.signal(number, _signal.SIG_DFL)
+    for number in (signal.SIGPIPE, signal.SIGXFSZ):
+        signal.signal(number, signal.SIG_DFL)
     os.execv(path, [path, *words])
 
 

@@ -5,12 +5,6 @@ from __future__ import annotations
 import os
 import sys
 
-# The module `typing` takes long to import, and so does `types`.
-TYPE_CHECKING = False
-if TYPE_CHECKING:
-    from sys import UnraisableHookArgs
-    from types import TracebackType
-
 
 def prepare_process() -> None:
     """Turns exceptions that nothing catches into a line, and sets the actions of signals."""
@@ -22,7 +16,7 @@ def prepare_process() -> None:
     signals.handle_signals()
 
 
-def report_failure(kind: type[BaseException], fault: BaseException, trace: TracebackType | None) -> None:
+def report_failure(kind: type[BaseException], fault: BaseException, _trace: object) -> None:
     """Says in one line what the system refused, such as memory. A signal ends the process without a word. Anything else
     is a bug, with a traceback to report."""
     from ansible_vault_companions import signals
@@ -34,10 +28,10 @@ def report_failure(kind: type[BaseException], fault: BaseException, trace: Trace
         reasons = [str(fault) or "out of memory", str(fault.__context__ or "")]
         sys.stderr.write(f"{os.path.basename(sys.argv[0])}: {'; '.join(filter(None, reasons))}\n")
     else:
-        sys.__excepthook__(kind, fault, trace)
+        sys.__excepthook__(kind, fault, fault.__traceback__)
 
 
-def report_ignored_exception(ignored: UnraisableHookArgs) -> None:
+def report_ignored_exception(ignored: sys.UnraisableHookArgs) -> None:
     """Reports an exception that Python ignores, as in a finalizer, unless it lacks memory there, which may also be a
     SystemError. If that ends the run, the run says so itself."""
     if not issubclass(ignored.exc_type, (MemoryError, SystemError)):

@@ -24,11 +24,6 @@ from ansible_vault_companions.passwords.labels import Policy, describe_attempts,
 from ansible_vault_companions.passwords.password import Password
 from ansible_vault_companions.refusals import Refused
 
-# The module `typing` takes long to import.
-TYPE_CHECKING = False
-if TYPE_CHECKING:
-    from typing import Final
-
 NAME = "ansible-vault"
 NOT_DECRYPTED = "no secret decrypts this vault"
 DAMAGED = "it is damaged"
@@ -49,8 +44,8 @@ class Key:
     """What encrypts: a password, and the label that the envelope gets."""
 
     def __init__(self, password: Password, label: str) -> None:
-        self.password: Final = password
-        self.label: Final = label
+        self.password = password
+        self.label = label
 
     def __eq__(self, other: object) -> bool:
         return isinstance(other, Key) and (self.password, self.label) == (other.password, other.label)
@@ -67,11 +62,11 @@ class Decryption:
     """An envelope, the password that decrypts it, and the plaintext."""
 
     def __init__(self, envelope: bytes, password: Password, text: bytes, policy: Policy) -> None:
-        self.envelope: Final = envelope
-        self.password: Final = password
-        self.text: Final = text
+        self.envelope = envelope
+        self.password = password
+        self.text = text
         # What its label means.
-        self.policy: Final = policy
+        self.policy = policy
 
     @property
     def key(self) -> Key:

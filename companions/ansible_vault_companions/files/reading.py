@@ -5,16 +5,12 @@ from __future__ import annotations
 import errno
 import os
 import stat
-from select import select
 from collections.abc import Iterator
+from io import FileIO
+from select import select
 
 from ansible_vault_companions.limits import LONGEST_VAULT
 from ansible_vault_companions.refusals import Refused
-
-# The module `typing` takes long to import.
-TYPE_CHECKING = False
-if TYPE_CHECKING:
-    from typing import BinaryIO
 
 # Bytes to read at once, since a file may be huge. Some files in /proc refuse reads of an odd size.
 CHUNK_SIZE = 1 << 20
@@ -71,7 +67,7 @@ def read_pieces(path: str) -> Iterator[bytes]:
         yield from read_parts(file, max(LONGEST_VAULT, os.fstat(file.fileno()).st_size))
 
 
-def read_whole(file: BinaryIO, path: str) -> bytes:
+def read_whole(file: FileIO, path: str) -> bytes:
     """The content of a file. Raises TooLong, and reads nothing of a file whose stated size exceeds the limit."""
     is_longer = os.fstat(file.fileno()).st_size > LONGEST_VAULT
     content = b"" if is_longer else b"".join(read_parts(file, LONGEST_VAULT + 1))
@@ -80,7 +76,7 @@ def read_whole(file: BinaryIO, path: str) -> bytes:
     return content
 
 
-def read_parts(file: BinaryIO, limit: int = LONGEST_VAULT) -> Iterator[bytes]:
+def read_parts(file: FileIO, limit: int = LONGEST_VAULT) -> Iterator[bytes]:
     """Yields the content of a file from its beginning, up to the limit."""
     file.seek(0)
     while limit > 0 and (piece := file.read(CHUNK_SIZE)):
@@ -88,7 +84,7 @@ def read_parts(file: BinaryIO, limit: int = LONGEST_VAULT) -> Iterator[bytes]:
         limit -= len(piece)
 
 
-def open_regular(path: str) -> BinaryIO:
+def open_regular(path: str) -> FileIO:
     """Opens a regular file for reading. Refuses anything else: opening a pipe might wait forever, and a link may have
     taken the place of the file since its path was resolved."""
     try:

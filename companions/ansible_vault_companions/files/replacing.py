@@ -8,16 +8,12 @@ import stat
 import tempfile
 from collections.abc import Iterator
 from contextlib import contextmanager, suppress
+from io import FileIO
 
 from ansible_vault_companions import signals
 from ansible_vault_companions.files import reading
 from ansible_vault_companions.files.leftovers import PREFIX, SUFFIX
 from ansible_vault_companions.refusals import Refused, describe_fault
-
-# The module `typing` takes long to import.
-TYPE_CHECKING = False
-if TYPE_CHECKING:
-    from typing import BinaryIO
 
 CHANGED = "another program changed it in the meantime"
 NOT_SYNCED = "it was written, but a power failure may undo that: its directory cannot be synced: {}"
@@ -54,7 +50,7 @@ def check_replaceable(target: str) -> None:
 
 
 @contextmanager
-def _open_old(target: str) -> Iterator[BinaryIO | None]:
+def _open_old(target: str) -> Iterator[FileIO | None]:
     """A context with the file at a real path; None if there is none."""
     _require_real(target)
     try:
@@ -66,7 +62,7 @@ def _open_old(target: str) -> Iterator[BinaryIO | None]:
         yield file
 
 
-def _require_same(target: str, old: BinaryIO | None, before: bytes | None) -> None:
+def _require_same(target: str, old: FileIO | None, before: bytes | None) -> None:
     """Refuses a file that is no longer the one that was opened, or no longer has this content."""
     _require_real(target)
     content = reading.read_whole(old, target) if old else None
@@ -80,7 +76,7 @@ def _require_real(target: str) -> None:
         raise Refused(CHANGED)
 
 
-def _is_at(target: str, old: BinaryIO | None) -> bool:
+def _is_at(target: str, old: FileIO | None) -> bool:
     try:
         about = os.lstat(target)
     except FileNotFoundError:
@@ -89,7 +85,7 @@ def _is_at(target: str, old: BinaryIO | None) -> bool:
 
 
 def write_new(
-    folder: str, content: bytes, like: BinaryIO | None = None, is_private: bool = False, prefix: str = PREFIX
+    folder: str, content: bytes, like: FileIO | None = None, is_private: bool = False, prefix: str = PREFIX
 ) -> str:
     """Writes a new file, and returns its path. Only its owner may read it, unless it is to be like another one."""
     try:

@@ -3,16 +3,13 @@
 from __future__ import annotations
 
 import os
+from subprocess import PIPE, CompletedProcess, Popen
+from typing import Any
 
 from ansible_vault_companions import processes
 from ansible_vault_companions.files.link_bounds import find_current_folder, find_repository
 from ansible_vault_companions.refusals import Refused
 
-# The module `typing` takes long to import.
-TYPE_CHECKING = False
-if TYPE_CHECKING:
-    from subprocess import CompletedProcess, Popen
-    from typing import Any
 # A repository has its own settings and hooks, which name programs: core.fsmonitor to read an index, hooks, and a
 # transport (and so core.sshCommand) to fetch an object that a partial clone lacks. These are switched off. Filters,
 # pagers, and programs for diff and merge belong to git commands that are not used here.
@@ -49,8 +46,6 @@ def run_git_command(
     *words: str, data: bytes = b"", folder: str | None = None, **options: Any
 ) -> CompletedProcess[bytes]:
     """Runs a git command to its end, whatever its status."""
-    from subprocess import PIPE, CompletedProcess
-
     with start_git(words, folder, stdin=PIPE, stdout=PIPE, stderr=PIPE, **options) as git:
         output, errors = git.communicate(data)
     return CompletedProcess(words, git.returncode, output, errors)
