@@ -10,4 +10,4 @@ NAME = re.compile(f"{re.escape(PREFIX)}[a-z0-9_]{{8}}{re.escape(SUFFIX)}")
 
 def is_leftover(name: str) -> bool:
     """Whether a companion gives such a name. Only then, a search skips the file: no vault is to hide there."""
-    return NAME.fullmatch(name) is not None
+    return name.startswith(PREFIX) and NAME.fullmatch(name) is not None

@@ -4,6 +4,7 @@ from __future__ import annotations
 
 import os
 import re
+from functools import lru_cache
 from typing import Collection, Iterable, NamedTuple
 
 from ansible_vault_companions.files import reading
@@ -38,6 +39,7 @@ def read_attributes(names: Collection[bytes], folder: str | None = None) -> dict
     return {name: _make_attributes(diff, vault) for name, diff, vault in zip(names, fields[2::6], fields[5::6])}
 
 
+@lru_cache(maxsize=None)
 def _make_attributes(diff: bytes, vault: bytes) -> Attributes:
     is_exempt = vault == b"unset"
     return Attributes(not is_exempt and (diff == NAME or vault == b"set"), is_exempt)
@@ -77,25 +79,22 @@ def _group_by_repository(paths: Iterable[tuple[str, Collection[str]]]) -> dict[s
     repositories: dict[str, dict[bytes, str]] = {}
     for path, places in paths:
         for place in places:
-            repository = find_repository(os.path.dirname(place))
+            repository = find_repository(place[: place.rindex(os.sep)] or os.sep)
             if repository:
-                below = os.fsencode(place[len(os.path.join(repository, "")) :])
+                # The root directory alone ends with its slash.
+                below = os.fsencode(place[len(repository.rstrip(os.sep)) + 1 :])
                 repositories.setdefault(repository, {})[below] = path
     return repositories
 
 
 def list_attribute_files(names: Iterable[bytes]) -> list[bytes]:
     """The paths at which a .gitattributes would concern one of the files with these names."""
-    paths = set()
-    for name in names:
-        folder = name
-        while folder:
+    folders = {b""}
+    for folder in {name.rpartition(b"/")[0] for name in names}:
+        while folder not in folders:
+            folders.add(folder)
             folder = os.path.dirname(folder)
-            path = os.path.join(folder, FILE)
-            if path in paths:
-                break
-            paths.add(path)
-    return sorted(paths)
+    return sorted(os.path.join(folder, FILE) for folder in folders)
 
 
 def _make_pattern(name: bytes) -> str:
