@@ -7,7 +7,7 @@ from collections.abc import Callable, Iterable, Iterator
 from contextlib import contextmanager
 from typing import TYPE_CHECKING, TypeVar
 
-from ansible_vault_companions import signals
+from ansible_vault_companions import output, signals
 
 # This takes long to import, while most files have a single envelope.
 if TYPE_CHECKING:
@@ -31,10 +31,16 @@ def open_pool() -> Iterator[ThreadPoolExecutor]:
         pool.shutdown(wait=not signals.received, cancel_futures=True)
 
 
-def work_at_once(work: Callable[[Item], Result], items: Iterable[Item]) -> list[Result]:
-    """The results of some work on each item."""
-    items = [*items]
+def work_at_once(work: Callable[[Item], Result], values: Iterable[Item], shows_progress: bool = True) -> list[Result]:
+    """The results of some work on each value."""
+    items = [*values]
     if len(items) < 2:
         return [work(item) for item in items]
-    with open_pool() as pool:
-        return [*pool.map(work, items)]
+    results: list[Result] = []
+    progress = output.Progress(lambda: f"value {len(results):,} of {len(items):,}")
+    with progress, open_pool() as pool:
+        for result in pool.map(work, items):
+            results.append(result)
+            if shows_progress:
+                progress.show()
+    return results

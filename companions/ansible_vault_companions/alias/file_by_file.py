@@ -16,8 +16,15 @@ from ansible_vault_companions.tool import Tool
 
 def handle_files(companion: str, call: Call) -> int:
     """Replaces or shows each file. Returns the exit status."""
-    files = Files(Tool(companion), call)
-    return max(exit_status.attempt_work(NAME, path, partial(files.handle, path)) for path in call.args.arguments)
+    files, paths = Files(Tool(companion), call), call.args.arguments
+    statuses: list[int] = []
+    with output.Progress(lambda: f"file {len(statuses) + 1:,} of {len(paths):,}") as progress:
+        for path in paths:
+            # What is shown may end within a line.
+            if call.args.command != VIEW:
+                progress.show()
+            statuses.append(exit_status.attempt_work(NAME, path, partial(files.handle, path)))
+    return max(statuses)
 
 
 class Files:

@@ -27,6 +27,8 @@ class Work:
     policy: Policy
     # Whether messages name values and labels.
     names_values = False
+    # How many envelopes are done. Threads count them for the user to see, and two of them may once count as one.
+    done = 0
 
     def process_file(self, found: FoundFile, parsed: ParsedText, report: Report) -> bytes | None:
         """Works on a file, in a thread. Returns its new content; None if it stays."""
@@ -72,6 +74,7 @@ class Work:
         new: dict[int, bytes] = {}
         for number, (text, own) in zip(envelopes, results):
             report.add(own)
+            self.done += 1
             if text is not None:
                 new[number] = text
         return parsed.replace_envelopes(new) if new else parsed.data

@@ -4,9 +4,10 @@ from __future__ import annotations
 
 import os
 from collections import deque
-from concurrent.futures import Future
+from concurrent.futures import Future, wait
+from contextlib import contextmanager
 from dataclasses import dataclass, field
-from typing import Collection
+from typing import AbstractSet, Collection, Iterator
 
 from ansible_vault_companions import parallel, refusals
 from ansible_vault_companions.batch.each_envelope import Work
@@ -16,7 +17,7 @@ from ansible_vault_companions.envelopes.parsed_text import ParsedText, parse_env
 from ansible_vault_companions.envelopes.pointers import Pointer
 from ansible_vault_companions.files import replacing
 from ansible_vault_companions.files.searching import FoundFile, Search
-from ansible_vault_companions.output import write_error, write_line
+from ansible_vault_companions.output import Progress, write_error, write_line
 from ansible_vault_companions.quoting import escape
 from ansible_vault_companions.refusals import Refused
 
@@ -45,7 +46,7 @@ class Runner:
     """Has a companion's work done on files, and adds the reports up."""
 
     def __init__(
-        self, companion: str, work: Work, named: list[str], is_json: bool, marked: Collection[str] = ()
+        self, companion: str, work: Work, named: list[str], is_json: bool, marked: AbstractSet[str] = frozenset()
     ) -> None:
         self.companion = companion
         self.work = work
@@ -56,31 +57,39 @@ class Runner:
         # The paths of files that must be encrypted.
         self.marked = marked
         self.total = Total()
+        # The files that are worked on.
+        self.begun: deque[Future[Outcome]] = deque()
 
     def process_files(self, files: list[FoundFile]) -> None:
         """Works on each file, and reports on them in order."""
-        begun: deque[Future[Outcome]] = deque()
-        with parallel.open_pool() as pool:
-            for found in files:
-                begun.append(pool.submit(self._try_to_process, found))
-                if len(begun) > AHEAD:
-                    self._finish(begun.popleft().result())
-            while begun:
-                self._finish(begun.popleft().result())
+        number = 0
+        progress = Progress(lambda: f"file {number:,} of {len(files):,}, {self.work.done:,} values")
+        with progress, parallel.open_pool() as pool:
+            # Most files have no envelope. To read one takes less time than to give it to a thread.
+            for number, found in enumerate(files, 1):
+                progress.show()
+                data = _read(found)
+                if self._has_to_be_processed(found, data):
+                    self.begun.append(pool.submit(self._try_to_process, found, data))
+                if len(self.begun) > AHEAD:
+                    self._finish_first(progress)
+            while self.begun:
+                self._finish_first(progress)
 
-    def _try_to_process(self, found: FoundFile) -> Outcome:
-        try:
-            return self._process(found)
-        except (MemoryError, RecursionError) as fault:
-            refusals.name_file(found.paths[0], fault)
-            raise
+    def _has_to_be_processed(self, found: FoundFile, data: bytes | Exception) -> bool:
+        """Whether a file may have to be reported."""
+        if isinstance(data, Exception) or found.refusal:
+            return True
+        return self._is_marked(found) or detection.may_have_envelope(data)
 
-    def _process(self, found: FoundFile) -> Outcome:
+    def _try_to_process(self, found: FoundFile, data: bytes | Exception) -> Outcome:
+        with _naming_file(found):
+            return self._process(found, data)
+
+    def _process(self, found: FoundFile, data: bytes | Exception) -> Outcome:
         """Works on a file, in a thread. A failure is in its report, so other files are still processed."""
-        try:
-            data = detection.read_envelope_file(found.target)
-        except (Refused, OSError) as fault:
-            return Outcome(found, self._report_unread(found, fault))
+        if isinstance(data, Exception):
+            return Outcome(found, self._report_unread(found, data))
         parsed = parse_envelopes(data, is_prose=file_kinds.is_prose(found.target) and not self._is_marked(found))
         if found.refusal:
             return Outcome(found, self._report_refused(found, parsed))
@@ -109,7 +118,7 @@ class Runner:
         return not _is_gone(found.paths[0], fault) or any(path in self.named for path in found.paths)
 
     def _is_marked(self, found: FoundFile) -> bool:
-        return any(path in self.marked for path in found.paths)
+        return not self.marked.isdisjoint(found.paths)
 
     def _report_refused(self, found: FoundFile, parsed: ParsedText) -> Report:
         """The report on a link that leads out: a failure if there is something to do in its file."""
@@ -118,6 +127,11 @@ class Runner:
         report = Report()
         report.add_file(FAILED if fails else SKIPPED, path, found.refusal)
         return report
+
+    def _finish_first(self, progress: Progress) -> None:
+        while wait([self.begun[0]], progress.pause).not_done:
+            progress.show()
+        self._finish(self.begun.popleft().result())
 
     def _finish(self, outcome: Outcome) -> None:
         """Writes a file's new content, and prints the report on it."""
@@ -152,6 +166,25 @@ class Runner:
         report = Report([Entry(FAILED, LABEL_NOT_FOUND.format(escape(label), about), label=label) for label in missing])
         self.total.add(report)
         self._print(report.entries)
+
+
+def _read(found: FoundFile) -> bytes | Exception:
+    """The content of a file, as far as it counts, or why it cannot be read."""
+    try:
+        with _naming_file(found):
+            return detection.read_envelope_file(found.target)
+    except (Refused, OSError) as fault:
+        return fault
+
+
+@contextmanager
+def _naming_file(found: FoundFile) -> Iterator[None]:
+    """A context that gives a lack of memory the name of a file."""
+    try:
+        yield
+    except (MemoryError, RecursionError) as fault:
+        refusals.name_file(found.paths[0], fault)
+        raise
 
 
 def _is_gone(path: str, fault: Exception) -> bool:

@@ -7,10 +7,12 @@ import errno
 import os
 import stat
 from fnmatch import fnmatchcase
+from operator import attrgetter
 from typing import Callable, Collection, NamedTuple
 
 from ansible_vault_companions.files import link_bounds
 from ansible_vault_companions.files.leftovers import is_leftover
+from ansible_vault_companions.output import Progress
 from ansible_vault_companions.quoting import quote_word
 from ansible_vault_companions.refusals import describe_fault
 
@@ -61,10 +63,6 @@ class _Folder(NamedTuple):
     path: str
     place: str
 
-    def join(self, name: str) -> _Folder:
-        """The same of what has this name in it."""
-        return _Folder(*(os.path.join(path, name) for path in self))
-
 
 class _Pattern(NamedTuple):
     """A pattern of what to leave out, without a slash at its end."""
@@ -82,16 +80,18 @@ class Search:
         self.excluded = [_Pattern(os.path.normpath(each), "/" in each.rstrip("/")) for each in excluded]
         # The real paths of the directories that are searched.
         self.tops: list[str] = []
-        # The ways that lead to each file.
-        self.found: dict[str, list[Way]] = {}
+        # The files by their real paths.
+        self.found: dict[str, FoundFile] = {}
         # Links to directories, and where they lead.
         self.folders: dict[str, str] = {}
-        for path in paths:
-            self._search(path)
+        self.progress = Progress(lambda: f"{len(self.found):,} files found")
+        with self.progress:
+            for path in paths:
+                self._search(path)
 
     def list_files(self) -> list[FoundFile]:
         """Each file, once."""
-        return [FoundFile(target, ways) for target, ways in self.found.items()]
+        return [*self.found.values()]
 
     def list_unsearched(self) -> dict[str, str]:
         """The links to directories outside of those that are searched, each with a message."""
@@ -122,23 +122,26 @@ class Search:
         folders = [_Folder(path, top)]
         while folders:
             folder = folders.pop()
+            self.progress.show()
             try:
                 entries = _list_folder(folder.place)
             except OSError:
                 self._add(folder.path, folder.place, folder.place, "")
                 continue
-            left = [entry for entry in entries if not self._is_left_out(entry, folder.path)]
-            for entry in left:
-                self._add_found(entry, folder, top)
-            folders += [folder.join(entry.name) for entry in reversed(left) if entry.is_dir(follow_symlinks=False)]
-
-    def _add_found(self, entry: os.DirEntry[str], folder: _Folder, top: str) -> None:
-        """Adds what is in a directory, if it is a file or a link to one or to a directory."""
-        path = os.path.join(folder.path, entry.name)
-        if entry.is_symlink():
-            self._add_link(path, entry, top)
-        elif stat.S_ISREG(_find_kind(entry.path)):
-            self._add(path, entry.path, entry.path, "")
+            # Directories may have many files, so what the system says of an entry has to be enough.
+            beginning = os.path.join(folder.path, "")
+            below = []
+            for entry in entries:
+                path = beginning + entry.name
+                if self._is_left_out(entry, path):
+                    continue
+                if entry.is_file(follow_symlinks=False):
+                    self._add(path, entry.path, entry.path, "")
+                elif entry.is_dir(follow_symlinks=False):
+                    below.append(_Folder(path, entry.path))
+                elif entry.is_symlink():
+                    self._add_link(path, entry, top)
+            folders += reversed(below)
 
     def _add_link(self, path: str, entry: os.DirEntry[str], top: str) -> None:
         """Adds a link."""
@@ -149,19 +152,23 @@ class Search:
         elif stat.S_ISREG(kind):
             self._add(path, entry.path, target, refusal)
 
-    def _is_left_out(self, entry: os.DirEntry[str], folder: str) -> bool:
+    def _is_left_out(self, entry: os.DirEntry[str], path: str) -> bool:
         """Whether to skip what is in a directory. A temporary file belongs to another companion, or to a crash."""
         if entry.name == link_bounds.GIT or is_leftover(entry.name) and entry.is_file(follow_symlinks=False):
             return True
-        return self._is_excluded(os.path.join(folder, entry.name))
+        return bool(self.excluded) and self._is_excluded(path)
 
     def _add(self, path: str, place: str, target: str, refusal: str) -> None:
-        self.found.setdefault(target, []).append(Way(path, place, refusal))
+        way = Way(path, place, refusal)
+        if target in self.found:
+            self.found[target].ways.append(way)
+        else:
+            self.found[target] = FoundFile(target, [way])
 
     def _is_excluded(self, path: str) -> bool:
         """Whether a pattern matches a path as messages show it, or its name."""
+        whole = os.path.normpath(path)
         for pattern in self.excluded:
-            whole = os.path.normpath(path)
             if fnmatchcase(whole if pattern.is_path else os.path.basename(whole), pattern.text):
                 return True
         return False
@@ -170,7 +177,7 @@ class Search:
 def _list_folder(folder: str) -> list[os.DirEntry[str]]:
     """What a directory contains, by name."""
     with os.scandir(folder) as entries:
-        return sorted(entries, key=lambda entry: entry.name)
+        return sorted(entries, key=attrgetter("name"))
 
 
 def _find_place(path: str) -> str:

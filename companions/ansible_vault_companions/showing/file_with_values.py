@@ -52,7 +52,7 @@ def _is_encrypted(value: Node) -> bool:
 
 def _show_values(companion: str, parsed: ParsedText, path: str, decrypt: Decrypt) -> bytes:
     values = [*parsed.number_envelopes().values()]
-    results = work_at_once(lambda value: _try_to_show(parsed.data, value, decrypt), values)
+    results = work_at_once(lambda value: _try_to_show(parsed.data, value, decrypt), values, shows_progress=False)
     changes: list[Replacement] = []
     for result, value in zip(results, values):
         if isinstance(result, Refused):
