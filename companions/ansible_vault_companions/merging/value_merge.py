@@ -9,7 +9,7 @@ from __future__ import annotations
 import os
 import re
 from collections import Counter, defaultdict
-from collections.abc import Hashable
+from collections.abc import Hashable, Iterator
 from functools import partial
 from typing import NamedTuple
 
@@ -63,7 +63,9 @@ class ValueMerge:
         line = rb"%s/[^\n]*" % self.mark
         text = re.sub(rb"(?m)^%s\n|\r?\n(?:%s\n)*%s\Z" % (line, line, line), b"", text)
         parts = conflicts.split_parts(text, count > 0)
-        content = b"".join(self._restore(part, SIDE_BY_MARKER.get(kind, ""), tool) for kind, part in parts)
+        pieces = [piece for kind, part in parts for piece in self._restore(part, SIDE_BY_MARKER.get(kind, ""))]
+        new = iter(work_at_once(partial(self._encrypt, tool), [piece for piece in pieces if isinstance(piece, Use)]))
+        content = b"".join(next(new) if isinstance(piece, Use) else piece for piece in pieces)
         self._check(content, count > 0)
         return MergedLines(content, count)
 
@@ -99,14 +101,15 @@ class ValueMerge:
             token += b"%s%s/%s" % (value.ending, self.mark, value.name.encode().hex().encode())
         return Replacement(begin, value.end, token)
 
-    def _restore(self, part: bytes, side: str, tool: Tool) -> bytes:
+    def _restore(self, part: bytes, side: str) -> Iterator[bytes | Use]:
         """The lines of a side of a conflict, or of the merged text if no side is given, with envelopes in place of
-        tokens."""
-        return re.sub(rb"%s-(\d+)" % self.mark, lambda token: self._choose(int(token[1]), side, tool), part)
+        tokens, or values that are to be encrypted."""
+        pieces = re.split(rb"%s-(\d+)" % self.mark, part)
+        for number, piece in enumerate(pieces):
+            yield self._choose(int(piece), side) if number % 2 else piece
 
-    def _choose(self, number: int, side: str, tool: Tool) -> bytes:
-        """The bytes in place of a token: as the side has them, or else that which changed them. Copies stay copies, and
-        other envelopes with the same text differ."""
+    def _choose(self, number: int, side: str) -> bytes | Use:
+        """The bytes in place of a token: as the side has them, or else that which changed them."""
         ours, base, theirs = (self.uses[each, number] for each in SIDES)
         is_same = [use.value.text for use in ours] == [use.value.text for use in base]
         order = [self.uses[side, number]] if side else [theirs, ours, base] if is_same else [ours, theirs, base]
@@ -118,7 +121,12 @@ class ValueMerge:
         if use:
             self.envelopes.append(use.value.text)
             return use.scalar
-        value, scalar = candidates[0]
+        return candidates[0]
+
+    def _encrypt(self, tool: Tool, use: Use) -> bytes:
+        """The bytes of a value under the key of the result. Copies stay copies, and other envelopes with the same text
+        differ."""
+        value, scalar = use
         found = self.decrypted[value.text]
         envelope = tool.encrypt_again(value.text, found.text, self._find_key(found))
         self.envelopes.append(envelope)
