@@ -80,9 +80,9 @@ PASSING: dict[str, tuple[Content, Content]] = {
         {"b.yml": "t: {b: x}\ny: [x]", "y": ""},
     ),
 }
-env, b_env = IN_PART.format("env[].value"), IN_PART.format("env[].value of a.yml")
+env = IN_PART.format("env[].value")
 tokens, by_name = IN_PART.format("tokens[]"), IN_PART.format("env.A.value")
-inner, in_b = IN_PART.format("s[].env[].value"), IN_PART.format("t[] of a.yml")
+inner = IN_PART.format("s[].env[].value")
 # The same of commits that are to be refused, with the reason.
 REFUSED: dict[str, tuple[Content, Content, str]] = {
     "in its place": (AB, "env: [{name: A, value: s}, {name: B, value: x}]", env),
@@ -126,7 +126,7 @@ REFUSED: dict[str, tuple[Content, Content, str]] = {
     "in a mapping": (AB, "env: [{name: A, value: {y: s}}, {name: B, value: E2}]", env),
     "in place of an item": (AB, "env: [s, {name: B, value: E2}]", env),
     "in place of the list": (AB, "env: s", env),
-    "in another file": ({"a.yml": AB, "y": ""}, {"b.yml": "env: [{name: A, value: s}]", "y": ""}, f"b.yml {b_env}"),
+    "in another file": ({"a.yml": AB, "y": ""}, {"b.yml": "env: [{name: A, value: s}]", "y": ""}, f"b.yml {env}"),
 }
 CHANGES = {what: (*change, "") for what, change in PASSING.items()} | REFUSED
 
@@ -149,5 +149,5 @@ def test_lists(place: Place, before: Content, after: Content, why: str) -> None:
     add_and_commit(place)
     put(place, after)
     place.shell("git add -A")
-    name = why.split()[0] if why and isinstance(after, dict) else "a.yml"
-    assert [line.split()[0] for line in told(place.run(HOOK))] == ([name] if why else [])
+    line = why if isinstance(after, dict) else f"a.yml {why}"
+    assert told(place.run(HOOK)) == ([line] if why else [])
