@@ -1,10 +1,9 @@
 """Calls of git that fail. A failure is no answer: the hook accepts no plaintext because it could not ask git.
 
 A stand-in for git passes on each call but one, or but those of a kind. That call prints nothing, a part of its answer
-or the whole, and then ends with some status or by a signal. A run is fine if its result is what it is without a failure
-(the answer was not needed), or if it names the failed call and has the status 1.
-
-git ends with status 0 only after it has written its whole answer, so an answer with this status is believed.
+or the whole, and then fails or is killed. A run is fine if its result is what it is without a failure (the answer was
+not needed), or if it names the failed call and has the status 1. What git prints before it ends with status 0 is
+believed.
 """
 
 import os
@@ -191,18 +190,6 @@ class Call(NamedTuple):
         return {NOTHING: 0, HALF: half, ALL: len(self.answer)}[part]
 
 
-class Failure(NamedTuple):
-    """A call, or all of its kind, and how it fails."""
-
-    call: Call
-    way: Way
-    is_of_kind: bool
-
-    def __str__(self) -> str:
-        which = "each call" if self.is_of_kind else f"call {self.call.number}"
-        return f"{which} of git {self.call.kind} prints {self.way.part} and ends with {self.way.end}"
-
-
 class Result(NamedTuple):
     """What is left of a run: status, messages, and, if it may change them, the files, and git's settings and hooks."""
 
@@ -231,14 +218,14 @@ class Failing(NamedTuple):
     forks: Forks
     line: str
 
-    def run(self, failure: Failure | None = None) -> Attempt:
-        """Run the line in the prepared repository."""
+    def run(self, failure: "Failure | None" = None) -> Attempt:
+        """Run the line in the prepared repository. The call of the failure fails, or all of its kind."""
         for name in ("kinds", "failed"):
             (self.place.path / name).write_text("")
         fails = {}
         if failure:
-            call, way, is_of_kind = failure
-            name = call.kind if is_of_kind else f"{call.kind} {call.number}"
+            call, way = failure.call, failure.way
+            name = call.kind if failure.is_of_kind else f"{call.kind} {call.number}"
             fails = {"FAILS": name, "BYTES": str(call.length(way.part)), "END": ENDS[way.end]}
         changes = EDIT in self.line or "--install" in self.line
         if changes:
@@ -273,6 +260,18 @@ def names_call(result: Result, call: Call) -> bool:
     if call.kind == "merge-file -p":
         messages += ["git merge-file cannot merge it"]
     return result.status == 1 and any(message in result.errors for message in messages)
+
+
+class Failure(NamedTuple):
+    """A call, or all of its kind, and how it fails."""
+
+    call: Call
+    way: Way
+    is_of_kind: bool
+
+    def __str__(self) -> str:
+        which = "each call" if self.is_of_kind else f"call {self.call.number}"
+        return f"{which} of git {self.call.kind} prints {self.way.part} and ends with {self.way.end}"
 
 
 def choose_failures(calls: list[Call], share: int, random: Random) -> Iterator[Failure]:
