@@ -233,7 +233,12 @@ REFUSED = {
     "a text that begins like a value": Change(PW, b"pw: $ANSIBLE_VAULT_KEY\n", pw),
     "a vault, now like a tag": Change(VAULT, b"!plain\n", WHOLE),
     "a vault, now like an anchor": Change({"password": VAULT}, {"password": b"&plain\n"}, f"password {WHOLE}"),
+    "a vault, now like an alias": Change({"password": VAULT}, {"password": b"*plain\n"}, f"password {WHOLE}"),
+    "a text like an alias": Change(PW, b"pw: *plain\n", pw),
     "a text like a tag": Change(PW, b"pw: !plain\n", pw),
+    "a text like a tag, elsewhere": Change(
+        {"a.yml": DB + X}, {"a.yml": X, "b.yml": b"db: {pw: !plain }\n"}, f"b.yml {db}"
+    ),
     "a text like two tags": Change(DB, b"db: {app: !<plain>, pw: !plain }\n", db),
     "a text like an anchor": Change(PW, b"pw: &plain\n", pw),
     "text between expressions": Change(PW, b'pw: "{{ x }}:{{ y }}"\n', pw),
@@ -251,6 +256,7 @@ REFUSED = {
     "a cut vault again": Change(CUT, CUT[:-1], DAMAGED),
     "a cut value": Change(X, X + PW[:-100] + b"\n", CUT_VALUE.format(3)),
     "a cut comment": Change(X, {"a.sh": b"\n# " + CUT.replace(b"\n", b"\n# ")}, f"a.sh {CUT_VALUE.format(2)}"),
+    "a line that ends at U+2028": Change(PW, "n: 1\n\u2028pw: plain\n".encode(), pw),
     "no YAML any more": Change(PW, b"\t" + PLAIN, FEWER),
 }
 CHANGES = PASSING | REFUSED
