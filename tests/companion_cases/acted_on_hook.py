@@ -1,13 +1,15 @@
 """Messages of ansible-vault-hook are acted on, as `acted_on.py` says."""
 
+import os
 import re
 
 import pytest
 
+from ansible_vault_companions.git.attributes import make_line
 from companion_cases import HOOK, TEXT, Place, block, sealed
 from companion_cases.acted_on import OLD, OLD_VAULT, TAKE_THEIRS, Case, Row, Stand, check_row, each_stand
 from companion_cases.acted_on import merged, run_with_advice, staged, type_advice, written
-from companion_cases.repository import BASE, OURS, THEIRS
+from companion_cases.repository import BASE, OURS, THEIRS, under_git
 
 VAULTS = [sealed("old", text) for text in (BASE, OURS, THEIRS)]
 MARKED = "*.yml diff=ansible-vault\n"
@@ -119,3 +121,26 @@ ROWS = {
 @pytest.mark.parametrize("row", ROWS.values(), ids=ROWS)
 def test_hook(place: Place, row: Row, stand: Stand) -> None:
     check_row(place, row, stand)
+
+
+# What has a meaning in a shell, a pattern, an option, a revision or a message, or is no character.
+SIGNS = [*" '\"#!?*[]{}()<>|&;$`\\~^:%,=@+-\t\n\r\x1b\xa0ü\u2028日", os.fsdecode(b"\xff")]
+NAMES = [f"{sign}a{sign}{number}.yml{sign}" for number, sign in enumerate(SIGNS)]
+NAMES += [f"in {sign} it/{number}.yml" for number, sign in enumerate(SIGNS)]
+NAMES += ["--", "-rf", "HEAD", "!a.yml", "#a.yml", '"a.yml"', ":/a.yml", ":(top)a.yml", "\\x61.yml", ".a.yml"]
+
+
+@pytest.mark.usefixtures("git")
+def test_no_other_file(place: Place) -> None:
+    """The line for a file matches no other one, whatever is in place of its signs."""
+    under_git(place, "")
+    for name in NAMES:
+        line = make_line(os.fsencode(name))
+        place.put(".gitattributes", os.fsencode(line) + b"\n")
+        alike = {name.replace(sign, other) for sign in SIGNS for other in (sign, "", "x", "xx", "x/x")}
+        alike = {each for each in alike if os.path.normpath(each) == each and not each.startswith("/")}
+        asked = b"\0".join(map(os.fsencode, alike))
+        fields = place.run_on(asked, "git", "check-attr", "-z", "--stdin", "ansible-vault").stdout.split(b"\0")
+        values = dict(zip(map(os.fsdecode, fields[::3]), fields[2::3]))
+        assert values.keys() >= alike, "git answers"
+        assert {each for each, value in values.items() if value == b"unset"} == {name}, line
