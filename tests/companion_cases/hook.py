@@ -48,6 +48,31 @@ def test_what_is_staged(place: Place) -> None:
     silent("the file is not marked", place.shell("git commit -qm three"))
 
 
+TEMPLATE = b"{% if x %}\nx: 1\n{% endif %}\n"
+# What has no envelope, whatever else it has.
+HARMLESS = {
+    "a long binary": bytes(range(256)) * 80_000,
+    "a long text": b'"user\\u0040example.com \\x41"\n' * 600_000,
+    "a deep text": b"x: " + b"[" * 200 + b"]" * 200 + b'\ny: "\\u0041"\n',
+    "a template with escapes": TEMPLATE + b'regex: "[\\x41-\\x5a]+"\n',
+    "a template with a tag": TEMPLATE + b"# how to use `!vault`\n",
+}
+
+
+@pytest.mark.parametrize("content", HARMLESS.values(), ids=HARMLESS)
+def test_no_envelope(place: Place, content: bytes) -> None:
+    """What has no header may be new, change, and become short or a pointer of git-lfs, whatever it is."""
+    under_git(place, "")
+    committed(place, "other.txt", b"x\n")
+    pointer = b"version https://git-lfs.github.com/spec/v1\noid sha256:%s\nsize 20000000\n" % (b"0" * 64)
+    for version in (content, content + b"# more\n", b"x\n", content, pointer):
+        for name in ("a.yml", "a.bin"):
+            place.put(name, version)
+        place.shell("git add --all")
+        silent("the hook", place.run(HOOK))
+        place.shell("git commit -qnm one")
+
+
 LINES = block("old").splitlines(keepends=True)
 NO_YAML = "cannot be checked: line 2: it cannot be read as YAML: found a tab character that violates indentation"
 
