@@ -124,7 +124,7 @@ def test_at_each_step(cases: Companions, subtests: SubTests, name: str) -> None:
 
 
 def test_at_each_step_of_the_hook(cases: Companions, git: None) -> None:
-    """An index that git needs on the disk is removed, and no longer needed there while the hook reviews a commit."""
+    """It ends without a word, and leaves nothing behind."""
     for number in range(100):
         place = cases.place()
         place.put("a.yml", sealed("old"))
@@ -140,10 +140,22 @@ def test_at_each_step_of_the_hook(cases: Companions, git: None) -> None:
     assert 7 < number < 99, "there were such steps"
 
 
-def blocked(status: Path) -> set[int]:
-    """Return the signals that a thread blocks, from its status or a copy of that."""
-    bits = int(status.read_text().split("SigBlk:")[1].split()[0], 16)
+def read_signals(status: Path, field: str) -> set[int]:
+    """Return the signals that a thread blocks or ignores, from its status or a copy of that."""
+    bits = int(status.read_text().split(f"{field}:")[1].split()[0], 16)
     return {number for number in signal.valid_signals() if bits >> (number - 1) & 1}
+
+
+def test_keys(place: Place) -> None:
+    """The keys of a terminal belong to the editor: they do not end the edit, and the editor may act on them."""
+    prepare_runs(place)
+    keys = "kill -INT $PPID; kill -QUIT $PPID"
+    editor = f"cat /proc/self/status > ../editing; {keys}; sed -i s/correct/wrong/"
+    silent("the edit", place.run(EDIT, *place.by_file("old"), "a.yml", EDITOR=editor))
+    for field in ("SigBlk", "SigIgn"):
+        assert read_signals(place.path / "editing", field) & {signal.SIGINT, signal.SIGQUIT} == set(), field
+    assert decrypted("old", place.get("a.yml")) == CHANGED, "it is edited"
+    check_whole(place)
 
 
 IGNORED = ("HUP", "INT", "QUIT", "TERM", "USR1")
@@ -363,7 +375,8 @@ def test_workers(place: Place, line: str) -> None:
         if not has_started_program(place, number):
             return False
         masks.clear()
-        masks.update({path.parent.name: blocked(path) for path in Path(f"/proc/{number}/task").glob("*/status")})
+        statuses = Path(f"/proc/{number}/task").glob("*/status")
+        masks.update({path.parent.name: read_signals(path, "SigBlk") for path in statuses})
         # The main thread blocks signals for a moment while it starts a thread.
         return not masks.pop(str(number))
 

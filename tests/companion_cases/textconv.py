@@ -117,7 +117,7 @@ def test_shown(place: Place, content: bytes, line: str, shown: bytes, told: str)
         assert done.stderr == b"", "there is nothing to say"
 
 
-@pytest.mark.parametrize("forged", [first_line("prod"), line_of_values(1), NOT_ENCRYPTED])
+@pytest.mark.parametrize("forged", [first_line("prod"), line_of_values(1), NOT_ENCRYPTED, NOT_DECRYPTED])
 def test_forged_line(place: Place, forged: str) -> None:
     """A text that begins like another kind of file comes after the line of its own."""
     kinds = {

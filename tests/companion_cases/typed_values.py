@@ -1,5 +1,5 @@
-"""What is typed behind `!vault` is encrypted, or the edit is refused, whatever YAML is around it. Envelopes contain the
-digits of their plaintexts."""
+"""What is typed behind `!vault` is encrypted, or the edit is refused, whatever YAML is around it. So is an edit with a
+tag that somebody may take for it. Envelopes contain the digits of their plaintexts."""
 
 from __future__ import annotations
 
@@ -11,11 +11,12 @@ import hypothesis
 import pytest
 from hypothesis import strategies as st
 
+from ansible_vault_companions.envelopes.parsed_text import parse_nodes
 from ansible_vault_companions.refusals import Refused
 from companion_cases.yaml_values import Hexadecimal, Plaintexts, make_draft
 
 EXAMPLES = 1000
-STRAY = "no value follows `!vault` here"
+STRAY, UNKNOWN = "no value follows `!vault` here", "Ansible reads no such tag"
 # The words of what is typed.
 SECRETS = ["hunter2", "staple"]
 TEXTS = ["hunter2", "hunter2 staple", "hunter2, staple", "hunter2 #staple", "hunter2: staple", "hunter2]staple"]
@@ -63,16 +64,27 @@ TAGGED += [
 
 
 class Edit(NamedTuple):
-    """The lines of a file, those that are saved above one of its plaintext, and what takes the place of OLD_TEXT."""
+    """The lines of a file, those that are saved above one of its plaintext, and what takes the place of OLD_TEXT. The
+    tag of the first of these lines is right or misspelled."""
 
     content: list[str]
     place: int
     added: list[str]
     new_text: str
+    tag: str = "!vault"
 
 
 # A line that the file has in plaintext is a new one if it is saved twice.
 COPIED_LINE = Edit(["first: !vault |", "  20", "# new: !vault hunter2"], 0, ["# new: !vault hunter2"], OLD_TEXT)
+
+
+@st.composite
+def tags(draw: st.DrawFn) -> str:
+    """Return the tag, or one that somebody may take for it."""
+    place, letter = draw(st.integers(0, 5)), draw(st.sampled_from("vaultVAULT_-1"))
+    before, after = "vault"[:place], "vault"[place:]
+    misspelled = [f"!{before}{letter}{after}", f"!{before}{letter}{after[1:]}", f"!{before}{after[1:]}"]
+    return draw(st.sampled_from(["!vault"] * 6 + ["! vault", "!!vault", "!Vault", "!VAULT", *misspelled]))
 
 
 @st.composite
@@ -89,10 +101,11 @@ def edits(draw: st.DrawFn) -> Edit:
             content += [f"deep{number}:", *generator.collection(2, 2).splitlines()]
     above, below = draw(st.sampled_from([("", "")] * len(AROUND) + AROUND))
     margin = draw(st.sampled_from(["", "", "  "]))
-    line = draw(st.sampled_from(["", *LINES]))
+    tag = draw(tags())
+    line = draw(st.sampled_from(["", *LINES])).replace("!vault", tag)
     typed = margin + line.format(draw(st.sampled_from(TEXTS)))
     new_text = draw(st.sampled_from([OLD_TEXT, *SECRETS]))
-    return Edit(content, draw(st.integers(0, 40)), [above.format("new"), typed, below.format("new")], new_text)
+    return Edit(content, draw(st.integers(0, 40)), [above.format("new"), typed, below.format("new")], new_text, tag)
 
 
 def save(edit: Edit) -> bytes:
@@ -103,6 +116,11 @@ def save(edit: Edit) -> bytes:
     place = edit.place % (len(lines) + 1)
     lines[place:place] = [f"{line}\n".encode() for line in edit.added if line.strip()]
     return file.encrypt(Hexadecimal(), b"".join(lines))
+
+
+def read_tags(data: bytes) -> set[str]:
+    """Return the tags of all nodes but keys."""
+    return {value.tag for value in parse_nodes(data).values}
 
 
 def test_typed_values(request: pytest.FixtureRequest) -> None:
@@ -121,8 +139,11 @@ def test_typed_values(request: pytest.FixtureRequest) -> None:
             counts[str(fault).partition(": ")[2].partition(",")[0]] += 1
             return
         counts["encrypted"] += 1
-        before = "".join(edit.content).encode(errors="surrogateescape")
-        assert [word for word in SECRETS if after.count(word.encode()) > before.count(word.encode())] == []
+        before = "\n".join(edit.content).encode(errors="surrogateescape")
+        new_tags = read_tags(after) - read_tags(before)
+        assert new_tags <= {"!vault", "!vault-encrypted"}, "no other tag"
+        if edit.tag == "!vault":
+            assert [word for word in SECRETS if after.count(word.encode()) > before.count(word.encode())] == []
 
     check()
-    assert min(counts["encrypted"], counts[STRAY]) > 30, counts
+    assert min(counts["encrypted"], counts[STRAY], counts[UNKNOWN]) > 30, counts
