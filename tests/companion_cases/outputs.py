@@ -99,12 +99,3 @@ def test_swapped_files(cases: Companions) -> None:
         done = run_changed(place, WITH, SWAP, [command, *words, "a.yml"])
         ended(command, done, 1, "a.yml: another program changed it in the meantime")
         assert place.files() == {"a.yml": vault}
-
-
-def test_endless_answers(place: Place) -> None:
-    """An answer that does not end is refused."""
-    done = place.shell(f"setsid -w {WITH} encrypt_string {' '.join(place.by_file('old'))} --prompt < /dev/zero")
-    ended("a string", done, 1, "what you typed has over 65,536 bytes")
-    ended("a password", place.shell(f"setsid -w {WITH} view -J {place.tree}/none < /dev/zero"), 3, "none: No such file")
-    place.put("a.yml", sealed("old"))
-    ended("a password", place.shell(f"setsid -w {WITH} view -J a.yml < /dev/zero"), 1, "what you typed has over 65,536")

@@ -18,7 +18,8 @@ Steps = tuple[str, ...]
 Contents = dict[Steps, int | str]
 HEAD: Contents = {("a.yml", "one"): 1, ("a.yml", "m", "three"): "text", ("b.yml", "four"): 4, ("v.yml",): 1}
 EXAMPLES = 40
-PLAIN = ["{}", '"{}"', "'{{{{ x }}}}{}'", "[{}]", "{{x: {}}}", "!vault {}"]
+TEXTS = ["{}", '"{}"', "'{{{{ x }}}}{}'", "!vault {}"]
+PLAIN = [*TEXTS, "[{}]", "{{x: {}}}"]
 TAKEN_AWAY = ["", "~", "''", '"{{ y }}"', '" {{ x }} {{ y }} "', "{}"]
 
 
@@ -130,21 +131,21 @@ class Team:
             if way != "value":
                 self.remove(name, *keys)
             if way == "elsewhere":
-                places = [self.new("f{}.yml")]
+                places, plain = [self.new("f{}.yml")], self.random.choice(TEXTS)
             if way == "vault":
                 # In its own file, or in one that Ansible reads in its place.
-                keys, places = ["k"], [name, f"{stem}.json", f"{stem}/main.yml"]
+                keys, places = ["k"], [name, f"{stem}.json"]
             if way == "vault, unchanged":
                 # The envelopes have 32 bytes, and so has this text with its padding.
                 keys, plain = ["k"], "{}"
-                places = [f"{stem}.txt", f"{name}.old", f"x/y/{name.upper()}", f"{stem}/x.yml"]
+                places = [f"{stem}.txt", f"{name}.old", f"x/y/{name.upper()}", f"{stem}/x.yml", f"{stem}/main.yml"]
             place = self.random.choice(places)
             self.files[place, *keys] = plain.format(self.new("text{}"))
             yield place
 
 
 CHANGES = [Team.add, Team.encrypt_again, Team.take_away, Team.change_text, Team.move, Team.rename, Team.encrypt_file]
-# Where a value or a vault was, above the value, or in another file; and how long the path to it is.
+# Where a value or a vault was, above the value, or at its key in another file; and how long the path to it is.
 LEAKS = {"value": (2, 3), "above": (3,), "elsewhere": (2, 3), "vault": (1,), "vault, unchanged": (1,)}
 
 
