@@ -8,7 +8,7 @@ import pytest
 from hypothesis import HealthCheck, given, settings
 from hypothesis import strategies as st
 
-from companion_cases.around_vaults import NOISE, OTHER_CONFIG, PLAY, SMTP, TASKS, VARS, Files, vault
+from companion_cases.around_vaults import EXPRESSIONS, NOISE, NOTE, OTHER_CONFIG, PLAY, SMTP, TASKS, VARS, Files, vault
 from companion_cases.daily_commits import DAILY
 from companion_cases.repository import find_staged_faults, stage_alone
 from companion_cases.vault_leaks import LEAKS
@@ -125,6 +125,15 @@ def test_suffixes(own_repository: Path, suffix: str) -> None:
     texts = {f"{name}{suffix}": make_text(random, 20 + 16 * number) for number, name in enumerate(vaults)}
     assert list_refused(own_repository, vaults, texts) == {*texts}
     assert list_refused(own_repository, vaults, vaults | texts) == {*texts}
+
+
+@pytest.mark.parametrize("content", (NOTE, EXPRESSIONS), ids=["comments", "expressions"])
+def test_without_content(own_repository: Path, content: bytes) -> None:
+    """Comments and expressions may take the place of a vault if Ansible reads its file, and only then."""
+    of_yaml, of_others = ["a.yml", "b.yaml", "c.json", "d.YML"], ["e", "f.key", "g.env", "h.yml~", "i.j2"]
+    names = [*of_yaml, *of_others]
+    before = dict.fromkeys(names, make_vault(Random(1), 20))
+    assert list_refused(own_repository, before, dict.fromkeys(names, content)) == {*of_others}
 
 
 def test_other_suffixes(own_repository: Path) -> None:
