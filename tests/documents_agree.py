@@ -150,8 +150,7 @@ def test_limits() -> None:
 # The sentences of the companions' pages that name a limit, and the limit.
 SENTENCES = [
     ("check", r"longer than any vault can be \(([\d,]+) bytes\)", LONGEST_VAULT),
-    ("check", r"may take (\d) GiB of memory", memory.MOST >> 30),
-    ("hook", r"may take (\d) GiB of memory", memory.MOST >> 30),
+    ("with", r"may take (\d) GiB of memory", memory.MOST >> 30),
     ("with", r"name up to (\d+) passwords", MOST_PASSWORDS),
 ]
 
