@@ -434,7 +434,7 @@ def test_ready_pre_commit(repository: Repository, address: dict[str, str]) -> No
     assert done.returncode == 0, done.stdout + done.stderr
     repository.put("vault.yml", b"a: 1\n")
     done = repository.shell("git commit -qam two", **variables)
-    assert (done.returncode, "vault.yml is not a vault" in done.stdout + done.stderr) == (1, True), done
+    assert (done.returncode, "vault.yml is not encrypted" in done.stdout + done.stderr) == (1, True), done
 
 
 def prepare_examples(repository: Repository, password: str) -> str:
