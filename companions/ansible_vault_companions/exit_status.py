@@ -19,9 +19,14 @@ def attempt_work(companion: str, path: str, work: Callable[[], int | None]) -> i
         name_file(path, fault)
         raise
     except (Refused, OSError) as fault:
-        write_error(f"{companion}: {describe_refusal(path, fault)}")
-        signals.end_by_signal()
-        return fault.status if isinstance(fault, Refused) else 1
+        return _report_fault(f"{companion}: {describe_refusal(path, fault)}", fault)
+
+
+def _report_fault(text: str, fault: Exception) -> int:
+    """Prints a message, and returns the status. A signal that came before it ends the companion."""
+    write_error(text)
+    signals.end_by_signal()
+    return fault.status if isinstance(fault, Refused) else 1
 
 
 def run_companion(name: str, main: Callable[[list[str]], int]) -> None:
@@ -48,6 +53,4 @@ def _attempt_all(name: str, main: Callable[[list[str]], int]) -> int:
         write_data(b"")
         return status
     except (Refused, OSError) as fault:
-        write_error(f"{name}: {describe_fault(fault)}")
-        signals.end_by_signal()
-        return fault.status if isinstance(fault, Refused) else 1
+        return _report_fault(f"{name}: {describe_fault(fault)}", fault)

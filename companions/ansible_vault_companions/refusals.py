@@ -45,9 +45,8 @@ def describe_refusal(path: str, fault: Exception) -> str:
 
 
 def _is_same(first: str, second: str) -> bool:
-    """Whether two paths lead to the same place. If the current directory is gone, a relative one leads nowhere, and
-    Python cannot follow a long chain of links."""
+    """Whether two paths lead to the same place. If the current directory is gone, a relative one leads nowhere."""
     try:
         return second != "" and (first == second or os.path.realpath(first) == os.path.realpath(second))
-    except (OSError, RecursionError):
+    except OSError:
         return False

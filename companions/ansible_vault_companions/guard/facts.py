@@ -21,7 +21,7 @@ from ansible_vault_companions.limits import LONGEST_PLAINTEXT
 Keys = tuple[Optional[str], ...]
 ITEM = None
 NAME = "name"
-# YAML that takes minutes to read is longer than what anybody writes.
+# Longer than what a vault holds.
 TOO_LONG = f"it has over {LONGEST_PLAINTEXT:,} bytes"
 # How a tag such as `!!null` begins.
 STANDARD_TAGS = "tag:yaml.org,2002:"
