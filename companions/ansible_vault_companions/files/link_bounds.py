@@ -63,7 +63,6 @@ def resolve_file(path: str) -> str:
 def resolve_path(path: str, bound: str = "") -> str:
     """The real path to which a path leads. Refuses one whose links lead out of a repository that it enters or, if none
     of these is the user's own, out of the bound."""
-    _refuse_loop(path)
     path = _make_absolute(path)
     target, typed = os.path.realpath(path), os.path.normpath(path)
     for top in _list_bounds(typed, bound) if target != typed else ():
@@ -73,16 +72,14 @@ def resolve_path(path: str, bound: str = "") -> str:
 
 
 def _make_absolute(path: str) -> str:
-    return path if os.path.isabs(path) else os.path.join(find_current_folder(), path)
-
-
-def _refuse_loop(path: str) -> None:
-    """Refuses a path that the system does not follow. Python's realpath would leave links in it."""
+    """The same path from the root directory. Refuses one on which the system does not follow all links: Python's
+    realpath goes on, by recursion."""
     try:
         os.stat(path)
     except OSError as fault:
         if fault.errno == errno.ELOOP:
             raise
+    return path if os.path.isabs(path) else os.path.join(find_current_folder(), path)
 
 
 def _list_bounds(path: str, bound: str) -> list[str]:
