@@ -1,4 +1,4 @@
-"""Companions in forks of a process that has imported them: many runs in a short time, with what each has used."""
+"""Companions in forks of a process that has imported them: many runs in a short time."""
 
 import json
 import subprocess
@@ -12,14 +12,11 @@ from lib import fork_server
 
 
 class Run(NamedTuple):
-    """What is left of a run: its status (the number of a signal is negative), what it printed, and what it used."""
+    """What is left of a run: its status (the number of a signal is negative), and what it printed."""
 
     status: int
     output: str
     errors: str
-    # Of processor time, with that of the programs that it has run.
-    seconds: float
-    kilobytes: int
 
 
 class Forks:

@@ -37,15 +37,9 @@ def answer(companions: dict[str, dict[str, Any]], words: list[str], folder: str,
         for number, stream in enumerate(streams):
             os.dup2(stream, number)
         start(companions[words[0]], words, folder, environment)
-    _, status, used = os.wait4(child, 0)
+    _, status = os.waitpid(child, 0)
     _, output, errors = streams
-    left = {
-        "status": os.waitstatus_to_exitcode(status),
-        "output": read_all(output),
-        "errors": read_all(errors),
-        "seconds": used.ru_utime + used.ru_stime,
-        "kilobytes": used.ru_maxrss,
-    }
+    left = {"status": os.waitstatus_to_exitcode(status), "output": read_all(output), "errors": read_all(errors)}
     for stream in streams:
         os.close(stream)
     return left
