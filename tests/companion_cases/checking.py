@@ -8,7 +8,7 @@ from typing import NamedTuple
 import pytest
 
 from companion_cases import BODY, CHECK, EDIT, HOOK, MERGE, ROTATE, TEXT, TEXTCONV, WITH, Place, block, ended
-from companion_cases import check_answer, sealed, summary, to_new
+from companion_cases import check_answer, lines_of, sealed, summary, to_new
 from lib.paths import COMPANIONS
 from lib.processes import run_text
 from model.vaults import seal
@@ -286,3 +286,14 @@ def test_named_as_the_tool(place: Place) -> None:
     place.put("a.yml", sealed("old"))
     (place.tree / "ansible-vault").symlink_to(place.tools / WITH)
     assert place.run("./ansible-vault", "view", *place.by_file("old"), "a.yml").stdout == TEXT.decode()
+
+
+def test_many_values(place: Place) -> None:
+    """No number of values, levels or keys is too many for a companion that reads files."""
+    value = b"!vault |\n%s\n" % lines_of(sealed("old"), 2)
+    many = b"".join(b"k%d: %s" % (number, value) for number in range(2_000))
+    place.put("a.yml", many)
+    place.put("b.yml", b"deep: " + b"[" * 300 + b"]" * 300 + b"\nkeys: [%s]\n" % (b"{a: 1}, " * 20_000) + block("old"))
+    ended("a check", place.run(CHECK, *place.by_file("old"), "."), 0, "2001 decrypted, 0 failed")
+    shown = place.run_on(b"", TEXTCONV, *place.by_file("old"), "a.yml").stdout
+    assert shown.count(TEXT) == 2_000, "all of them are shown"

@@ -246,7 +246,7 @@ class Generator:
 
 def composed(data: bytes) -> list[Composed] | None:
     """The path and the text of each envelope, as PyYAML composes them; None if it is not YAML."""
-    text = re.sub("[\f\x9f\udcff]", "?", data.decode(errors="surrogateescape")).removeprefix("\ufeff")
+    text = data.decode().removeprefix("\ufeff")
     try:
         nodes = [*yaml.compose_all(text, LOADERS[0])]  # type: ignore[no-untyped-call]
     except yaml.YAMLError:
