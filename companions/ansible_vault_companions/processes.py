@@ -8,7 +8,8 @@ from __future__ import annotations
 
 import os
 import signal
-from collections.abc import Iterable
+from collections.abc import Callable, Iterable, Iterator
+from contextlib import contextmanager
 
 from ansible_vault_companions import memory, signals
 from ansible_vault_companions.quoting import escape
@@ -33,42 +34,58 @@ def run_program(words: list[str], data: bytes = b"", **options: Any) -> Complete
 
 def run_script(words: list[str], **streams: Any) -> CompletedProcess[bytes]:
     """Runs a program that may wait for a person, and keeps its output, except that of streams that it shares with the
-    companion. A signal is passed on, and ends the companion even if the program goes on."""
-    from subprocess import DEVNULL, PIPE, CompletedProcess, Popen
+    companion. A signal ends the companion even if the program goes on."""
+    from subprocess import DEVNULL, PIPE, CompletedProcess
 
     options: dict[str, Any] = {"stdin": DEVNULL, "stdout": PIPE, "stderr": PIPE, **streams}
-    program = Popen(words, preexec_fn=memory.lift_limit, **options)
-    try:
+    with _start_for_person(words, _lift_bounds, is_awaited=False, **options) as program:
         output, errors = program.communicate()
-    except signals.Stopped:
-        _pass_signal_on(program)
-        raise
     return CompletedProcess(words, program.returncode, output, errors)
 
 
 def run_on_terminal(words: list[str]) -> int:
-    """Runs a program that owns the terminal, and so gets the signals of keys itself. Another signal is passed on to it,
-    and raises Stopped once it has ended."""
+    """Runs a program that owns the terminal, and so gets the signals of keys itself. Another signal raises Stopped once
+    the program has ended."""
     keys = signals.KeysForOthers()
 
     def prepare() -> None:
-        memory.lift_limit()
+        _lift_bounds()
         keys.use_default_actions()
 
-    with keys:
-        program = start_program(words, preexec_fn=prepare)
-        try:
+    try:
+        with keys, _start_for_person(words, prepare, is_awaited=True) as program:
             return program.wait()
-        except signals.Stopped:
-            _pass_signal_on(program)
-            program.wait()
-            raise
+    except OSError as fault:
+        raise Refused(describe_start(fault, words[0])) from None
 
 
-def _pass_signal_on(program: Popen[bytes]) -> None:
-    """Sends the signal to a program, even if it is stopped. What it has started is its own concern."""
-    program.send_signal(signals.received)
-    program.send_signal(signal.SIGCONT)
+@contextmanager
+def _start_for_person(
+    words: list[str], prepare: Callable[[], None], is_awaited: bool, **options: Any
+) -> Iterator[Popen[bytes]]:
+    """A context with a program that may wait for a person. A signal is passed on to it, even if it is stopped, and ends
+    the context then, or once the program has ended. What that has started is its own concern."""
+    from subprocess import Popen
+
+    program: Popen[bytes] | None = None
+    try:
+        # Until the program is known, no signal could be passed on.
+        with signals.Postponement():
+            program = Popen(words, preexec_fn=prepare, **options)
+        yield program
+    except signals.Stopped:
+        if program:
+            program.send_signal(signals.received)
+            program.send_signal(signal.SIGCONT)
+            if is_awaited:
+                program.wait()
+        raise
+
+
+def _lift_bounds() -> None:
+    """For a program that the user has chosen: all of the memory, and signals at any time."""
+    memory.lift_limit()
+    signal.pthread_sigmask(signal.SIG_SETMASK, ())
 
 
 def start_program(words: list[str], **options: Any) -> Popen[bytes]:
