@@ -11,6 +11,9 @@ from collections.abc import Callable, Iterable
 # Those that keys of a terminal send to all its programs; and all.
 OF_KEYS = {signal.SIGINT, signal.SIGQUIT}
 ENDING = {signal.SIGHUP, signal.SIGTERM, *OF_KEYS}
+# Those that are postponed, with that of a timer, which raises again what Python has ignored.
+POSTPONED = {*ENDING, signal.SIGALRM}
+AGAIN = 0.01
 # The signal that ends this companion; 0 if there is none yet.
 received = 0
 
@@ -41,6 +44,16 @@ def _set_actions(numbers: Iterable[int], action: Callable[[int, object], None] |
             signal.signal(number, action)
 
 
+def stop_again() -> None:
+    """Raises Stopped in a moment, since Python ignores an exception in a finalizer or in a callback of its own."""
+    signal.signal(signal.SIGALRM, _raise_again)
+    signal.setitimer(signal.ITIMER_REAL, AGAIN)
+
+
+def _raise_again(_number: int, _frame: object) -> None:
+    raise Stopped
+
+
 def end_by_signal() -> None:
     """Ends the companion, if a signal has asked it to."""
     if received:
@@ -54,7 +67,7 @@ class Postponement:
     how = signal.SIG_BLOCK
 
     def __enter__(self) -> None:
-        self.mask = signal.pthread_sigmask(self.how, ENDING)
+        self.mask = signal.pthread_sigmask(self.how, POSTPONED)
 
     def __exit__(self, *_: object) -> None:
         signal.pthread_sigmask(signal.SIG_SETMASK, self.mask)

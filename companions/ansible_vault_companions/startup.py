@@ -33,6 +33,12 @@ def report_failure(kind: type[BaseException], fault: BaseException, _trace: obje
 
 def report_ignored_exception(ignored: sys.UnraisableHookArgs) -> None:
     """Reports an exception that Python ignores, as in a finalizer, unless it lacks memory there, which may also be a
-    SystemError. If that ends the run, the run says so itself."""
-    if not issubclass(ignored.exc_type, (MemoryError, SystemError)):
+    SystemError. If that ends the run, the run says so itself. A signal still ends it."""
+    if issubclass(ignored.exc_type, (MemoryError, SystemError)):
+        return
+    from ansible_vault_companions import signals
+
+    if issubclass(ignored.exc_type, signals.Stopped):
+        signals.stop_again()
+    else:
         sys.__unraisablehook__(ignored)

@@ -475,6 +475,28 @@ yaml_draft.require_nodes = require_later
     assert len(place.kept()) == 1, "what was saved is kept"
 
 
+# Sends a signal where Python ignores exceptions, as in a finalizer, once signals have their actions.
+IN_FINALIZER = """
+from ansible_vault_companions import startup
+class Finalizer:
+    def __del__(self):
+        os.kill(os.getpid(), {number})
+        [*range(10)]
+def prepare(before=startup.prepare_process):
+    before()
+    Finalizer()
+startup.prepare_process = prepare
+"""
+
+
+@pytest.mark.parametrize("number", [signal.SIGTERM, signal.SIGINT])
+def test_in_finalizer(place: Place, number: int) -> None:
+    prepare_runs(place)
+    place.wrap_tool(f'[ "$1" = --version ] || {{ {ENDLESS}; }}')
+    done = run_changed(place, CHECK, IN_FINALIZER.format(number=int(number)), [*place.by_file("old"), "a.yml"])
+    assert (done.returncode, done.stdout, done.stderr) == (-number, "", ""), "the signal ends it without a word"
+
+
 MOMENTS = 12
 COMPANIONS = (EDIT, ROTATE, MERGE, CHECK, TEXTCONV, HOOK, WITH)
 # Sends a signal to a companion some time after it has begun. Before that, Python answers SIGINT itself.
