@@ -7,9 +7,22 @@ from random import Random
 
 import pytest
 
+from ansible_vault_companions import memory
 from companion_cases import CHANGE, CHANGED, CHECK, COMPANIONS, CONFLICT, EDIT, HOOK, MERGE, ROTATE, TEXT, TEXTCONV
 from companion_cases import WITH, Companions, Done, Place
-from companion_cases import block, check_answer, run_changed, sealed, summary, texts, to_new, versions
+from companion_cases import (
+    block,
+    check_answer,
+    edit,
+    ended,
+    run_changed,
+    sealed,
+    silent,
+    summary,
+    texts,
+    to_new,
+    versions,
+)
 from lib.needs import needs
 
 NAMES = (EDIT, ROTATE, MERGE, CHECK, TEXTCONV, HOOK, WITH)
@@ -83,6 +96,32 @@ def test_memory(cases: Companions, git: None, pytestconfig: pytest.Config, name:
         start = place.run(*limiting, "python3", "-IBc", READ.format(str(COMPANIONS / name)))
         if (start.returncode, start.stderr) == (0, ""):
             check(place, name, place.run("timeout", "30", *limiting, *words), limit)
+
+
+@pytest.mark.parametrize("name, why", [(CHECK, "./long.yml: "), (HOOK, "")], ids=[CHECK, HOOK])
+def test_limit_of_memory(place: Place, git: None, name: str, why: str) -> None:
+    """What takes more than the limit, which is lower here, ends in a line."""
+    place.put("long.yml", block("old") + b"x: [%s]\n# " % (b"{a: 1}, " * 20_000) + b"x" * 16_000_000)
+    place.shell("git init -q && git add .")
+    words = {CHECK: [*place.by_file("old"), "."], HOOK: []}[name]
+    change = "from ansible_vault_companions import memory\nmemory.MOST = 56 << 20"
+    check_answer("the run", run_changed(place, name, change, words), 1, errors=f"{name}: {why}out of memory\n")
+
+
+def test_memory_of_programs(place: Place) -> None:
+    """A program that the user has chosen has as much memory as without a companion, and others have its limit."""
+    place.put("a.yml", sealed("old"))
+    script = place.script('ulimit -d > "$HOME/script"; cat "$HOME/secrets/old"')
+    place.wrap_tool('ulimit -d >> "$HOME/tool"')
+    silent("an edit", edit(place, f'ulimit -d > "$HOME/editor"; {CHANGE}', "--vault-password-file", script, "a.yml"))
+    limits = {name: {*(place.path / name).read_text().split()} for name in ("script", "editor", "tool")}
+    own = {place.shell("ulimit -d").stdout.strip()}
+    assert (limits["script"], limits["editor"]) == (own, own), "the user's programs"
+    [limit] = limits["tool"]
+    assert limit.isdecimal() and int(limit) << 10 <= memory.MOST, "another program"
+    (place.path / "tool").unlink()
+    ended("a view", place.run(WITH, "view", *place.by_file("old"), "a.yml"), 0)
+    assert {*(place.path / "tool").read_text().split()} == own, "what takes the place of a companion"
 
 
 def test_recursion(place: Place) -> None:
