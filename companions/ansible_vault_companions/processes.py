@@ -8,8 +8,7 @@ from __future__ import annotations
 
 import os
 import signal
-from collections.abc import Callable, Iterable, Iterator
-from contextlib import contextmanager
+from collections.abc import Callable, Iterable
 
 from ansible_vault_companions import memory, signals
 from ansible_vault_companions.quoting import escape
@@ -35,12 +34,10 @@ def run_program(words: list[str], data: bytes = b"", **options: Any) -> Complete
 def run_script(words: list[str], **streams: Any) -> CompletedProcess[bytes]:
     """Runs a program that may wait for a person, and keeps its output, except that of streams that it shares with the
     companion. A signal ends the companion even if the program goes on."""
-    from subprocess import DEVNULL, PIPE, CompletedProcess
+    from subprocess import DEVNULL, PIPE
 
     options: dict[str, Any] = {"stdin": DEVNULL, "stdout": PIPE, "stderr": PIPE, **streams}
-    with _start_for_person(words, _lift_bounds, is_awaited=False, **options) as program:
-        output, errors = program.communicate()
-    return CompletedProcess(words, program.returncode, output, errors)
+    return _run_for_person(words, _lift_bounds, is_awaited=False, **options)
 
 
 def run_on_terminal(words: list[str]) -> int:
@@ -53,26 +50,25 @@ def run_on_terminal(words: list[str]) -> int:
         keys.use_default_actions()
 
     try:
-        with keys, _start_for_person(words, prepare, is_awaited=True) as program:
-            return program.wait()
+        with keys:
+            return _run_for_person(words, prepare, is_awaited=True).returncode
     except OSError as fault:
         raise Refused(describe_start(fault, words[0])) from None
 
 
-@contextmanager
-def _start_for_person(
-    words: list[str], prepare: Callable[[], None], is_awaited: bool, **options: Any
-) -> Iterator[Popen[bytes]]:
-    """A context with a program that may wait for a person. A signal is passed on to it, even if it is stopped, and ends
-    the context then, or once the program has ended. What that has started is its own concern."""
-    from subprocess import Popen
+def _run_for_person(
+    words: list[str], prepare: Callable[[], None], is_awaited: bool, **streams: Any
+) -> CompletedProcess[bytes]:
+    """Runs a program to its end. A signal is passed on to it, even if it is stopped, and raises Stopped, at once or at
+    that end. What the program has started is its own concern."""
+    from subprocess import CompletedProcess, Popen
 
     program: Popen[bytes] | None = None
     try:
         # Until the program is known, no signal could be passed on.
         with signals.Postponement():
-            program = Popen(words, preexec_fn=prepare, **options)
-        yield program
+            program = Popen(words, preexec_fn=prepare, **streams)
+        output, errors = program.communicate()
     except signals.Stopped:
         if program:
             program.send_signal(signals.received)
@@ -80,6 +76,7 @@ def _start_for_person(
             if is_awaited:
                 program.wait()
         raise
+    return CompletedProcess(words, program.returncode, output, errors)
 
 
 def _lift_bounds() -> None:
