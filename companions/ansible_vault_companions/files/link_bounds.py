@@ -8,14 +8,11 @@ from __future__ import annotations
 
 import errno
 import os
-import re
 from functools import lru_cache
 
 from ansible_vault_companions.quoting import escape, quote_word
 from ansible_vault_companions.refusals import Refused
 
-# Directories of names for open files and devices, such as /dev/stdin. Only the system can follow the links there.
-OF_OPEN_FILES = re.compile("/dev|/proc/[0-9]+/fd")
 GIT = ".git"
 WITHIN_GIT = f"/{GIT}/"
 
@@ -57,7 +54,9 @@ def resolve_file(path: str) -> str:
     """The real path of a typed file, whose links must not lead out of a repository or, outside of git, out of its
     directory. A name of an open file or of a device stays as it is."""
     folder = os.path.realpath(os.path.dirname(_make_absolute(path)))
-    return path if OF_OPEN_FILES.fullmatch(folder) else resolve_path(path, folder)
+    # Only the system can follow the links in these directories, such as /dev/stdin.
+    has_open_files = folder == "/dev" or folder.startswith("/proc/") and folder.endswith("/fd")
+    return path if has_open_files else resolve_path(path, folder)
 
 
 def resolve_path(path: str, bound: str = "") -> str:
