@@ -157,6 +157,19 @@ def test_files(place: Place) -> None:
         ended("an option", place.run(HOOK, *option, "plain.yml"), 2, "FILE cannot be used with an option")
 
 
+def test_named_links(place: Place) -> None:
+    """Links on the way to a named file are followed. A file that is a link has no content of its own."""
+    under_git(place, ATTRIBUTES)
+    place.put("deep/a.vault.yml", TEXT)
+    (place.tree / "deep/b.vault.yml").symlink_to("a.vault.yml")
+    (place.tree / "way").symlink_to("deep")
+    (place.path / "way").symlink_to("tree/deep")
+    add_and_commit(place)
+    for folder in ("deep", "way", f"{place.path}/way"):
+        done = place.run(HOOK, f"{folder}/a.vault.yml", f"{folder}/b.vault.yml")
+        assert told(done) == ["deep/a.vault.yml is not encrypted"], folder
+
+
 MODES = (0o644, 0o755)
 
 

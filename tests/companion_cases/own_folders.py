@@ -18,7 +18,9 @@ from hypothesis import strategies as st
 
 from ansible_vault_companions.editing.private_directory import require_own_folder
 from ansible_vault_companions.editing.private_directory import FOLDER_PREFIX
-from companion_cases import CHANGE, CHANGED, EDIT, NOBODY, Place, decrypted, ended, run_changed, sealed, silent
+from companion_cases import CHANGE, CHANGED, EDIT, HOOK, MERGE, NOBODY, ROTATE, TEXT, WITH, Place
+from companion_cases import decrypted, ended, run_changed, sealed, silent, to_new, versions
+from companion_cases.repository import add_and_commit, under_git
 from lib.needs import needs, needs_root
 
 # Another user, and a group that this one is in.
@@ -337,3 +339,22 @@ def test_no_place(place: Place) -> None:
     assert re.fullmatch(rf"{EDIT}: all.yml: no private directory .+ {why} open\n", done.stderr), done.stderr
     assert not (place.path / "started").exists(), "no editor is started"
     assert [*place.path.glob(f"{FOLDER_PREFIX}*")] == [], "no directory is left"
+
+
+def test_temporary_files(place: Place, git: None) -> None:
+    """Only an edit has temporary files elsewhere than beside what it replaces, so no directory of another user matters
+    to other companions. The places for them are missing."""
+    under_git(place, "vault.yml diff=ansible-vault\n")
+    for content in (b"", sealed("old")):
+        place.put("vault.yml", content)
+        add_and_commit(place)
+    missing = str(place.path / "missing")
+    variables = {"TMPDIR": missing, "XDG_RUNTIME_DIR": missing, "XDG_STATE_HOME": missing}
+    for words in (["--since", "HEAD~1"], ["--all"], ["vault.yml"]):
+        silent(f"the hook, {words}", place.run(HOOK, *words, **variables))
+    silent("a new password", place.run(WITH, "rekey", *to_new(place), "vault.yml", **variables))
+    place.put("vault.yml", sealed("old"))
+    ended("a rotation", place.run(ROTATE, *to_new(place), ".", **variables), 0, "1 rotated")
+    merged = versions(place, "vault.yml", sealed("old"), sealed("old", CHANGED), sealed("old", TEXT))
+    silent("a merge", place.run(MERGE, *place.by_file("old"), *merged, **variables))
+    assert decrypted("old", place.get("vault.yml")) == CHANGED

@@ -1,12 +1,14 @@
 """ansible-vault-textconv, alone and as git runs it."""
 
 import json
+import os
 import re
 import textwrap
 from typing import NamedTuple
 
 import pytest
 
+from ansible_vault_companions.limits import LONGEST_VAULT
 from companion_cases import AWKWARD, NOT_DECRYPTED, NOT_ENCRYPTED, TEXT, TEXTCONV, Place
 from companion_cases import block, check_answer, ended, first_line, line_of_values, sealed
 from companion_cases.repository import add_and_commit, under_git
@@ -129,6 +131,20 @@ def test_forged_line(place: Place, forged: str) -> None:
         place.put("a.yml", content)
         done = place.run(TEXTCONV, *place.by_file("old"), "a.yml")
         assert done.stdout.startswith(line + forged), done
+
+
+@pytest.mark.parametrize("start", (b"", sealed("old"), block("old")), ids=("plaintext", "a vault", "a value"))
+def test_longer_than_any_vault(place: Place, start: bytes) -> None:
+    """It is shown as it is, with the reason if it has an envelope, so `git diff` goes on."""
+    place.put("a.yml", start)
+    os.truncate(place.tree / "a.yml", LONGEST_VAULT + 1)
+    words = f"{TEXTCONV} --vault-id {place.secret('old')} a.yml"
+    done = place.shell(f'{words} | {{ read -r line; echo "$line"; wc -c; }}')
+    first = NOT_DECRYPTED if start else NOT_ENCRYPTED
+    why = (
+        "it has more than 100,671,488 bytes, more than any vault\n" if start else NO_VAULT[len(": shown as it is: ") :]
+    )
+    check_answer("all of it", done, 0, f"{first}{LONGEST_VAULT + 1}\n", f"{TEXTCONV}: a.yml: shown as it is: {why}")
 
 
 def test_several_files(place: Place) -> None:
