@@ -10,9 +10,11 @@ from companion_cases.repository import GONE, WHOLE, committed, fork, staged, tol
 pytestmark = pytest.mark.usefixtures("git")
 
 
-def test_history(place: Place) -> None:
+@pytest.mark.parametrize("kind", ("sha1", "sha256"))
+def test_history(place: Place, kind: str) -> None:
     """A leak counts even if a later commit takes it back; or if one commit removes a vault and another adds its
     plaintext. Neither the contents in the index count nor the files, nor what is checked out."""
+    place.shell(f"git init -q --object-format={kind}")
     under_git(place, "")
     for name in ("a.yml", "b.yml"):
         place.put(name, sealed("old"))
