@@ -329,8 +329,6 @@ WORKS = {
     "the loading of an edit": f"{EDIT} {OLD} a.yml",
 }
 OF_HOOK = ["rev-parse", "check-attr", "cat-file"]
-# Commands of git that answer questions, until their input ends.
-SERVERS = ["check-attr", "cat-file", "diff-tree"]
 # Each with the commands of git that it waits for.
 OF_GIT = {
     f"{MERGE} {OLD} --vault-password-file ../secrets/new": ["merge-file"],
@@ -417,9 +415,12 @@ def test_workers(place: Place, line: str) -> None:
 def test_git(place: Place, git: None, line: str, command: str) -> None:
     """Whatever it asks git."""
     merge = prepare_runs(place)[MERGE]
+    # This may be a copy of a vault that the commit before it has.
+    place.put("plain.yml", b"port: 1\n")
     commit = "git -c user.name=a -c user.email=b commit -qm c --allow-empty"
     place.shell(f"git init -q && {commit} && git add . && {commit}")
-    answer = SILENT if command in SERVERS else ENDLESS
+    # This answers questions, until its input ends.
+    answer = SILENT if command == "cat-file" else ENDLESS
     place.wrap_tool(f'case " $* " in *" {command} "*) {answer};; esac', "git")
     words = [line, *merge[-4:]] if MERGE in line else [line]
     check_ended(place, " ".join(words), partial(has_started_program, place))
