@@ -107,7 +107,8 @@ class Search:
         if name not in (os.curdir, os.pardir) and self._is_excluded(path):
             return
         if not os.path.isdir(path):
-            self._add(path, _find_place(path), *_resolve(path, link_bounds.resolve_file, path))
+            target, refusal = _resolve(path, link_bounds.resolve_file, path)
+            self._add(path, _find_place(path), target, refusal)
             return
         target, refusal = _resolve(path, link_bounds.resolve_path, path)
         if refusal:
