@@ -16,6 +16,8 @@ from ansible_vault_companions.refusals import Refused, describe_refusal
 DIFF, VAULT = ATTRIBUTES = ("diff", "ansible-vault")
 NAME = b"ansible-vault"
 FILE = b".gitattributes"
+# How many files git is asked about at once. Its answer is much longer than their names.
+AT_ONCE = 10_000
 # What needs no escape in a pattern, and what has a meaning there.
 UNQUOTED = re.compile(rb"[\w/.@+,-]+", re.ASCII)
 SPECIAL = re.compile(rb"[*?\[\\]")
@@ -56,7 +58,10 @@ def find_marked(paths: Iterable[tuple[str, Collection[str]]]) -> set[str]:
     marked = set[str]()
     for folder, names in _group_by_repository(paths).items():
         _require_readable(folder, names)
-        marked.update(names[name] for name, given in read_attributes(names, folder).items() if given.is_marked)
+        listed = [*names]
+        for start in range(0, len(listed), AT_ONCE):
+            given = read_attributes(listed[start : start + AT_ONCE], folder)
+            marked.update(names[name] for name in given if given[name].is_marked)
     return marked
 
 
