@@ -327,6 +327,8 @@ WORKS = {
     "values in a diff": f"{TEXTCONV} {OLD} many.yml",
     "files of the alias": f"{WITH} decrypt {OLD} a.yml many.yml",
     "the loading of an edit": f"{EDIT} {OLD} a.yml",
+    "the loading of values": f"{EDIT} {OLD} many.yml",
+    "values in a merge": f"{MERGE} {OLD} a.yml many.yml other.yml many.yml",
 }
 OF_HOOK = ["rev-parse", "check-attr", "cat-file"]
 # Each with the commands of git that it waits for.
@@ -393,6 +395,7 @@ def test_workers(place: Place, line: str) -> None:
     """The main thread takes all signals, so that it may postpone them while workers go on."""
     prepare_runs(place)
     place.put("many.yml", b"".join(block("old", b"%d" % number, name=f"key{number}") for number in range(100)))
+    place.put("other.yml", block("old"))
     # The signals that each thread but the main one blocks. Its number may be lower than the main one's.
     masks: dict[str, set[int]] = {}
 
