@@ -3,22 +3,22 @@
 from __future__ import annotations
 
 import os
-import shutil
+import re
 from contextlib import suppress
 
 from ansible_vault_companions import processes, signals
 
 # The variables that name the editor, that of later releases of Ansible first.
 VARIABLES, DEFAULT = ("ANSIBLE_EDITOR", "VISUAL", "EDITOR"), "vi"
-# With one of these characters, a command is more than the name of a program and its arguments.
-OF_SHELL = frozenset(";&|()<>{}`\n")
+# A command that is more than the name of a program and its arguments, or begins with a word of the shell's own.
+OF_SHELL = re.compile(r".*[=;&|()<>{}`\n]|\s*(?:command|eval|exec)\s", re.DOTALL)
 
 
 def run_editor(path: str) -> str:
     """Runs the editor on a file. Returns why what it leaves must not be used; nothing if it may be."""
     editor = next(filter(None, map(os.environ.get, VARIABLES)), DEFAULT)
-    # A signal has to reach the editor itself, or that would go on after its file is gone.
-    command = f"exec {editor}" if _is_program(editor) else editor
+    # After `exec`, a signal reaches the editor itself, and not a shell that would leave it behind.
+    command = editor if OF_SHELL.match(editor) else f"exec {editor}"
     status = 0
     # What was saved first is still there.
     with suppress(signals.Stopped), signals.Arrival():
@@ -26,11 +26,6 @@ def run_editor(path: str) -> str:
     if signals.received:
         return describe_signal()
     return f"the editor failed ({editor}, status {status})" if status else ""
-
-
-def _is_program(command: str) -> bool:
-    """Whether a command is a program and its arguments, and no other command of the shell."""
-    return OF_SHELL.isdisjoint(command) and shutil.which(command.partition(" ")[0]) is not None
 
 
 def describe_signal() -> str:
