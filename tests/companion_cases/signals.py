@@ -192,33 +192,6 @@ def test_last_words(place: Place) -> None:
     check_edit(place, done.stderr, b"last")
 
 
-# Sends a signal once an editor or a password script has started, before the companion knows that.
-AS_IT_STARTS = """
-import subprocess
-start = subprocess.Popen.__init__
-def start_and_signal(self, words, **options):
-    start(self, words, **options)
-    if words[-1].endswith(("/a.yml", "/script")):
-        os.kill(os.getpid(), signal.SIGTERM)
-subprocess.Popen.__init__ = start_and_signal
-"""
-
-
-@pytest.mark.parametrize(
-    "line", (f"{EDIT} --vault-password-file ../secrets/old a.yml", f"{CHECK} --vault-id ../script .")
-)
-def test_start(place: Place, line: str) -> None:
-    """A signal that comes while an editor or a password script starts is passed on as well."""
-    prepare_runs(place)
-    companion, *words = line.split()
-    program = place.script("exec > /dev/null 2>&1; for n in $(seq 30); do sleep 0.1; done; : > ../done")
-    done = run_changed(place, companion, AS_IT_STARTS, words, EDITOR=program)
-    assert done.returncode == -signal.SIGTERM, done
-    wait_until(lambda: list_programs(place.path) == [], "the end of the program")
-    assert not (place.path / "done").exists(), "the signal has ended it"
-    check_whole(place)
-
-
 def sleeping(place: Place, before: str = "") -> str:
     """Write a password script that never ends, and return the path of the file that gets its process number."""
     text = f"{before} echo $$ > ../pid.new; mv ../pid.new ../pid; while :; do sleep 0.05; done"
@@ -266,6 +239,29 @@ def test_password_script(place: Place, script: Script) -> None:
     else:
         assert is_running(number), "the script goes on"
         os.kill(int(number), signal.SIGKILL)
+
+
+# Sends a signal once a password script has started, before the companion knows that.
+AS_IT_STARTS = """
+import subprocess
+start = subprocess.Popen.__init__
+def start_and_signal(self, words, **options):
+    start(self, words, **options)
+    if words[0].endswith("/script"):
+        os.kill(os.getpid(), signal.SIGTERM)
+subprocess.Popen.__init__ = start_and_signal
+"""
+
+
+def test_while_a_script_starts(place: Place) -> None:
+    """A signal that arrives before the companion knows its password script ends the script, too."""
+    prepare_runs(place)
+    place.script("exec > /dev/null 2>&1; for n in $(seq 30); do sleep 0.1; done; : > ../done")
+    done = run_changed(place, CHECK, AS_IT_STARTS, ["--vault-id", "../script", "."])
+    assert done.returncode == -signal.SIGTERM, done
+    wait_until(lambda: list_programs(place.path) == [], "the end of the script")
+    assert not (place.path / "done").exists(), "the signal has ended it"
+    check_whole(place)
 
 
 class Editor(NamedTuple):
