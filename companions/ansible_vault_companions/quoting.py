@@ -4,7 +4,6 @@ from __future__ import annotations
 
 import os
 import re
-import shlex
 
 # What bash and zsh read by number within `$'..'`.
 ESCAPED = r"[^ -&(-\[\]-~]"
@@ -24,6 +23,9 @@ def quote_word(text: str) -> str:
     """A path as a word of a shell command in a message. No program takes it for an option."""
     path = f"./{text}" if text.startswith("-") else text
     if path.isprintable():
+        # Most runs quote nothing.
+        import shlex
+
         return shlex.quote(path)
     escaped = re.sub(ESCAPED, lambda byte: f"\\{ord(byte[0]):03o}", os.fsencode(path).decode("latin-1"))
     return f"$'{escaped}'"
