@@ -241,29 +241,6 @@ def test_password_script(place: Place, script: Script) -> None:
         os.kill(int(number), signal.SIGKILL)
 
 
-# Sends a signal once a password script has started, before the companion knows that.
-AS_IT_STARTS = """
-import subprocess
-start = subprocess.Popen.__init__
-def start_and_signal(self, words, **options):
-    start(self, words, **options)
-    if words[0].endswith("/script"):
-        os.kill(os.getpid(), signal.SIGTERM)
-subprocess.Popen.__init__ = start_and_signal
-"""
-
-
-def test_while_a_script_starts(place: Place) -> None:
-    """A signal that arrives before the companion knows its password script ends the script, too."""
-    prepare_runs(place)
-    place.script("exec > /dev/null 2>&1; for n in $(seq 30); do sleep 0.1; done; : > ../done")
-    done = run_changed(place, CHECK, AS_IT_STARTS, ["--vault-id", "../script", "."])
-    assert done.returncode == -signal.SIGTERM, done
-    wait_until(lambda: list_programs(place.path) == [], "the end of the script")
-    assert not (place.path / "done").exists(), "the signal has ended it"
-    check_whole(place)
-
-
 class Editor(NamedTuple):
     """What an editor does after it has saved, and whether the companion waits for the end of that."""
 
@@ -286,6 +263,30 @@ def test_editor(place: Place, editor: Editor) -> None:
     assert done.returncode == -signal.SIGTERM, "the companion ends by the signal"
     assert (place.path / "waited").exists() == editor.is_awaited, "what the editor does in the end"
     assert "a.yml: signal 15 ended the edit; " in done.stderr, "the reason"
+    check_edit(place, done.stderr)
+
+
+def test_while_an_editor_starts(place: Place) -> None:
+    """A signal that arrives before the companion knows its editor ends the editor, too."""
+    prepare_runs(place)
+    change = """
+import subprocess, time
+make = subprocess.Popen.__init__
+
+def make_and_end(self, words, **options):
+    make(self, words, **options)
+    if words[0] == "sh":
+        while not os.path.exists("../pid"):
+            time.sleep(0.01)
+        os.kill(os.getpid(), signal.SIGTERM)
+
+subprocess.Popen.__init__ = make_and_end
+"""
+    text = f"{ADD}; exec > /dev/null 2>&1; echo $$ > ../pid.new; mv ../pid.new ../pid; while :; do sleep 0.05; done"
+    words = [*place.by_file("old"), "a.yml"]
+    done = run_changed(place, EDIT, change, words, EDITOR=place.script(text, "editor"))
+    assert done.returncode == -signal.SIGTERM, done
+    assert not is_running((place.path / "pid").read_text().strip()), "the editor is ended"
     check_edit(place, done.stderr)
 
 
@@ -327,6 +328,8 @@ WORKS = {
     "values in a merge": f"{MERGE} {OLD} a.yml many.yml other.yml many.yml",
 }
 OF_HOOK = ["rev-parse", "check-attr", "cat-file"]
+# Commands of git that answer questions, until their input ends.
+SERVERS = ["cat-file"]
 # Each with the commands of git that it waits for.
 OF_GIT = {
     f"{MERGE} {OLD} --vault-password-file ../secrets/new": ["merge-file"],
@@ -394,6 +397,7 @@ def test_workers(place: Place, line: str) -> None:
     place.put("other.yml", block("old"))
     # The signals that each thread but the main one blocks. Its number may be lower than the main one's.
     masks: dict[str, set[int]] = {}
+    ending = {signal.SIGTERM, signal.SIGINT, signal.SIGHUP}
 
     def is_working(number: int) -> bool:
         if not has_started_program(place, number):
@@ -401,25 +405,23 @@ def test_workers(place: Place, line: str) -> None:
         masks.clear()
         statuses = Path(f"/proc/{number}/task").glob("*/status")
         masks.update({path.parent.name: read_signals(path, "SigBlk") for path in statuses})
-        # The main thread blocks signals for a moment while it starts a thread.
-        return not masks.pop(str(number))
+        # The main thread blocks signals for a moment while it starts a thread, which blocks them once it has begun.
+        return not masks.pop(str(number)) and all(ending <= mask for mask in masks.values())
 
     place.wrap_tool(f'[ "$1" = --version ] || {{ {ENDLESS}; }}')
     for number in (signal.SIGTERM, signal.SIGINT):
         check_ended(place, line, is_working, number)
-        assert all({number, signal.SIGHUP} <= mask for mask in masks.values())
 
 
 @pytest.mark.parametrize("line, command", [(line, command) for line in OF_GIT for command in OF_GIT[line]])
 def test_git(place: Place, git: None, line: str, command: str) -> None:
     """Whatever it asks git."""
     merge = prepare_runs(place)[MERGE]
-    # This may be a copy of a vault that the commit before it has.
-    place.put("plain.yml", b"port: 1\n")
+    # With a new plaintext, the hook asks what is beside it.
+    place.put("plain.txt", b"plain\n")
     commit = "git -c user.name=a -c user.email=b commit -qm c --allow-empty"
     place.shell(f"git init -q && {commit} && git add . && {commit}")
-    # This answers questions, until its input ends.
-    answer = SILENT if command == "cat-file" else ENDLESS
+    answer = SILENT if command in SERVERS else ENDLESS
     place.wrap_tool(f'case " $* " in *" {command} "*) {answer};; esac', "git")
     words = [line, *merge[-4:]] if MERGE in line else [line]
     check_ended(place, " ".join(words), partial(has_started_program, place))
