@@ -6,10 +6,17 @@ from timeit import repeat
 
 import pytest
 
+from ansible_vault_companions.editing.encrypting_password import Choice
+from ansible_vault_companions.editing.matching import DecryptedValue, find_matches
 from ansible_vault_companions.editing.typed_tags import check_tags
 from ansible_vault_companions.envelopes import conflicts, header
 from ansible_vault_companions.envelopes.detection import may_have_envelope
+from ansible_vault_companions.envelopes.node import Node
 from ansible_vault_companions.envelopes.parsed_text import ParsedText, parse_envelopes, parse_nodes
+from ansible_vault_companions.passwords.labels import ANY
+from ansible_vault_companions.passwords.password import Password
+from ansible_vault_companions.passwords.sources import parse_vault_id
+from ansible_vault_companions.tool import Decryption
 from lib.needs import needs_pyyaml
 
 needs_pyyaml()
@@ -51,9 +58,32 @@ def test_linear_time(work: Callable[[bytes], object], piece: bytes) -> None:
     """A file that is eight times as long takes eight times as long, whatever it contains."""
     small = (piece * (SMALL // len(piece) + 1))[:SMALL]
 
-    def seconds(data: bytes) -> float:
-        return min(repeat(lambda: work(data), repeat=2, number=1, timer=process_time))
+    assert is_linear(lambda: work(small), lambda: work(small * TIMES))
+
+
+def is_linear(small: Callable[[], object], large: Callable[[], object]) -> bool:
+    def seconds(work: Callable[[], object]) -> float:
+        return min(repeat(work, repeat=2, number=1, timer=process_time))
 
     # In quadratic time, it would take 64 times as long. Other processes hardly affect the processor time, and not that
     # of each of four measurements. Below a few milliseconds the clock says little.
-    assert any(seconds(small * TIMES) < max(0.02, 24 * seconds(small)) for _ in range(4))
+    return any(seconds(large) < max(0.02, 24 * seconds(small)) for _ in range(4))
+
+
+@pytest.mark.parametrize("place", ["a{}: ", "- "], ids=["keys", "items"])
+def test_many_changes(place: str) -> None:
+    """An edit of all values finds out for each of them what it was."""
+    password = Password(parse_vault_id("dev@x"), b"", -1)
+
+    def prepare(count: int) -> Callable[[], object]:
+        def list_values(text: str) -> list[Node]:
+            lines = (f"{place.format(number)}!vault {text} {number}\n" for number in range(count))
+            return [value for value in parse_nodes("".join(lines).encode()).values if value.is_tagged]
+
+        opened = [
+            DecryptedValue(value, Decryption(b"", password, value.text, ANY), b"", 0) for value in list_values("old")
+        ]
+        typed = list_values("new")
+        return lambda: find_matches(opened, typed, Choice([password], None))
+
+    assert is_linear(prepare(250), prepare(250 * TIMES))

@@ -7,7 +7,7 @@ gets that value's password. Anything else is new. If that leaves several passwor
 from __future__ import annotations
 
 from collections import defaultdict
-from typing import Callable, NamedTuple
+from typing import Callable, Iterable, NamedTuple, TypeVar
 
 from ansible_vault_companions.editing.encrypting_password import Choice
 from ansible_vault_companions.envelopes.key_paths import KeyPath
@@ -17,6 +17,7 @@ from ansible_vault_companions.refusals import Refused
 from ansible_vault_companions.tool import Decryption, Key
 
 UNCLEAR = "{} may be new, changed or moved, and the password depends on which; save one change at a time"
+Item = TypeVar("Item")
 
 
 class DecryptedValue(NamedTuple):
@@ -56,13 +57,13 @@ def find_matches(opened: list[DecryptedValue], typed: list[Node], choice: Choice
     replaced = _keep(kept, gone, typed, lambda value: _list_of(value.path))
     gone = _keep(kept, replaced, typed, lambda _: ())
     texts_gone = {old.text for old in gone}
-    unknown = [value for number, value in enumerate(typed) if number not in kept]
+    replacements = _Replacements(opened, replaced, [each for number, each in enumerate(typed) if number not in kept])
     matches = []
     for number, value in enumerate(typed):
         if number in kept:
             matches.append(Match(kept[number]))
             continue
-        keys = _list_keys(value, opened, replaced, unknown, choice)
+        keys = replacements.list_keys(value, choice)
         if len(keys) > 1 or value.text in texts_gone:
             raise Refused(UNCLEAR.format(describe_place(value)))
         key = keys.pop() if keys else choice.choose_key(describe_name(value), describe_place(value))
@@ -89,20 +90,34 @@ def _keep(
     return [old for olds in sources.values() for old in olds]
 
 
-def _list_keys(
-    value: Node, opened: list[DecryptedValue], replaced: list[DecryptedValue], unknown: list[Node], choice: Choice
-) -> set[Key]:
-    """The keys that a new text may get for what it replaces; none if it replaces nothing."""
-    group = _list_of(value.path)
-    before = {old.value.path for old in replaced if _list_of(old.value.path) == group}
-    after = {each.path for each in unknown if _list_of(each.path) == group}
-    if before and before != after:
-        keys = {old.decrypted.key for old in opened if _list_of(old.value.path) == group}
-        if len(after) > len(before):
-            keys |= {*choice.list_keys()}
-        if len({key.password.content for key in keys}) > 1:
-            return keys
-    return {old.decrypted.key for old in replaced if old.value.path == value.path}
+class _Replacements:
+    """The values that are gone from their places, and those that are not known there, all together: there may be many."""
+
+    def __init__(self, opened: list[DecryptedValue], replaced: list[DecryptedValue], unknown: list[Node]) -> None:
+        # The keys of what was replaced at each path, and of all values of each list.
+        self.at_path = _group((old.value.path, old.decrypted.key) for old in replaced)
+        self.in_list = _group((_list_of(old.value.path), old.decrypted.key) for old in opened)
+        # The paths of both in each list, and the lists in which these differ.
+        self.before = _group((_list_of(old.value.path), old.value.path) for old in replaced)
+        self.after = _group((_list_of(value.path), value.path) for value in unknown)
+        self.changed = {group for group in self.before if self.before[group] != self.after[group]}
+
+    def list_keys(self, value: Node, choice: Choice) -> set[Key]:
+        """The keys that a new text may get for what it replaces; none if it replaces nothing."""
+        group = _list_of(value.path)
+        if group in self.changed:
+            is_longer = len(self.after[group]) > len(self.before[group])
+            keys = {*self.in_list[group], *(choice.list_keys() if is_longer else ())}
+            if len({key.password.content for key in keys}) > 1:
+                return keys
+        return {*self.at_path[value.path]}
+
+
+def _group(pairs: Iterable[tuple[KeyPath, Item]]) -> dict[KeyPath, set[Item]]:
+    groups: dict[KeyPath, set[Item]] = defaultdict(set)
+    for group, item in pairs:
+        groups[group].add(item)
+    return groups
 
 
 def _list_of(path: KeyPath) -> KeyPath:
