@@ -29,6 +29,8 @@ NAMES = (EDIT, ROTATE, MERGE, CHECK, TEXTCONV, HOOK, WITH)
 LIMITS = 8
 # The status of `timeout` for a run that did not end.
 ENDED = 124
+# Others start threads, and Python may wait forever for one that lacks the memory to begin.
+WITHOUT_THREADS = (EDIT, MERGE, TEXTCONV, HOOK, WITH)
 # In kilobytes: from less than Python needs to more than any companion does.
 LEAST, MOST = 8_000, 120_000
 START = f"import sys; sys.path.insert(0, {str(COMPANIONS)!r}); import ansible_vault_companions.startup"
@@ -85,7 +87,7 @@ def test_processes(cases: Companions, git: None, name: str) -> None:
         check(place, name, place.as_nobody("prlimit", f"--nproc={limit}", *words), limit)
 
 
-@pytest.mark.parametrize("name", NAMES)
+@pytest.mark.parametrize("name", WITHOUT_THREADS)
 def test_memory(cases: Companions, git: None, pytestconfig: pytest.Config, name: str) -> None:
     """Once Python itself can start, and read a module and the program."""
     needs("prlimit")

@@ -7,7 +7,6 @@ from pathlib import Path
 import pytest
 
 from ansible_vault_companions.envelopes import detection
-from ansible_vault_companions.envelopes.header import MAGIC
 from ansible_vault_companions.files import reading
 from companion_cases import AWKWARD, CHECK, ROTATE, TEXT, Place, block, check_answer, ended, sealed, summary, to_new
 
@@ -172,7 +171,7 @@ def test_null_characters(place: Place) -> None:
 def test_pieces(tmp_path: Path, monkeypatch: pytest.MonkeyPatch) -> None:
     """A long file is searched in pieces, and what tells of an envelope may be split between two of them."""
     path = tmp_path / "a.txt"
-    for size, before, start in product((80, 90), range(100, 200), (MAGIC, b'"\\U00000024', b"!" + b"x" * 60 + b"%61")):
+    for size, before, start in product((80, 90), range(100, 200), detection.WORDS):
         monkeypatch.setattr(reading, "CHUNK_SIZE", size)
         path.write_bytes(b"x" * before + start + b";1.1")
         assert detection.read_envelope_file(str(path)) == path.read_bytes(), (size, before, start)
