@@ -253,6 +253,25 @@ def test_nested_repository(place: Place) -> None:
     check_answer("a repository within it", done, output=first_line() + TEXT.decode())
 
 
+@pytest.mark.usefixtures("git")
+def test_link_into_a_repository(place: Place) -> None:
+    """A user's own link leads into a repository, whose links still must not lead out of it."""
+    place.shell("git init -q clone")
+    place.put("clone/sub/a.yml", VAULT)
+    place.put("clone/b.yml", VAULT)
+    place.put("outside/c.yml", VAULT)
+    (place.tree / "mine").symlink_to("clone/sub")
+    (place.tree / "clone/sub/out").symlink_to("../../outside")
+    (place.tree / "clone/sub/within.yml").symlink_to("../b.yml")
+    rekeys = [WITH, "rekey", *place.by_file("old"), *place.by_file("new", "new-")]
+    refused = place.run(*rekeys, "mine/out/c.yml")
+    assert (refused.returncode, place.get("outside/c.yml")) == (1, VAULT), refused
+    assert f"a link leads out of {place.tree}/clone; name {place.tree}/outside/c.yml" in refused.stderr
+    done = place.run(*rekeys, "mine/a.yml", "mine/within.yml")
+    assert (done.returncode, done.stderr) == (0, ""), done
+    assert VAULT not in (place.get("clone/sub/a.yml"), place.get("clone/b.yml"))
+
+
 class Linked(NamedTuple):
     """The content of a file outside of the repository, and whether a link to it makes a search fail."""
 

@@ -82,13 +82,13 @@ def _make_absolute(path: str) -> str:
 
 
 def _list_bounds(path: str, bound: str) -> list[str]:
-    """The real paths of the directories out of which the links of an absolute path must not lead. The real path alone
-    would not tell: that of `repository/link/file` may have no repository, or another one."""
+    """The directories out of which the links of an absolute path must not lead: the repository of each directory on it.
+    The real path alone would not tell: that of `repository/link/file` may have no repository, or another one."""
     steps = path.split(os.sep)
-    above = [os.sep.join(steps[:count]) or os.sep for count in range(len(steps) - 1, 0, -1)]
-    repositories = [folder for folder in above if os.path.lexists(os.path.join(folder, GIT))]
+    above = [os.path.realpath(os.sep.join(steps[:count]) or os.sep) for count in range(len(steps) - 1, 0, -1)]
+    repositories = [*dict.fromkeys(filter(None, map(find_repository, above)))]
     is_bounded = bound and not any(map(_is_own_repository, repositories))
-    return [os.path.realpath(top) for top in ([bound, *repositories] if is_bounded else repositories)]
+    return [os.path.realpath(bound), *repositories] if is_bounded else repositories
 
 
 def _is_own_repository(repository: str) -> bool:
