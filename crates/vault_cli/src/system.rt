@@ -1,6 +1,11 @@
 //! The program over the files of the system.
-ghost use Rattle.std.specs.Prelude.{map};
+ghost use Rattle.std.specs.Prelude.{◌≡◌, [], map};
 ghost use Rattle.std.specs.String.{string_bytes};
+ghost use Rattle.clap.specs.Words.{fault_of};
+ghost use Rattle.vault_request.specs.CommandLine.{vault_app};
+ghost use Rattle.vault_request.specs.Settled.{requested_by};
+ghost use Rattle.vault_cli.specs.Call.{sink, source, system};
+ghost use Rattle.vault_cli.specs.Drive.{Ends};
 ghost use Rattle.vault_cli.specs.System.{MayEnd, new_sink, new_source};
 
 use crate::program::drive_over;
@@ -8,8 +13,28 @@ use crate::runs::Status;
 use std::alloc::Global;
 use std::fs::Files;
 use std::io::{Read, Write};
-use vault_files::System;
-use vault_text::{ReadSource, Sink, Source, WriteSink};
+use vault_files::{HostFiles, System};
+use vault_text::{ReadSource, Sink, Source, Stage, WriteSink};
+
+/// Runs the whole program, like `drive_over`, over the files of the system. The calls on them that
+/// `host` records afterwards are those of the way in which the program ended.
+pub fn drive_host<'a, F: Files, S: Source, K: Sink, E: Sink>(
+    host: &mut HostFiles<'a, F>,
+    alloc: Global,
+    words: &[String],
+    src: &mut S,
+    out: &mut K,
+    err: &mut E,
+) -> Status
+    requires out_unbegun { K.stage out.old ≡ Stage.Unbegun }
+    requires err_unbegun { E.stage err.old ≡ Stage.Unbegun }
+    ensures { let texts = map string_bytes words.now in
+        Ends (system ⟦<HostFiles<'a, F> as System>⟧ host.old host.new)
+        (source S.Source src.old src.new) (sink K.Sink out.old out.new)
+        (sink E.Sink err.old err.new) result (fault_of vault_app texts) (requested_by texts) }
+{
+    drive_over(host, alloc, words, src, out, err)
+}
 
 /// Runs the whole program, like `drive_over`, over the files of the system, any reader and two
 /// writers. The call consumes these, so no clause can name their contents afterwards: it says that
@@ -22,15 +47,15 @@ pub fn drive<'a, F: Files, R: Read + Drop, O: Write + Drop, E: Write + Drop>(
     stdout: O,
     stderr: E,
 ) -> Status
-    ensures { MayEnd ⟦<&'a F as System>⟧ rt.entry
+    ensures { MayEnd ⟦<HostFiles<'a, F> as System>⟧ []
         ⟦<ReadSource<R> as Source>⟧ (new_source (R.remaining stdin))
         ⟦<WriteSink<O> as Sink>⟧ (new_sink (O.contents stdout))
         ⟦<WriteSink<E> as Sink>⟧ (new_sink (E.contents stderr)) result
         (map string_bytes words.now) }
 {
-    let mut sys = rt;
+    let mut host = HostFiles::new(rt);
     let mut src = ReadSource::new(stdin);
     let mut out = WriteSink::new(stdout);
     let mut err = WriteSink::new(stderr);
-    drive_over(&mut sys, alloc, words, &mut src, &mut out, &mut err)
+    drive_host(&mut host, alloc, words, &mut src, &mut out, &mut err)
 }

@@ -1,12 +1,12 @@
 //! Files of the system.
 use crate::prefixes::assert_reads;
 use std::test::Fail;
-use vault_files::{Access, FileFault, FileOutput};
+use vault_files::{Access, FileFault, FileOutput, HostFiles};
 use vault_text::{Sink, put_all};
 
 #[test]
 fn reads_files_of_the_system(rt: HostRuntime) {
-    let mut files = &rt;
+    let mut files = HostFiles::new(&rt);
     let mut buf = [1; 4];
     assert_reads(&rt, &mut files, "/dev/zero", &mut buf, Ok(&[0; 4]));
     assert_reads(&rt, &mut files, "/dev/null", &mut buf, Ok(b""));
@@ -16,7 +16,7 @@ fn reads_files_of_the_system(rt: HostRuntime) {
 
 /// Whether the file at the path can be begun, and whether it then takes a text.
 fn begins_and_takes(rt: &HostRuntime, path: &str) -> (bool, bool) {
-    let mut files = rt;
+    let mut files = HostFiles::new(rt);
     let mut output = FileOutput::new(&mut files, path, Access::Kept);
     if output.begin().is_err() {
         return (false, false);

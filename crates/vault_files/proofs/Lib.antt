@@ -1,2 +1,4 @@
 pub mod OutputLemmas
 pub mod PathLogLemmas
+mod Walks
+mod HostLemmas

@@ -1,3 +1,5 @@
+pub mod HostCall
+pub mod HostNote
 pub mod File
 pub mod FileProofs
 pub mod PathLog
@@ -7,3 +9,5 @@ pub mod System
 pub mod SystemProofs
 pub mod Output
 pub mod OutputProofs
+pub mod HostSystem
+pub mod HostSystemProofs

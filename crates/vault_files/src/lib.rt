@@ -25,4 +25,4 @@ pub use fault::FileFault;
 pub use limits::PATH_LIMIT;
 pub use memory::{MemFile, MemFileReader, MemFiles, MemWriter};
 pub use output::FileOutput;
-pub use system::{Prefix, System, open, read_prefix};
+pub use system::{HostFiles, Prefix, System, open, read_prefix};
