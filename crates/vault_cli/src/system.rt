@@ -16,8 +16,8 @@ use std::io::{Read, Write};
 use vault_files::{HostFiles, System};
 use vault_text::{ReadSource, Sink, Source, Stage, WriteSink};
 
-/// Runs the whole program, like `drive_over`, over the files of the system. The calls on them that
-/// `host` records afterwards are those of the way in which the program ended.
+/// Runs the whole program, like `drive_over`, over the files of the system. `host` records each
+/// call of the standard library on them, so these calls are the ones that `drive_over` makes.
 pub fn drive_host<'a, F: Files, S: Source, K: Sink, E: Sink>(
     host: &mut HostFiles<'a, F>,
     alloc: Global,

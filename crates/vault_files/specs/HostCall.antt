@@ -1,88 +1,39 @@
--- Calls of the standard library on the files of the system, with their replies.
-use Rattle.std.specs.Prelude.{◌≡◌, ℕ, List, [], Bool, true, false, cond, ◌==◌, refl}
-use Rattle.std.specs.Coded.{Coded, code_by, coded×, coded_ℕ, coded_list}
+-- Calls of the standard library on files, as they are recorded.
+use Rattle.std.specs.Prelude.{ℕ, List, [], ◌∷◌, ◌++◌, Result}
+use Rattle.std.specs.Borrow.{Bor}
+use Rattle.std.specs.IoError.{error_kind}
+use Rattle.std.specs.Result.{result_map_both}
+use Rattle.std.specs.declared.io.Error.{Error}
+use Rattle.std.specs.declared.io.ErrorKind.{ErrorKind}
+use Rattle.vault_files.specs.declared.system.host_call.HostCall.{HostCall}
+use Rattle.vault_files.specs.declared.system.host_call.HostCall.TheVariants as host
 
-pub data Request : Type 0 where
-  -- open the file at this path for reading
-  OpenToRead : List ℕ → Request
-  -- open the file at this path for writing, as it is; if there is none, create it with this mode
-  OpenToWrite : List ℕ → ℕ → Request
-  -- ask whether it is a regular file
-  AskKind : Request
-  -- set its permissions to this mode
-  SetMode : ℕ → Request
-  -- set its length
-  SetLength : ℕ → Request
-  -- write some of these bytes
-  WriteSome : List ℕ → Request
-  -- sync its bytes and its metadata
-  SyncAll : Request
+-- a record of calls, in order
+abbrev pub HostCalls : Type 0
+HostCalls = List (HostCall (List ℕ))
 
-pub data Reply : Type 0 where
-  -- the call succeeded
-  Done : Reply
-  -- it succeeded: the file is regular, or is not
-  Regular : Bool → Reply
-  -- it succeeded: this many bytes were taken
-  Took : ℕ → Reply
-  -- it failed with `InvalidInput`
-  Invalid : Reply
-  -- it failed with another error
-  Refused : Reply
+-- how a call ended
+abbrev pub Outcome : Type 0 → Type 0
+Outcome T = Result T ErrorKind
 
-abbrev pub HostCall : Type 0
-HostCall = Request × Reply
+-- the outcome of a call with this result, of whose value only this is recorded
+abbrev pub outcome : {T U : Type 0} → (T → U) → Result T Error → Outcome U
+outcome recorded result = result_map_both recorded error_kind result
 
--- how the logic stores them
-abbrev Parts : Type 0
-Parts = ℕ × (List ℕ × ℕ)
+-- the same, where nothing of the value is recorded
+abbrev pub done : {T : Type 0} → Result T Error → Outcome (Unit {0})
+done result = outcome (λ _. tt) result
 
-abbrev request_parts : Request → Parts
-request_parts (OpenToRead path) = (0, (path, 0))
-request_parts (OpenToWrite path mode) = (1, (path, mode))
-request_parts AskKind = (2, ([], 0))
-request_parts (SetMode mode) = (3, ([], mode))
-request_parts (SetLength n) = (4, ([], n))
-request_parts (WriteSome bytes) = (5, (bytes, 0))
-request_parts SyncAll = (6, ([], 0))
+-- a call with its path or its bytes in place of a reference to them
+abbrev pub copied : HostCall (Bor (List ℕ)) → HostCall (List ℕ)
+copied (host.OpenToRead path outcome) = host.OpenToRead path.now outcome
+copied (host.OpenToWrite path mode outcome) = host.OpenToWrite path.now mode outcome
+copied (host.Metadata outcome) = host.Metadata outcome
+copied (host.SetPermissions mode outcome) = host.SetPermissions mode outcome
+copied (host.SetLen size outcome) = host.SetLen size outcome
+copied (host.Write bytes outcome) = host.Write bytes.now outcome
+copied (host.SyncAll outcome) = host.SyncAll outcome
 
-abbrev request_at : Parts → Request
-request_at p =
-    cond (p.0 == 0) (OpenToRead p.1.0) (cond (p.0 == 1) (OpenToWrite p.1.0 p.1.1)
-    (cond (p.0 == 2) AskKind (cond (p.0 == 3) (SetMode p.1.1) (cond (p.0 == 4) (SetLength p.1.1)
-    (cond (p.0 == 5) (WriteSome p.1.0) SyncAll)))))
-
-pub request_back : (r : Request) → request_at (request_parts r) ≡ r
-request_back (OpenToRead path) = refl
-request_back (OpenToWrite path mode) = refl
-request_back AskKind = refl
-request_back (SetMode mode) = refl
-request_back (SetLength n) = refl
-request_back (WriteSome bytes) = refl
-request_back SyncAll = refl
-
-abbrev reply_parts : Reply → ℕ × ℕ
-reply_parts Done = (0, 0)
-reply_parts (Regular false) = (1, 0)
-reply_parts (Regular true) = (2, 0)
-reply_parts (Took n) = (3, n)
-reply_parts Invalid = (4, 0)
-reply_parts Refused = (5, 0)
-
-abbrev reply_at : ℕ × ℕ → Reply
-reply_at p =
-    cond (p.0 == 0) Done (cond (p.0 == 1) (Regular false) (cond (p.0 == 2) (Regular true)
-    (cond (p.0 == 3) (Took p.1) (cond (p.0 == 4) Invalid Refused))))
-
-pub reply_back : (r : Reply) → reply_at (reply_parts r) ≡ r
-reply_back Done = refl
-reply_back (Regular false) = refl
-reply_back (Regular true) = refl
-reply_back (Took n) = refl
-reply_back Invalid = refl
-reply_back Refused = refl
-
-abbrev pub calls_code : Coded (List HostCall)
-calls_code = coded_list (coded×
-    (code_by Parts (coded× coded_ℕ (coded× (coded_list coded_ℕ) coded_ℕ)) request_parts request_at request_back)
-    (code_by (ℕ × ℕ) (coded× coded_ℕ coded_ℕ) reply_parts reply_at reply_back))
+-- the record with one more call
+abbrev pub noted : HostCalls → HostCall (Bor (List ℕ)) → HostCalls
+noted calls call = calls ++ copied call ∷ []

@@ -1,5 +1,4 @@
 pub mod HostCall
-pub mod HostNote
 pub mod File
 pub mod FileProofs
 pub mod PathLog

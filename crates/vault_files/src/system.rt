@@ -11,6 +11,7 @@ ghost use Rattle.vault_files.specs.System.SystemCall.{Sync};
 ghost use Rattle.vault_files.specs.declared.fault.FileFault.TheVariants.{CannotOpen, CannotRead};
 
 mod call_log;
+mod host_call;
 mod runtime;
 
 use crate::fault::FileFault;

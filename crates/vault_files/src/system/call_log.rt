@@ -1,51 +1,26 @@
-//! The calls that were made on the files of the system. They exist only in proofs.
-ghost use Rattle.std.specs.Prelude.{◌≡◌, List, []};
+//! A record of the calls on files. It exists only in proofs.
+ghost use Rattle.std.specs.Prelude.{◌≡◌, []};
 ghost use Rattle.std.specs.Borrow.{ftrue};
-ghost use Rattle.vault_files.specs.HostCall.{HostCall, calls_code};
+ghost use Rattle.vault_files.specs.HostCall.{HostCalls};
 
+use super::host_call::HostCall;
 use std::marker::Model;
 
-/// Calls in the order in which they were made. It takes no memory.
+/// Calls, in the order in which they were noted. It takes no memory.
+///
+/// Nothing in memory shows which calls these are, so the functions below meet their contracts with
+/// empty bodies. A record is as true as whoever notes the calls: only `HostFiles` can do that.
 #[derive(Drop)]
 pub struct CallLog {
-    pub ghost calls: { List HostCall } by { calls_code },
+    pub ghost calls: { HostCalls },
 }
 
 impl Model for CallLog {
     ghost also_owns = { λ _. ftrue };
 }
 
-/// What a call asks for.
-#[derive(Clone, Copy, Drop)]
-pub enum Request<'p> {
-    OpenToRead(&'p str),
-    OpenToWrite(&'p str, u32),
-    AskKind,
-    SetMode(u32),
-    SetLength(u64),
-    WriteSome(&'p [u8]),
-    SyncAll,
-}
-
-/// How it ended.
-#[derive(Clone, Copy, Drop)]
-pub enum Reply {
-    Done,
-    Regular(bool),
-    Took(usize),
-    Invalid,
-    Refused,
-}
-
-/// A call.
-#[derive(Clone, Copy, Drop)]
-pub struct Call<'p> {
-    pub request: Request<'p>,
-    pub reply: Reply,
-}
-
 impl CallLog {
-    ghost use Rattle.vault_files.specs.HostNote.{noted};
+    ghost use Rattle.vault_files.specs.HostCall.{noted};
 
     pub fn new() -> CallLog
         ensures { result.calls ≡ [] }
@@ -53,7 +28,8 @@ impl CallLog {
         CallLog {}
     }
 
-    pub fn then(&self, _call: &Call<'_>) -> CallLog
+    /// The record with one more call.
+    pub fn with(&self, _call: &HostCall<&[u8]>) -> CallLog
         ensures { result.calls ≡ noted self.now.calls _call.now }
     {
         CallLog {}

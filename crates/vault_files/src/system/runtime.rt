@@ -1,16 +1,13 @@
 //! The files of the system, and a record of the calls on them.
-ghost use Rattle.std.specs.Prelude.{◌≡◌, ◌↔◌, ◌∷◌, ◌++◌, ◌≤◌, IfOk, IsTrue, [], length};
-ghost use Rattle.std.specs.IoError.{error_kind};
-ghost use Rattle.vault_files.specs.HostCall.Request.{OpenToRead, OpenToWrite, AskKind, SetMode};
-ghost use Rattle.vault_files.specs.HostCall.Request.{SetLength, WriteSome, SyncAll};
-ghost use Rattle.vault_files.specs.HostCall.Reply.{Done, Regular, Took};
-ghost use Rattle.vault_files.specs.HostNote.{reply_of, request_of};
-ghost use Rattle.vault_files.specs.HostSystem.{FailsWith, Makes, Replied};
+ghost use Rattle.std.specs.Prelude.{◌≡◌, ◌∷◌, ◌++◌, ◌≤◌, IfOk, [], length};
+ghost use Rattle.std.specs.Fs.{file_type};
+ghost use Rattle.vault_files.specs.HostCall.{done, noted, outcome};
 
 use super::System;
-use super::call_log::{Call, CallLog, Reply, Request};
-use std::fs::{Files, OpenFile, OpenOptions, Permissions};
-use std::io::{Error, ErrorKind, Write};
+use super::call_log::CallLog;
+use super::host_call::{HostCall, Outcome};
+use std::fs::{FileType, Files, Metadata, OpenFile, OpenOptions, Permissions};
+use std::io::{ErrorKind, Write};
 use std::marker::Model;
 use std::os::unix::fs::{OpenOptionsExt, PermissionsExt};
 use std::{fs, io};
@@ -19,7 +16,7 @@ use vault_text::ReadSource;
 /// Readable and writable by its owner only.
 const OWNER_ONLY: u32 = 0o600;
 
-/// The files of the system. Only proofs read the calls that were made on them.
+/// The files of the system. A clause sees it as the calls that were made on them so far.
 #[derive(Drop)]
 pub struct HostFiles<'a, R: Files> {
     files: &'a R,
@@ -27,46 +24,44 @@ pub struct HostFiles<'a, R: Files> {
 }
 
 impl<'a, R: Files> Model for HostFiles<'a, R> {
-    ghost use Rattle.std.specs.Prelude.{List};
-    ghost use Rattle.vault_files.specs.HostCall.{HostCall, calls_code};
+    ghost use Rattle.vault_files.specs.HostCall.{HostCalls};
 
-    ghost Value = { List HostCall };
+    ghost Value = { HostCalls };
 
-    ghost coded = { calls_code };
-
-    ghost view = { λ s. s.log.calls };
+    ghost view = { λ host. host.log.calls };
 }
 
-/// Whether this is the error for a file that cannot be synced.
-fn is_invalid(error: &Error) -> bool
-    ensures { IsTrue result ↔ (error_kind error.now ≡ ErrorKind.InvalidInput) }
+/// The outcome of a call, of whose value nothing is recorded.
+fn done<T>(called: &io::Result<T>) -> Outcome<()>
+    ensures { result ≡ done called.now }
 {
-    matches!(error.kind(), ErrorKind::InvalidInput)
-}
-
-/// The reply for an error.
-fn failure(error: &Error) -> Reply
-    ensures { FailsWith (error_kind error.now ≡ ErrorKind.InvalidInput) (reply_of result) }
-{
-    if is_invalid(error) {
-        Reply::Invalid
-    } else {
-        Reply::Refused
+    match called {
+        Ok(_) => Ok(()),
+        Err(error) => Err(error.kind()),
     }
 }
 
-/// The reply for a result without a value that counts.
-fn done<T>(outcome: &io::Result<T>) -> Reply
-    ensures { Replied (λ _. Done) (λ e. error_kind e ≡ ErrorKind.InvalidInput) outcome.now (reply_of result) }
+/// The outcome of `metadata`.
+fn type_found(metadata: &io::Result<Metadata>) -> Outcome<FileType>
+    ensures { result ≡ outcome file_type metadata.now }
 {
-    match outcome {
-        Ok(_) => Reply::Done,
-        Err(error) => failure(error),
+    match metadata {
+        Ok(metadata) => Ok(metadata.file_type()),
+        Err(error) => Err(error.kind()),
+    }
+}
+
+/// The outcome of `write`.
+fn count_written(written: &io::Result<usize>) -> Outcome<usize>
+    ensures { result ≡ outcome (λ count. count) written.now }
+{
+    match written {
+        Ok(count) => Ok(*count),
+        Err(error) => Err(error.kind()),
     }
 }
 
 impl<'a, R: Files> HostFiles<'a, R> {
-    /// No call was made yet.
     pub fn new(files: &'a R) -> Self
         ensures { result ≡ [] }
     {
@@ -76,88 +71,76 @@ impl<'a, R: Files> HostFiles<'a, R> {
         }
     }
 
-    fn note(&mut self, request: Request<'_>, reply: Reply)
-        ensures { self.new ≡ self.old ++ (request_of request.entry, reply_of reply) ∷ [] }
+    /// Adds a call to the record.
+    fn note(&mut self, call: HostCall<&[u8]>)
+        ensures { self.new ≡ noted self.old call.entry }
     {
-        self.log = self.log.then(&Call { request, reply });
+        self.log = self.log.with(&call);
     }
+}
 
-    // Trusted: each of these makes the one call that it notes.
-
+/// The calls on the files of the system. These methods are trusted: each makes one call of the
+/// standard library, notes this call and its outcome, and returns its result. Nothing else in the
+/// program calls the standard library on a file.
+impl<'a, R: Files> HostFiles<'a, R> {
     fn open_to_read(&mut self, path: &str) -> io::Result<R::File>
-        ensures { Makes self.old (OpenToRead path.now) (λ _. Done)
-            (λ e. error_kind e ≡ ErrorKind.InvalidInput) result self.new }
+        ensures { self.new ≡ self.old ++ HostCall.OpenToRead path.now (done result) ∷ [] }
     {
         let opened = fs::open(self.files, path);
-        self.note(Request::OpenToRead(path), done(&opened));
+        self.note(HostCall::OpenToRead(path.as_bytes(), done(&opened)));
         opened
     }
 
     fn open_to_write(&mut self, path: &str, mode: u32) -> io::Result<R::File>
-        ensures { Makes self.old (OpenToWrite path.now mode) (λ _. Done)
-            (λ e. error_kind e ≡ ErrorKind.InvalidInput) result self.new }
+        ensures { self.new ≡ self.old ++ HostCall.OpenToWrite path.now mode (done result) ∷ [] }
     {
         let mut options = OpenOptions::new();
         options.write(true).create(true);
         options.mode(mode);
         let opened = options.open(self.files, path);
-        self.note(Request::OpenToWrite(path, mode), done(&opened));
+        self.note(HostCall::OpenToWrite(path.as_bytes(), mode, done(&opened)));
         opened
     }
 
-    fn is_regular(&mut self, file: &R::File) -> io::Result<bool>
-        ensures { Makes self.old AskKind (λ regular. Regular regular)
-            (λ e. error_kind e ≡ ErrorKind.InvalidInput) result self.new }
+    fn metadata(&mut self, file: &R::File) -> io::Result<Metadata>
+        ensures { self.new ≡ self.old ++ HostCall.Metadata (outcome file_type result) ∷ [] }
     {
-        let (regular, reply) = match file.metadata() {
-            Ok(metadata) => (Ok(metadata.is_file()), Reply::Regular(metadata.is_file())),
-            Err(error) => {
-                let reply = failure(&error);
-                (Err(error), reply)
-            }
-        };
-        self.note(Request::AskKind, reply);
-        regular
+        let metadata = file.metadata();
+        self.note(HostCall::Metadata(type_found(&metadata)));
+        metadata
     }
 
-    fn set_mode(&mut self, file: &R::File, mode: u32) -> io::Result<()>
-        ensures { Makes self.old (SetMode mode) (λ _. Done)
-            (λ e. error_kind e ≡ ErrorKind.InvalidInput) result self.new }
+    fn set_permissions(&mut self, file: &R::File, mode: u32) -> io::Result<()>
+        ensures { self.new ≡ self.old ++ HostCall.SetPermissions mode (done result) ∷ [] }
     {
         let changed = file.set_permissions(Permissions::from_mode(mode));
-        self.note(Request::SetMode(mode), done(&changed));
+        self.note(HostCall::SetPermissions(mode, done(&changed)));
         changed
     }
 
-    fn set_length(&mut self, file: &R::File, length: u64) -> io::Result<()>
-        ensures { Makes self.old (SetLength length) (λ _. Done)
-            (λ e. error_kind e ≡ ErrorKind.InvalidInput) result self.new }
+    fn set_len(&mut self, file: &R::File, size: u64) -> io::Result<()>
+        ensures { self.new ≡ self.old ++ HostCall.SetLen size (done result) ∷ [] }
     {
-        let changed = file.set_len(length);
-        self.note(Request::SetLength(length), done(&changed));
+        let changed = file.set_len(size);
+        self.note(HostCall::SetLen(size, done(&changed)));
         changed
     }
 
     fn write_some(&mut self, file: &mut R::File, bytes: &[u8]) -> io::Result<usize>
-        ensures makes { Makes self.old (WriteSome bytes.now) (λ n. Took n)
-            (λ e. error_kind e ≡ ErrorKind.InvalidInput) result self.new }
-        ensures bound { IfOk result (λ n. n ≤ length bytes.now) }
+        ensures call { self.new
+            ≡ self.old ++ HostCall.Write bytes.now (outcome (λ count. count) result) ∷ [] }
+        ensures bound { IfOk result (λ count. count ≤ length bytes.now) }
     {
         let written = file.write(bytes);
-        let reply = match &written {
-            Ok(n) => Reply::Took(*n),
-            Err(error) => failure(error),
-        };
-        self.note(Request::WriteSome(bytes), reply);
+        self.note(HostCall::Write(bytes, count_written(&written)));
         written
     }
 
     fn sync_all(&mut self, file: &R::File) -> io::Result<()>
-        ensures { Makes self.old SyncAll (λ _. Done)
-            (λ e. error_kind e ≡ ErrorKind.InvalidInput) result self.new }
+        ensures { self.new ≡ self.old ++ HostCall.SyncAll (done result) ∷ [] }
     {
         let synced = file.sync_all();
-        self.note(Request::SyncAll, done(&synced));
+        self.note(HostCall::SyncAll(done(&synced)));
         synced
     }
 }
@@ -204,36 +187,32 @@ impl<'a, R: Files> System for HostFiles<'a, R> {
     }
 
     fn chmod_owner_only(&mut self, file: &R::File) -> io::Result<()> {
-        if !self.is_regular(file)? {
+        if !self.metadata(file)?.is_file() {
             return Ok(());
         }
-        self.set_mode(file, OWNER_ONLY)
+        self.set_permissions(file, OWNER_ONLY)
     }
 
     fn truncate(&mut self, file: &R::File) -> io::Result<()> {
-        if !self.is_regular(file)? {
+        if !self.metadata(file)?.is_file() {
             return Ok(());
         }
-        self.set_length(file, 0)
+        self.set_len(file, 0)
     }
 
     fn write(&mut self, file: &mut R::File, bytes: &[u8]) -> io::Result<usize> {
-        let n = self.write_some(file, bytes)?;
-        if n == 0 {
-            return Err(ErrorKind::WriteZero.into());
+        match self.write_some(file, bytes) {
+            Ok(0) => Err(ErrorKind::WriteZero.into()),
+            Ok(count) => Ok(count),
+            Err(error) => Err(error),
         }
-        Ok(n)
     }
 
     fn sync(&mut self, file: &R::File) -> io::Result<()> {
         match self.sync_all(file) {
             Ok(()) => Ok(()),
-            Err(error) => {
-                if is_invalid(&error) {
-                    return Ok(());
-                }
-                Err(error)
-            }
+            Err(error) if error.kind() == ErrorKind::InvalidInput => Ok(()),
+            Err(error) => Err(error),
         }
     }
 }

@@ -1,18 +1,22 @@
-use Rattle.vault_files.proofs.HostLemmas.{called_err, not_regular, two_made, unknown}
-use Rattle.vault_files.specs.HostSystem.StandsFor.{restricts, fails_to_restrict, not_restricted, restricts_unknown}
-use Rattle.vault_files.proofs.system.runtime.HostFilesSystem.chmod_owner_only.Goals as goal
+use Rattle.std.proofs.Common.{◌∙◌, sym, true≢false}
+use Rattle.vault_files.proofs.HostLemmas.{called_err, executed_not_regular, executed_regular}
+use Rattle.vault_files.proofs.HostLemmas.{executed_unknown}
+use Rattle.vault_files.specs.HostSystem.MakesUp.{restricts}
 use Rattle.vault_files.specs.System.SystemCall.{ChmodOwnerOnly}
+use Rattle.vault_files.proofs.system.runtime.HostFilesSystem.chmod_owner_only.Goals as goal
 
-pub returns-in_err-is_regular : goal.returns-in_err-is_regular
-returns-in_err-is_regular g c =
+pub returns-in_err-metadata : goal.returns-in_err-metadata
+returns-in_err-metadata g c =
     rw (called_err ChmodOwnerOnly c.from_residual.result c.from_residual.ensures.0)
-    (unknown _ _ _ ChmodOwnerOnly _ _ c.in_err-is_regular.was restricts_unknown c.is_regular.ensures)
+    (executed_unknown _ _ _ ChmodOwnerOnly restricts _ _ c.in_err-metadata.was c.metadata.ensures)
 
-pub returns-then-not-branch : goal.returns-then-not-branch
-returns-then-not-branch g c =
-    not_regular _ _ _ ChmodOwnerOnly _ _ c.in_ok-is_regular.was c.if-not-branch.true not_restricted c.is_regular.ensures
+pub returns-then-not-is_file : goal.returns-then-not-is_file
+returns-then-not-is_file g c =
+    executed_not_regular _ _ _ ChmodOwnerOnly restricts _ _ c.in_ok-metadata.was
+    (λ plain. true≢false (sym (c.is_file.ensures.1 plain) ∙ c.if-not-is_file.true))
+    c.metadata.ensures
 
 pub returns : goal.returns
 returns g c =
-    two_made _ _ _ _ _ ChmodOwnerOnly _ _ _ c.in_ok-is_regular.was c.if-not-branch.false restricts
-    fails_to_restrict c.is_regular.ensures c.set_mode.ensures
+    executed_regular _ _ _ ChmodOwnerOnly restricts _ _ _ _ c.in_ok-metadata.was
+    (c.is_file.ensures.0 c.if-not-is_file.false) c.metadata.ensures c.set_permissions.ensures

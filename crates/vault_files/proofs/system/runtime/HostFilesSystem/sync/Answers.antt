@@ -1,17 +1,22 @@
-use Rattle.std.proofs.Common.{◌∙◌, sym, true≢false}
-use Rattle.vault_files.proofs.HostLemmas.{cannot_sync, sync_failed, synced}
+use Rattle.std.proofs.Common.{◌∙◌, sym, rules}
+use Rattle.std.specs.contracts.io.ErrorKind.{the_type}
+use Rattle.std.specs.declared.io.ErrorKind.TheVariants.{InvalidInput}
+use denote.Enum.Bare.{same_false, same_true}
+use Rattle.vault_files.proofs.HostLemmas.{executed_failed_sync, executed_no_sync, executed_sync}
 use Rattle.vault_files.proofs.system.runtime.HostFilesSystem.sync.Goals as goal
 
-pub returns-then-is_invalid : goal.returns-then-is_invalid
-returns-then-is_invalid g c =
-    cannot_sync _ _ _ _ _ c.in-Err.is (c.is_invalid.ensures.0 c.if-is_invalid.true)
-    c.sync_all.ensures
+pub returns-in-Err : goal.returns-in-Err
+returns-in-Err g c =
+    executed_no_sync _ _ _ c.sync_all.ensures _ c.in-Err.is
+    (sym c.kind.ensures
+    ∙ same_true the_type (search rules) c.kind.result InvalidInput
+    (sym c.eq.ensures ∙ c.if-eq.true))
 
 pub returns-in-Ok : goal.returns-in-Ok
-returns-in-Ok g c = synced _ _ _ _ _ c.in-Ok.is c.sync_all.ensures
+returns-in-Ok g c = executed_sync _ _ _ c.sync_all.ensures _ c.in-Ok.is
 
-pub returns-else-is_invalid : goal.returns-else-is_invalid
-returns-else-is_invalid g c =
-    sync_failed _ _ _ _ _ c.in-Err.is
-    (λ p. absurd (true≢false (sym (c.is_invalid.ensures.1 p) ∙ c.if-is_invalid.false)))
-    c.sync_all.ensures
+pub returns-in-Err-2 : goal.returns-in-Err-2
+returns-in-Err-2 g c =
+    executed_failed_sync _ _ _ c.sync_all.ensures _ c.in-Err.is
+    (λ invalid. same_false the_type c.kind.result InvalidInput
+    (sym c.eq.ensures ∙ c.if-eq.false) (c.kind.ensures ∙ invalid))

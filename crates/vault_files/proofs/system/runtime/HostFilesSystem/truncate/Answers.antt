@@ -1,18 +1,22 @@
-use Rattle.vault_files.proofs.HostLemmas.{called_err, not_regular, two_made, unknown}
-use Rattle.vault_files.specs.HostSystem.StandsFor.{truncates, fails_to_truncate, not_truncated, truncates_unknown}
-use Rattle.vault_files.proofs.system.runtime.HostFilesSystem.truncate.Goals as goal
+use Rattle.std.proofs.Common.{◌∙◌, sym, true≢false}
+use Rattle.vault_files.proofs.HostLemmas.{called_err, executed_not_regular, executed_regular}
+use Rattle.vault_files.proofs.HostLemmas.{executed_unknown}
+use Rattle.vault_files.specs.HostSystem.MakesUp.{truncates}
 use Rattle.vault_files.specs.System.SystemCall.{Truncate}
+use Rattle.vault_files.proofs.system.runtime.HostFilesSystem.truncate.Goals as goal
 
-pub returns-in_err-is_regular : goal.returns-in_err-is_regular
-returns-in_err-is_regular g c =
+pub returns-in_err-metadata : goal.returns-in_err-metadata
+returns-in_err-metadata g c =
     rw (called_err Truncate c.from_residual.result c.from_residual.ensures.0)
-    (unknown _ _ _ Truncate _ _ c.in_err-is_regular.was truncates_unknown c.is_regular.ensures)
+    (executed_unknown _ _ _ Truncate truncates _ _ c.in_err-metadata.was c.metadata.ensures)
 
-pub returns-then-not-branch : goal.returns-then-not-branch
-returns-then-not-branch g c =
-    not_regular _ _ _ Truncate _ _ c.in_ok-is_regular.was c.if-not-branch.true not_truncated c.is_regular.ensures
+pub returns-then-not-is_file : goal.returns-then-not-is_file
+returns-then-not-is_file g c =
+    executed_not_regular _ _ _ Truncate truncates _ _ c.in_ok-metadata.was
+    (λ plain. true≢false (sym (c.is_file.ensures.1 plain) ∙ c.if-not-is_file.true))
+    c.metadata.ensures
 
 pub returns : goal.returns
 returns g c =
-    two_made _ _ _ _ _ Truncate _ _ _ c.in_ok-is_regular.was c.if-not-branch.false truncates
-    fails_to_truncate c.is_regular.ensures c.set_length.ensures
+    executed_regular _ _ _ Truncate truncates _ _ _ _ c.in_ok-metadata.was
+    (c.is_file.ensures.0 c.if-not-is_file.false) c.metadata.ensures c.set_len.ensures
