@@ -137,6 +137,7 @@ pub fn read_prefix<D: System>(
         × IfOk prefix.length (λ n. bytes ≡ take n buf.new)
         × CountsFailure (D.Reader.failures opened) (D.Reader.failures prefix.reader)
         prefix.length) }
+    ensures unopened { IfErr result (λ fault. fault ≡ CannotOpen) }
     ensures refused { IfErr result (λ fault.
         Answers (D.finds system.old path.now) (length buf.new) (Err fault)) }
 {
