@@ -98,8 +98,8 @@ def test_missing_packages(program: str, tmp_path: Path) -> None:
 
 
 # What tools/lint runs, besides other programs.
-LINT = [f"tools/{name}" for name in ("lint", "import_order.py", "references.py", "dead_names")]
-LINT.append("companions/ansible_vault_companions/__init__.py")
+LINT = [f"tools/{name}" for name in ("lint", "import_order.py", "references.py", "contracts.py", "dead_names")]
+LINT += ["companions/ansible_vault_companions/__init__.py", "crates.txt"]
 QUOTES = '"' * 3
 # Files in which every lint finds a fault, and what it says of each.
 FAULTY = {
@@ -115,6 +115,11 @@ FAULTY |= {
     "man/a.1": (".Sh NAME\n", "man/a.1:1:"),
     "crates/a/src/long.rt": (f"// {'a' * 98}\n", "crates/a/src/long.rt:1: too long"),
     "crates/a/src/unused.rt": ("fn unused() {}\n", "crates/a/src/unused.rt: unused is mentioned nowhere else"),
+    "crates/vault_core/src/opens.rt": (
+        "use std::fs::Files;\n// fs::open\nuse std::fs;\n",
+        "crates/vault_core/src/opens.rt:3: unrecorded: fs\n",
+    ),
+    "crates/vault_core/src/syncs.rt": ("const SYNCED: () = f.sync_all();\n", "syncs.rt:1: unrecorded: sync_all(\n"),
     "crates/a/must-fail/stale.edit": ("file: src/unused.rt\nold: gone\n", "stale.edit: not once in its file: gone"),
     "tests/planted/faults.toml": (
         '[[fault]]\nfile = "man/a.1"\nold = "gone"\n',
@@ -143,7 +148,7 @@ FAULTY |= {
 }
 # What is said of nothing by the lints that look at files of several kinds.
 NOTHING = ["there are no names in .rt files", "there are no names in .antt files", "there are no edits"]
-NOTHING += ["there are no faults in files"]
+NOTHING += ["there are no faults in files", "calls on files: there are no files to check"]
 NOTHING += ["only 0 references in pages", "only 0 references in sources"]
 
 
