@@ -16,8 +16,8 @@ use Rattle.vault_files.specs.HostSystem.MakesUp.{writes, writes_nothing, syncs, 
 use Rattle.vault_files.specs.HostSystem.MakeUpAll.{no_calls, calls}
 use Rattle.vault_files.specs.System.{SystemCall, called}
 use Rattle.vault_files.specs.System.SystemCall.{Failed, Sync, Write}
-use Rattle.vault_files.specs.declared.system.host_call.HostCall.{HostCall}
-use Rattle.vault_files.specs.declared.system.host_call.HostCall.TheVariants as host
+use Rattle.vault_files.specs.declared.system.host_files.host_call.HostCall.{HostCall}
+use Rattle.vault_files.specs.declared.system.host_files.host_call.HostCall.TheVariants as host
 
 -- only the variant of a result counts
 called_done : {T : Type 0} (call : SystemCall) (result : Result T Error)

@@ -5,8 +5,8 @@ use Rattle.std.specs.IoError.{error_kind}
 use Rattle.std.specs.Result.{result_map_both}
 use Rattle.std.specs.declared.io.Error.{Error}
 use Rattle.std.specs.declared.io.ErrorKind.{ErrorKind}
-use Rattle.vault_files.specs.declared.system.host_call.HostCall.{HostCall}
-use Rattle.vault_files.specs.declared.system.host_call.HostCall.TheVariants as host
+use Rattle.vault_files.specs.declared.system.host_files.host_call.HostCall.{HostCall}
+use Rattle.vault_files.specs.declared.system.host_files.host_call.HostCall.TheVariants as host
 
 -- a record of calls, in order
 abbrev pub HostCalls : Type 0

@@ -8,8 +8,8 @@ use Rattle.vault_files.specs.HostCall.{HostCalls, Outcome}
 use Rattle.vault_files.specs.System.{SystemCall, called, wrote}
 use Rattle.vault_files.specs.System.SystemCall.{Open, Create, ChmodOwnerOnly, Truncate, Write}
 use Rattle.vault_files.specs.System.SystemCall.{Sync, Failed}
-use Rattle.vault_files.specs.declared.system.host_call.HostCall.{HostCall}
-use Rattle.vault_files.specs.declared.system.host_call.HostCall.TheVariants as host
+use Rattle.vault_files.specs.declared.system.host_files.host_call.HostCall.{HostCall}
+use Rattle.vault_files.specs.declared.system.host_files.host_call.HostCall.TheVariants as host
 
 -- a call that is made only if the file is a regular one: all calls, and how they ended
 pub data IfRegular (call : Outcome (Unit {0}) → HostCall (List ℕ))

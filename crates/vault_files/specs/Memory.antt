@@ -120,7 +120,7 @@ LacksRoom (Some file) bytes = file.room < length file.bytes + length bytes
 
 -- Between two states these calls were made on the files, in this order. Only three kinds of calls
 -- fail: an open, the creation of a file whose path is too long, and a write for which the file's
--- memory has no room, and cannot grow. Each write may change its room.
+-- memory would have to grow. Each write may change its room.
 abbrev pub StoreExecutes : StoreState → List SystemCall → StoreState → Type 0
 StoreExecutes s [] t = t ≡ s
 StoreExecutes s (Open path ∷ calls) t = StoreExecutes (with_opened path s) calls t

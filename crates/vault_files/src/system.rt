@@ -10,12 +10,11 @@ ghost use Rattle.vault_files.specs.System.SystemCall.{Open, Create, ChmodOwnerOn
 ghost use Rattle.vault_files.specs.System.SystemCall.{Sync};
 ghost use Rattle.vault_files.specs.declared.fault.FileFault.TheVariants.{CannotOpen, CannotRead};
 
-mod call_log;
-mod host_call;
-mod runtime;
+mod host_files;
+mod host_system;
 
 use crate::fault::FileFault;
-pub use runtime::HostFiles;
+pub use host_files::HostFiles;
 use std::io;
 use vault_text::{Source, fill_up};
 

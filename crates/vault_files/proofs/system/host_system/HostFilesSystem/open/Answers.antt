@@ -1,7 +1,7 @@
 use Rattle.vault_files.proofs.HostLemmas.{executed_one}
 use Rattle.vault_files.specs.HostSystem.MakesUp.{opens}
 use Rattle.vault_files.specs.System.SystemCall.{Open}
-use Rattle.vault_files.proofs.system.runtime.HostFilesSystem.open.Goals as goal
+use Rattle.vault_files.proofs.system.host_system.HostFilesSystem.open.Goals as goal
 
 pub returns-in-Ok-clause-executes : goal.returns-in-Ok-clause-executes
 returns-in-Ok-clause-executes g c =

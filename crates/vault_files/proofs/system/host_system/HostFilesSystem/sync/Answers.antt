@@ -3,7 +3,7 @@ use Rattle.std.specs.contracts.io.ErrorKind.{the_type}
 use Rattle.std.specs.declared.io.ErrorKind.TheVariants.{InvalidInput}
 use denote.Enum.Bare.{same_false, same_true}
 use Rattle.vault_files.proofs.HostLemmas.{executed_failed_sync, executed_no_sync, executed_sync}
-use Rattle.vault_files.proofs.system.runtime.HostFilesSystem.sync.Goals as goal
+use Rattle.vault_files.proofs.system.host_system.HostFilesSystem.sync.Goals as goal
 
 pub returns-in-Err : goal.returns-in-Err
 returns-in-Err g c =

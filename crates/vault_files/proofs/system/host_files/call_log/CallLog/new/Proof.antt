@@ -29,11 +29,11 @@ use denote.Triple.Spec.{Meets, triple_of}
 use denote.Triple.Table.{entered}
 use denote.Triple.Walked.{says, Stays, walk_of, ends_at, walk_Meets}
 use Rattle.vault_files.proofs.Walks.{none, none_made}
-use Rattle.vault_files.specs.contracts.system.call_log.CallLog as Log
-use Rattle.vault_files.specs.contracts.system.call_log.CallLog.new as F
-use Rattle.vault_files.specs.contracts.system.call_log.CallLog.new.Key.{name as #self}
-use Rattle.vault_files.proofs.system.call_log.CallLog.new.Statement as stated
-use Rattle.vault_files.proofs.system.call_log.CallLog.new.Code as code
+use Rattle.vault_files.specs.contracts.system.host_files.call_log.CallLog as Log
+use Rattle.vault_files.specs.contracts.system.host_files.call_log.CallLog.new as F
+use Rattle.vault_files.specs.contracts.system.host_files.call_log.CallLog.new.Key.{name as #self}
+use Rattle.vault_files.proofs.system.host_files.call_log.CallLog.new.Statement as stated
+use Rattle.vault_files.proofs.system.host_files.call_log.CallLog.new.Code as code
 
 abbrev function : Fn
 function = code.function

@@ -1,20 +1,19 @@
-//! The files of the system, and a record of the calls on them.
+//! The files of the system, and a record of the calls on them. Only this module can call the
+//! standard library on these files, and only it can add to the record.
 ghost use Rattle.std.specs.Prelude.{◌≡◌, ◌∷◌, ◌++◌, ◌≤◌, IfOk, [], length};
 ghost use Rattle.std.specs.Fs.{file_type};
 ghost use Rattle.vault_files.specs.HostCall.{done, noted, outcome};
 
-use super::System;
-use super::call_log::CallLog;
-use super::host_call::{HostCall, Outcome};
+mod call_log;
+mod host_call;
+
+use call_log::CallLog;
+use host_call::{HostCall, Outcome};
 use std::fs::{FileType, Files, Metadata, OpenFile, OpenOptions, Permissions};
-use std::io::{ErrorKind, Write};
+use std::io::Write;
 use std::marker::Model;
 use std::os::unix::fs::{OpenOptionsExt, PermissionsExt};
 use std::{fs, io};
-use vault_text::ReadSource;
-
-/// Readable and writable by its owner only.
-const OWNER_ONLY: u32 = 0o600;
 
 /// The files of the system. A clause sees it as the calls that were made on them so far.
 #[derive(Drop)]
@@ -83,7 +82,7 @@ impl<'a, R: Files> HostFiles<'a, R> {
 /// standard library, notes this call and its outcome, and returns its result. Nothing else in the
 /// program calls the standard library on a file.
 impl<'a, R: Files> HostFiles<'a, R> {
-    fn open_to_read(&mut self, path: &str) -> io::Result<R::File>
+    pub(super) fn open_to_read(&mut self, path: &str) -> io::Result<R::File>
         ensures { self.new ≡ self.old ++ HostCall.OpenToRead path.now (done result) ∷ [] }
     {
         let opened = fs::open(self.files, path);
@@ -91,7 +90,7 @@ impl<'a, R: Files> HostFiles<'a, R> {
         opened
     }
 
-    fn open_to_write(&mut self, path: &str, mode: u32) -> io::Result<R::File>
+    pub(super) fn open_to_write(&mut self, path: &str, mode: u32) -> io::Result<R::File>
         ensures { self.new ≡ self.old ++ HostCall.OpenToWrite path.now mode (done result) ∷ [] }
     {
         let mut options = OpenOptions::new();
@@ -102,7 +101,7 @@ impl<'a, R: Files> HostFiles<'a, R> {
         opened
     }
 
-    fn metadata(&mut self, file: &R::File) -> io::Result<Metadata>
+    pub(super) fn metadata(&mut self, file: &R::File) -> io::Result<Metadata>
         ensures { self.new ≡ self.old ++ HostCall.Metadata (outcome file_type result) ∷ [] }
     {
         let metadata = file.metadata();
@@ -110,7 +109,7 @@ impl<'a, R: Files> HostFiles<'a, R> {
         metadata
     }
 
-    fn set_permissions(&mut self, file: &R::File, mode: u32) -> io::Result<()>
+    pub(super) fn set_permissions(&mut self, file: &R::File, mode: u32) -> io::Result<()>
         ensures { self.new ≡ self.old ++ HostCall.SetPermissions mode (done result) ∷ [] }
     {
         let changed = file.set_permissions(Permissions::from_mode(mode));
@@ -118,7 +117,7 @@ impl<'a, R: Files> HostFiles<'a, R> {
         changed
     }
 
-    fn set_len(&mut self, file: &R::File, size: u64) -> io::Result<()>
+    pub(super) fn set_len(&mut self, file: &R::File, size: u64) -> io::Result<()>
         ensures { self.new ≡ self.old ++ HostCall.SetLen size (done result) ∷ [] }
     {
         let changed = file.set_len(size);
@@ -126,7 +125,7 @@ impl<'a, R: Files> HostFiles<'a, R> {
         changed
     }
 
-    fn write_some(&mut self, file: &mut R::File, bytes: &[u8]) -> io::Result<usize>
+    pub(super) fn write_some(&mut self, file: &mut R::File, bytes: &[u8]) -> io::Result<usize>
         ensures call { self.new
             ≡ self.old ++ HostCall.Write bytes.now (outcome (λ count. count) result) ∷ [] }
         ensures bound { IfOk result (λ count. count ≤ length bytes.now) }
@@ -136,83 +135,11 @@ impl<'a, R: Files> HostFiles<'a, R> {
         written
     }
 
-    fn sync_all(&mut self, file: &R::File) -> io::Result<()>
+    pub(super) fn sync_all(&mut self, file: &R::File) -> io::Result<()>
         ensures { self.new ≡ self.old ++ HostCall.SyncAll (done result) ∷ [] }
     {
         let synced = file.sync_all();
         self.note(HostCall::SyncAll(done(&synced)));
         synced
-    }
-}
-
-impl<'a, R: Files> System for HostFiles<'a, R> {
-    ghost use Rattle.vault_files.specs.File.FileState.{Missing};
-    ghost use Rattle.vault_files.specs.FileProofs.{any-break, any-prefix};
-    ghost use Rattle.vault_files.specs.HostSystem.{Executed};
-    ghost use Rattle.vault_files.specs.HostSystemProofs.{Executed-none, Executed-more};
-
-    type Reader = ReadSource<R::File>;
-
-    type Writer = R::File;
-
-    ghost executes = { Executed };
-
-    ghost executes_none = { Executed-none };
-
-    ghost executes_more = { Executed-more };
-
-    ghost finds = { λ s path file. Unit {0} };
-
-    ghost reader_at = { λ s path reader. Unit {0} };
-
-    ghost finds_some = { λ s path. (Missing, tt) };
-
-    ghost opens_finds = { λ s t paths calls path file opens executes found. tt };
-
-    ghost opens_reader = { λ s t paths calls path reader opens executes found. tt };
-
-    ghost prefix_found = { λ s path r t xs n opened gives fits end unfailed. any-prefix xs n fits };
-
-    ghost break_found = { λ s path r t xs n opened gives short risen. any-break xs n short };
-
-    fn open(&mut self, path: &str) -> io::Result<ReadSource<R::File>> {
-        match self.open_to_read(path) {
-            Ok(file) => Ok(ReadSource::new(file)),
-            Err(error) => Err(error),
-        }
-    }
-
-    fn create(&mut self, path: &str) -> io::Result<R::File> {
-        self.open_to_write(path, OWNER_ONLY)
-    }
-
-    fn chmod_owner_only(&mut self, file: &R::File) -> io::Result<()> {
-        if !self.metadata(file)?.is_file() {
-            return Ok(());
-        }
-        self.set_permissions(file, OWNER_ONLY)
-    }
-
-    fn truncate(&mut self, file: &R::File) -> io::Result<()> {
-        if !self.metadata(file)?.is_file() {
-            return Ok(());
-        }
-        self.set_len(file, 0)
-    }
-
-    fn write(&mut self, file: &mut R::File, bytes: &[u8]) -> io::Result<usize> {
-        match self.write_some(file, bytes) {
-            Ok(0) => Err(ErrorKind::WriteZero.into()),
-            Ok(count) => Ok(count),
-            Err(error) => Err(error),
-        }
-    }
-
-    fn sync(&mut self, file: &R::File) -> io::Result<()> {
-        match self.sync_all(file) {
-            Ok(()) => Ok(()),
-            Err(error) if error.kind() == ErrorKind::InvalidInput => Ok(()),
-            Err(error) => Err(error),
-        }
     }
 }

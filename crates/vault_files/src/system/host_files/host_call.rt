@@ -9,16 +9,16 @@ pub type Outcome<T> = Result<T, ErrorKind>;
 /// a slice in the code, a list in a clause.
 #[derive(Clone, Copy, Drop)]
 pub enum HostCall<B> {
-    /// `fs::open` of this path.
+    /// An open of this path for reading.
     OpenToRead(B, Outcome<()>),
-    /// `OpenOptions::open` of this path: for writing, not truncated, or created with this mode less
-    /// the umask.
+    /// An open of this path for writing, as it is. If there is no file, it is created with this
+    /// mode, less the umask.
     OpenToWrite(B, u32, Outcome<()>),
     Metadata(Outcome<FileType>),
-    /// `set_permissions` to this mode.
+    /// A change to this mode.
     SetPermissions(u32, Outcome<()>),
     SetLen(u64, Outcome<()>),
-    /// `write` of these bytes, of which the file took this many.
+    /// A write of these bytes, of which the file took this many.
     Write(B, Outcome<usize>),
     SyncAll(Outcome<()>),
 }

@@ -28,13 +28,13 @@ use denote.Triple.Spec.{Meets, triple_of}
 use denote.Triple.Table.{entered}
 use denote.Triple.Walked.{says, Stays, stay_dropped, walk_of, ends_at, walk_Meets, Goes-dropped}
 use Rattle.vault_files.proofs.Walks.{none, none_made}
-use Rattle.vault_files.specs.contracts.system.call_log.CallLog as Log
-use Rattle.vault_files.specs.contracts.system.host_call.HostCall as Call
+use Rattle.vault_files.specs.contracts.system.host_files.call_log.CallLog as Log
+use Rattle.vault_files.specs.contracts.system.host_files.host_call.HostCall as Call
 use Rattle.vault_files.specs.HostCall.{noted}
-use Rattle.vault_files.specs.contracts.system.call_log.CallLog.with as F
-use Rattle.vault_files.specs.contracts.system.call_log.CallLog.with.Key.{name as #self}
-use Rattle.vault_files.proofs.system.call_log.CallLog.with.Statement as stated
-use Rattle.vault_files.proofs.system.call_log.CallLog.with.Code as code
+use Rattle.vault_files.specs.contracts.system.host_files.call_log.CallLog.with as F
+use Rattle.vault_files.specs.contracts.system.host_files.call_log.CallLog.with.Key.{name as #self}
+use Rattle.vault_files.proofs.system.host_files.call_log.CallLog.with.Statement as stated
+use Rattle.vault_files.proofs.system.host_files.call_log.CallLog.with.Code as code
 
 abbrev function : Fn
 function = code.function

@@ -1,7 +1,7 @@
 use Rattle.vault_files.proofs.HostLemmas.{executed_one}
 use Rattle.vault_files.specs.HostSystem.MakesUp.{creates}
 use Rattle.vault_files.specs.System.SystemCall.{Create}
-use Rattle.vault_files.proofs.system.runtime.HostFilesSystem.create.Goals as goal
+use Rattle.vault_files.proofs.system.host_system.HostFilesSystem.create.Goals as goal
 
 pub returns : goal.returns
 returns g c =

@@ -3,7 +3,7 @@ use Rattle.vault_files.proofs.HostLemmas.{called_err, executed_not_regular, exec
 use Rattle.vault_files.proofs.HostLemmas.{executed_unknown}
 use Rattle.vault_files.specs.HostSystem.MakesUp.{truncates}
 use Rattle.vault_files.specs.System.SystemCall.{Truncate}
-use Rattle.vault_files.proofs.system.runtime.HostFilesSystem.truncate.Goals as goal
+use Rattle.vault_files.proofs.system.host_system.HostFilesSystem.truncate.Goals as goal
 
 pub returns-in_err-metadata : goal.returns-in_err-metadata
 returns-in_err-metadata g c =

@@ -1,6 +1,6 @@
 use Rattle.vault_files.proofs.HostLemmas.{executed_failed_write, executed_no_write}
 use Rattle.vault_files.proofs.HostLemmas.{executed_write}
-use Rattle.vault_files.proofs.system.runtime.HostFilesSystem.write.Goals as goal
+use Rattle.vault_files.proofs.system.host_system.HostFilesSystem.write.Goals as goal
 
 pub returns-in-Ok-eq0-clause-executes : goal.returns-in-Ok-eq0-clause-executes
 returns-in-Ok-eq0-clause-executes g c =
