@@ -11,7 +11,10 @@ CRATES = Path(__file__).resolve().parent.parent / "crates"
 
 # The calls whose contracts are the theorem, and the other calls and types whose contracts the pages name. In a module
 # named `laws`, every call counts.
-THEOREM = ["fn drive_over", "fn reject_words"]
+THEOREM = [
+    *("fn drive_over", "fn drive_host", "fn reject_words"),
+    *("struct HostFiles", "enum HostCall", "impl<'a, R: Files> System for HostFiles"),
+]
 OTHERS = [
     *("fn drive", "fn drive_in_memory", "fn run", "fn run_to_output", "fn load"),
     *("fn prepare_encrypt_in", "fn prepare_decrypt_in", "fn prepare_rekey_in"),
