@@ -18,7 +18,7 @@ use vault_fault::Fault;
 
 const VERSION: &str = "0.7.0";
 
-/// The last line of the program's help: its manual page, and its companions.
+/// What ends the parser's help: the program's manual page, and its companions.
 const SEE_ALSO: &str = "See also: ansible-vault(1), \
     ansible-vault-with, -edit, -rotate, -check, -hook, -merge, -textconv";
 
