@@ -1,6 +1,7 @@
 -- How the program ends over devices that it keeps, about which no more is known afterwards.
-use Rattle.std.specs.Prelude.{ℕ, false, List, Option}
+use Rattle.std.specs.Prelude.{ℕ, false, List, [], Option}
 use Rattle.clap.specs.Words.{Text, fault_of}
+use Rattle.vault_text.specs.Recorded.{Recorded}
 use Rattle.vault_text.specs.Sink.{SinkState}
 use Rattle.vault_text.specs.Source.{SourceState}
 use Rattle.vault_text.specs.declared.sink.Sink.{Ghosts as SinkTerms}
@@ -14,12 +15,14 @@ use Rattle.vault_cli.specs.Drive.{Ends}
 use Rattle.vault_cli.specs.declared.runs.status.Status.{Status}
 
 -- a source over a reader that has this left
-abbrev pub new_source : Option (List ℕ) → SourceState
-new_source left = record { left = left; ended = false; failures = 0 }
+abbrev pub new_source : Option (List ℕ) → Recorded SourceState
+new_source left =
+    record { device = record { left = left; ended = false; failures = 0 }; bytes = [] }
 
 -- a sink over a writer with these contents
-abbrev pub new_sink : Option (List ℕ) → SinkState
-new_sink held = record { held = held; stage = Unbegun; failures = 0 }
+abbrev pub new_sink : Option (List ℕ) → Recorded SinkState
+new_sink held =
+    record { device = record { held = held; stage = Unbegun; failures = 0 }; bytes = [] }
 
 -- from the terms of each device's trait and the device before: there is a later state of all of
 -- them in which the program ended in this way

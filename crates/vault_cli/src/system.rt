@@ -17,7 +17,9 @@ use vault_files::{HostFiles, System};
 use vault_text::{ReadSource, Sink, Source, Stage, WriteSink};
 
 /// Runs the whole program, like `drive_over`, over the files of the system. `host` records each
-/// call of the standard library on them, so these calls are the ones that `drive_over` makes.
+/// call of the standard library on them, so these calls are the ones that `drive_over` makes. A
+/// `ReadSource` and a `WriteSink` record the bytes that they give and take, whatever their reader
+/// or writer.
 pub fn drive_host<'a, F: Files, S: Source, K: Sink, E: Sink>(
     host: &mut HostFiles<'a, F>,
     alloc: Global,

@@ -6,6 +6,8 @@ pub mod Source
 pub mod SourceProofs
 pub mod Sink
 pub mod SinkProofs
+pub mod Recorded
+pub mod RecordedProofs
 pub mod Call
 pub mod Whitespace
 pub mod Label

@@ -11,6 +11,7 @@
 //! ```
 #![tactic(auto)]
 
+mod byte_log;
 mod failure_count;
 mod fault;
 mod header;

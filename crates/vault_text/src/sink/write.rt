@@ -3,6 +3,7 @@ ghost use Rattle.std.specs.Prelude.{◌≡◌, [], IsErr, OnOk, OnErr};
 ghost use Rattle.vault_text.specs.Failures.{CountsFailure, IsSaturated};
 
 use super::{Sink, SinkFailed, Stage};
+use crate::byte_log::ByteLog;
 use crate::failure_count::FailureCount;
 use std::io::Write;
 use std::marker::Model;
@@ -14,36 +15,45 @@ pub struct WriteSink<W: Write> {
     writer: W,
     stage: Stage,
     failures: FailureCount,
+    /// What the writer took.
+    log: ByteLog,
 }
 
 impl<W: Write> Model for WriteSink<W> {
+    ghost use Rattle.vault_text.specs.Recorded.{Recorded};
     ghost use Rattle.vault_text.specs.Sink.{SinkState};
 
-    ghost Value = { SinkState };
+    ghost Value = { Recorded SinkState };
 
     ghost view = { λ s. record {
-      held = W.contents s.writer;
-      stage = s.stage;
-      failures = s.failures;
+      device = record {
+        held = W.contents s.writer;
+        stage = s.stage;
+        failures = s.failures;
+      };
+      bytes = s.log.bytes;
     } };
 }
 
 impl<W: Write> WriteSink<W> {
     /// Appends to the contents of `writer`. Opening the sink does not call the writer.
     pub fn new(writer: W) -> Self
-        ensures { result
-            ≡ record { held = W.contents writer; stage = Stage.Unbegun; failures = 0 } }
+        ensures { result ≡ record {
+          device = record { held = W.contents writer; stage = Stage.Unbegun; failures = 0 };
+          bytes = [];
+        } }
     {
         WriteSink {
             writer,
             stage: Stage::Unbegun,
             failures: FailureCount::new(),
+            log: ByteLog::new(),
         }
     }
 
     /// The writer, with its contents so far.
     pub fn into_inner(self) -> W
-        ensures { W.contents result ≡ self.held }
+        ensures { W.contents result ≡ self.device.held }
     {
         let WriteSink { writer, .. } = self;
         writer
@@ -51,29 +61,31 @@ impl<W: Write> WriteSink<W> {
 }
 
 impl<W: Write> Sink for WriteSink<W> {
+    ghost use Rattle.vault_text.specs.Recorded.{Records};
+    ghost use Rattle.vault_text.specs.RecordedProofs.{Records-none, Records-more};
     ghost use Rattle.vault_text.specs.Sink.{Takes};
     ghost use Rattle.vault_text.specs.SinkProofs.{Takes-none, Takes-more};
 
-    ghost takes = { Takes };
+    ghost takes = { Records Takes };
 
-    ghost stage = { λ s. s.stage };
+    ghost stage = { λ s. s.device.stage };
 
-    ghost failures = { λ s. s.failures };
+    ghost failures = { λ s. s.device.failures };
 
-    ghost takes_none = { Takes-none };
+    ghost takes_none = { Records-none Takes-none };
 
-    ghost takes_more = { Takes-more };
+    ghost takes_more = { Records-more Takes-more };
 
-    ghost failures_monotone = { λ s t xs g. g.failures_monotone };
+    ghost failures_monotone = { λ s t xs g. g.moves.failures_monotone };
 
     fn begin(&mut self) -> Result<(), SinkFailed>
-        requires { self.old.stage ≡ Stage.Unbegun }
-        ensures takes { Takes self.old [] self.new }
-        ensures begun { OnOk result (self.new.stage ≡ Stage.Begun) }
-        ensures unbegun { OnErr result (self.new.stage ≡ Stage.Unbegun) }
-        ensures failed { CountsFailure self.old.failures self.new.failures result }
-        ensures full { IsSaturated self.old.failures → IsErr result }
-        ensures only_full { OnErr result (IsSaturated self.old.failures) }
+        requires { self.old.device.stage ≡ Stage.Unbegun }
+        ensures takes { Records Takes self.old [] self.new }
+        ensures begun { OnOk result (self.new.device.stage ≡ Stage.Begun) }
+        ensures unbegun { OnErr result (self.new.device.stage ≡ Stage.Unbegun) }
+        ensures failed { CountsFailure self.old.device.failures self.new.device.failures result }
+        ensures full { IsSaturated self.old.device.failures → IsErr result }
+        ensures only_full { OnErr result (IsSaturated self.old.device.failures) }
     {
         if self.failures.is_saturated() {
             return Err(SinkFailed);
@@ -87,7 +99,10 @@ impl<W: Write> Sink for WriteSink<W> {
             return Err(SinkFailed);
         }
         match self.writer.write(bytes) {
-            Ok(n) if n > 0 => Ok(n),
+            Ok(n) if n > 0 => {
+                self.log = self.log.then(&bytes[..n]);
+                Ok(n)
+            }
             _ => self.failures.fail(SinkFailed),
         }
     }
