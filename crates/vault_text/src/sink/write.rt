@@ -1,10 +1,12 @@
 //! A sink over `std::io::Write`.
-ghost use Rattle.std.specs.Prelude.{◌≡◌, [], IsErr, OnOk, OnErr};
+ghost use Rattle.std.specs.Prelude.{◌≡◌, [], IfOk, IsErr, OnOk, OnErr};
+ghost use Rattle.std.specs.Io.KnownBytes.{Keeps};
 ghost use Rattle.vault_text.specs.Failures.{CountsFailure, IsSaturated};
 
 use super::{Sink, SinkFailed, Stage};
 use crate::byte_log::ByteLog;
 use crate::failure_count::FailureCount;
+use std::io;
 use std::io::Write;
 use std::marker::Model;
 
@@ -17,11 +19,15 @@ pub struct WriteSink<W: Write> {
     failures: FailureCount,
     /// What the writer took.
     log: ByteLog,
+    /// What it had taken when it was last flushed.
+    flushed: ByteLog,
 }
 
 impl<W: Write> Model for WriteSink<W> {
+    ghost use Rattle.std.specs.Prelude.{◌≡◌};
     ghost use Rattle.vault_text.specs.Recorded.{Recorded};
     ghost use Rattle.vault_text.specs.Sink.{SinkState};
+    ghost use Rattle.vault_text.specs.declared.sink.Stage.{Stage};
 
     ghost Value = { Recorded SinkState };
 
@@ -33,6 +39,18 @@ impl<W: Write> Model for WriteSink<W> {
       };
       bytes = s.log.bytes;
     } };
+
+    ghost invariant = { λ s. s.stage ≡ Stage.Finished → s.flushed.bytes ≡ s.log.bytes };
+}
+
+/// Flushes a writer that took the bytes of `log`, and returns them as flushed. Trusted: no clause
+/// excludes a body that does not flush, or that hides an error.
+fn flush<W: Write>(writer: &mut W, log: &ByteLog) -> io::Result<ByteLog>
+    ensures kept { Keeps (W.contents writer.old) (W.contents writer.new) }
+    ensures flushed { IfOk result (λ flushed. flushed.bytes ≡ log.now.bytes) }
+{
+    writer.flush()?;
+    Ok(log.then(&[]))
 }
 
 impl<W: Write> WriteSink<W> {
@@ -48,6 +66,7 @@ impl<W: Write> WriteSink<W> {
             stage: Stage::Unbegun,
             failures: FailureCount::new(),
             log: ByteLog::new(),
+            flushed: ByteLog::new(),
         }
     }
 
@@ -111,10 +130,13 @@ impl<W: Write> Sink for WriteSink<W> {
         if self.failures.is_saturated() {
             return Err(SinkFailed);
         }
-        if self.writer.flush().is_err() {
-            return self.failures.fail(SinkFailed);
+        match flush(&mut self.writer, &self.log) {
+            Ok(flushed) => {
+                self.flushed = flushed;
+                self.stage = Stage::Finished;
+                Ok(())
+            }
+            Err(_) => self.failures.fail(SinkFailed),
         }
-        self.stage = Stage::Finished;
-        Ok(())
     }
 }
