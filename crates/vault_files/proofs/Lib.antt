@@ -1,4 +1,3 @@
 pub mod OutputLemmas
 pub mod PathLogLemmas
-mod Walks
 mod HostLemmas

@@ -10,7 +10,7 @@ pub mod InnerTextLemmas
 pub mod LabelLemmas
 pub mod ListLemmas
 pub mod PiecesLemmas
-mod Walks
+pub mod Walks
 pub mod SinkLemmas
 pub mod SourceLemmas
 pub mod WrittenLemmas

@@ -1,4 +1,4 @@
--- A step that the walks of `src/byte_log.rt` share. Assumes `Logic`.
+-- A step of the proofs by hand: a struct without fields, other than ghost data, is made.
 use Rattle.std.proofs.Common.{List, [], ◌∷◌, refl}
 use seplogic.Ra.Ura.{Ura}
 use mir.Val.{Val, vstruct, vnil}

@@ -50,7 +50,7 @@ fn flush<W: Write>(writer: &mut W, log: &ByteLog) -> io::Result<ByteLog>
     ensures flushed { IfOk result (λ flushed. flushed.bytes ≡ log.now.bytes) }
 {
     writer.flush()?;
-    Ok(log.then(&[]))
+    Ok(log.with(&[]))
 }
 
 impl<W: Write> WriteSink<W> {
@@ -119,7 +119,7 @@ impl<W: Write> Sink for WriteSink<W> {
         }
         match self.writer.write(bytes) {
             Ok(n) if n > 0 => {
-                self.log = self.log.then(&bytes[..n]);
+                self.log = self.log.with(&bytes[..n]);
                 Ok(n)
             }
             _ => self.failures.fail(SinkFailed),

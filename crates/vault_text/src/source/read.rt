@@ -93,7 +93,7 @@ impl<R: Read> Source for ReadSource<R> {
         match self.reader.read(buf) {
             Ok(n) => {
                 self.ended = n == 0;
-                self.log = self.log.then(&buf[..n]);
+                self.log = self.log.with(&buf[..n]);
                 Ok(n)
             }
             Err(_) => self.failures.fail(SourceFailed),

@@ -7,5 +7,5 @@ returns g c = (
   c.drive_host.new.out,
   c.drive_host.new.err,
   rw (c.new-host.ensures, c.new-src.ensures, c.new-out.ensures, c.new-err.ensures)
-  at c.drive_host.ensures,
+      at c.drive_host.ensures,
 )

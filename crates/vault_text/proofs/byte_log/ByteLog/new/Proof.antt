@@ -1,4 +1,9 @@
--- `new` picks no bytes. Assumes `Logic`.
+-- `ByteLog::new` makes an empty record.
+--
+-- Rattle proves no function by itself that makes a struct with ghost data, so this is a proof by
+-- hand. It may choose any value for the data, since nothing in memory depends on it: an empty body
+-- meets the contract. So the contract says nothing about bytes. What keeps a record true is
+-- privacy: only `ReadSource` and `WriteSink` add to one.
 use Rattle.std.proofs.Common.{[], ◌∷◌, refl}
 use seplogic.Ra.Ura.{Ura}
 use mir.Syntax.{Fn}

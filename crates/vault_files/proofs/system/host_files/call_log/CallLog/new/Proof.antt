@@ -28,7 +28,7 @@ use denote.Triple.Entry.{alive}
 use denote.Triple.Spec.{Meets, triple_of}
 use denote.Triple.Table.{entered}
 use denote.Triple.Walked.{says, Stays, walk_of, ends_at, walk_Meets}
-use Rattle.vault_files.proofs.Walks.{none, none_made}
+use Rattle.vault_text.proofs.Walks.{none, none_made}
 use Rattle.vault_files.specs.contracts.system.host_files.call_log.CallLog as Log
 use Rattle.vault_files.specs.contracts.system.host_files.call_log.CallLog.new as F
 use Rattle.vault_files.specs.contracts.system.host_files.call_log.CallLog.new.Key.{name as #self}

@@ -1,4 +1,5 @@
--- `then` picks the bytes of the new log. Assumes `Logic`.
+-- `ByteLog::with` makes a record with more bytes. Why an empty body meets its contract, and what
+-- keeps a record true, stands in the proof of `ByteLog::new`.
 use Rattle.std.proofs.Common.{List, [], ◌∷◌, ◌++◌, length, refl}
 use seplogic.Ra.Ura.{Ura}
 use mir.Syntax.{Fn}
@@ -28,10 +29,10 @@ use denote.Triple.Table.{entered}
 use denote.Triple.Walked.{says, Stays, stay_dropped, walk_of, ends_at, walk_Meets, Goes-dropped}
 use Rattle.vault_text.proofs.Walks.{none, none_made}
 use Rattle.vault_text.specs.contracts.byte_log.ByteLog as Log
-use Rattle.vault_text.specs.contracts.byte_log.ByteLog.then as F
-use Rattle.vault_text.specs.contracts.byte_log.ByteLog.then.Key.{name as #self}
-use Rattle.vault_text.proofs.byte_log.ByteLog.then.Statement as stated
-use Rattle.vault_text.proofs.byte_log.ByteLog.then.Code as code
+use Rattle.vault_text.specs.contracts.byte_log.ByteLog.with as F
+use Rattle.vault_text.specs.contracts.byte_log.ByteLog.with.Key.{name as #self}
+use Rattle.vault_text.proofs.byte_log.ByteLog.with.Statement as stated
+use Rattle.vault_text.proofs.byte_log.ByteLog.with.Code as code
 
 abbrev function : Fn
 function = code.function
@@ -78,9 +79,9 @@ module _ {M : Type 1} {𝓤 : Ura M} (𝓛 : Logic 𝓤) (at_mem : Memory → SP
       walk_Meets 𝓛 ended stayed (Goes-dropped 𝓛 2 (RefOf (0 ∷ []) tt (plain (λ _. Log.the_row)) (λ _. tt)) yes (λ κs x f. refl), (Goes-dropped 𝓛 2 (SliceRefOf (1 ∷ []) tt (plain (λ _. u8)) (λ _. tt)) yes (λ κs x f. refl), tt)) held
       (WpFn 𝓤 H 𝓣.C 𝓣.Λ function) (WpFn-mono 𝓤 H 𝓛.laws 𝓣 function) (walks 𝓣.C 𝓣.Λ)
 
-pub then_spec : {M : Type 1} → stated.statement M
+pub with_spec : {M : Type 1} → stated.statement M
 unfolding tables_of
-then_spec 𝓤 𝓛 𝓜 𝓡 wired =
+with_spec 𝓤 𝓛 𝓜 𝓡 wired =
     let 𝓣 : Tables 𝓤 𝓛.H = tables_of 𝓤 𝓛.H 𝓜 (tables 𝓤 𝓛.H 𝓜 𝓡 𝓡.env) in
     entered 𝓤 𝓛.H (triple_of 𝓛 ended.signature (closing 𝓛 ended (held 𝓛 𝓜.mem 𝓡.returns))) 𝓣.C 𝓣.Λ #self function
     (code.unfolded 𝓤 𝓛.H 𝓜 𝓡 wired) (meets 𝓛 𝓜.mem 𝓡.returns 𝓣)
