@@ -1,7 +1,7 @@
 """The cipher reads its tables: no contract can say how a value is found.
 
-Copies of the program have another number at entry 0 of a table. Among the many blocks of a long vault, some read that
-entry, so a copy must decrypt it to another text.
+Copies of the program have another number at entry 0 of a table. Where the cipher reads that entry, a copy must decrypt
+a vault to another text.
 """
 
 import re
@@ -33,14 +33,10 @@ TABLES = read_tables()
 assert len(TABLES) == 5
 
 
-@pytest.mark.parametrize("name", TABLES)
-def test_entry_0(cases: Cases, name: str) -> None:
-    text = TEXT * 4_000
-    vault = seal(b"right", text)
+def check_reads_entry_0(cases: Cases, table: bytes, vault: bytes, text: bytes) -> None:
     words = ["view", *by_file(cases.file(b"right\n"))]
     cases.run(words, vault, out=text)
     program = Path(cases.program).read_bytes()
-    table = TABLES[name]
     assert program.count(table) == 1, "the program has the table once"
     other = bytes([table[0] ^ 1]) + table[1:]
     done = run([cases.file(program.replace(table, other), 0o755), *words], vault)
@@ -48,3 +44,16 @@ def test_entry_0(cases: Cases, name: str) -> None:
     if done.returncode != 0:
         # The last block may have another padding then.
         assert answer_of(done) == refusal(Fault.BAD_PADDING), "or it has a wrong padding"
+
+
+@pytest.mark.parametrize("name", TABLES)
+def test_blocks(cases: Cases, name: str) -> None:
+    """Some of many blocks read entry 0 of each table."""
+    text = TEXT * 4_000
+    check_reads_entry_0(cases, TABLES[name], seal(b"right", text), text)
+
+
+def test_key_expansion(cases: Cases) -> None:
+    """With this salt, the key reads entry 0 of S while it is expanded, and the only block reads entry 0 of no table."""
+    vault = seal(b"right", b"text\n", salt=bytes([1]) * 32)
+    check_reads_entry_0(cases, TABLES["S_BOX"], vault, b"text\n")
