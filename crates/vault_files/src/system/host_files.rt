@@ -80,7 +80,8 @@ impl<'a, R: Files> HostFiles<'a, R> {
 
 /// The calls on the files of the system. These methods are trusted: each makes one call of the
 /// standard library, notes this call and its outcome, and returns its result. Nothing else in the
-/// program calls the standard library on a file.
+/// program calls the standard library on a file, except to read it, and to open a directory in
+/// place of a closed stream.
 impl<'a, R: Files> HostFiles<'a, R> {
     pub(super) fn open_to_read(&mut self, path: &str) -> io::Result<R::File>
         ensures { self.new ≡ self.old ++ HostCall.OpenToRead path.now (done result) ∷ [] }
