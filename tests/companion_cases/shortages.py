@@ -105,7 +105,7 @@ def test_limit_of_memory(place: Place, git: None, name: str, why: str) -> None:
     """What takes more than the limit, which is lower here, ends in a line."""
     place.put("long.yml", block("old") + b"x: [%s]\n# " % (b"{a: 1}, " * 20_000) + b"x" * 16_000_000)
     place.shell("git init -q && git add .")
-    words = {CHECK: [*place.by_file("old"), "."], HOOK: []}[name]
+    words = [*place.by_file("old"), "."] if name == CHECK else []
     change = "from ansible_vault_companions import memory\nmemory.MOST = 56 << 20"
     check_answer("the run", run_changed(place, name, change, words), 1, errors=f"{name}: {why}out of memory\n")
 

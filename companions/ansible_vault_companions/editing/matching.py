@@ -91,7 +91,7 @@ def _keep(
 
 
 class _Replacements:
-    """The values that are gone from their places, and those that are not known there, all together: there may be many."""
+    """The values that are gone from their places, and those that are unknown there, all together: there may be many."""
 
     def __init__(self, opened: list[DecryptedValue], replaced: list[DecryptedValue], unknown: list[Node]) -> None:
         # The keys of what was replaced at each path, and of all values of each list.
