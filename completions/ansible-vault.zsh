@@ -124,8 +124,8 @@ _ansible_vault_specifications() {
         'ansible-vault-hook') specifications=(
             '(- *)'{-h,--help}'[print help]'
             '(- *)'{-V,--version}'[print version]'
-            '(--all --install --since --uninstall)--all[check all files, and what was a vault in any commit]'
-            '(--all --install --since --uninstall)--since=[check all later commits, and their combined change]:COMMIT: '
+            '(--all --install --since --uninstall)--all[check the files of the last commit, and its change]'
+            '(--all --install --since --uninstall)--since=[check each later commit]:COMMIT: '
             '(--all --install --since --uninstall)--install[set up hooks]'
             '(--all --install --since --uninstall)--uninstall[undo what --install has set up]'
             '*--vault-id=[for --install: a labeled password file]:[LABEL@]FILE:_ansible_vault_id'

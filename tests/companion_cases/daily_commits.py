@@ -118,6 +118,15 @@ DAILY: dict[str, tuple[Files, Files]] = {
     "a new key and its public one": ({}, {"files/ci": vault(SSH_KEY), "files/ci.pub": SSH_PUBLIC}),
     "a template beside an environment": ({}, {"app.env": vault(ENV), "app.env.j2": TEMPLATE}),
     "a script beside a vault": ({}, {"group_vars/web.sh": LIBRARY}),
+    # As long as a vault that stays, and named like it, as many files are.
+    "another role's variables": (
+        {"roles/a/vars/main.yml": vault(NOISE)},
+        {"roles/a/vars/main.yml": vault(NOISE), "roles/b/defaults/main.yml": NOISE},
+    ),
+    "tasks for Vault": (
+        {"group_vars/all/vault.yml": vault(NOISE)},
+        {"group_vars/all/vault.yml": vault(NOISE), "roles/vault/tasks/vault.yml": NOISE},
+    ),
     # Lists.
     "a playbook": ({"vars/mysql.yml": vault(DB)}, {"mysql.yml": PLAY}),
     "a playbook of a group": ({"group_vars/web.yml": vault(SMTP)}, {"playbooks/web.yml": PLAY}),

@@ -132,6 +132,12 @@ PASSING = {
         {"b.yml": b"db: [{name: x}]\nx: {pw: x}\n", "y": X},
     ),
     "a byte order mark": Change(PW, b"\xef\xbb\xbf" + PW2),
+    "a variable of one play, and another in a mapping of its name": Change(
+        {"p.yml": item(below(b"vars", PW)), "y": X}, {"a.yml": b"app: {pw: x}\n", "y": X}
+    ),
+    "a variable of a play, now a vault's": Change(
+        {"p.yml": item(below(b"vars", PW)), "y": X}, {"p.yml": b"- vars: {x: 1}\n", "vault.yml": VAULT, "y": X}
+    ),
     "a null with its tag": Change(PW, b"pw: !!null\n"),
     "an expression with a tag": Change(PW, b'pw: !unsafe "{{ x }}"\n'),
     "a meant copy": Change({"a.yml": VAULT}, {"a.yml": VAULT, "a.yml.dec": TEXT, **COPIES}),
@@ -143,14 +149,15 @@ PASSING = {
         X, {"a.txt": CONFLICT % (PW, CUT), ".gitattributes": b"*.txt -ansible-vault diff=ansible-vault"}
     ),
 }
-pw, db = IN_PART.format("pw"), IN_PART.format("db.pw")
+pw, db = (IN_PART.format(key) for key in ("pw", "db.pw"))
 DAMAGED = "is a damaged vault"
 CUT_VALUE = "has a damaged value in line {}"
 UNMERGED = "has git's conflict markers"
-NO_YAML = "line 1: it cannot be read as YAML: found character that cannot start any token"
-FEWER = f"has fewer envelopes than in HEAD, and its values cannot be compared: {NO_YAML}"
+FEWER = "has fewer envelopes than in HEAD, and its values cannot be compared: line 1: it cannot be read as YAML: "
 GONE_ROLE = f"b/vars/main.yml {GONE.format('a/vars/main.yml')}"
+COPY = f"a.yml.dec {GONE.format('a.yml')}"
 TAGGED = "has plaintext with the tag `!vault` in line {}"
+TOKEN = "found character that cannot start any token"
 REFUSED = {
     "a vault of another format": Change(AES, TEXT, WHOLE),
     "a vault, now binary": Change(VAULT, b"\0\1\2", WHOLE),
@@ -224,11 +231,11 @@ REFUSED = {
         IN_PART.format("users.a.tokens[].pw"),
     ),
     "plaintext with the tag": Change(PW, PW + b"x: !vault plain\n", TAGGED.format(8)),
-    "a repaired file": Change(TAB + PW, PLAIN, FEWER),
+    "a repaired file": Change(TAB + PW, PLAIN, f"{FEWER}{TOKEN}"),
     "a file that is still to be repaired": Change(
         TAB + PW,
         TAB + PLAIN + b"# !vault\n",
-        FEWER,
+        f"{FEWER}{TOKEN}",
     ),
     "a text that begins like a value": Change(PW, b"pw: $ANSIBLE_VAULT_KEY\n", pw),
     "a vault, now like a tag": Change(VAULT, b"!plain\n", WHOLE),
@@ -250,14 +257,24 @@ REFUSED = {
     "an item of several": Change(users(PW, PW2), users(PLAIN, PW2), IN_PART.format("users[].pw")),
     "in JSON": Change(IN_JSON, b'{"db": "plain"}\n', IN_PART.format("db")),
     "in a renamed file": Change(LINES + PW, {"b.yml": LINES + PLAIN}, f"b.yml {pw}"),
+    "a variable, now of a play": Change(
+        {"a.yml": PW, "y": X}, {"p.yml": b"- hosts: x\n  vars: {pw: plain}\n", "y": X}, f"p.yml {pw}"
+    ),
+    "a host's variable, now in the inventory": Change(
+        {"host_vars/a.yml": PW, "host_vars/b.yml": PW2},
+        {"hosts.yml": b"all: {children: {x: {hosts: {a: {pw: plain}}}}}\n", "host_vars/b.yml": PW2},
+        f"hosts.yml {pw}",
+    ),
+    "a variable of a play, now of a group": Change(
+        {"p.yml": item(below(b"vars", PW)), "y": X}, {"group_vars/x.yml": PLAIN, "y": X}, f"group_vars/x.yml {pw}"
+    ),
     "markers and CR LF": Change(PW, (CONFLICT % (PW, PW2)).replace(b"\n", b"\r\n"), UNMERGED),
     "a torn vault": Change(VAULT, VAULT[:27] + CONFLICT % (VAULT[27:], OTHER[27:]), UNMERGED),
     "a torn value": Change(PW, PW[:60] + CONFLICT % (PW[60:], PW2[60:]), UNMERGED),
     "a cut vault again": Change(CUT, CUT[:-1], DAMAGED),
     "a cut value": Change(X, X + PW[:-100] + b"\n", CUT_VALUE.format(3)),
     "a cut comment": Change(X, {"a.sh": b"\n# " + CUT.replace(b"\n", b"\n# ")}, f"a.sh {CUT_VALUE.format(2)}"),
-    "a line that ends at U+2028": Change(PW, "n: 1\n\u2028pw: plain\n".encode(), pw),
-    "no YAML any more": Change(PW, b"\t" + PLAIN, FEWER),
+    "no YAML any more": Change(PW, b"\t" + PLAIN, f"{FEWER}{TOKEN}"),
 }
 CHANGES = PASSING | REFUSED
 
@@ -276,8 +293,8 @@ def test_changes(place: Place, change: Change) -> None:
     stage(place, change.before)
     place.shell("git commit -qm before")
     stage(place, change.after)
-    line = change.why if isinstance(change.after, dict) else f"a.yml {change.why}"
-    assert told(place.run(HOOK)) == ([line] if change.why else [])
+    why = change.why if isinstance(change.after, dict) else f"a.yml {change.why}"
+    assert told(place.run(HOOK)) == ([why] if change.why else [])
 
 
 # What two branches do before one merges the other. The file a.yml is a vault, and b.yml has a value.

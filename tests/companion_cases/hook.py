@@ -7,7 +7,7 @@ from typing import NamedTuple
 import pytest
 
 from companion_cases import HOOK, TEXT, Done, Place, block, ended, sealed, silent
-from companion_cases.repository import GONE, IN_PART, WHOLE, add_and_commit, committed, staged, told, under_git
+from companion_cases.repository import GONE, IN_PART, WHOLE, add_and_commit, committed, fork, staged, told, under_git
 from companion_cases.repository import with_hooks
 from lib.needs import needs
 from lib.paths import COMPANIONS, ROOT
@@ -16,17 +16,18 @@ from lib.processes import run_text
 pytestmark = pytest.mark.usefixtures("git")
 
 ATTRIBUTES = "*.vault.yml diff=ansible-vault\nsecrets/** ansible-vault\n"
+PAGE = (ROOT / "man" / f"{HOOK}.1").read_text()
 
 
-def test_help_names_each_rule() -> None:
-    """Of each file `*_rule.py`, the help has a line with the word of the file's name and "must"."""
-    files = (ROOT / "companions" / "ansible_vault_companions" / "guard").glob("*_rule.py")
-    names = {file.stem.removesuffix("_rule") for file in files}
-    rules = re.findall(
-        "^  - (.*must(?:.|\n    )*)[;.]$", run_text([str(COMPANIONS[HOOK]), "--help"]).stdout, re.MULTILINE
-    )
-    assert [name for name in names if not any(re.search(rf"\b{name}", rule) for rule in rules)] == []
-    assert len(rules) == len(names), "an item for each rule"
+def test_help_has_the_rules_of_the_page() -> None:
+    """The rules are the same sentences in the help and in the manual page, which adds to some of them."""
+    shown = run_text([str(COMPANIONS[HOOK]), "--help"]).stdout
+    rules = [" ".join(rule.split()) for rule in re.findall(r"^ \d\. (.*\n(?:    .*\n)*)", shown, re.MULTILINE)]
+    section = PAGE.partition(".Sh RULES\n")[2].partition(".Sh ")[0]
+    text = re.sub(r"^\.Ql (.*?)(?: ([,.]))?$", r"`\1`\2", section, flags=re.MULTILINE)
+    items = [" ".join(item.split()) for item in text.split(".It\n")[1:]]
+    assert len(rules) == len(items) == 6
+    assert [rule for rule, item in zip(rules, items) if not item.startswith(rule)] == []
 
 
 def test_what_is_staged(place: Place) -> None:
@@ -114,9 +115,9 @@ def test_git_that_fails(place: Place) -> None:
     add_and_commit(place)
     place.put("a.yml", TEXT)
     place.shell("git add -A")
-    for status, why in ((1, "git cannot read refs/heads/"), (128, "git rev-parse failed: ")):
-        place.wrap_tool(f'case "$*" in *rev-parse*--verify*HEAD*) exit {status};; esac', "git")
-        ended(why, place.run(HOOK), 1, why)
+    for status in (1, 128):
+        place.wrap_tool(f'case "$*" in *rev-parse*HEAD*) exit {status};; esac', "git")
+        ended("git fails", place.run(HOOK), 1, f"git rev-parse failed: it ended with status {status}")
 
 
 def test_pre_commit(place: Place) -> None:
@@ -192,10 +193,125 @@ def test_modes(place: Place, before: int, after: int) -> None:
     last = place.shell("git rev-parse HEAD").stdout[:10]
     in_first = [line.replace("HEAD", first) for line in wanted]
     assert told(place.run(HOOK, "--since", first)) == [f"{last}: {line}" for line in in_first], "a later commit"
+    assert told(place.run(HOOK, "--all")) == [f"{last}: {line}" for line in in_first], "the last commit"
     committed(place, "x.txt", TEXT)
-    in_earlier = f"v {WHOLE.replace('HEAD', 'an earlier commit')}"
-    assert sorted(told(place.run(HOOK, "--all"))) == [unmarked, in_earlier], "an earlier commit"
+    assert told(place.run(HOOK, "--all")) == [unmarked], "a file of the last commit"
     assert told(place.run(HOOK, "m.vault.yml")) == [unmarked], "a file that is named"
+
+
+# Answers like git since version 2.40, which reads attributes from a commit.
+WITH_SOURCE = """
+case "$*" in *check-attr*--source=*)
+    set -- "$@" END
+    while [ "$1" != END ]; do
+        case $1 in --source=*) commit=${1#--source=}; set -- "$@" --cached ;; *) set -- "$@" "$1" ;; esac
+        shift
+    done
+    shift
+    export GIT_INDEX_FILE="$0.index"
+    PATH=${PATH#*:} command git read-tree "$commit" ;;
+esac
+"""
+
+
+@pytest.mark.parametrize("version", ["", WITH_SOURCE], ids=["this git", "with --source"])
+def test_attributes_of_each_commit(place: Place, version: str) -> None:
+    """A commit is judged by its own .gitattributes: a line may go with the next one, and a later one changes nothing,
+    whichever branch it is on. What is staged is judged by what is staged."""
+    with_hooks(place)
+    if version:
+        place.wrap_tool(version, "git")
+    committed(place, "a.yml", sealed("old"))
+    first = committed(place, "b.yml", sealed("old"))
+    assert staged(place, {".gitattributes": b"a.yml -ansible-vault\n", "a.yml": TEXT}) == []
+    silent("the line comes", place.shell("git commit -qm 1"))
+    assert staged(place, {".gitattributes": b"", "x.txt": TEXT}) == []
+    silent("the line goes", place.shell(f"git commit -qm 2 && {HOOK} --since {first} && {HOOK} --all"))
+    before = place.shell("git rev-parse HEAD").stdout[:10]
+    leak = committed(place, "b.yml", TEXT)
+    committed(place, ".gitattributes", b"*.yml -ansible-vault\n")
+    place.shell(f"git checkout -qb side {first}")
+    second = committed(place, "c.yml", sealed("old"))
+    other = committed(place, "c.yml", TEXT)
+    silent("a merge", place.shell("git checkout -q - && git merge -q --no-edit side"))
+    committed(place, ".gitattributes", b"x.txt ansible-vault\n")
+    wanted = [f"{leak}: b.yml {WHOLE.replace('HEAD', before)}", f"{other}: c.yml {WHOLE.replace('HEAD', second)}"]
+    assert sorted(told(place.run(HOOK, "--since", first))) == sorted(wanted)
+    assert told(place.run(HOOK, "--all")) == ["x.txt is not encrypted"], "what is marked now"
+
+
+def test_long_contents(place: Place) -> None:
+    """Of what is longer than any plaintext, only the first word is read, even if git would never end."""
+    under_git(place, ATTRIBUTES)
+    long = b"x" * (1 << 24)
+    vaults = {name: sealed("old") + b"61" * (1 << 23) for name in ("a.yml", "b.yml")}
+    assert staged(place, {**vaults, "c.yml": block("old"), "d.vault.yml": vaults["a.yml"], "e.yml": long + b"x"}) == []
+    place.shell("git commit -qm vaults")
+    fewer = "c.yml has fewer envelopes than in HEAD, and its values cannot be compared: it has over 16,777,216 bytes"
+    wanted = [f"a.yml {WHOLE}", fewer, f"d.vault.yml {WHOLE}"]
+    files = {name: long + b"x" for name in ("a.yml", "c.yml", "d.vault.yml", "e.yml")}
+    assert staged(place, {**files, "b.yml": vaults["b.yml"] + b"\n"}) == wanted
+    endless = 'read blob; echo "$blob blob 99999999999"; exec cat /dev/zero'
+    place.wrap_tool(f'case "$*" in *cat-file*) {endless} ;; esac', "git")
+    assert told(place.run(HOOK)) == ["d.vault.yml is not encrypted"]
+
+
+def test_leftover(place: Place) -> None:
+    """What a companion that is killed has left may be a whole plaintext."""
+    under_git(place, "")
+    name = "group_vars/.ansible-vault-0_abcxyz.new"
+    [line] = staged(place, {name: TEXT})
+    assert line == f"{name} is a temporary file of a companion that was killed, and may be plaintext"
+    assert staged(place, {".gitattributes": f"/{name} -ansible-vault\n".encode()}) == []
+
+
+# New files with the names of vaults, and others.
+NAMED = [
+    "group_vars/all/vault.yml",
+    "group_vars/all/vault/db.json",
+    "group_vars/vault",
+    "host_vars/db.example.org/vault.yaml",
+    "inventories/prod/group_vars/db.vault.yml",
+    "roles/web/group_vars/a/vault/b/c",
+]
+NOT_NAMED = [
+    "group_vars/all/README.md",
+    "group_vars/all/my_vault.yml",
+    "group_vars/all/vault.yml.example",
+    "group_vars/all/vault/.lint",
+    "group_vars/all/vault/notes.txt",
+    "group_vars/vaults/a.yml",
+    "molecule/default/group_vars/all/vault.yml",
+    "roles/vault/tasks/vault.yml",
+    "tests/inventory/host_vars/a/vault.yml",
+    "vault.yml",
+    "vault/group_vars/all.yml",
+]
+
+
+def test_names_of_vaults(place: Place) -> None:
+    """A new file that has the name of a vault is encrypted, unless a line allows it. One that is there stays."""
+    under_git(place, "group_vars/vault -ansible-vault\n")
+    first = committed(place, "x.txt", TEXT)
+    named = [name for name in NAMED if name != "group_vars/vault"]
+    lines = [f"{name} is not encrypted, but has the name of a vault" for name in named]
+    assert staged(place, {name: TEXT for name in (*NAMED, *NOT_NAMED)}) == lines
+    last = committed(place, "y.txt", TEXT)
+    assert told(place.run(HOOK, "--since", first)) == [f"{last}: {line}" for line in lines]
+    assert staged(place, {name: TEXT * 2 for name in NAMED}) == [], "they are there"
+    place.shell("git commit -qm change && git mv group_vars/all/vault.yml group_vars/vault.yml")
+    assert staged(place, {}) == [], "one is renamed"
+    accepted: dict[str, bytes] = {"a": sealed("old"), "b": block("old"), "c.yml": b"# x\n", "d.yml": b"x: '{{ y }}'\n"}
+    assert staged(place, {f"group_vars/b/vault/{name}": content for name, content in accepted.items()}) == []
+
+
+def test_merged_names_of_vaults(place: Place) -> None:
+    """What another branch has is not new, and is judged where it was."""
+    with_hooks(place)
+    fork(place, {"x.txt": TEXT}, {"y.txt": TEXT}, {"z.txt": TEXT})
+    place.shell("git checkout -q theirs")
+    committed(place, "group_vars/all/vault.yml", TEXT)
+    silent("a merge", place.shell(f"git checkout -q - && git merge -q --no-edit theirs && {HOOK} --all"))
 
 
 # Names that git takes for commits, options or patterns where it may.
@@ -210,7 +326,7 @@ def run_below(place: Place, *words: str) -> Done:
 
 def test_versions(place: Place) -> None:
     """Any number of versions of a vault is fine, also beside files that are named like commits. What is committed is no
-    longer to be committed otherwise, so the advice is another one."""
+    longer to be committed otherwise, so the advice is another one. A later line does not allow an earlier commit."""
     under_git(place, "")
     for name in LIKE_REVISIONS:
         place.put(name, TEXT)
@@ -222,13 +338,13 @@ def test_versions(place: Place) -> None:
     for words in lines:
         silent("three versions", run_below(place, *words))
     committed(place, "a.yml", TEXT)
-    done = run_below(place, "--since=HEAD~1")
-    assert len(told(done)) == 1 and "git rebase -i" in done.stderr, done
-    done = run_below(place, "--all")
-    assert told(done) == [f"a.yml {WHOLE.replace('HEAD', 'an earlier commit')}"]
-    assert "this line at the end of .gitattributes: /a.yml -ansible-vault" in done.stderr
+    for words in (["--since=HEAD~1"], ["--all"]):
+        done = run_below(place, *words)
+        assert len(told(done)) == 1 and "git rebase -i" in done.stderr, done
+        assert "this line at the end of .gitattributes: /a.yml -ansible-vault" in done.stderr
     committed(place, ".gitattributes", b"/a.yml -ansible-vault\n")
-    silent("the line is committed", run_below(place, "--all"))
+    silent("the last commit", run_below(place, "--all"))
+    assert len(told(run_below(place, "--since", first))) == 1
 
 
 @pytest.mark.parametrize("name", LIKE_REVISIONS)
@@ -241,11 +357,13 @@ def test_names_like_revisions(place: Place, name: str) -> None:
     assert staged(place, {name: TEXT}) == [f"{name} {WHOLE}"]
     ended("git commit", place.shell("git commit -qm plaintext"), 1, f"{HOOK}: {name} {WHOLE}\n")
     second, last = place.shell("git rev-parse HEAD").stdout[:10], committed(place, name, TEXT)
-    assert told(run_below(place, "--all")) == [f"{name} {WHOLE.replace('HEAD', 'an earlier commit')}"]
-    assert told(run_below(place, "--since", second)) == [f"{last}: {name} {WHOLE.replace('HEAD', second)}"]
+    for words in (["--all"], ["--since", second]):
+        assert told(run_below(place, *words)) == [f"{last}: {name} {WHOLE.replace('HEAD', second)}"]
 
 
 PAGE = (ROOT / "man" / f"{HOOK}.1").read_text()
+
+
 # Before a commit and after it, files with their contents; and what the hook says.
 EXAMPLES = re.findall(r"\.Bd .*\n(before (?:.*\n)+?)(after (?:.*\n)+?)hook ((?:.*\n)+?)\.Ed", PAGE)
 
@@ -269,6 +387,11 @@ def test_examples(place: Place, before: str, after: str, says: str) -> None:
     put_example(place, after)
     assert staged(place, {}) == [" ".join(says.split())]
     assert len(EXAMPLES) == PAGE.count("\nhook ") == 2
+
+
+UNSHALLOW, NOT_PARTIAL = "run `git fetch --unshallow`", "git "
+# What makes a clone that lacks something, and what the message says.
+LACKING = {"depth=1": UNSHALLOW, "depth=2": UNSHALLOW, "filter=blob:none": NOT_PARTIAL, "filter=tree:0": NOT_PARTIAL}
 
 
 # What cannot be read as YAML, with a value in plaintext.

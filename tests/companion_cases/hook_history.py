@@ -1,10 +1,10 @@
-"""ansible-vault-hook: later commits (--since), merges, and all that a history had (--all)."""
+"""ansible-vault-hook: later commits (--since), merges, and the files and the change of the last commit (--all)."""
 
 import re
 
 import pytest
 
-from companion_cases import HOOK, TEXT, Place, ended, sealed, silent
+from companion_cases import HOOK, TEXT, Place, block, ended, sealed, silent
 from companion_cases.repository import GONE, WHOLE, committed, fork, staged, told, under_git, with_hooks
 
 pytestmark = pytest.mark.usefixtures("git")
@@ -12,8 +12,8 @@ pytestmark = pytest.mark.usefixtures("git")
 
 @pytest.mark.parametrize("kind", ("sha1", "sha256"))
 def test_history(place: Place, kind: str) -> None:
-    """A leak counts even if a later commit takes it back; or if one commit removes a vault and another adds its
-    plaintext. Neither the contents in the index count nor the files, nor what is checked out."""
+    """A leak counts even if a later commit takes it back. Neither the contents in the index count nor the files, nor
+    what is checked out."""
     place.shell(f"git init -q --object-format={kind}")
     under_git(place, "")
     for name in ("a.yml", "b.yml"):
@@ -36,15 +36,13 @@ def test_history(place: Place, kind: str) -> None:
         f"{leak}: a.txt {GONE.format('a.yml')}",
         f"{leak}: vars.yml {in_first}",
         in_last,
-        f"{last}: b.yml {in_first}",
     ]
     assert told(place.run(HOOK, "--since", first, folder="deep")) == since_first
     assert told(place.run(HOOK, "--since", leak)) == [in_last], "nor what came before"
     silent("nothing since", place.run(HOOK, "--since", "HEAD"))
-    of_all = [f"b.yml {WHOLE.replace('HEAD', 'an earlier commit')}", "deep/a.vault.yml is not encrypted"]
-    assert told(place.run(HOOK, "--all", folder="deep")) == of_all
+    assert told(place.run(HOOK, "--all", folder="deep")) == [in_last]
     place.shell("git reset -q --hard && git sparse-checkout set other")
-    assert told(place.run(HOOK, "--all")) == of_all, "whatever is checked out"
+    assert told(place.run(HOOK, "--all")) == [in_last], "whatever is checked out"
     assert "deep" not in place.names(), "it is not checked out"
 
 
@@ -82,34 +80,6 @@ def test_amend(place: Place) -> None:
     silent("the amended commit", place.shell(f"{HOOK} --since HEAD~1 && {HOOK} --all"))
 
 
-# What makes a vault v.yml: in the first commit, in a later one, on a branch, or in a merge whose parents have none.
-SAVE = "git add -A && git commit -qm change --allow-empty"
-MERGE_SIDE = "git merge -q --no-ff --no-edit side"
-FORK = f"{SAVE} && git checkout -qb side && {SAVE} && git checkout -q -"
-ADD = f"cp ../vault v.yml && {SAVE}"
-ADD_TO_MERGE = f"{MERGE_SIDE} && cp ../vault v.yml && git add -A && git commit -q --amend --no-edit"
-MADE = {
-    "in the first commit": ADD,
-    "in a later one": f"{SAVE} && {ADD}",
-    "on a branch": f"{FORK} && git checkout -q side && {ADD} && git checkout -q - && {MERGE_SIDE}",
-    "in a merge": f"{FORK} && {ADD_TO_MERGE}",
-    "in a merge, in place of plaintext": f"echo 1 > v.yml && {FORK} && {ADD_TO_MERGE}",
-}
-
-
-@pytest.mark.parametrize("lines", MADE.values(), ids=MADE)
-def test_every_earlier_vault(place: Place, lines: str) -> None:
-    """Whichever commit made a vault, --all finds that it was decrypted before the last commit."""
-    under_git(place, "")
-    place.put("../vault", sealed("old"))
-    done = place.shell(lines)
-    assert done.returncode == 0, done
-    silent("the vault", place.run(HOOK, "--all"))
-    committed(place, "v.yml", TEXT)
-    committed(place, "x.txt", TEXT)
-    assert told(place.run(HOOK, "--all")) == [f"v.yml {WHOLE.replace('HEAD', 'an earlier commit')}"]
-
-
 UNSHALLOW, NOT_PARTIAL = "run `git fetch --unshallow`", "git "
 # What makes a clone that lacks something, and what the message says.
 LACKING = {"depth=1": UNSHALLOW, "depth=2": UNSHALLOW, "filter=blob:none": NOT_PARTIAL, "filter=tree:0": NOT_PARTIAL}
@@ -130,23 +100,6 @@ def test_clones_that_lack_something(place: Place, option: str, why: str, words: 
     assert sorted((place.path / "clone").rglob("*")) == files, "nothing is fetched"
 
 
-def test_several_merge_bases(place: Place) -> None:
-    """After two branches have merged each other, what later commits change together is compared with each merge
-    base."""
-    under_git(place, "")
-    names = ("one", "two")
-    fork(place, {"x.txt": b"1\n"}, *({f"{name}.yml": sealed("old")} for name in names))
-    ends = [place.shell(f"git rev-parse {end}").stdout.strip() for end in ("HEAD", "theirs")]
-    place.shell(f"git merge -q --no-edit {ends[1]} && git checkout -q theirs && git merge -q --no-edit {ends[0]}")
-    assert len(place.shell("git merge-base --all theirs @{-1}").stdout.split()) == 2
-    base = place.shell("git rev-parse @{-1}").stdout.strip()
-    place.shell("git rm -q one.yml two.yml && git commit -qm removed")
-    place.put("one.yml", TEXT)
-    last = committed(place, "two.yml", TEXT)
-    wanted = {f"{last}: {name}.yml {WHOLE.replace('HEAD', end[:10])}" for name, end in zip(names, ends)}
-    assert {*told(place.run(HOOK, "--since", base))} == wanted
-
-
 def test_merge(place: Place) -> None:
     """What a merge puts in plaintext is compared with each branch, before the commit and after it."""
     under_git(place, "")
@@ -165,6 +118,8 @@ def test_merge(place: Place) -> None:
 def test_octopus(place: Place) -> None:
     """A merge of several branches is compared with each of them."""
     with_hooks(place)
+    for name in ("one", "two"):
+        place.put(f"{name}.yml", TEXT)
     committed(place, "a.txt", TEXT)
     for name in ("one", "two"):
         place.shell(f"git checkout -q -b {name} HEAD")
@@ -174,17 +129,12 @@ def test_octopus(place: Place) -> None:
     committed(place, "three.yml", TEXT)
     merge = "git merge --no-edit one two > ../merged"
     silent("vaults", place.shell(f"{merge} && {HOOK} --since HEAD^ && git reset -q --hard HEAD^"))
-    place.shell(merge.replace("--no-edit", "--no-commit"))
     wanted = []
     for name in ("one", "two"):
         commit = place.shell(f"git rev-parse {name}").stdout[:10]
         wanted.append(f"{name}.yml {WHOLE.replace('HEAD', commit)}")
-    files = {"one.yml": TEXT, "two.yml": TEXT}
-    assert sorted(staged(place, files)) == wanted
-    place.shell("git commit -qm merge --no-verify")
-    last, *parents = place.shell("git rev-parse HEAD HEAD^ HEAD^2 HEAD^3").stdout.split()
-    why = WHOLE.replace("HEAD", " or ".join(parent[:10] for parent in parents))
-    assert told(place.run(HOOK, "--since", "HEAD^")) == [f"{last[:10]}: {name} {why}" for name in files]
+    done = place.shell(merge.replace("git merge", "git merge -s ours"))
+    assert sorted(told(done)) == sorted(wanted)
 
 
 def test_replaced_objects(place: Place) -> None:
@@ -196,3 +146,28 @@ def test_replaced_objects(place: Place) -> None:
     place.shell("git replace HEAD $(git commit-tree -p HEAD~1 -m x HEAD~1^{tree})")
     for words in (["--since", first], ["--all"]):
         assert any("was a vault" in line for line in told(place.run(HOOK, *words))), words
+
+
+def test_all(place: Place) -> None:
+    """The last change is checked, even that of a merge or of the first commit, and all files for what is wrong in them
+    whatever they were before."""
+    under_git(place, "*.vault.yml diff=ansible-vault\n")
+    names = {"m.vault.yml": TEXT, "group_vars/all/vault.yml": TEXT, "d.yml": block("old")[:-99]}
+    for name, content in names.items():
+        place.put(name, content)
+    damaged, named, unmarked = (
+        "d.yml has a damaged value in line 2",
+        "group_vars/all/vault.yml is not encrypted, but has the name of a vault",
+        "m.vault.yml is not encrypted",
+    )
+    first = committed(place, "t.yml", b"x: !vault plain\n")
+    tagged = "t.yml has plaintext with the tag `!vault` in line 1"
+    assert told(place.run(HOOK, "--all")) == [f"{first}: {line}" for line in (damaged, named, unmarked, tagged)]
+    fork(place, {"v.yml": sealed("old")}, {"x.txt": b"1\n"}, {"y.txt": b"1\n"})
+    wanted = [damaged, unmarked, tagged]
+    assert told(place.run(HOOK, "--all")) == wanted, "what is there stays as it is"
+    place.shell("git merge -q --no-commit theirs")
+    merge = committed(place, "v.yml", TEXT)
+    parents = place.shell("git rev-parse HEAD^1 HEAD^2").stdout.split()
+    in_merge = WHOLE.replace("HEAD", " or ".join(parent[:10] for parent in parents))
+    assert told(place.run(HOOK, "--all")) == [f"{merge}: v.yml {in_merge}", *wanted]

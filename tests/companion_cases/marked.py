@@ -129,7 +129,8 @@ OVERLOOKED = {
 @pytest.mark.parametrize("name", [".gitattributes", ".git/info/attributes"])
 @pytest.mark.parametrize("what", OVERLOOKED)
 def test_overlooked_marks(place: Place, what: str, name: str) -> None:
-    """If git cannot read a mark, no file passes for one without. The check itself reads each .gitattributes first."""
+    """If git cannot read a mark, the check lets no file pass for one without, and the hook passes on what git says. The
+    check itself reads each .gitattributes first."""
     change, warning = OVERLOOKED[what]
     if name == ".gitattributes" and warning == NO_ACCESS:
         return
@@ -141,7 +142,7 @@ def test_overlooked_marks(place: Place, what: str, name: str) -> None:
     done = place.as_nobody(CHECK, *place.by_file("old"), ".")
     ended("the check", done, 1, f"{CHECK}: git check-attr failed: ", warning)
     if name != ".gitattributes":
-        ended("the hook", place.as_nobody(HOOK), 1, f"{HOOK}: git check-attr failed: ", warning)
+        ended("the hook", place.as_nobody(HOOK), 0, f"{HOOK}: git check-attr: ", warning)
 
 
 def test_variables_of_git(place: Place) -> None:

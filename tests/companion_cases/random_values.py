@@ -1,6 +1,6 @@
 """Random YAML documents with values, and random commits. The hook lets through what is done to documents every day, and
-names most documents in which a value becomes plaintext in the same commit: it counts, so it misses one where as many
-values of a list were encrypted."""
+names nearly all documents in which a value becomes plaintext in the same commit. It misses some lists that become
+mappings, or the reverse, while others of their texts are encrypted or change."""
 
 import json
 import subprocess
@@ -251,4 +251,4 @@ def test_documents(own_repository: Path) -> None:
 
     commit()
     assert counts["passes"] >= 400 and counts["leaks"] >= 100, counts
-    assert counts["missed"] < counts["leaks"] / 4, counts
+    assert counts["missed"] <= counts["leaks"] / 75, counts

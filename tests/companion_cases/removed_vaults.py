@@ -39,8 +39,6 @@ FALSE_ALARMS = {
     "a public key as long",
     "a token's public key",
     "a public key of PGP",
-    "a template",
-    "a template in its directory",
     "many roles, one of them with as long a file",
     "a host's network",
     "another address",

@@ -73,7 +73,7 @@ def make_envelope(number: int) -> bytes:
 def find_staged_faults() -> set[str]:
     """Return what is staged here and refused, as the hook does, but without a process of its own."""
     staged = list_staged()
-    attributes = read_attributes({file.name for changes in staged for file in changes.files})
+    attributes, _ = read_attributes({file.name for changes in staged for file in changes.files}, "")
     with Contents() as contents:
         known = Known(contents)
         found = [find_faults(Evidence(changes, known, attributes)) for changes in staged]

@@ -207,6 +207,17 @@ LEAKS: dict[str, tuple[Files, Files, str]] = {
         "vault.yml.bak",
     ),
     "a copy of a new vault": ({}, {"new/vault.yml": vault(DB), "new/vault.yml.dec": DB}, "new/vault.yml.dec"),
+    # Elsewhere, while the vault stays.
+    "a copy by the name of a vault": (
+        {"files/vcenter.json": vault(CONFIG)},
+        {"files/vcenter.json": vault(CONFIG), "tmp/vcenter.json": CONFIG},
+        "tmp/vcenter.json",
+    ),
+    "another environment's copy": (
+        {"environments/prod/db/secrets.yml": vault(DB)},
+        {"environments/prod/db/secrets.yml": vault(DB), "environments/staging/db/secrets.yml": DB},
+        "environments/staging/db/secrets.yml",
+    ),
     # What the hook cannot know.
     "a list elsewhere": ({"vars/users.yml": vault(USERS)}, {"roles/a/vars/users.yml": USERS}, "roles/a/vars/users.yml"),
     "half of a split": (

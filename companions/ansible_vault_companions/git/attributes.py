@@ -5,13 +5,18 @@ from __future__ import annotations
 import os
 import re
 from functools import lru_cache
-from typing import Collection, Iterable, NamedTuple
+from subprocess import CompletedProcess
+from typing import Any, Collection, Iterable, NamedTuple
 
 from ansible_vault_companions.files import reading
 from ansible_vault_companions.files.link_bounds import find_repository
-from ansible_vault_companions.git.commands import make_refusal, run_git_command
+from ansible_vault_companions.git.commands import make_refusal, run_git, run_git_command
 from ansible_vault_companions.refusals import Refused, describe_refusal
 
+Done = CompletedProcess[bytes]
+CHECK = "check-attr"
+# The status with which git refuses an option that it does not know.
+INVALID_OPTION = 129
 # The first attribute marks a file if it has this value, the second if it is set. Unset, the second exempts a file.
 DIFF, VAULT = ATTRIBUTES = ("diff", "ansible-vault")
 NAME = b"ansible-vault"
@@ -28,17 +33,32 @@ class Attributes(NamedTuple):
     is_exempt: bool = False
 
 
-def read_attributes(names: Collection[bytes], folder: str | None = None) -> dict[bytes, Attributes]:
-    """The attributes of files by what is staged or, if a directory is given, by the files there."""
+def read_attributes(names: Collection[bytes], commit: str) -> tuple[dict[bytes, Attributes], list[str]]:
+    """The attributes of files in a commit or, without one, in the index; and what git says that it overlooks."""
+    done = _ask(names, f"--source={commit}" if commit else "--cached")
+    if commit and done.returncode == INVALID_OPTION:
+        import tempfile
+
+        # Before version 2.40, git reads attributes from an index alone.
+        with tempfile.TemporaryDirectory(prefix="ansible-vault-hook-") as private:
+            variables = {"GIT_INDEX_FILE": os.path.join(private, "index")}
+            run_git("read-tree", commit, variables=variables)
+            done = _ask(names, "--cached", variables=variables)
+    return _read_answer(names, done)
+
+
+def _ask(names: Collection[bytes], *options: str, **places: Any) -> Done:
     data = b"".join(name + b"\0" for name in names)
-    options = [] if folder else ["--cached"]
-    done = run_git_command("check-attr", *options, "-z", "--stdin", *ATTRIBUTES, data=data, folder=folder)
-    # git only warns of a line or a file that it does not read, which may have them.
-    if done.returncode or done.stderr:
-        raise make_refusal("check-attr", done.returncode, done.stderr)
+    return run_git_command(CHECK, *options, "-z", "--stdin", *ATTRIBUTES, data=data, **places)
+
+
+def _read_answer(names: Collection[bytes], done: Done) -> tuple[dict[bytes, Attributes], list[str]]:
+    if done.returncode:
+        raise make_refusal(CHECK, done.returncode, done.stderr)
     # The name, the attribute and its value, for each attribute.
     fields = done.stdout.split(b"\0")
-    return {name: _make_attributes(diff, vault) for name, diff, vault in zip(names, fields[2::6], fields[5::6])}
+    found = {name: _make_attributes(diff, vault) for name, diff, vault in zip(names, fields[2::6], fields[5::6])}
+    return found, done.stderr.decode(errors="replace").splitlines()
 
 
 @lru_cache(maxsize=None)
@@ -60,8 +80,11 @@ def find_marked(paths: Iterable[tuple[str, Collection[str]]]) -> set[str]:
         _require_readable(folder, names)
         listed = [*names]
         for start in range(0, len(listed), AT_ONCE):
-            given = read_attributes(listed[start : start + AT_ONCE], folder)
-            marked.update(names[name] for name in given if given[name].is_marked)
+            some = listed[start : start + AT_ONCE]
+            attributes, overlooked = _read_answer(some, _ask(some, folder=folder))
+            if overlooked:
+                raise Refused(f"git {CHECK} failed: {' '.join(overlooked)}")
+            marked.update(names[name] for name, given in attributes.items() if given.is_marked)
     return marked
 
 

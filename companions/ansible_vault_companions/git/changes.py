@@ -5,8 +5,8 @@ from __future__ import annotations
 import os
 from typing import Collection, Iterable, Iterator, NamedTuple
 
-from ansible_vault_companions.files import reading
-from ansible_vault_companions.git.commands import list_records, read_line, run_git
+from ansible_vault_companions.git.attributes import FILE as ATTRIBUTES
+from ansible_vault_companions.git.commands import list_records, read_line
 from ansible_vault_companions.git.pathspecs import make_pathspec
 from ansible_vault_companions.quoting import escape
 from ansible_vault_companions.refusals import Refused
@@ -17,8 +17,6 @@ COMMITS = ("diff-tree", "--stdin", "-r", "-m", "--root", *RAW)
 FILE_MODES = ("100644", "100755")
 # How many digits of a commit are enough for a message.
 DIGITS = 10
-# A command line has no room for more.
-MOST_FOLDERS = 100
 # git gives a hook the commits being merged in environment variables with this prefix.
 MERGED = "GITHEAD_"
 SHALLOW = "earlier commits are missing: run `git fetch --unshallow`, or set fetch-depth or GIT_DEPTH of a pipeline to 0"
@@ -34,52 +32,55 @@ class File(NamedTuple):
 
 
 class Changes(NamedTuple):
-    """Files that differ from a commit, which messages call by a name. The ID is empty if there is none, or several."""
+    """Files, and what they differ from, if anything: its name in messages, and its tree if it is the only parent."""
 
     files: list[File]
     since: str = ""
     parent: str = ""
-    # What the files are in, and where to rewrite that from: both empty for what is staged.
+    # The commit that the files are in, and where to rewrite that from: both empty for what is staged.
     commit: str = ""
     base: str = ""
+    # The commit whose .gitattributes count; empty for those that are staged.
+    marks: str = ""
 
 
 def list_staged() -> list[Changes]:
     """What is staged, compared with HEAD and with each commit that is being merged."""
-    parents = [read_line("hash-object", "-t", "tree", "--stdin")]
-    if _has_commit():
-        merged = {name.removeprefix(MERGED) for name in os.environ if name.startswith(MERGED)}
-        # `git rev-parse MERGE_HEAD` gives only the first commit.
-        merged.update((reading.read(read_line("rev-parse", "--git-path", "MERGE_HEAD")) or b"").decode().split())
-        parents = ["HEAD", *sorted(merged)]
+    # Of several that are being merged, git prints only the first, but gives them all to the hook for a merge.
+    parents = [line.decode() for line in list_records("rev-parse", "--revs-only", "HEAD", "MERGE_HEAD")]
+    merged = {name.removeprefix(MERGED) for name in os.environ if name.startswith(MERGED)}
+    parents += sorted(merged.difference(parents))
+    names = ["HEAD", *(id[:DIGITS] for id in parents[1:])]
+    if not parents:
+        parents = [_find_empty_tree()]
     single = parents[0] if len(parents) == 1 else ""
     return [
-        Changes([*_list_files("diff-index", "--cached", *RAW, parent, "--")], parent[:DIGITS], single)
-        for parent in parents
+        Changes([*_list_files("diff-index", "--cached", *RAW, parent, "--")], name, single)
+        for parent, name in zip(parents, names)
     ]
 
 
-def _has_commit() -> bool:
-    """Whether HEAD is a commit, and not a branch that has none yet. Raises Refused if git cannot tell."""
-    if read_line("rev-parse", "--verify", "--quiet", "HEAD", may_be_none=True):
-        return True
-    branch = read_line("symbolic-ref", "HEAD")
-    if run_git("for-each-ref", branch):
-        raise Refused(f"git cannot read {escape(branch)}")
-    return False
+def _find_empty_tree() -> str:
+    return read_line("hash-object", "-t", "tree", "--stdin")
 
 
 def list_named(paths: list[str]) -> list[File]:
     """The staged files at or below these paths. git refuses a path without any."""
-    return _list_entries("ls-files", "-s", "-z", "--full-name", "--error-unmatch", "--", *paths)
+    return _read_entries(list_records("ls-files", "-s", "-z", "--full-name", "--error-unmatch", "--", *paths))
 
 
-def list_tree(commit: str, folders: Collection[bytes] = ()) -> list[File]:
-    """All files of a commit; or at least those in these directories, unless they are many."""
-    if not 0 < len(folders) <= MOST_FOLDERS:
-        return _list_entries("ls-tree", "-r", "-z", "--full-tree", commit)
-    paths = [os.fsdecode(folder + b"/" if folder else b".") for folder in folders]
-    return _list_entries("ls-tree", "-z", "--full-tree", commit, "--", *paths)
+def list_tree(commit: str, parts: Collection[bytes] = ()) -> list[File]:
+    """All files of a commit, or those whose directory or name is one of these."""
+    entries = list_records("ls-tree", "-r", "-z", "--full-tree", commit)
+    if parts:
+        entries = [entry for entry in entries if any(part in parts for part in split_path(entry.partition(b"\t")[2]))]
+    return _read_entries(entries)
+
+
+def split_path(path: bytes) -> tuple[bytes, bytes]:
+    """The directory and the name of a file."""
+    folder, _, name = path.rpartition(b"/")
+    return folder, name
 
 
 def find_commit(name: str) -> str:
@@ -94,43 +95,31 @@ def require_whole_history() -> None:
         raise Refused(SHALLOW)
 
 
-def list_since(first: str, last: str) -> Iterator[Changes]:
-    """The changes of each later commit, compared with each parent; and those of all since the merge bases."""
-    lines = list_records("rev-list", "--reverse", "--topo-order", "--parents", f"{first}..{last}", "--")
+def list_commits(*which: str) -> Iterator[Changes]:
+    """The changes of each of these commits, compared with each parent. Which ones they are is said as to git log."""
+    lines = list_records("rev-list", "--reverse", "--topo-order", "--parents", *which, "--")
     parents = {ids[0]: ids[1:] for ids in (line.decode().split() for line in lines)}
-    for commit, files in _list_commits([*parents]):
+    marks = dict[str, str]()
+    for commit, files in _list_files_of(parents).items():
         own = parents[commit]
-        base = f"{commit}~1" if own else "--root"
-        yield Changes(files, " or ".join(id[:DIGITS] for id in own), own[0] if len(own) == 1 else "", commit, base)
-    # `git merge-base` has the same status if there are none and if it fails; this prints both commits first.
-    _, _, *bases = [line.decode().removeprefix("^") for line in list_records("rev-parse", f"{first}...{last}")]
-    for base in bases:
-        yield Changes([*_list_files("diff-tree", "-r", *RAW, base, last, "--")], base[:DIGITS], "", last, base)
+        has_new_marks = any(os.path.basename(file.name) == ATTRIBUTES for file in files)
+        first = own[0] if own else _find_empty_tree()
+        marks[commit] = commit if has_new_marks or not own else marks.get(first, first)
+        since, base = " or ".join(id[:DIGITS] for id in own), f"{commit}~1" if own else "--root"
+        yield Changes(files, since, first if len(own) < 2 else "", commit, base, marks[commit])
 
 
-def list_former_blobs(commit: str, names: Iterable[bytes]) -> dict[bytes, set[str]]:
-    """The blobs that files of these names had in any commit of a history."""
-    former: dict[bytes, set[str]] = {name: set() for name in names}
-    for _, files in _list_commits([line.decode() for line in list_records("rev-list", commit, "--")]):
-        for file in files:
-            if file.name in former:
-                former[file.name].update(filter(None, (file.before, file.blob)))
-    return former
-
-
-def _list_commits(commits: list[str]) -> Iterator[tuple[str, list[File]]]:
+def _list_files_of(commits: Iterable[str]) -> dict[str, list[File]]:
     """The files that each of these commits changes, for each parent."""
-    commit, files = "", list[File]()
+    changed: dict[str, list[File]] = {commit: [] for commit in commits}
+    commit = ""
     fields = iter(list_records(*COMMITS, data=b"".join(f"{commit}\n".encode() for commit in commits)))
     for field in fields:
         if field.startswith(b":"):
-            files += _read_file(field, next(fields))
-            continue
-        if files:
-            yield commit, files
-        commit, files = field.decode(), []
-    if files:
-        yield commit, files
+            changed[commit] += _read_file(field, next(fields))
+        else:
+            commit = field.decode()
+    return changed
 
 
 def _list_files(*words: str) -> Iterator[File]:
@@ -150,10 +139,10 @@ def _read_file(about: bytes, name: bytes) -> list[File]:
     return [file] if file.blob or file.before else []
 
 
-def _list_entries(*words: str) -> list[File]:
+def _read_entries(entries: Iterable[bytes]) -> list[File]:
     """The files that ls-tree or ls-files prints."""
     files = []
-    for entry in list_records(*words):
+    for entry in entries:
         about, _, name = entry.partition(b"\t")
         mode, *_, blob = about.decode().removesuffix(" 0").split()
         if mode in FILE_MODES:

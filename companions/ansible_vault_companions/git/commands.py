@@ -3,6 +3,7 @@
 from __future__ import annotations
 
 import os
+from collections.abc import Mapping
 from subprocess import PIPE, CompletedProcess, Popen
 from typing import Any
 
@@ -14,8 +15,15 @@ from ansible_vault_companions.refusals import Refused
 # transport (and so core.sshCommand) to fetch an object that a partial clone lacks. These are switched off. Filters,
 # pagers, and programs for diff and merge belong to git commands that are not used here.
 # `check-attr` overlooks the attributes of directories outside of a sparse checkout, so that is off as well. A directory
-# that looks like a bare repository is none, unless a variable names it. Before version 2.38, git does not know this.
-OFF = ("core.fsmonitor=false", "submodule.recurse=false", "core.sparseCheckout=false", "safe.bareRepository=explicit")
+# that looks like a bare repository is none, unless a variable names it. Before version 2.38, git does not know this. A
+# temporary index is one file.
+OFF = (
+    "core.fsmonitor=false",
+    "submodule.recurse=false",
+    "core.sparseCheckout=false",
+    "safe.bareRepository=explicit",
+    "core.splitIndex=false",
+)
 NO_HOOKS = f"core.hooksPath={os.devnull}"
 # These commands run no hook, and need the real setting to say where the hooks are.
 OF_HOOKS = ("rev-parse", "config")
@@ -38,8 +46,11 @@ def build_environment(folder: str | None = None) -> dict[str, str]:
     return {**{name: os.environ[name] for name in names}, **ONLY_WHAT_IS_THERE}
 
 
-def start_git(words: tuple[str, ...], folder: str | None = None, **options: Any) -> Popen[bytes]:
-    return processes.start_program(build_command(words), env=build_environment(folder), cwd=folder, **options)
+def start_git(
+    words: tuple[str, ...], folder: str | None = None, variables: Mapping[str, str] = {}, **options: Any
+) -> Popen[bytes]:
+    environment = {**build_environment(folder), **variables}
+    return processes.start_program(build_command(words), env=environment, cwd=folder, **options)
 
 
 def run_git_command(
@@ -51,10 +62,10 @@ def run_git_command(
     return CompletedProcess(words, git.returncode, output, errors)
 
 
-def run_git(*words: str, data: bytes = b"", folder: str | None = None, may_be_none: bool = False) -> bytes:
+def run_git(*words: str, may_be_none: bool = False, **options: Any) -> bytes:
     """The output of a git command. If it fails, so does this, with git's own message. With the status 1, some commands
     say that there is none of what they look for."""
-    done = run_git_command(*words, data=data, folder=folder)
+    done = run_git_command(*words, **options)
     if done.returncode == 0:
         return done.stdout
     if may_be_none and done.returncode == 1:

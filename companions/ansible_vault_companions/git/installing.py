@@ -36,7 +36,7 @@ git diff and git merge stay as they are; to set them up, run this with passwords
   --install --vault-id dev@~/.vault/dev.pass"""
 MARKS = """\
 git diff and git merge recognize vaults by .gitattributes; for the whole team, add lines to it, such as
-  vault.yml diff=ansible-vault merge=ansible-vault"""
+  **/group_vars/**/vault.yml diff=ansible-vault merge=ansible-vault"""
 
 
 def list_hooks() -> list[str]:

@@ -10,9 +10,16 @@ from typing import Iterator, Mapping, NamedTuple
 from ansible_vault_companions.envelopes.file_kinds import is_prose
 from ansible_vault_companions.envelopes.header import measure_ciphertext
 from ansible_vault_companions.git.attributes import Attributes
-from ansible_vault_companions.git.changes import Changes, File, list_tree
+from ansible_vault_companions.git.changes import Changes, File, list_tree, split_path
 from ansible_vault_companions.git.contents import Contents
-from ansible_vault_companions.guard.facts import Facts, Keys, find_facts
+from ansible_vault_companions.guard.comparison import compare, find_variable
+from ansible_vault_companions.guard.facts import Facts, find_facts
+from ansible_vault_companions.guard.list_items import Keys
+
+# The directory with a name of a file and, unless files in many places have it, the name alone.
+Place = tuple[bytes, bytes]
+ANYWHERE = b"/"
+COMMON = (b"main", b"vault")
 
 
 class Fault(NamedTuple):
@@ -43,9 +50,9 @@ class Known:
         return self.whole_facts[blob]
 
     def measure(self, vault: str) -> int:
-        """How long the text of a vault is, with its padding."""
+        """How long the text of a vault is, with its padding; 0 if it is not known."""
         if vault not in self.lengths:
-            self.lengths[vault] = measure_ciphertext(self.contents.read(vault))
+            self.lengths[vault] = measure_ciphertext(self.contents.read(vault).data)
         return self.lengths[vault]
 
 
@@ -89,8 +96,9 @@ class Evidence:
         for file in self.files if self.is_single else ():
             after = self.known.find(file.blob)
             if not (after.is_vault or self.is_example(file)):
-                before.update(self.known.find(file.before).encrypted)
-                now.update(after.encrypted)
+                old, new = compare(self.known.find(file.before), after)
+                before.update(map(find_variable, old.encrypted.elements()))
+                now.update(map(find_variable, new.encrypted.elements()))
         return before - now
 
     @cached_property
@@ -111,13 +119,31 @@ class Evidence:
         return {file for file in new if not (facts[file].is_vault or facts[file].is_empty)}
 
     @cached_property
-    def _files_by_folder(self) -> dict[bytes, list[File]]:
-        """What is or was in the directories of these new files."""
-        files: dict[bytes, list[File]] = {os.path.dirname(file.name): [] for file in self.new_plaintexts}
-        for file in (*list_tree(self.changes.parent, files), *self.files):
-            if file.blob:
-                files.get(os.path.dirname(file.name), []).append(file)
-        return files
+    def _vaults(self) -> dict[Place, dict[int, File]]:
+        """The vaults that are or were beside new files, or have their names, by place and by the length of the text."""
+        vaults: dict[Place, dict[int, File]] = {}
+        for file in self.new_plaintexts:
+            vaults.update((place, {}) for place in _list_places(file.name))
+        parts = {name if folder == ANYWHERE else folder for folder, name in vaults}
+        changed = [file for file in self.files if file.blob]
+        for file in (*list_tree(self.changes.parent, parts), *changed) if vaults else ():
+            for place in vaults.keys() & _list_places(file.name):
+                vaults[place][self.known.measure(file.blob)] = file
+        return vaults
 
-    def list_beside(self, file: File) -> list[File]:
-        return self._files_by_folder[os.path.dirname(file.name)]
+    def find_vault_near(self, file: File, length: int) -> File | None:
+        """A vault beside a new file, or with its name, whose text has this length."""
+        found = (self._vaults[place].get(length) for place in _list_places(file.name))
+        return next(filter(None, found), None)
+
+
+def list_names(name: bytes) -> set[bytes]:
+    """The name of a file, with its suffix and without it."""
+    name = name.lower().rstrip(b"~")
+    return {name, os.path.splitext(name)[0]}
+
+
+def _list_places(path: bytes) -> set[Place]:
+    folder, name = split_path(path)
+    places = {(folder, each) for each in list_names(name)}
+    return places if name.partition(b".")[0] in COMMON else {*places, (ANYWHERE, name)}

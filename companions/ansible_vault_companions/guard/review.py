@@ -4,9 +4,8 @@ from __future__ import annotations
 
 import os
 
-from ansible_vault_companions.envelopes.header import MAGIC
 from ansible_vault_companions.git import changes
-from ansible_vault_companions.git.attributes import make_line, read_attributes
+from ansible_vault_companions.git.attributes import Attributes, make_line, read_attributes
 from ansible_vault_companions.git.changes import DIGITS, Changes, File
 from ansible_vault_companions.git.contents import Contents
 from ansible_vault_companions.git.pathspecs import make_pathspec
@@ -15,7 +14,6 @@ from ansible_vault_companions.guard.rules import find_faults
 from ansible_vault_companions.output import write_error
 from ansible_vault_companions.quoting import escape
 
-EARLIER = "an earlier commit"
 ALLOW = "to allow plaintext there, add and stage this line at the end of .gitattributes: {}"
 IN_COMMIT = " in that commit, for example with `git rebase -i {}`"
 
@@ -27,31 +25,28 @@ def review_staged(program: str, paths: list[str]) -> bool:
 
 
 def review_since(program: str, name: str) -> bool:
+    """The same of each later commit."""
     changes.require_whole_history()
-    return _review(program, [*changes.list_since(changes.find_commit(name), changes.find_commit("HEAD"))])
+    first, last = changes.find_commit(name), changes.find_commit("HEAD")
+    return _review(program, [*changes.list_commits(f"{first}..{last}")])
 
 
 def review_all(program: str) -> bool:
-    """The same of all files, each compared with a vault that it has been, if any."""
+    """The same of the last commit, and of all files that it has."""
     changes.require_whole_history()
-    commit = changes.find_commit("HEAD")
-    with Contents() as contents:
-        files = {file.name: file for file in changes.list_tree(commit)}
-        plain = [name for name, file in files.items() if not contents.read(file.blob).startswith(MAGIC)]
-        for name, blobs in changes.list_former_blobs(commit, plain).items():
-            vaults = (blob for blob in sorted(blobs) if contents.read(blob).startswith(MAGIC))
-            files[name] = files[name]._replace(before=next(vaults, ""))
-    return _review(program, [Changes([*files.values()], EARLIER)])
+    last = changes.find_commit("HEAD")
+    files = Changes(changes.list_tree(last), marks=last)
+    return _review(program, [*changes.list_commits("--max-count=1", last), files])
 
 
 def _review(program: str, all_changes: list[Changes]) -> bool:
     """Reports each refused content of a file once, with what to do about it in a second line."""
-    attributes = read_attributes({file.name for each in all_changes for file in each.files})
+    attributes = _read_attributes(program, all_changes)
     reported = set[File]()
     with Contents() as contents:
         known = Known(contents)
         for each in all_changes:
-            for file, fault in find_faults(Evidence(each, known, attributes)):
+            for file, fault in find_faults(Evidence(each, known, attributes[each.marks])):
                 content = file._replace(before="")
                 if content not in reported:
                     reported.add(content)
@@ -59,6 +54,20 @@ def _review(program: str, all_changes: list[Changes]) -> bool:
                     write_error(f"{program}: {where}{escape(os.fsdecode(file.name))} {fault.why}")
                     write_error(f"  {_write_advice(file, fault, each)}")
     return not reported
+
+
+def _read_attributes(program: str, all_changes: list[Changes]) -> dict[str, dict[bytes, Attributes]]:
+    """The attributes of all files, by the commits that they are read from. git's warnings are passed on."""
+    names: dict[str, set[bytes]] = {}
+    for each in all_changes:
+        names.setdefault(each.marks, set()).update(file.name for file in each.files)
+    attributes, warnings = {}, dict[str, None]()
+    for marks, files in names.items():
+        attributes[marks], overlooked = read_attributes(files, marks)
+        warnings.update(dict.fromkeys(overlooked))
+    for warning in warnings:
+        write_error(f"{program}: git check-attr: {escape(warning)}")
+    return attributes
 
 
 def _write_advice(file: File, fault: Fault, of: Changes) -> str:
