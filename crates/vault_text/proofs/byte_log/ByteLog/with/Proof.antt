@@ -83,15 +83,18 @@ module _ {M : Type 1} {𝓤 : Ura M} (𝓛 : Logic 𝓤) (at_mem : Memory → SP
         returns ! (look_at ! 0 refl) $ free_all ! refl $
         suffices ! _ (ends_at 𝓛 ended stayed held z none log (tt, (tt, tt)) (tt, (tt, tt))) $
         says ! refl $
-        nothing ! $ nothing ! $ fjoin ! $ nothing ! $ fjoin ! $ move ! (2 ∷ 0 ∷ 1 ∷ []) $ done !)))))
+        nothing ! $ nothing ! $ fjoin ! $ nothing ! $ fjoin ! $
+        move ! (2 ∷ 0 ∷ 1 ∷ []) $ done !)))))
 
   meets : (𝓣 : Tables 𝓤 H)
       → Meets 𝓛 ended.signature (WpFn 𝓤 H 𝓣.C 𝓣.Λ function) (closing 𝓛 ended held)
   meets 𝓣 =
       let log : Slot 2 = RefOf (0 ∷ []) tt (plain (λ _. Log.the_row)) (λ _. tt) in
       let bytes : Slot 2 = SliceRefOf (1 ∷ []) (tt {0}) (plain (λ _. u8)) (λ _. tt) in
-      walk_Meets 𝓛 ended stayed
-      (Goes-dropped 𝓛 2 log yes (λ κs x f. refl), (Goes-dropped 𝓛 2 bytes yes (λ κs x f. refl), tt))
+      walk_Meets 𝓛 ended stayed (
+        Goes-dropped 𝓛 2 log yes (λ κs x f. refl),
+        (Goes-dropped 𝓛 2 bytes yes (λ κs x f. refl), tt),
+      )
       held
       (WpFn 𝓤 H 𝓣.C 𝓣.Λ function) (WpFn-mono 𝓤 H 𝓛.laws 𝓣 function) (walks 𝓣.C 𝓣.Λ)
 
