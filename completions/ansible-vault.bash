@@ -24,7 +24,8 @@ _ansible_vault_options() {
     "ansible-vault-check") echo -h --help -V --version --vault-id --vault-password-file --vault-pass-file -J \
         --ask-vault-password --ask-vault-pass --any-label --label --list --json --exclude ;;
     "ansible-vault-edit") echo -h --help -V --version --vault-id --vault-password-file --vault-pass-file -J \
-        --ask-vault-password --ask-vault-pass --any-label --encrypt-vault-id --value --resume --allow-empty ;;
+        --ask-vault-password --ask-vault-pass --any-label --encrypt-vault-id --value --resume --discard \
+        --allow-empty ;;
     "ansible-vault-hook") echo -h --help -V --version --all --since --install --uninstall --vault-id \
         --vault-password-file ;;
     "ansible-vault-merge") echo -h --help -V --version --vault-id --vault-password-file --vault-pass-file -J \

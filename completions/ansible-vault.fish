@@ -75,6 +75,7 @@ complete -c ansible-vault-edit -l any-label -d 'accept a password whose label di
 complete -c ansible-vault-edit -l encrypt-vault-id -x -d 'the label of the password for new vaults and values'
 complete -c ansible-vault-edit -l value -x -d 'set this value from standard input, without an editor'
 complete -c ansible-vault-edit -l resume -d 'reopen what the last edit could not store in FILE'
+complete -c ansible-vault-edit -l discard -d 'remove what the last edit could not store in FILE'
 complete -c ansible-vault-edit -l allow-empty -d 'make a new vault even if you save nothing'
 complete -c ansible-vault-hook -s h -l help -d 'print help'
 complete -c ansible-vault-hook -s V -l version -d 'print version'

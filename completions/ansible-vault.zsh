@@ -118,6 +118,7 @@ _ansible_vault_specifications() {
             '--encrypt-vault-id=[the label of the password for new vaults and values]:LABEL: '
             '(--resume --value)--value=[set this value from standard input, without an editor]:KEY.PATH: '
             '(--resume --value)--resume[reopen what the last edit could not store in FILE]'
+            '--discard[remove what the last edit could not store in FILE]'
             '--allow-empty[make a new vault even if you save nothing]'
             '*:file:_ansible_vault_files'
         ) ;;

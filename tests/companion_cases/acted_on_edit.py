@@ -36,9 +36,10 @@ def leave_copy_of_another(case: Case) -> None:
     case.put(sealed("old", b"x"))
 
 
-def type_value(case: Case, advice: re.Match[str]) -> None:
-    """Type what the message says as a value, when the same command runs again."""
-    case.edit_by(TYPE_VALUE.format(advice[1]))
+def type_value(case: Case, advice: re.Match[str]) -> str:
+    """Type what the message says as the value, when the copy is open."""
+    case.edit_by(f"sed -i 's/^b: !vault *$/b: !vault {advice[1]}/' \"$1\"")
+    return f"{EDIT_BY_OLD} --resume"
 
 
 def leave_out_option(_case: Case, _advice: re.Match[str]) -> str:
@@ -121,16 +122,10 @@ ROWS = {
         advice="edit it without (--value)",
         act=leave_out_option,
     ),
-    "no copy": Row(
-        fault=written(OLD_VAULT),
-        command=f"{EDIT_BY_OLD} --resume",
-        advice="edit it without (--resume)",
-        act=leave_out_option,
-    ),
     "a failure": Row(
         fault=written(OLD_VAULT),
         command=EDIT_BY_OLD,
-        advice=r"\n(--\w+) reopens",
+        advice=r"\n(--\w+) opens",
         act=run_with_advice(rf"env EDITOR=true {EDIT_BY_OLD} \1"),
         plaintexts=[CHANGED],
         editor=SAVE_AND_FAIL,
@@ -138,15 +133,25 @@ ROWS = {
     "a copy": Row(
         fault=leave_copy,
         command=EDIT_BY_OLD,
-        advice="; (.*) reopens it",
+        advice="; (.*) opens it",
         act=run_with_advice(rf"{EDIT_BY_OLD} \1"),
         plaintexts=[CHANGED],
+    ),
+    "a copy that is not wanted": Row(
+        fault=leave_copy, command=EDIT_BY_OLD, advice="opens it, (.*) removes it", act=run_with_advice(rf"{EDIT} \1")
     ),
     "a change": Row(
         fault=leave_copy_of_another,
         command=f"{EDIT_BY_OLD} --resume",
         advice="that left (.*); .* `(.*)` shows",
         act=run_with_advice(rf"\2 {OLD} \1"),
+        plaintexts=[b"x"],
+    ),
+    "a change, and no use for the copy": Row(
+        fault=leave_copy_of_another,
+        command=f"{EDIT_BY_OLD} --resume",
+        advice="remove it with (.*)",
+        act=run_with_advice(rf"{EDIT} \1"),
         plaintexts=[b"x"],
     ),
 }

@@ -36,6 +36,7 @@ def test_vaults(place: Place, style: str, end: bytes) -> None:
     assert place.get("a.yml") == before, "the file stays"
     ended("a marker", edit(place, "sed -i '/^<<<<<<< /d; /^>>>>>>> /d' \"$1\"", *words), 1, STILL)
     assert len(place.kept()) == 1, "what was saved is kept"
+    edit(place, "true", "--discard", "a.yml")
     assert place.get("a.yml") == before, "the file stays"
     texts = {TAKE_THEIRS: b"x: theirs\n" + LINES + b"y: ours\n", f"printf '{SIDES[1].decode()}' > \"$1\"": SIDES[1]}
     for editor, text in texts.items():

@@ -80,7 +80,7 @@ REFUSED = {
     "values.yml": f"line 2: secret: {OF_ANOTHER}",
     "first.yml": f"line 2: secret: {OF_ANOTHER}",
     "second.yml": f"line {len(ALLOWED.splitlines()) + 2}: secret: {OF_ANOTHER}",
-    "tags.yml": "line 2: `%TAG` may make `!vault` another tag",
+    "tags.yml": "line 1: `%TAG` may make `!vault` another tag; change this file with another editor",
 }
 
 
@@ -98,7 +98,8 @@ def test_labels(place: Place) -> None:
     ended("the edit", edit(place, "touch ../started", *BOTH.split(), *REFUSED), 1, *whys)
     assert not (place.path / "started").exists(), "no editor is started"
     assert (place.files(), place.left()) == (before, []), "all files stay"
-    silent("it is permitted", edit(place, CHANGE, "--any-label", *BOTH.split(), "vault.yml", "values.yml"))
+    done = edit(place, CHANGE, "--any-label", *BOTH.split(), "vault.yml", "values.yml")
+    check_answer("it is permitted", done, errors=f"{EDIT}: values.yml: encrypted secret (label prod)\n")
     for envelope in (envelope_of(place.get(name)) or b"" for name in ("vault.yml", "values.yml")):
         assert envelope.startswith(b"$ANSIBLE_VAULT;1.2;AES256;prod\n"), "the label stays"
         assert decrypted("prod", envelope) == CHANGED, "the password stays"
@@ -119,7 +120,8 @@ def test_editors(place: Place) -> None:
     assert decrypted("old", after) == CHANGED + b"vi\n", "both editors' texts are in its file"
     assert after[25:27] == b"\r\n", "its lines end as before"
     place.put("vars.yml", block("old") + b"b: !vault x\n")
-    silent("it", edit(place, "true", *place.by_file("old"), "vars.yml"))
+    done = edit(place, "true", *place.by_file("old"), "vars.yml")
+    check_answer("it", done, errors=f"{EDIT}: vars.yml: encrypted b (label default)\n")
     assert texts(place.get("vars.yml"), "old") == [TEXT, b"x"]
     silent("a new name", edit(place, 'sed -i s/^secret/other/ "$1"', *place.by_file("old"), "vars.yml"))
     assert place.get("vars.yml").startswith(block("old", name="other")), "its envelope stays"
@@ -190,17 +192,20 @@ def test_several_files(place: Place) -> None:
     assert decrypted("old", place.get("all.yml")) == TEXT + b"more\n" * 2, "the other one is edited each time"
 
 
+CUT_SHORT = "only a part of the text after `!vault` would be encrypted; put it in quotes"
 # What is refused if it is typed, and why. `yaml_values.py` has what is encrypted.
 MISREAD = {
     "b: !vault\n": "line 1: b is missing after `!vault`",
     "b: !vault [a]\n": "line 1: b is a list, a mapping or a key, not a string",
     "b: 'x\n": "line 2: it cannot be read as YAML: found unexpected end of stream",
     "b: !vault |-\n  x\ny\n": "line 4: it cannot be read as YAML: could not find expected ':'",
-    "b: !vault x\n# c: !vault y\n": "line 2: no value follows `!vault` here",
-    "b: !vault x\n  - !vault |\n  y\n  # z\n": "line 1: a text without quotes ends within the line or is not in that",
+    "b: !vault x\n# c: !vault y\n": "line 2: this is new and looks like `!vault`, but is no tag of a value",
+    "b: !vault x\n  - !vault |\n  y\n  # z\n": "line 2: this is new and looks like `!vault`, but is no tag of a value",
     "!vault b: x\n": "line 1: this value is a list, a mapping or a key, not a string",
-    "b: !vault &c x\n": "line 1: a word after `&` is no part of the text but an anchor",
-    "b: !vault x #y\n": "line 1: a text without quotes ends within the line",
+    "b: !vault &c x\n": f"line 1: {CUT_SHORT}",
+    "b: !vault x #y\n": f"line 1: {CUT_SHORT}",
+    "b: !vault x\n  y # z\n": f"line 1: {CUT_SHORT}",
+    "b: !vault # x\n  y\n": f"line 1: {CUT_SHORT}",
     "\ufeff%TAG ! !x\n---\nb: !vault x\n": "line 1: `%TAG` may make `!vault` another tag",
     "b: !vault $ANSIBLE_VAULT_TOKEN x\n": "line 1: b begins like a vault ($ANSIBLE_VAULT), but is not one",
 }
@@ -222,28 +227,32 @@ def test_refused_forms(place: Place, text: str) -> None:
     assert place.get("vars.yml") == before, "the file stays"
 
 
-# What a stranger may have written around a text that looks like a tagged value, but is none.
-LOOKALIKES = [
-    'notes: "\n\npassword: !vault |-\n  changeme\n\n"\n',
-    "notes: |\n  password: !vault\n    changeme\n",
-    "# password: !vault |-\n#   changeme\n",
-    "x: 1 # password: !vault\n  # changeme\n",
+# Lines that a file may have beside a value.
+OWN_LINES = [
+    "# Values have the tag !vault\n",
+    "# old: !vault |-\n#   geheim\n",
+    "# Attention: !important\n",
+    "motd: |\n  Warning: !danger\n",
 ]
 
 
-@pytest.mark.parametrize("text", LOOKALIKES)
-def test_lookalikes(place: Place, text: str) -> None:
-    """The line below a `!vault` that encrypts nothing does not change, but values with the tag may, and lines come."""
-    content = block("old", b"x", name="b")
-    shown = "b: !vault |-\n  x\n" + text
-    changed = shown.replace("changeme", "S3cret")
-    done = type_into(place, content + text.encode(), changed)
-    ended("the edit", done, 1, "no value follows `!vault` here", "; what you saved is encrypted in ")
-    assert b"S3cret" not in place.get("vars.yml")
-    done = type_into(place, content + text.encode() + b"y: 1\n", shown.replace("  x", "  S3cret", 1))
-    ended("another edit", done, 0)
-    after = place.get("vars.yml")
-    assert after.endswith(text.encode()) and texts(after, "old") == [b"S3cret"]
+@pytest.mark.parametrize("lines", OWN_LINES)
+def test_own_lines(place: Place, lines: str) -> None:
+    """Lines that were there are the user's own, whatever they contain. `typed_values.py` has more of them."""
+    place.put("vars.yml", before := block("old") + lines.encode() + b"port: 1\n")
+    done = edit(place, "sed -i 's/port: 1/port: 2/' \"$1\"", *place.by_file("old"), "vars.yml")
+    silent("the edit", done)
+    assert place.get("vars.yml") == before.replace(b"port: 1", b"port: 2")
+
+
+def test_lost_tags(place: Place) -> None:
+    """A value that loses its tag is named, also if it gets another key. The others are not."""
+    blocks = [block("old", text, name=name) for text, name in ((b"one", "a"), (b"two", "b"), (b"x", "c"), (b"y", "d"))]
+    place.put("vars.yml", b"".join(blocks) + b"e: one\n")
+    change = r"s/^a: !vault/a:/; s/^b: !vault/B:/; s/^c: .*/c: '{{ other }}'/; /^  x/d; /^d:/,$ d"
+    done = edit(place, f'sed -i "{change}" "$1"; echo \'e: one\' >> "$1"', *place.by_file("old"), "vars.yml")
+    names = "".join(f"{EDIT}: vars.yml: {name} is now plaintext\n" for name in "aBc")
+    check_answer("the edit", done, errors=names)
 
 
 CLOSED = {b"\xff": "it is not UTF-8", b"$ANSIBLE_VAULT;1.1;AES256\n": "its plaintext is itself a vault"}
@@ -255,7 +264,9 @@ def test_closed(place: Place, text: bytes) -> None:
     """A text that YAML cannot show stays encrypted, and a message says so."""
     closed, typed = block("old", text, name="a"), "# why\n\nb: !vault |- # note\n\n  B\n"
     done = type_into(place, closed + block("old", b"b", name="b"), closed.decode() + typed)
-    ended("a change", done, 0, f"vars.yml: line 2: a stays encrypted: {CLOSED[text]}\n")
+    ended(
+        "a change", done, 0, f"vars.yml: line 2: a stays encrypted: {CLOSED[text]}\n", "encrypted b (label default)\n"
+    )
     after = place.get("vars.yml")
     assert after.startswith(closed + b"# why\n\nb: !vault | # note\n          $ANSIBLE_VAULT"), "without an empty line"
     assert texts(after, "old") == [text, b"\nB"]
@@ -290,7 +301,8 @@ def test_other_tag(place: Place) -> None:
     """What Ansible reads as the same tag is one for an edit, too."""
     place.put("vars.yml", block("old").replace(b"!vault", b"!vault-encrypted"))
     done = edit(place, f"{CHANGE}; echo 'b: !vault-encrypted x' >> \"$1\"", *place.by_file("old"), "vars.yml")
-    silent("the edit", done)
+    names = "".join(f"{EDIT}: vars.yml: encrypted {name} (label default)\n" for name in ("secret", "b"))
+    check_answer("the edit", done, errors=names)
     assert texts(place.get("vars.yml"), "old") == [CHANGED, b"x"], "both values are encrypted"
 
 

@@ -1,11 +1,12 @@
 """What was saved cannot be put back: at a terminal, the editor opens again, and --resume continues a kept edit."""
 
+from pathlib import Path
 from typing import NamedTuple
 
 import pytest
 
-from companion_cases import CHANGE, CHANGED, EDIT, TEXT, TEXTCONV, Done, Place, block, check_answer, decrypted, edit
-from companion_cases import ended, sealed, silent, texts
+from companion_cases import CHANGE, CHANGED, EDIT, TEXT, Place, block, check_answer, decrypted, edit
+from companion_cases import ended, run_changed, sealed, silent, texts
 from companion_cases.terminal import READING, ask
 from lib.needs import needs, needs_pyyaml
 
@@ -41,7 +42,9 @@ class End(NamedTuple):
 
 ENDS = {
     "mended": End(later=MEND, typed=[YES], status=0, why=""),
+    "mended, after one letter": End(later=MEND, typed=[b"y\n"], status=0, why=""),
     "no answer, later": End(later=":", typed=[YES, YES, b"\x04"], status=1, why=NO_YAML),
+    "one letter for no": End(later=":", typed=[b"n\n"], status=1, why=NO_YAML),
     "no": End(later=":", typed=[b"no\n"], status=1, why=NO_YAML),
     "no, after another word": End(later=":", typed=[b"maybe\n", b"no\n"], status=1, why=NO_YAML),
     "an interrupt": End(later=":", typed=[b"\x03"], status=130, why=NO_YAML),
@@ -67,61 +70,85 @@ def test_opened_again(place: Place, end: End) -> None:
     assert place.kept() == ([TYPED] if is_given_up else []), "what was saved is kept"
     assert place.left() == [], "no plaintext is left"
     seen = (place.path / "seen").read_bytes()
-    assert seen == SHOWN.encode() + TYPED * end.typed.count(YES), "what the editor shows each time"
+    assert seen == SHOWN.encode() + TYPED * sum(
+        typed.startswith(b"y") for typed in end.typed
+    ), "what the editor shows each time"
     after = place.get("vars.yml")
     assert after.startswith(block("old")), "the old value stays"
     assert texts(after, "old")[1:] == ([] if is_given_up else [b"more"]), "the new values"
 
 
 def test_resumed(place: Place) -> None:
-    """The same command with --resume takes the newest text up. A text that is still wrong is kept again."""
+    """While there is a copy, no editor opens the file without it. With --resume, one opens the text of the copy, and a
+    text that is still wrong takes its place."""
     needs_pyyaml()
     name = "-rf it's.yml"
     place.put(name, block("old"), 0o640)
     options = [*place.by_file("old"), "--"]
     resume = ["--resume", *options, name]
-    ended("a mistake", edit(place, MISTAKE, *options, name), 1, "--resume reopens it")
+    ended("a mistake", edit(place, MISTAKE, *options, name), 1, "--resume opens it, --discard removes it")
+    [copy] = place.copies()
+    done = edit(place, "touch ../started", *options, name)
+    ended(
+        "a second edit", done, 1, f"an earlier edit is encrypted in {copy}; --resume opens it, --discard removes it\n"
+    )
     place.put(f"../{name}", block("old"))
-    done = edit(place, "false", "--resume", *options, f"../{name}")
-    ended("a file of this name elsewhere", done, 1, "edit it without --resume")
+    done = edit(place, "touch ../started", "--resume", *options, f"../{name}")
+    ended("a file of this name elsewhere", done, 1, f"no earlier edit left a copy in {copy.parent}\n")
+    assert not (place.path / "started").exists(), "no editor is started"
     ended("not mended", edit(place, 'echo "# x" >> "$1"', *resume), 1, "it cannot be read as YAML")
+    newest = TYPED + b"# x\n"
+    assert (place.copies(), place.kept()) == ([copy], [newest]), "the copy of the newest text"
     # The third line is the first one that was typed. The copy stays.
     ended("taken back", edit(place, 'sed -i "3,$ d" "$1"', *resume), 0, "nothing was changed")
-    newest = TYPED + b"# x\n"
-    assert sorted(place.kept()) == [TYPED, newest], "the copies of both edits"
     done = edit(place, f'cp "$1" ../seen; {MEND}', *resume)
-    assert done.returncode == 0, done
-    assert done.stderr.count("an earlier edit is encrypted in") == 1, done.stderr
+    where = f"{EDIT}: -rf it's.yml"
+    check_answer("mended", done, errors=f"{where}: encrypted new (label default)\n")
     assert (place.path / "seen").read_bytes() == newest, "what the editor shows"
     assert texts(place.get(name), "old") == [TEXT, b"more"], "the values of the file"
     assert place.mode(name) == "0o640", "the mode stays"
-    assert place.kept() == [TYPED], "the copy that was taken up is gone"
+    assert place.copies() == [], "the copy is gone"
     assert place.names() == [name], "no file is left beside it"
     assert place.left() == [], "no plaintext is left"
 
 
-NEWEST, OLDER = "--resume reopens it", "`ansible-vault-textconv` shows it"
-
-
-def test_several_copies(place: Place) -> None:
-    """All are named, the newest first, with what opens each."""
+def test_discarded(place: Place) -> None:
+    """--discard removes the copy. It needs no password, and the file may be gone."""
     place.put("a.yml", sealed("old"))
     words = [*place.by_file("old"), "a.yml"]
-    copies: list[str] = []
-    for number in range(4):
-        edit(place, f'echo {number} > "$1"; exit 3', *words)
-        [new] = {str(path) for path in place.copies()} - {*copies}
-        copies = [new, *copies]
-    told = [f"{EDIT}: a.yml: an earlier edit is encrypted in {copy}; " for copy in copies]
-    done = edit(place, "true", *words)
-    assert done.stderr.splitlines()[:-1] == [told[0] + NEWEST, *(line + OLDER for line in told[1:])], "all of them"
-    done = edit(place, 'cp "$1" ../seen; echo more >> "$1"', "--resume", *words)
-    check_answer("the newest", done, errors="".join(f"{line}{OLDER}\n" for line in told[1:]))
-    assert place.get("../seen") == b"3\n", "what the editor shows"
-    assert decrypted("old", place.get("a.yml")) == b"3\nmore\n", "what was saved"
-    assert sorted(place.kept()) == [b"0\n", b"1\n", b"2\n"], "the others stay"
-    shown = place.run(TEXTCONV, *place.by_file("old"), copies[1])
-    assert shown.stdout.endswith("\n2\n"), "an older one is shown"
+    for change in ("true", "rm a.yml"):
+        ended("a failure", edit(place, SAVE_AND_FAIL, *words), 1, "--discard removes it")
+        assert place.shell(change).returncode == 0
+        silent("it is removed", edit(place, "touch ../started", "--discard", "a.yml"))
+        assert place.copies() == [], "no copy is left"
+    ended("there is none", edit(place, "true", "--discard", "a.yml"), 1, "a.yml: no earlier edit left a copy in ")
+    assert not (place.path / "started").exists(), "no editor is started"
+    for option in ("--resume", "--value=x"):
+        ended(option, edit(place, "true", "--discard", option, "a.yml"), 2, "cannot be combined")
+
+
+OTHER_EDIT = """
+old = replacing.replace
+def replace(target, *words):
+    if "/ansible-vault/" in target:
+        with open(target, "wb") as file:
+            file.write(b"the copy of another edit")
+    old(target, *words)
+replacing.replace = replace
+"""
+
+
+def test_two_edits(place: Place) -> None:
+    """A copy that another edit has made meanwhile is not replaced: the text stays in plaintext."""
+    place.put("a.yml", sealed("old"))
+    words = [*place.by_file("old"), "a.yml"]
+    done = run_changed(place, EDIT, OTHER_EDIT, words, EDITOR=place.script(SAVE_AND_FAIL, "editor"))
+    ended(
+        "the edit", done, 1, "an encrypted copy cannot be kept: another program changed it", "is left in plaintext in "
+    )
+    [copy] = place.copies()
+    assert copy.read_bytes() == b"the copy of another edit"
+    assert CHANGED in [Path(path).read_bytes() for path in place.left() if path.endswith("a.yml")], "what was saved"
 
 
 # A file, if there is one, and what is saved in it.
@@ -139,10 +166,12 @@ def test_each_text(place: Place, before: bytes | None, saved: bytes) -> None:
         place.put("a.yml", before)
     place.put("../saved", saved)
     words = [*place.by_file("old"), "a.yml"]
-    ended("a failure", edit(place, 'cp ../saved "$1"; exit 3', *words), 1, "--resume reopens it")
+    ended("a failure", edit(place, 'cp ../saved "$1"; exit 3', *words), 1, "--resume opens it")
     assert place.kept() == [saved], "what was saved is kept"
     assert place.files() == ({} if before is None else {"a.yml": before}), "the file stays"
-    silent("it is taken up", edit(place, 'cp "$1" ../seen; echo more >> "$1"', "--resume", *words))
+    done = edit(place, 'cp "$1" ../seen; echo more >> "$1"', "--resume", *words)
+    errors = "" if before else f"{EDIT}: a.yml: encrypted the new vault (label default)\n"
+    check_answer("it is taken up", done, errors=errors)
     assert place.get("../seen") == saved, "what the editor shows"
     assert decrypted("old", place.get("a.yml")) == saved + b"more\n", "what was saved then"
     assert place.copies() == [], "no copy is left"
@@ -152,7 +181,7 @@ def test_resumed_beside_a_swap_file(place: Place) -> None:
     """What an editor leaves is named, but the file is written, so the copy is gone."""
     place.put("a.yml", sealed("old"))
     words = [*place.by_file("old"), "a.yml"]
-    ended("a failure", edit(place, SAVE_AND_FAIL, *words), 1, "--resume reopens it")
+    ended("a failure", edit(place, SAVE_AND_FAIL, *words), 1, "--resume opens it")
     done = edit(place, 'echo "# x" >> "$1"; echo typed > "$1.swp"', "--resume", *words)
     ended("it is resumed", done, 1, "is left, with a.yml.swp in it")
     assert decrypted("old", place.get("a.yml")) == CHANGED + b"# x\n", "the texts of both edits"
@@ -197,26 +226,29 @@ def test_changed_meanwhile(place: Place, meanwhile: Meanwhile) -> None:
         assert not (place.path / "started").exists(), "no editor is started"
         assert place.get("a.yml") == meanwhile.after, "the file stays"
     else:
-        silent("it is taken up", done)
+        check_answer("it is taken up", done, errors=f"{EDIT}: a.yml: encrypted secret (label prod)\n")
         assert texts(place.get("a.yml"), "prod2") == [CHANGED], "the text under the new password"
         assert place.copies() == [], "no copy is left"
 
 
 def test_copies_of_strangers(place: Place) -> None:
-    """A directory that others may open is never searched for copies. git makes each like that."""
-    needs("git")
+    """A directory of copies may be open to others, since copies are encrypted. But it is no link, and the user's own."""
     place.put("a.yml", sealed("old"))
     words = [*place.by_file("old"), "a.yml"]
-    state = place.tree / "state"
+    state = place.path / "state"
     place.environment["XDG_STATE_HOME"] = str(state)
     ended("a failed edit", edit(place, SAVE_AND_FAIL, *words), 1, f"is encrypted in {state}/ansible-vault/")
-    why = f"({state}/ansible-vault is not a directory that only you can open); set XDG_STATE_HOME to "
-    for change in ("chmod 750 state/*", "git init -q . && git add state && rm -r state && git checkout -q -- state"):
-        assert place.shell(change).returncode == 0, change
-        ended(change, edit(place, "touch ../started", "--resume", *words), 1, why)
+    place.shell("chmod 777 ../state ../state/*")
+    done = edit(place, 'cp "$1" ../seen', "--resume", *words)
+    silent("it is open to others", done)
+    assert place.get("../seen") == CHANGED, "what the editor shows"
+    ended(
+        "a failed edit", edit(place, f'echo more > "$1"; exit 3', *words), 1, f"is encrypted in {state}/ansible-vault/"
+    )
+    place.shell("mv ../state/ansible-vault ../state/real; ln -s real ../state/ansible-vault")
+    why = f"({state}/ansible-vault is no directory of yours); set XDG_STATE_HOME to a directory of your own"
+    ended("a link", edit(place, "touch ../started", "--resume", *words), 1, why)
     assert not (place.path / "started").exists(), "no editor is started"
-    place.shell("chmod 700 state/*")
-    silent("with the right mode, it is searched", edit(place, "true", "--resume", *words))
 
 
 @pytest.mark.parametrize("codec", ["utf-16", "utf-16-le", "latin-1"])
@@ -234,31 +266,3 @@ def test_saved_in_another(place: Place, codec: str) -> None:
     assert place.kept() == [typed], "the copy has each byte"
     assert place.get("vars.yml") == before, "the file stays"
     assert place.left() == [], "no plaintext is left"
-
-
-# Values after a tag that Ansible does not read.
-MISSPELT = ["!Vault x", "! vault x", "!!vault x", "!vault: x", "!<vault> x", "!vualt [x]", "!other x"]
-# Lines with a known tag or none, which are not refused.
-OTHERS = "a: !unsafe y\nb: 'wow! Vault'\nc: x != vault\nd: vault x\ne: !!str y\n"
-
-
-def append(place: Place, lines: str) -> Done:
-    """Edit vars.yml, and add these lines at its end."""
-    place.put("../lines", lines.encode())
-    return edit(place, 'cat ../lines >> "$1"', *place.by_file("old"), "vars.yml")
-
-
-@pytest.mark.parametrize("value", MISSPELT)
-def test_new_tags(place: Place, value: str) -> None:
-    """A text after a tag that Ansible does not read is refused, and the message repeats no word of it."""
-    needs_pyyaml()
-    first = "o: !unsafe |\n  x\n"
-    before = first.encode() + block("old")
-    place.put("vars.yml", before)
-    silent("other lines", append(place, OTHERS))
-    done = append(place, f"n: {value.replace('x', 'battery')}\n")
-    line = len(f"{first}{SHOWN}{OTHERS}".splitlines()) + 1
-    why = f"vars.yml: line {line}: Ansible reads no such tag, so line {line} would stay in plaintext"
-    ended("the tag", done, 1, why)
-    assert "battery" not in done.stderr, "the value is not shown"
-    assert place.get("vars.yml") == before + OTHERS.encode(), "the file stays"

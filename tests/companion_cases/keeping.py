@@ -16,7 +16,7 @@ STAYS = {"all.yml": sealed("old")}
 CHANGED_MEANWHILE = "another program changed it in the meantime"
 # Changes of the companion: an unexpected exception, a tool that cannot encrypt, and a tree on a full disk.
 BROKEN = """
-from ansible_vault_companions.editing.vault_draft import VaultDraft
+from ansible_vault_companions.editing.drafts import VaultDraft
 def encrypt(*words):
     raise RecursionError("too deep")
 VaultDraft.encrypt = encrypt
@@ -37,8 +37,11 @@ def fail(path):
 reading.read = fail
 """
 UNWRITTEN = """
-def fail(*words, **options):
-    raise MemoryError("no memory to write")
+replace = replacing.replace
+def fail(target, *words, **options):
+    if "/ansible-vault/" not in target:
+        raise MemoryError("no memory to write")
+    replace(target, *words, **options)
 replacing.replace = fail
 """
 UNASKED = (
@@ -127,7 +130,7 @@ def test_stops(place: Place, what: str) -> None:
     stop = STOPS[what]
     place.put("all.yml", sealed("old"), 0o600)
     if what == "no directory for copies":
-        place.tree.chmod(0o777)
+        (place.tree / "ansible-vault").symlink_to(place.temporary)
         place.environment["XDG_STATE_HOME"] = str(place.tree)
     words = [*place.by_file("old"), "all.yml"]
     done = run_changed(place, EDIT, stop.change, words, EDITOR=place.script(stop.editor, "editor"))
@@ -188,7 +191,8 @@ def test_late_file(place: Place) -> None:
 
 
 # Raises an exception at a line of the companion, of those that run once something is saved, and counts them. The first
-# line has the number 1, so with 0, none raises it. A message that cannot be written names nothing.
+# line has the number 1, so with 0, none raises it. A message that cannot be written names nothing. Python comes to a
+# line with `with` again at the end of its context, between two statements, where nothing fails.
 PLANT = """
 from ansible_vault_companions import refusals
 
@@ -199,7 +203,8 @@ def trace(frame, event, argument):
 
 def plant(frame, event, argument):
     global count
-    if event == "line" and (count or os.path.exists("../saved")):
+    is_context = linecache.getline(frame.f_code.co_filename, frame.f_lineno).lstrip().startswith("with ")
+    if event == "line" and not is_context and (count or os.path.exists("../saved")):
         count += 1
         with open("../count", "w") as file:
             file.write(str(count))
@@ -207,7 +212,7 @@ def plant(frame, event, argument):
             raise {}("planted")
     return plant
 
-import re
+import linecache, re
 sys.settrace(trace)
 """
 KINDS = ("RuntimeError", "MemoryError", "OSError", "KeyError", "refusals.Refused", "RecursionError")

@@ -16,7 +16,7 @@ from ansible_vault_companions.passwords.password import Password
 from ansible_vault_companions.passwords.sources import parse_vault_id
 from ansible_vault_companions.refusals import Refused
 from ansible_vault_companions.tool import Decryption, Key
-from companion_cases import Done, Place, block, edit, ended, sealed, silent, texts
+from companion_cases import EDIT, Done, Place, block, check_answer, edit, ended, sealed, silent, texts
 from companion_cases.yaml_values import POLICY, Hexadecimal, envelope, make_draft
 
 EXAMPLES = 700
@@ -90,7 +90,7 @@ def test_passwords_stay(request: pytest.FixtureRequest) -> None:
         data = write_yaml(sealed, [write_sealed(item) for item in items])
         file = make_draft(data, unseal, Choice([*PASSWORDS.values()], label_of_new))
         try:
-            after = file.encrypt(Labeled(), write_yaml(typed_values, typed_items))
+            after = file.encrypt(Labeled(), write_yaml(typed_values, typed_items)).content
         except Refused as fault:
             assert UNCLEAR in str(fault)
             counts["refused"] += 1
@@ -205,7 +205,9 @@ def test_lists(place: Place, row: ListEdit) -> None:
         ended("it is unclear", done, 1, f"line {first}: this value {UNCLEAR}")
         assert place.get("vars.yml") == before, "the file stays"
         return
-    silent("it is clear", done)
+    changed = [number for number, text in enumerate(row.typed) if Item(row.labels[number], text) not in row.items]
+    notes = [f"{EDIT}: vars.yml: encrypted l[{number}] (label {row.labels[number]})\n" for number in changed]
+    check_answer("it is clear", done, errors="".join(notes))
     after = place.get("vars.yml")
     assert re.findall(r"AES256;(\w+)", after.decode()) == row.labels, "the labels"
     for label, text, piece in zip(row.labels, row.typed, after.split(b"- !vault |")[1:]):

@@ -162,12 +162,14 @@ def test_groups(tmp_path: Path, mode: int, group: str) -> None:
 
 
 class Kind(NamedTuple):
-    """A directory's owner and mode, and whether plaintext and copies are put there, and into the user's own below."""
+    """A directory's owner and mode, and whether plaintext is put there, and into the user's own below. Copies are, if
+    the user can write there."""
 
     owner: int
     mode: int
     is_used: bool
     is_used_below: bool
+    has_copy: bool = True
 
 
 KINDS = {
@@ -178,7 +180,7 @@ KINDS = {
     "mine, sticky": Kind(owner=NOBODY, mode=0o1777, is_used=True, is_used_below=True),
     "another's": Kind(owner=OTHER, mode=0o777, is_used=False, is_used_below=False),
     "another's, sticky": Kind(owner=OTHER, mode=0o1777, is_used=False, is_used_below=False),
-    "root's": Kind(owner=0, mode=0o755, is_used=False, is_used_below=True),
+    "root's": Kind(owner=0, mode=0o755, is_used=False, is_used_below=True, has_copy=False),
     "root's, writable": Kind(owner=0, mode=0o777, is_used=False, is_used_below=False),
     "root's, sticky": Kind(owner=0, mode=0o1777, is_used=True, is_used_below=True),
 }
@@ -196,7 +198,7 @@ def of_nobody(place: Place) -> Place:
 
 # Notes the place of the plaintext, changes it, and fails.
 FAIL = f'dirname "${{1%/*}}" > ../seen; {CHANGE}; exit 3'
-NO_COPY = "set XDG_STATE_HOME to a directory that only you can open; what you saved is left in plaintext in "
+NO_COPY = "set XDG_STATE_HOME to a directory of your own; what you saved is left in plaintext in "
 AS_NOBODY = ["setpriv", f"--reuid={NOBODY}", f"--regid={NOBODY}", "--clear-groups"]
 
 
@@ -240,7 +242,9 @@ def test_kinds(of_nobody: Place, kind: Kind, position: str) -> None:
     real.chmod(kind.mode)
     where = {"above": own, "link": link}.get(position, real)
     is_used = kind.is_used_below if position == "above" else kind.is_used
-    assert fail_in(of_nobody, str(where), AS_NOBODY) == Used(has_plaintext=is_used, has_copy=is_used)
+    assert fail_in(of_nobody, str(where), AS_NOBODY) == Used(
+        has_plaintext=is_used, has_copy=kind.has_copy or position == "above"
+    )
     assert [*real.rglob(f"{FOLDER_PREFIX}*")] == [], "nothing else is left"
 
 
@@ -261,7 +265,7 @@ OTHERS = {
 
 @pytest.mark.parametrize("name", OTHERS)
 def test_others(place: Place, name: str) -> None:
-    """The directories that are made are closed to others, even with a umask of 000."""
+    """The directory that is made for copies is closed to others, even with a umask of 000."""
     place.put("all.yml", sealed("old"))
     umask, has_copy = OTHERS[name]
     where = name if name.startswith(".") else str(place.tree / name)
@@ -270,24 +274,24 @@ def test_others(place: Place, name: str) -> None:
     assert len(place.copies()) == (name == "../runtime"), "the usual directory has the copy"
 
 
-UNLISTED = """
-list_folder = os.listdir
-def fail(path):
-    if path.endswith("/ansible-vault"):
-        raise PermissionError(13, "no list", path)
-    return list_folder(path)
-os.listdir = fail
+UNSEEN = """
+look_at = os.lstat
+def fail(path, **options):
+    if os.fspath(path).endswith("state/ansible-vault"):
+        raise PermissionError(13, "no look", path)
+    return look_at(path, **options)
+os.lstat = fail
 """
 
 
-def test_copies_that_cannot_be_listed(place: Place) -> None:
+def test_copies_that_cannot_be_seen(place: Place) -> None:
     """An edit goes on without them, and with --resume, the message says why it does not."""
     (place.path / ".local/state/ansible-vault").mkdir(0o700, parents=True)
     place.put("all.yml", sealed("old"))
     words = [*place.by_file("old"), "all.yml"]
-    done = run_changed(place, EDIT, UNLISTED, [*words, "--resume"], EDITOR=place.script(CHANGE, "editor"))
-    ended("resumed", done, 1, f"{EDIT}: all.yml: {place.path}/.local/state/ansible-vault: no list\n")
-    silent("an edit", run_changed(place, EDIT, UNLISTED, words, EDITOR=place.script(CHANGE, "editor")))
+    done = run_changed(place, EDIT, UNSEEN, [*words, "--resume"], EDITOR=place.script(CHANGE, "editor"))
+    ended("resumed", done, 1, f"no copies can be kept in {place.path}/.local/state/ansible-vault (no look); ")
+    silent("an edit", run_changed(place, EDIT, UNSEEN, words, EDITOR=place.script(CHANGE, "editor")))
     assert decrypted("old", place.get("all.yml")) == CHANGED, "what was saved"
 
 

@@ -1,5 +1,6 @@
-"""What is typed behind `!vault` is encrypted, or the edit is refused, whatever YAML is around it. So is an edit with a
-tag that somebody may take for it. Envelopes contain the digits of their plaintexts."""
+"""What is typed behind `!vault` is encrypted, or the edit is refused, whatever YAML is around it. So is what is typed
+behind a tag that somebody may take for it. Lines that were there are the user's own. Envelopes contain the digits of
+their plaintexts."""
 
 from __future__ import annotations
 
@@ -11,12 +12,12 @@ import hypothesis
 import pytest
 from hypothesis import strategies as st
 
-from ansible_vault_companions.envelopes.parsed_text import parse_nodes
 from ansible_vault_companions.refusals import Refused
-from companion_cases.yaml_values import Hexadecimal, Plaintexts, make_draft
+from companion_cases.yaml_values import Hexadecimal, Plaintexts, envelope, make_draft
+from lib.subtests import SubTests
 
 EXAMPLES = 1000
-STRAY, UNKNOWN = "no value follows `!vault` here", "Ansible reads no such tag"
+NO_VALUE, CUT_SHORT = "this is new and looks like `!vault`", "only a part of the text after `!vault` would be encrypted"
 # The words of what is typed.
 SECRETS = ["hunter2", "staple"]
 TEXTS = ["hunter2", "hunter2 staple", "hunter2, staple", "hunter2 #staple", "hunter2: staple", "hunter2]staple"]
@@ -51,7 +52,7 @@ AROUND += [
     ("# !vault hunter2", "t{}: !valt x"),
 ]
 AROUND += [("%TAG ! !{}", "---"), ("z{}: &a !vault x", "z: *a"), ("m{}: !vault 'x'", "")]
-# What a file may have with a tag, and the word in place of which a secret may be typed.
+# What a file may have with a tag, and the word that may change there.
 OLD_TEXT = "changeme"
 TAGGED = [f"t{{}}: {{}} {OLD_TEXT}", f"t{{}}: {{}} |\n  {OLD_TEXT}", f"t{{}}: {{}}\n  - x\n  - {OLD_TEXT}"]
 TAGGED += [
@@ -65,13 +66,12 @@ TAGGED += [
 
 class Edit(NamedTuple):
     """The lines of a file, those that are saved above one of its plaintext, and what takes the place of OLD_TEXT. The
-    tag of the first of these lines is right or misspelled."""
+    tag of these lines is right or misspelled."""
 
     content: list[str]
     place: int
     added: list[str]
     new_text: str
-    tag: str = "!vault"
 
 
 # A line that the file has in plaintext is a new one if it is saved twice.
@@ -104,8 +104,8 @@ def edits(draw: st.DrawFn) -> Edit:
     tag = draw(tags())
     line = draw(st.sampled_from(["", *LINES])).replace("!vault", tag)
     typed = margin + line.format(draw(st.sampled_from(TEXTS)))
-    new_text = draw(st.sampled_from([OLD_TEXT, *SECRETS]))
-    return Edit(content, draw(st.integers(0, 40)), [above.format("new"), typed, below.format("new")], new_text, tag)
+    new_text = draw(st.sampled_from([OLD_TEXT, "other"]))
+    return Edit(content, draw(st.integers(0, 40)), [above.format("new"), typed, below.format("new")], new_text)
 
 
 def save(edit: Edit) -> bytes:
@@ -115,12 +115,7 @@ def save(edit: Edit) -> bytes:
     lines = file.plaintext.replace(OLD_TEXT.encode(), edit.new_text.encode()).splitlines(keepends=True)
     place = edit.place % (len(lines) + 1)
     lines[place:place] = [f"{line}\n".encode() for line in edit.added if line.strip()]
-    return file.encrypt(Hexadecimal(), b"".join(lines))
-
-
-def read_tags(data: bytes) -> set[str]:
-    """Return the tags of all nodes but keys."""
-    return {value.tag for value in parse_nodes(data).values}
+    return file.encrypt(Hexadecimal(), b"".join(lines)).content
 
 
 def test_typed_values(request: pytest.FixtureRequest) -> None:
@@ -136,14 +131,82 @@ def test_typed_values(request: pytest.FixtureRequest) -> None:
         try:
             after = save(edit)
         except Refused as fault:
-            counts[str(fault).partition(": ")[2].partition(",")[0]] += 1
+            counts[str(fault).partition(": ")[2].partition(";")[0].partition(",")[0]] += 1
             return
         counts["encrypted"] += 1
         before = "\n".join(edit.content).encode(errors="surrogateescape")
-        new_tags = read_tags(after) - read_tags(before)
-        assert new_tags <= {"!vault", "!vault-encrypted"}, "no other tag"
-        if edit.tag == "!vault":
-            assert [word for word in SECRETS if after.count(word.encode()) > before.count(word.encode())] == []
+        assert [word for word in SECRETS if after.count(word.encode()) > before.count(word.encode())] == []
 
     check()
-    assert min(counts["encrypted"], counts[STRAY], counts[UNKNOWN]) > 30, counts
+    assert min(counts["encrypted"], counts[NO_VALUE], counts[CUT_SHORT]) > 20, counts
+
+
+# What somebody may type for the tag, and lines with it.
+SLIPS = ["!Vault", "!VAULT", "! vault", "!  vault", "!!vault", "!vault:", "!<vault>", "!valut", "!vualt", "!vautl"]
+SLIPS += ["!avult", "!vaul", "!valt", "!vult", "!vaut", "!ault", "!vaullt", "!vauult", "!vvault", "!vaultt", "!vaults"]
+SLIPS += ["!vsult", "!vauly", "!bault", "!vaulthunter2", "!vault|", "! Valut", "!vau-lt", "!vault_", "!Vault-encrypted"]
+TYPED_WITH = ["n: {} x", "n:{} x", "n {} x", "# n: {} x", "n: '{} x'", "n: [{} x]", "n: x # {}", "{}: x", "n: ({})"]
+VALUE = b"first: !vault |\n          " + envelope(b"x").strip().replace(b"\n", b"\n          ") + b"\n"
+
+
+@pytest.mark.parametrize("line", TYPED_WITH)
+def test_slips(subtests: SubTests, line: str) -> None:
+    """A mistyped tag in a new line is refused, unless what is typed is no YAML anyway."""
+    file = make_draft(VALUE)
+    for slip in SLIPS:
+        with subtests.test(slip), pytest.raises(Refused, match=f"^line 3: {NO_VALUE}|it cannot be read as YAML"):
+            file.encrypt(Hexadecimal(), file.plaintext + line.format(slip).encode() + b"\n")
+
+
+@pytest.mark.parametrize("slip", SLIPS)
+def test_slips_of_old_values(slip: str) -> None:
+    """So is one in the line of a value that was there."""
+    file = make_draft(VALUE)
+    with pytest.raises(Refused, match=f"^line 1: {NO_VALUE}|it cannot be read as YAML|is missing after"):
+        file.encrypt(Hexadecimal(), file.plaintext.replace(b"!vault", slip.encode()))
+
+
+# What looks less like the tag, and may be typed.
+NO_SLIPS = [
+    'shell: "[ ! -f x ]"',
+    "# why: !important",
+    "b: wow! Vault",
+    "c: x != vault",
+    "d: [!danger x]",
+    "e: !unsafe x",
+]
+NO_SLIPS += [
+    "f: if (!valid) {",
+    "g: '!value'",
+    "h: !Sub x",
+    "# !var, !vars, !vlan, !default",
+    "i: '[ ! -e vault.yml ]'",
+]
+# Lines that a file may have beside a value: comments and strings that mention the tag, or something that looks like it.
+OWN_LINES = [
+    "# Values have the tag !vault\n",
+    "# old: !vault |-\n#   geheim\n",
+    "# Attention: !important\n",
+    "motd: |\n  Warning: !danger\n  b: !vault x\n",
+    "c: 'so !valut it'\nd: !Vault x\n",
+    'notes: "\n\npassword: !vault |-\n  changeme\n\n"\n',
+]
+
+
+@pytest.mark.parametrize("lines", OWN_LINES)
+def test_own_lines(lines: str) -> None:
+    """Lines that were there may stay and move, whatever they contain, and others may change and be added."""
+    content = VALUE + lines.encode() + b"port: 1\n"
+    file = make_draft(content)
+    shown = file.plaintext
+    added = "".join(f"{line}\n" for line in NO_SLIPS).encode()
+    assert file.encrypt(Hexadecimal(), shown.replace(b": 1", b": 2")).content == content.replace(b": 1", b": 2")
+    assert file.encrypt(Hexadecimal(), shown + added).content == content + added, "new lines"
+    moved = VALUE + b"port: 1\n" + lines.encode()
+    assert file.encrypt(Hexadecimal(), make_draft(moved).plaintext).content == moved, "lines in another order"
+    deeper = b"".join(b"  " + line if line.strip() else line for line in shown.splitlines(keepends=True))
+    after = file.encrypt(Hexadecimal(), b"app:\n" + deeper).content
+    assert after.endswith(deeper[deeper.index(b"\n", deeper.index(b"x\n")) + 1 :]), "lines with another margin"
+    after = file.encrypt(Hexadecimal(), shown.replace(b"  x", b"  S3cret", 1) + b"new: !vault S3cret\n")
+    assert (b"S3cret" in after.content, len(after.notes)) == (False, 2), "a value that is changed, and a new one"
+    assert lines.encode() in after.content

@@ -2,14 +2,13 @@
 
 from __future__ import annotations
 
+from dataclasses import dataclass
 from functools import partial
-from typing import Protocol, Union
+from typing import Protocol
 
 from ansible_vault_companions.editing.encrypting_password import Choice, keep_key
 from ansible_vault_companions.editing.matching import describe_place
-from ansible_vault_companions.editing.single_value import SingleValue
-from ansible_vault_companions.editing.vault_draft import ConflictDraft, VaultDraft
-from ansible_vault_companions.editing.yaml_draft import YamlDraft, YamlText
+from ansible_vault_companions.editing.yaml_draft import ENCRYPTED, Saved, YamlDraft, YamlText
 from ansible_vault_companions.envelopes import conflicts, detection
 from ansible_vault_companions.envelopes.header import MAGIC
 from ansible_vault_companions.envelopes.pointers import refuse_pointer
@@ -21,6 +20,7 @@ from ansible_vault_companions.merging.unmerged_file import find_versions
 from ansible_vault_companions.merging.vault_merge import VaultMerge
 from ansible_vault_companions.passwords.labels import Policy
 from ansible_vault_companions.passwords.password import Password
+from ansible_vault_companions.quoting import escape
 from ansible_vault_companions.refusals import Refused
 from ansible_vault_companions.tool import Key, Tool
 
@@ -48,14 +48,53 @@ class Draft(Protocol):
         """The text to change."""
 
     @property
-    def keys(self) -> list[Key]:
-        """One key of each password that may encrypt the text. If there is a single one, it may read a copy."""
+    def key(self) -> Key | None:
+        """The key of the whole text, which may read a copy; None if it has several passwords, or may have."""
 
     def is_as_it_was(self, text: bytes) -> bool:
         """Whether the file may stay if this is saved."""
 
-    def encrypt(self, tool: Tool, text: bytes) -> bytes:
-        """What the file becomes if this is saved."""
+    def encrypt(self, tool: Tool, text: bytes) -> Saved:
+        """What the file becomes if this is saved, and what is to be said of it."""
+
+
+@dataclass
+class VaultDraft:
+    """A vault, or a new one. It keeps its password, its label and its line ends."""
+
+    target: str
+    content: bytes | None
+    key: Key
+    plaintext: bytes = b""
+
+    def is_as_it_was(self, text: bytes) -> bool:
+        return text == self.plaintext
+
+    def encrypt(self, tool: Tool, text: bytes) -> Saved:
+        vault = tool.encrypt(text, self.key)
+        if self.content is None:
+            return Saved(vault, [ENCRYPTED.format("the new vault", escape(self.key.label))])
+        return Saved(vault.replace(b"\n", b"\r\n") if b"\r\n" in self.content else vault, [])
+
+
+class ConflictDraft:
+    """A file with two vaults between markers. Their texts are merged, and what is saved becomes one vault."""
+
+    def __init__(self, target: str, content: bytes, vaults: VaultMerge, key: Key) -> None:
+        self.target = target
+        self.content = content
+        self.vaults = vaults
+        self.key = key
+        self.plaintext = vaults.merged_lines.text
+
+    def is_as_it_was(self, text: bytes) -> bool:
+        return text == self.plaintext and self.vaults.merged_lines.conflicts > 0
+
+    def encrypt(self, tool: Tool, text: bytes) -> Saved:
+        of_sides = conflicts.count_markers(self.vaults.ours.text) | conflicts.count_markers(self.vaults.theirs.text)
+        if conflicts.count_markers(text) - of_sides:
+            raise Refused(conflicts.STILL)
+        return Saved(self.vaults.encrypt(tool, text, self.key), [])
 
 
 class Loader:
@@ -69,22 +108,19 @@ class Loader:
         self.chosen = Choice(passwords, label)
         self.choice = Choice(passwords, label or policy.usual_label)
 
-    def load(self, path: str, value: str | None) -> Union[Draft, SingleValue]:
-        """The draft for the file at a path, or for a single value in it."""
-        target = link_bounds.resolve_file(path)
+    def load(self, target: str) -> Draft:
+        """The draft for the file at a real path."""
         content = reading.read(target)
         refuse_pointer(content or b"")
-        if value is not None:
-            return SingleValue(target, content, value, self.decrypt, self.chosen)
         if content is None:
             link_bounds.require_folder(target)
-            return VaultDraft(target, None, [self.choice.choose_key("the new vault", "the vault")])
+            return VaultDraft(target, None, self.choice.choose_key("the new vault", "the vault"))
         versions = find_versions(target, content)
         if versions:
             return self._load_conflict(target, content, versions)
         if content.startswith(MAGIC):
             decrypted = self.decrypt(content)
-            return VaultDraft(target, content, [keep_key(decrypted)], decrypted.text)
+            return VaultDraft(target, content, keep_key(decrypted), decrypted.text)
         if conflicts.is_unmerged(content):
             raise Refused(conflicts.LONG)
         return self._load_values(target, content)
@@ -93,7 +129,10 @@ class Loader:
         are_vaults = [side.startswith(MAGIC) for side in (versions.ours, versions.theirs)]
         if all(are_vaults):
             vaults = VaultMerge(self.decrypt, versions)
-            return ConflictDraft(target, content, vaults, vaults.choose_key(self.chosen.find_key()))
+            chosen = self.chosen.find_key() if self.chosen.label is not None else None
+            key = vaults.choose_key(chosen)
+            key.password.confirm()
+            return ConflictDraft(target, content, vaults, key)
         if any(are_vaults):
             raise Refused(ONE_SIDE.format(make_pathspec(target)))
         ours, theirs = YamlText(versions.ours, self.decrypt), YamlText(versions.theirs, self.decrypt)
@@ -102,10 +141,10 @@ class Loader:
             text = merge_lines(shown).text
         else:
             text = conflicts.join_sides(shown.ours, shown.theirs)
-        draft = YamlDraft(target, content, [ours, theirs], text, self.choice)
+        draft = self._make_yaml_draft(target, content, [ours, theirs], text)
         # Where both sides have a text, one that has changed its envelope comes first.
         draft.opened.sort(key=lambda old: old.scalar in versions.base)
-        return self._require_values(draft)
+        return draft
 
     def _show_base(self, base: bytes) -> bytes:
         """The base as the sides are shown. One that cannot be read counts as none."""
@@ -118,9 +157,10 @@ class Loader:
         if not detection.may_have_envelope(content):
             raise Refused(NOTHING_TO_EDIT)
         side = YamlText(content, self.decrypt)
-        return self._require_values(YamlDraft(target, content, [side], side.shown.data, self.choice))
+        return self._make_yaml_draft(target, content, [side], side.shown.data)
 
-    def _require_values(self, draft: YamlDraft) -> YamlDraft:
+    def _make_yaml_draft(self, target: str, content: bytes, sides: list[YamlText], plaintext: bytes) -> YamlDraft:
+        draft = YamlDraft(target, content, sides, plaintext, self.choice)
         if not draft.tagged:
             raise Refused(NOTHING_TO_EDIT)
         for old in draft.opened:
@@ -128,4 +168,8 @@ class Loader:
         if len(draft.faults) == len(draft.tagged) and self.choice.label is None:
             value, why = draft.faults[0]
             raise Refused(f"{describe_place(value)}: {why}{TO_ADD}")
+        keys = draft.choice.list_keys()
+        if len(keys) == 1:
+            # Before somebody types a text for it.
+            keys[0].password.confirm()
         return draft

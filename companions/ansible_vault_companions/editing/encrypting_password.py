@@ -1,19 +1,26 @@
 """Chooses the password that encrypts what an edit writes.
 
-A text that may change keeps the password that decrypted it, if its label allows that. Something new gets the only
-password, or the one that the user has chosen or chooses now.
+A text that may change keeps the password that decrypted it, if its label allows that. Something new gets the one that
+the user has chosen; else that of the file's values, if they all have one; else the only one. If that leaves several,
+the user chooses now.
 """
 
 from __future__ import annotations
 
 import os
+from contextlib import suppress
 from typing import NamedTuple
 
 from ansible_vault_companions.passwords import prompts
-from ansible_vault_companions.passwords.labels import NONE_HAS_LABEL, choose_to_encrypt, list_with_label
+from ansible_vault_companions.passwords.labels import NONE_HAS_LABEL, choose_to_encrypt
 from ansible_vault_companions.passwords.password import Password
+from ansible_vault_companions.quoting import escape
 from ansible_vault_companions.refusals import Refused
 from ansible_vault_companions.tool import Decryption, Key
+
+GETS = "new values get the label {}; --encrypt-vault-id chooses another"
+IS_ASKED = "the label of a new value will be asked for; --encrypt-vault-id chooses one"
+IS_REFUSED = "new values will be refused: {}"
 
 
 def keep_key(decrypted: Decryption, where: str = "") -> Key:
@@ -22,47 +29,48 @@ def keep_key(decrypted: Decryption, where: str = "") -> Key:
     return decrypted.key
 
 
-def confirm_keys(keys: list[Key]) -> None:
-    """Asks again for passwords that may be mistyped, and refuses an only one that cannot encrypt, before the user types
-    a text for them."""
-    for key in keys:
-        key.password.confirm()
-    if len(keys) == 1:
-        keys[0].password.require_usable()
-
-
 class Choice(NamedTuple):
     """What there is to choose from."""
 
     passwords: list[Password]
-    # The label of the password for new values and vaults, if one is chosen.
+    # The label that an option or a setting chooses; and the key of the file's values, if they all have one.
     label: str | None
+    key_of_values: Key | None = None
+
+    def find_key(self, none: str = NONE_HAS_LABEL) -> Key | None:
+        """The key of something new; None if there are several passwords and nobody has chosen one. Refuses a chosen one
+        that cannot be used, with the text `none` if there is none."""
+        if self.label is None and self.key_of_values:
+            return self.key_of_values
+        is_only = self.label is None and len(self.passwords) == 1
+        label = self.passwords[0].label if is_only else self.label
+        return None if label is None else Key(choose_to_encrypt(self.passwords, label, none), label)
 
     def list_keys(self) -> list[Key]:
-        """The keys that something new may get: with a label, at most one, which must be usable."""
-        if self.label is None:
-            return [Key(password, password.label) for password in self.passwords]
-        key = self.find_key()
-        return [key] if key else []
-
-    def find_key(self) -> Key | None:
-        """The key with the chosen label, if there is one."""
-        if self.label is None or not list_with_label(self.passwords, self.label):
-            return None
-        return Key(choose_to_encrypt(self.passwords, self.label), self.label)
+        """The keys that something new may get; none if the chosen one cannot be used."""
+        with suppress(Refused):
+            key = self.find_key()
+            return [key] if key else [Key(password, password.label) for password in self.passwords]
+        return []
 
     def choose_key(self, name: str, place: str) -> Key:
         """The key for what has this name and place."""
-        label = self._choose_label(name, place) if self.label is None else self.label
-        password = choose_to_encrypt(self.passwords, label, f"{place} is new, and {NONE_HAS_LABEL}")
-        password.confirm()
-        return Key(password, label)
+        key = self.find_key(f"{place} is new, and {NONE_HAS_LABEL}") or self._ask(name, place)
+        key.password.confirm()
+        return key
 
-    def _choose_label(self, name: str, place: str) -> str:
-        """The label of the only password, or else the one that the user chooses at a terminal."""
+    def _ask(self, name: str, place: str) -> Key:
+        """The key with the label that the user chooses at a terminal."""
         labels = [*dict.fromkeys(password.label for password in self.passwords)]
-        if len(self.passwords) == 1:
-            return labels[0]
         if len(labels) == 1 or not os.isatty(0):
             raise Refused(f"{place} is new; choose its password with --encrypt-vault-id")
-        return prompts.ask_choice(f"Label to encrypt {name} with", labels)
+        label = prompts.ask_choice(f"Label to encrypt {name} with", labels)
+        return Key(choose_to_encrypt(self.passwords, label), label)
+
+    def describe(self) -> str:
+        """What a new value gets."""
+        try:
+            key = self.find_key()
+        except Refused as fault:
+            return IS_REFUSED.format(fault)
+        return GETS.format(escape(key.label)) if key else IS_ASKED

@@ -11,7 +11,7 @@ from ansible_vault_companions import refusals, signals
 from ansible_vault_companions.editing.drafts import Draft
 from ansible_vault_companions.editing.editor import run_editor
 from ansible_vault_companions.editing.private_directory import PrivateDirectory, describe_failure
-from ansible_vault_companions.editing.rescue_copies import save_copy
+from ansible_vault_companions.editing.rescue_copies import Copy, save_copy
 from ansible_vault_companions.editing.single_value import A_VAULT
 from ansible_vault_companions.envelopes import conflicts
 from ansible_vault_companions.envelopes.header import MAGIC
@@ -27,32 +27,33 @@ AS_BEFORE, EMPTY = f"nothing was changed; {TO_WAIT}", f"the new vault is empty; 
 UNCHANGED, WRITTEN = "nothing was changed", "what you saved is in the file"
 NO_FILE = "the editor left no file"
 NO_COPY = "an encrypted copy cannot be kept"
-SEVERAL = "its text has several passwords, and none of them may read all of it"
-RESCUED = "{}; what you saved is encrypted in {}\n--resume reopens it, unless the file has changed."
+SEVERAL = "its text has several passwords, or may have, and none of them may read all of it"
+RESCUED = "{}; what you saved is encrypted in {}\n--resume opens it, --discard removes it"
 
 
-def change_draft(tool: Tool, draft: Draft, path: str, text: bytes | None, copy: str | None, allows_empty: bool) -> str:
-    """Edits a draft, starting with a text if one is given, which is that of a copy, and makes an empty vault if that is
-    allowed and nothing was saved. Returns what is to be said; nothing if the text was changed. Signals must be
-    postponed, until a message has said what became of what was saved."""
-    with PrivateDirectory(path, draft.plaintext if text is None else text) as folder:
-        is_changed = _edit(tool, draft, path, folder)
+def change_draft(tool: Tool, draft: Draft, path: str, resumed: Copy | None, allows_empty: bool) -> list[str]:
+    """Edits a draft, starting with the text of a copy if there is one, and makes an empty vault if that is allowed and
+    nothing was saved. Returns what is to be said. Signals must be postponed, until a message has said what became of
+    what was saved."""
+    with PrivateDirectory(path, resumed.text if resumed else draft.plaintext) as folder:
+        notes = _edit(tool, draft, path, folder, resumed)
         # First, since the end of this context may refuse what the editor has left there.
-        if is_changed and copy:
-            _remove_copy(copy)
-    if is_changed:
-        return ""
+        if notes is not None and resumed:
+            _remove_copy(resumed)
+    if notes is not None:
+        return notes
     if conflicts.is_unmerged(draft.plaintext):
         raise Refused(conflicts.STILL)
     if draft.content is not None or not allows_empty:
-        return AS_BEFORE
-    replacing.replace(draft.target, draft.encrypt(tool, draft.plaintext), before=None)
-    return EMPTY
+        return [AS_BEFORE]
+    content, notes = draft.encrypt(tool, draft.plaintext)
+    replacing.replace(draft.target, content, before=None)
+    return [EMPTY, *notes]
 
 
-def _edit(tool: Tool, draft: Draft, path: str, folder: PrivateDirectory) -> bool:
-    """Runs the editor until its text is put back. False if nothing is to be changed. Whatever else ends the edit leaves
-    the text in the directory until it is elsewhere."""
+def _edit(tool: Tool, draft: Draft, path: str, folder: PrivateDirectory, resumed: Copy | None) -> list[str] | None:
+    """Runs the editor until its text is put back, and returns what is to be said; None if nothing is to be changed.
+    Whatever else ends the edit leaves the text in the directory until it is elsewhere."""
     while True:
         fault = run_editor(folder.file)
         text = reading.read(folder.file)
@@ -62,10 +63,11 @@ def _edit(tool: Tool, draft: Draft, path: str, folder: PrivateDirectory) -> bool
             fault = fault or (NO_FILE if text is None else "")
             if fault:
                 raise Refused(f"{fault}; {UNCHANGED}")
-            return False
+            return None
+        notes: list[str] = []
         try:
             if not fault:
-                _put_back(tool, draft, text)
+                notes = _put_back(tool, draft, text)
         except replacing.NotSynced as failed:
             folder.release(text, str(failed))
             raise
@@ -75,18 +77,19 @@ def _edit(tool: Tool, draft: Draft, path: str, folder: PrivateDirectory) -> bool
                 continue
         if not fault:
             folder.release(text, WRITTEN)
-            return True
-        raise _rescue(tool, draft, path, text, fault, folder)
+            return notes
+        raise _rescue(tool, draft, path, text, fault, folder, resumed)
 
 
-def _put_back(tool: Tool, draft: Draft, text: bytes) -> None:
-    """Encrypts a text into the file."""
+def _put_back(tool: Tool, draft: Draft, text: bytes) -> list[str]:
+    """Encrypts a text into the file, and returns what is to be said of it."""
     if text.startswith(MAGIC):
         raise Refused(A_VAULT)
     with signals.Arrival():
-        content = draft.encrypt(tool, text)
+        content, notes = draft.encrypt(tool, text)
     if content != draft.content:
         replacing.replace(draft.target, content, draft.content)
+    return notes
 
 
 def _opens_again(path: str, why: str) -> bool:
@@ -99,13 +102,15 @@ def _opens_again(path: str, why: str) -> bool:
         return False
 
 
-def _rescue(tool: Tool, draft: Draft, path: str, text: bytes, why: str, folder: PrivateDirectory) -> Refused:
+def _rescue(
+    tool: Tool, draft: Draft, path: str, text: bytes, why: str, folder: PrivateDirectory, resumed: Copy | None
+) -> Refused:
     """Keeps a text that is not put back. Returns the exception that says where it is, and how to go on; if no copy is
     possible, why."""
     try:
-        if len(draft.keys) > 1:
+        if draft.key is None:
             raise Refused(SEVERAL)
-        copy = save_copy(tool, draft.keys[0], draft.target, draft.plaintext, text)
+        copy = save_copy(tool, draft.key, draft.target, draft.plaintext, text, resumed)
     except Exception as failed:
         return Refused(f"{why}; {NO_COPY}: {describe_failure(failed, path)}")
     rescued = RESCUED.format(why, escape(copy))
@@ -113,8 +118,8 @@ def _rescue(tool: Tool, draft: Draft, path: str, text: bytes, why: str, folder: 
     return Refused(rescued)
 
 
-def _remove_copy(copy: str) -> None:
+def _remove_copy(copy: Copy) -> None:
     try:
-        os.unlink(copy)
+        os.unlink(copy.path)
     except OSError as fault:
         raise Refused(f"{WRITTEN}; its copy stays: {refusals.describe_fault(fault)}") from None

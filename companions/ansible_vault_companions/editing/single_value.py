@@ -20,6 +20,7 @@ from ansible_vault_companions.envelopes.parsed_text import (
     parse_nodes,
     require_nodes,
 )
+from ansible_vault_companions.envelopes.pointers import refuse_pointer
 from ansible_vault_companions.files import reading, replacing
 from ansible_vault_companions.limits import LONGEST_PLAINTEXT
 from ansible_vault_companions.quoting import escape
@@ -81,6 +82,7 @@ class SingleValue:
 def _parse(data: bytes, path: str, is_chosen: bool) -> ParsedText:
     """The nodes of a file. If the password is chosen, a single key that is missing is added at the end, with an empty
     value, unless that would change others."""
+    refuse_pointer(data)
     if data.startswith(MAGIC):
         raise Refused("the whole file is a vault; edit it without --value")
     if conflicts.is_unmerged(data):

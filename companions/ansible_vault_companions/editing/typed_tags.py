@@ -1,7 +1,7 @@
-"""What is typed after `!vault` is encrypted, or the edit is refused.
+"""What is typed after `!vault`, or after a word that looks like it, is encrypted, or the edit is refused.
 
-Each `!vault` that is saved has to be the tag of a value, unless it was shown before, with the line below it: in a
-comment or a string, somebody may have put it there to look like one.
+Only the lines that an edit adds or changes count. Those that were shown are the user's own, whatever they contain, and
+may move.
 """
 
 from __future__ import annotations
@@ -10,77 +10,75 @@ import re
 from collections import Counter
 from collections.abc import Iterator
 
-from ansible_vault_companions.envelopes.header import LINE_END
-from ansible_vault_companions.envelopes.layout import Replacement, apply_replacements
-from ansible_vault_companions.envelopes.node import PLAIN, TAGS, Node
+from ansible_vault_companions.envelopes.node import PLAIN, Node
 from ansible_vault_companions.envelopes.parsed_text import ParsedText
-from ansible_vault_companions.envelopes.yaml_nodes import require_pyyaml
+from ansible_vault_companions.envelopes.yaml_nodes import PROPERTIES
 from ansible_vault_companions.refusals import Refused
 
 DIRECTIVE = b"%TAG"
-# A loose `!vault` and what follows it in its line; and, if it is where a tag would be, the next line with a text.
-LOOSE = re.compile(rb"[-:?][ \t]+!vault\b[^\r\n]*(?:[\r\n]\s*[^\r\n]*)?|!vault[^\r\n]*")
-NO_LINE_END = re.compile(rb"[^\r\n]+")
+# What looks like the tag: `!`, blanks or not, and a word that begins with `vault` or is one slip away from that: a
+# letter is missing, wrong or too many, or two are swapped. No letter precedes the `!`, as in `So far! Vault`.
+LOOKALIKE = re.compile(
+    rb"(?<![\w\x80-\xff])![ \t!<]*(?:vault|(?:"
+    rb"[-\w]?ault|v[-\w]?ult|va[-\w]?lt|vau[-\w]?t|vaul[-\w]?|"
+    rb"[-\w]vault|v[-\w]ault|va[-\w]ult|vau[-\w]lt|vaul[-\w]t|"
+    rb"avult|vualt|valut|vautl)(?!\w))",
+    re.IGNORECASE,
+)
+TAG = re.compile(rb"[^ \t\r\n]*")
 # What may follow a text without quotes in its line.
 REST = re.compile(rb"[ \t,\]}]*(?:[\r\n]|\Z)")
 
-HAS_DIRECTIVE = "line {}: `%TAG` may make `!vault` another tag; remove that line with another editor"
-UNKNOWN_TAG = "line {0}: Ansible reads no such tag, so line {0} would stay in plaintext; correct the tag"
-LOOSE_WORD = (
-    "line {}: no value follows `!vault` here, as in a comment or a string, so what is below would stay in plaintext; "
-    "correct it, or change that line with another editor"
+HAS_DIRECTIVE = "line {}: `%TAG` may make `!vault` another tag; change this file with another editor"
+NO_VALUE = (
+    "line {}: this is new and looks like `!vault`, but is no tag of a value, so what follows would stay in plaintext; "
+    "write `NAME: !vault TEXT` to encrypt, leave out the `!` in a comment or a string, or add the line with another "
+    "editor"
 )
-NEW_ANCHOR = (
-    "line {}: a word after `&` is no part of the text but an anchor, and would stay in plaintext; put the text in "
-    "quotes, or add the anchor with another editor"
-)
-CUT_SHORT = (
-    "line {}: a text without quotes ends within the line or is not in that of its tag, so a part may stay in "
-    "plaintext; put it in quotes"
-)
+CUT_SHORT = "line {}: only a part of the text after `!vault` would be encrypted; put it in quotes"
 
 
 def refuse_directive(data: bytes) -> None:
     """Refuses a text with `%TAG`, even if that is within a string."""
     if DIRECTIVE in data:
-        raise Refused(HAS_DIRECTIVE.format(_find_line(data, data.index(DIRECTIVE))))
+        raise Refused(HAS_DIRECTIVE.format(data.count(b"\n", 0, data.index(DIRECTIVE)) + 1))
 
 
-def check_tags(shown: list[ParsedText], saved: ParsedText) -> None:
-    """Refuses a saved text if what is typed after a tag stays in plaintext, as a whole or in part. What was shown is
-    one text, or the sides of a conflict."""
-    old = [value for each in shown for value in each.values]
-    known = {*TAGS, "!unsafe", *require_pyyaml().SafeLoader.yaml_constructors, *(value.tag for value in old)}
-    anchors = {value.anchor for value in old}
-    for value in saved.values:
-        if value.tag and value.tag not in known:
-            raise Refused(UNKNOWN_TAG.format(value.line))
-        if value.is_tagged and not value.is_envelope:
-            _refuse_cut_text(saved.data, value, anchors)
-    seen = Counter(found[0] for each in shown for found in _find_loose_words(each))
-    for found in _find_loose_words(saved):
-        seen[found[0]] -= 1
-        if seen[found[0]] < 0:
-            raise Refused(LOOSE_WORD.format(_find_line(found.string, found.start())))
+def check_typed_tags(shown: bytes, saved: ParsedText) -> None:
+    """Refuses a saved text if something in its new lines looks like the tag of a value and is none, or is that of only
+    a part of what is typed after it. A line with another margin is no new one."""
+    known = Counter(line.strip() for line in shown.splitlines())
+    for number, line, why in _find_faults(saved):
+        known[line.strip()] -= 1
+        if known[line.strip()] < 0:
+            raise Refused(why.format(number))
 
 
-def _refuse_cut_text(data: bytes, value: Node, anchors: set[str]) -> None:
-    """Refuses a typed text of which YAML takes the beginning for an anchor, or the end for something else."""
-    if value.anchor and value.anchor not in anchors:
-        raise Refused(NEW_ANCHOR.format(value.line))
-    has_lines = LINE_END.search(data, data.rfind(b"!", 0, value.begin), value.end)
-    if value.style == PLAIN and (has_lines or not REST.match(data, value.end)):
-        raise Refused(CUT_SHORT.format(value.line))
+def _find_faults(saved: ParsedText) -> Iterator[tuple[int, bytes, str]]:
+    """The number and content of each line with something that looks like a tag, and what is wrong with it."""
+    values = {value.begin: value for value in saved.values if value.is_tagged}
+    place = 0
+    for number, line in enumerate(saved.data.splitlines(keepends=True), 1):
+        for found in LOOKALIKE.finditer(line):
+            tag = place + found.start()
+            properties = PROPERTIES.match(saved.data, tag)
+            assert properties
+            value = values.get(properties.end())
+            if value and _is_cut_short(saved.data, tag, value):
+                yield number, line, CUT_SHORT
+                break
+            # The word may also be in a text that is encrypted.
+            if not value and not any(value.begin <= tag < value.end for value in values.values()):
+                yield number, line, NO_VALUE
+                break
+        place += len(line)
 
 
-def _find_loose_words(parsed: ParsedText) -> Iterator[re.Match[bytes]]:
-    """Each `!vault` that is no value's tag, in a text with the same lines."""
-    values = [value for value in parsed.values if value.is_tagged]
-    begins = [parsed.data.rfind(b"!", 0, value.begin) if value.tag in TAGS else value.begin for value in values]
-    tagged = [parsed.data[begin : value.end] for begin, value in zip(begins, values)]
-    blanks = [Replacement(begin, begin + len(text), NO_LINE_END.sub(b"", text)) for begin, text in zip(begins, tagged)]
-    yield from LOOSE.finditer(apply_replacements(parsed.data, blanks))
-
-
-def _find_line(data: bytes, place: int) -> int:
-    return len(LINE_END.findall(data, 0, place)) + 1
+def _is_cut_short(data: bytes, tag: int, value: Node) -> bool:
+    """Whether YAML takes the beginning of a text without quotes for an anchor or a comment, or its end for something
+    else."""
+    if value.style != PLAIN or value.is_envelope:
+        return False
+    after_tag = TAG.match(data, tag)
+    assert after_tag
+    return data[after_tag.end() : value.begin].strip() != b"" or not REST.match(data, value.end)

@@ -5,12 +5,12 @@ What is saved is read once. Values are found again by their keys, and all else i
 
 from __future__ import annotations
 
-from collections.abc import Iterable
-from contextlib import suppress
+from collections.abc import Iterable, Iterator
+from typing import NamedTuple
 
 from ansible_vault_companions.editing.encrypting_password import Choice
 from ansible_vault_companions.editing.matching import DecryptedValue, Match, describe_place, find_matches
-from ansible_vault_companions.editing.typed_tags import check_tags, refuse_directive
+from ansible_vault_companions.editing.typed_tags import check_typed_tags, refuse_directive
 from ansible_vault_companions.envelopes import conflicts
 from ansible_vault_companions.envelopes.header import MAGIC
 from ansible_vault_companions.envelopes.layout import (
@@ -26,6 +26,7 @@ from ansible_vault_companions.envelopes.layout import (
 from ansible_vault_companions.envelopes.node import ALIAS, LITERAL, NO_SCALAR, PLAIN, Node
 from ansible_vault_companions.envelopes.parsed_text import ParsedText, parse_nodes, require_nodes
 from ansible_vault_companions.parallel import work_at_once
+from ansible_vault_companions.quoting import escape
 from ansible_vault_companions.refusals import Refused
 from ansible_vault_companions.tool import Decrypt, Key, Tool
 
@@ -33,6 +34,16 @@ NOT_A_STRING = "is a list, a mapping or a key, not a string; put quotes around a
 NOTHING_TYPED = 'is missing after `!vault`; write `""` for an empty one'
 LIKE_A_VAULT = "begins like a vault ($ANSIBLE_VAULT), but is not one, so ansible-vault does not encrypt it"
 NOT_WRITABLE = "its values cannot be written where they are; write each as `NAME: !vault |`"
+# What is said of a saved text.
+ENCRYPTED = "encrypted {} (label {})"
+IN_PLAINTEXT = "{} is now plaintext"
+
+
+class Saved(NamedTuple):
+    """What a file becomes if a text is saved, and what is to be said of it."""
+
+    content: bytes
+    notes: list[str]
 
 
 class YamlText:
@@ -64,42 +75,64 @@ class YamlDraft:
     shown."""
 
     def __init__(self, target: str, content: bytes, sides: list[YamlText], plaintext: bytes, choice: Choice) -> None:
-        self.target, self.choice = target, choice
+        self.target = target
         self.content: bytes | None = content
         self.sides = sides
         self.plaintext = plaintext
         self.tagged = [value for side in sides for value in side.tagged]
         self.opened = [old for side in sides for old in side.opened]
         self.faults = [fault for side in sides for fault in side.faults]
+        labels = {value.label for value in self.tagged if value.is_envelope}
+        keys = {old.decrypted.key for old in self.opened}
+        self.choice = choice._replace(key_of_values=keys.pop() if len(keys) == len(labels) == 1 else None)
 
     @property
-    def keys(self) -> list[Key]:
-        """One key of each password that a value has, or that a new one may get."""
-        keys = [old.decrypted.key for old in self.opened]
-        if not keys:
-            keys = self.choice.list_keys()
-        elif self.choice.label is not None:
-            # If there is none for a new value, old ones may still be changed.
-            with suppress(Refused):
-                keys += self.choice.list_keys()
-        return list({key.password.content: key for key in reversed(keys)}.values())
+    def key(self) -> Key | None:
+        """The key of the whole text, with new values; None if they have several passwords, or may have."""
+        new = self.choice.list_keys()
+        keys = [*(old.decrypted.key for old in self.opened), *new]
+        is_single = new and len({key.password.content for key in keys}) == 1
+        return keys[0] if is_single else None
 
     def is_as_it_was(self, text: bytes) -> bool:
         is_done = len(self.sides) == 1 and all(value.is_envelope for value in self.tagged)
         return text == self.plaintext and (is_done or conflicts.is_unmerged(text))
 
-    def encrypt(self, tool: Tool, text: bytes) -> bytes:
+    def encrypt(self, tool: Tool, text: bytes) -> Saved:
         if conflicts.is_unmerged(text):
             raise Refused(conflicts.STILL)
         refuse_directive(text)
         after = require_nodes(text)
         closed = {value.text for value, _ in self.faults}
         typed = [value for value in after.values if _is_to_be_encrypted(value, closed)]
-        check_tags([side.shown for side in self.sides], after)
+        check_typed_tags(self.plaintext, after)
         matches = find_matches(self.opened, typed, self.choice)
         envelopes = work_at_once(lambda pair: _seal(tool, *pair), zip(typed, matches))
         changes = [change for pair in zip(typed, matches, envelopes) for change in _write(text, *pair)]
-        return rewrite(after, changes, dict(zip(typed, envelopes))).data
+        content = rewrite(after, changes, dict(zip(typed, envelopes))).data
+        return Saved(content, [*_describe_encrypted(typed, matches), *self._describe_lost(after, matches)])
+
+    def _describe_lost(self, after: ParsedText, matches: list[Match]) -> Iterator[str]:
+        """Names each value that has lost its tag: the text at its key, or its text where it was not before."""
+        kept = {match.kept for match in matches}
+        gone = [old for old in self.opened if old not in kept]
+        # An item of a list may be at the place of another.
+        paths = {old.value.path for old in gone if old.value.name}
+        texts = {old.text.strip() for old in gone}
+        before = {(value.path, value.text) for side in self.sides for value in side.shown.values}
+        for value in after.values:
+            if value.is_tagged or not value.text.strip():
+                continue
+            has_moved = value.text.strip() in texts and (value.path, value.text) not in before
+            if value.path in paths or has_moved:
+                yield IN_PLAINTEXT.format(escape(value.typed_path))
+
+
+def _describe_encrypted(typed: list[Node], matches: list[Match]) -> Iterator[str]:
+    """Names the values that have been encrypted, with the label of each."""
+    for value, match in zip(typed, matches):
+        if match.key:
+            yield ENCRYPTED.format(escape(value.typed_path), escape(match.key.label))
 
 
 def rewrite(parsed: ParsedText, changes: Iterable[Replacement], texts: dict[Node, bytes]) -> ParsedText:

@@ -64,16 +64,19 @@ def ask_name(reads_lines: bool) -> bytes:
 
 def ask_choice(question: str, answers: list[str]) -> str:
     """One of these answers. Asks at the terminal until the user types one of them."""
-    whole = f"{question} ({', '.join(map(escape, answers))}): "
-    typed = ""
-    while typed not in answers:
-        typed = _ask(whole, is_hidden=False, reads_lines=False, unanswered=NO_LABEL).decode(errors="replace").strip()
-    return typed
+    return _ask_until(f"{question} ({', '.join(map(escape, answers))}): ", answers)
 
 
 def ask_consent(question: str) -> bool:
     """Whether the user says yes; False if nobody is at a terminal."""
-    return os.isatty(0) and ask_choice(question, ["yes", "no"]) == "yes"
+    return os.isatty(0) and _ask_until(f"{question} (yes, no): ", ["yes", "y", "no", "n"]).startswith("y")
+
+
+def _ask_until(question: str, answers: list[str]) -> str:
+    typed = ""
+    while typed not in answers:
+        typed = _ask(question, is_hidden=False, reads_lines=False, unanswered=NO_LABEL).decode(errors="replace").strip()
+    return typed
 
 
 def _ask_hidden_password(question: str, asking: Asking) -> bytes:
